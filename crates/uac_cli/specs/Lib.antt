@@ -1,0 +1,4 @@
+pub mod Command
+pub mod Outcome
+pub mod Reading
+pub mod Run

@@ -1,0 +1,48 @@
+//! The program `uac_cli`: reads a configuration descriptor from standard input and says whether it is sound.
+#![tactic(auto)]
+
+/// The words of the command line.
+mod command;
+/// Standard input and output.
+mod edges;
+/// The lines that are printed.
+mod lines;
+/// Reading a descriptor from a source.
+mod reading;
+/// How a run ends.
+mod status;
+#[cfg(test)]
+mod tests;
+/// The top call.
+mod top;
+
+use edges::{StdSink, StdSource};
+use lines::NO_MEMORY;
+pub use status::Status;
+use std::alloc::Global;
+use std::env::{self, Args};
+use std::io::{self, ErrorKind};
+use std::process::ExitCode;
+use top::close;
+pub use top::uac_main;
+use uac_descriptor::NoMemory;
+
+fn main(rt: HostRuntime) -> ExitCode {
+    let alloc = rt.alloc();
+    let mut source = StdSource::new(rt.stdin());
+    let mut sink = StdSink::new(rt.stdout());
+    let status = match words(alloc, env::args(&rt)) {
+        Ok(words) => uac_main(alloc, &words, &mut source, &mut sink),
+        Err(NoMemory) => close(&mut sink, NO_MEMORY, Status::NoMemory),
+    };
+    ExitCode::from(status as u8)
+}
+
+/// The words behind the program's name. Where one of them isn't UTF-8 there are none, which is refused as that word would be.
+fn words(alloc: Global, args: io::Result<Args>) -> Result<Vec<String>, NoMemory> {
+    match args {
+        Ok(args) => args.skip(1).collect(alloc).map_err(|_| NoMemory),
+        Err(error) if error.kind() == ErrorKind::InvalidData => Ok(Vec::new(alloc)),
+        Err(_) => Err(NoMemory),
+    }
+}

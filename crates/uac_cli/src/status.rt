@@ -1,0 +1,21 @@
+// How a run ends.
+ghost use Rattle.std.specs.Prelude.{◌≡◌};
+
+/// How a run ended. Its number is the exit status of the process.
+#[derive(Clone, Copy, Debug, PartialEq, Eq)]
+pub enum Status {
+    /// The whole input was read and the whole text written.
+    Ok = 0,
+    /// The descriptor breaks a rule.
+    Descriptor = 1,
+    /// The words of the command line are refused.
+    Usage = 3,
+    /// A read failed.
+    ReadFault = 4,
+    /// A write failed.
+    WriteFault = 5,
+    /// There was no memory.
+    NoMemory = 6,
+    /// The descriptor has a block that isn't built yet.
+    Unbuilt = 8,
+}

@@ -1,0 +1,67 @@
+ghost use Rattle.std.specs.Prelude.{◌≡◌};
+
+use std::marker::Model;
+
+/// No memory was found.
+#[derive(Clone, Copy, PartialEq, Eq, Debug, Drop)]
+pub struct NoMemory;
+
+/// A list of bytes.
+#[derive(Drop)]
+pub struct ByteList {
+    items: Vec<u8>,
+}
+
+impl Model for ByteList {
+    ghost use Rattle.std.specs.Prelude.{List, ℕ};
+
+    ghost Value = { List ℕ };
+
+    ghost view = { λ list. list.items.items };
+}
+
+impl ByteList {
+    /// The list of these bytes. It takes no memory.
+    pub fn from_vec(items: Vec<u8>) -> ByteList
+        ensures { result ≡ items.items }
+    {
+        ByteList { items }
+    }
+
+    /// The bytes, lent.
+    pub fn as_slice(&self) -> &[u8]
+        ensures { result.now ≡ self.now }
+    {
+        self.items.as_slice()
+    }
+}
+
+/// A list of 32-bit words.
+#[derive(Drop)]
+pub struct WordList {
+    items: Vec<u32>,
+}
+
+impl Model for WordList {
+    ghost use Rattle.std.specs.Prelude.{List, ℕ};
+
+    ghost Value = { List ℕ };
+
+    ghost view = { λ list. list.items.items };
+}
+
+impl WordList {
+    /// The list of these words. It takes no memory.
+    pub fn from_vec(items: Vec<u32>) -> WordList
+        ensures { result ≡ items.items }
+    {
+        WordList { items }
+    }
+
+    /// The words, lent.
+    pub fn as_slice(&self) -> &[u32]
+        ensures { result.now ≡ self.now }
+    {
+        self.items.as_slice()
+    }
+}

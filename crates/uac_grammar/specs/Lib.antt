@@ -1,0 +1,5 @@
+pub mod Chop
+pub mod Form
+pub mod Reading
+pub mod Stop
+pub mod Verdict

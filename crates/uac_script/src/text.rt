@@ -1,0 +1,61 @@
+// A line of text in a buffer of fixed size, which takes no memory.
+ghost use Rattle.std.specs.Prelude.{◌≡◌, ℕ, ◌+◌, ◌≤◌, List, [], ◌++◌, length, decimal};
+
+use arrayvec::ArrayVec;
+use itoa::Buffer;
+use std::marker::Model;
+
+/// A text of at most `N` bytes.
+#[derive(Drop)]
+pub struct TextLine<const N: usize> {
+    bytes: ArrayVec<u8, N>,
+}
+
+impl<const N: usize> Model for TextLine<N> {
+    ghost use Rattle.std.specs.Prelude.{ℕ, List};
+
+    ghost Value = { List ℕ };
+
+    ghost view = { λ t. t.bytes.items };
+}
+
+impl<const N: usize> TextLine<N> {
+    /// An empty text.
+    pub fn new() -> Self
+        ensures { result ≡ [] }
+    {
+        TextLine {
+            bytes: ArrayVec::new(),
+        }
+    }
+
+    /// Appends `text`, for which there has to be room.
+    pub fn push(&mut self, text: &[u8])
+        requires { length self.old + length text.now ≤ N }
+        ensures text { self.new ≡ self.old ++ text.now }
+        ensures len { length self.new ≡ length self.old + length text.now }
+    {
+        match self.bytes.try_extend_from_slice(text) {
+            Ok(()) => {}
+            Err(_) => unreachable!(),
+        }
+    }
+
+    /// Appends `number` in decimal digits, for at most 20 of which there has to be room.
+    pub fn push_number(&mut self, number: u64)
+        requires { length self.old + 20 ≤ N }
+        ensures text { self.new ≡ self.old ++ decimal number }
+        ensures len { length self.new ≤ length self.old + 20 }
+    {
+        let mut digits = Buffer::new();
+        self.push(digits.format(number).as_bytes());
+    }
+
+    /// Lends the text.
+    pub fn as_bytes(&self) -> &[u8]
+        ensures text { result.now ≡ self.now }
+        ensures fits { length result.now ≤ N }
+    {
+        self.bytes.as_slice()
+    }
+}
