@@ -1,0 +1,3 @@
+pub mod Ladder
+pub mod Listening
+pub mod Worked

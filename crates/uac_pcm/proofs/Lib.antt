@@ -1,0 +1,5 @@
+pub mod Wrapping
+pub mod Rounding
+pub mod Cutting
+pub mod Packing
+mod Worked

@@ -1,0 +1,3 @@
+pub mod Words
+pub mod Frames
+pub mod Tones

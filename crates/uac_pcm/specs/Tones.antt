@@ -1,0 +1,11 @@
+-- profile: the sample of a test tone at a place, which counts frames from 0, and a channel, which counts from 0
+use Rattle.std.specs.Prelude.{ℕ, ◌+◌, ◌*◌, ℤ, pos, ◌+ℤ◌, ◌*ℤ◌}
+use Rattle.uac_pcm.specs.Words.{wrap}
+use Rattle.uac_pcm.specs.declared.tones.Tone.{Tone}
+use Rattle.uac_pcm.specs.declared.tones.Tone.TheVariants.{Silent, Ramp, Noise}
+
+-- silence, a straight line that wraps, and numbers without a pattern to the ear
+abbrev pub tone_sample : Tone → ℕ → ℕ → ℤ
+tone_sample Silent place channel = pos 0
+tone_sample (Ramp start rise) place channel = wrap (start +ℤ (rise *ℤ pos (place + channel)))
+tone_sample (Noise origin) place channel = wrap (pos ((origin + 32 * place + channel) * 2654435761))

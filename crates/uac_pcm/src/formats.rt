@@ -1,0 +1,80 @@
+//! How frames stand in packets.
+ghost use Rattle.std.specs.Prelude.{◌≡◌, ◌↔◌, ◌≤◌, ◌+◌, ◌*◌, ◌++◌, length, IsTrue, IsSome, IfSome};
+ghost use Rattle.std.specs.Bool.{OnTrue, OnFalse};
+ghost use Rattle.arrayvec.specs.ArrayVec.{array_vec_len};
+ghost use Rattle.uac_pcm.specs.Frames.{IsFormat, bytes_of_frame, frame_of_bytes};
+
+use crate::words::{sample_of, word};
+use crate::{Frame, Packet};
+
+/// A format of Type I PCM: how many channels, bytes for each sample, and bits of them that are used.
+///
+/// There are 1 to 32 channels, subslots of 1 to 4 bytes, and a resolution of 1 bit to all of the subslot.
+#[derive(Clone, Copy, Debug, PartialEq, Eq)]
+pub struct Format {
+    /// Channels of a frame.
+    pub channels: u8,
+    /// Bytes of a sample (bSubslotSize).
+    pub subslot: u8,
+    /// Bits of a sample that are used, the uppermost ones (bBitResolution).
+    pub bits: u8,
+    pub ghost in_range: { IsFormat channels subslot bits },
+}
+
+impl Format {
+    /// The format of these numbers; None exactly where one of them is out of its range.
+    pub fn new(channels: u8, subslot: u8, bits: u8) -> Option<Format>
+        ensures in_range { IsSome result ↔ IsFormat channels subslot bits }
+        ensures fields { IfSome result (λ format. (format.channels ≡ channels) × (format.subslot ≡ subslot) × (format.bits ≡ bits)) }
+    {
+        let fits = matches!(channels, 1..=32) && matches!(subslot, 1..=4);
+        if fits && bits >= 1 && bits <= 8 * subslot {
+            Some(Format {
+                channels,
+                subslot,
+                bits,
+            })
+        } else {
+            None
+        }
+    }
+
+    /// The number of bytes of a frame.
+    pub fn frame_bytes(&self) -> usize
+        ensures { result ≡ self.now.channels * self.now.subslot }
+    {
+        usize::from(self.channels) * usize::from(self.subslot)
+    }
+
+    /// Appends the frame's bytes to the packet; false exactly where they do not fit, and then the packet stays as it was.
+    pub fn pack(&self, frame: &Frame, packet: &mut Packet) -> bool
+        requires { array_vec_len frame.now ≡ self.now.channels }
+        ensures fits { IsTrue result ↔ (array_vec_len packet.old + self.now.channels * self.now.subslot ≤ 3072) }
+        ensures appended { OnTrue result (packet.new.items ≡ packet.old.items ++ bytes_of_frame self.now.subslot self.now.bits frame.now.items) }
+        ensures len { OnTrue result (array_vec_len packet.new ≡ array_vec_len packet.old + self.now.channels * self.now.subslot) }
+        ensures full { OnFalse result (packet.new ≡ packet.old) }
+    {
+        if packet.remaining_capacity() < self.frame_bytes() {
+            return false;
+        }
+        for sample in frame.as_slice() {
+            let bytes = word(*sample, usize::from(self.subslot), self.bits);
+            // There is room for the whole frame, so each word fits.
+            let _ = packet.try_extend_from_slice(bytes.as_slice());
+        }
+        true
+    }
+
+    /// Makes `frame` the samples of these bytes, which are one frame's.
+    pub fn unpack(&self, bytes: &[u8], frame: &mut Frame)
+        requires { length bytes.now ≡ self.now.channels * self.now.subslot }
+        ensures samples { frame.new.items ≡ frame_of_bytes self.now.channels self.now.subslot self.now.bits bytes.now }
+        ensures len { array_vec_len frame.new ≡ self.now.channels }
+    {
+        frame.clear();
+        let size = usize::from(self.subslot);
+        for word in bytes.chunks_exact(size) {
+            frame.push(sample_of(word, size, self.bits));
+        }
+    }
+}

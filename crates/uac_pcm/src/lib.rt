@@ -1,0 +1,21 @@
+//! Samples of Type I PCM: the words, frames and packets that carry them, and the tones that make them.
+#![tactic(auto)]
+
+mod formats;
+pub mod laws;
+mod tones;
+mod words;
+
+pub use formats::Format;
+pub use tones::Tone;
+
+#[cfg(test)]
+mod tests;
+
+use arrayvec::ArrayVec;
+
+/// One sample for each channel, of full scale: signed numbers of 32 bits.
+pub type Frame = ArrayVec<i32, 32>;
+
+/// The bytes of an isochronous transfer in one microframe: at most three transactions of 1,024.
+pub type Packet = ArrayVec<u8, 3072>;

@@ -1,0 +1,36 @@
+//! Test tones: samples that are a function of their place.
+ghost use Rattle.std.specs.Prelude.{◌≡◌};
+ghost use Rattle.uac_pcm.specs.Tones.{tone_sample};
+
+/// What a track or a jack plays where nothing else is given (profile).
+#[derive(Clone, Copy, Debug, PartialEq, Eq)]
+pub enum Tone {
+    /// Zeros.
+    Silent,
+    /// A straight line that wraps at 32 bits.
+    Ramp { start: i32, step: i32 },
+    /// Numbers without a pattern to the ear, the same for each seed.
+    Noise { seed: u32 },
+}
+
+impl Tone {
+    /// The sample at a place, which counts frames from 0, of a channel, which counts from 0.
+    pub fn sample(&self, place: u64, channel: u32) -> i32
+        ensures { result ≡ tone_sample self.now place channel }
+    {
+        let low_place = (place % (1 << 32)) as u32;
+        match *self {
+            Tone::Silent => 0,
+            Tone::Ramp { start, step } => {
+                let rises = low_place.wrapping_add(channel).cast_signed();
+                start.wrapping_add(step.wrapping_mul(rises))
+            }
+            Tone::Noise { seed } => {
+                let number = seed
+                    .wrapping_add(low_place.wrapping_mul(32))
+                    .wrapping_add(channel);
+                number.wrapping_mul(2654435761).cast_signed()
+            }
+        }
+    }
+}

@@ -1,0 +1,5 @@
+pub mod Listing
+pub mod Mixing
+pub mod Samples
+pub mod Tallying
+pub mod Worked

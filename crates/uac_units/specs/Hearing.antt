@@ -1,0 +1,33 @@
+-- What meters make of the frames they hear (profile).
+use Rattle.std.specs.Prelude.{ℕ, ◌+◌, ◌-◌, ◌^◌, min, max, Bool, ◌||◌, ℤ, pos, negsuc, List, unsigned_abs, count_by}
+use Rattle.std.specs.List.{fold, sum_by}
+use Rattle.std.specs.Ordering.{int_eq}
+use Rattle.uac_units.specs.declared.hearing.MeterKind.{MeterKind}
+use Rattle.uac_units.specs.declared.hearing.MeterKind.TheVariants.{Peak, Clipped, Sum}
+
+-- what a meter shows: its kind and its value
+pub record Reading : Type 0 where
+  pub kind : MeterKind
+  pub value : ℕ
+
+-- the value, or the greatest number of 64 bits where it would pass that
+abbrev pub held : ℕ → ℕ
+held value = min value (2 ^ 64 - 1)
+
+-- the greatest absolute sample of a frame
+abbrev pub peak_of : List ℤ → ℕ
+peak_of frame = fold (λ peak sample. max peak (unsigned_abs sample)) 0 frame
+
+-- the sample is at full scale, above or below
+abbrev pub is_clipped : ℤ → Bool
+is_clipped sample = int_eq sample (pos 2147483647) || int_eq sample (negsuc 2147483647)
+
+-- the value after a frame, by kind
+abbrev pub heard : MeterKind → ℕ → List ℤ → ℕ
+heard Peak value frame = held (max value (peak_of frame))
+heard Clipped value frame = held (value + count_by is_clipped frame)
+heard Sum value frame = held (value + sum_by unsigned_abs frame)
+
+-- the reading after a frame
+unfoldable pub after_hearing : List ℤ → Reading → Reading
+after_hearing frame reading = record { kind = reading.kind; value = heard reading.kind reading.value frame }

@@ -1,0 +1,4 @@
+pub mod Fitting
+pub mod Hearing
+pub mod Panel
+pub mod Rendering

@@ -1,0 +1,36 @@
+//! What a user of units and meters may rely on. Each function does nothing: its contract is the law.
+
+ghost use Rattle.std.specs.Prelude.{◌≡◌, ℕ, ◌+◌, ◌^◌, ◌<◌, ◌≤◌, ℤ, pos, List, [], length, slice_index_or};
+ghost use Rattle.std.specs.List.{All};
+ghost use Rattle.uac_units.specs.Hearing.{heard};
+ghost use Rattle.uac_units.specs.Rendering.{in_a_row, pins_sample, rendered, unit_sample};
+ghost use Rattle.uac_units.specs.declared.hearing.MeterKind.{MeterKind};
+ghost use Rattle.uac_units.specs.declared.jobs.Job.{Job};
+ghost use Rattle.uac_units.specs.declared.jobs.UnitKind.{UnitKind};
+ghost use Rattle.uac_units.specs.declared.jobs.UnitKind.TheVariants.{Mixer, Selector, Feature, Effect};
+
+/// A unit renders one sample for each output channel.
+pub fn each_output_has_its_sample()
+    ensures length { (kind : UnitKind) (job : Job) (pins : List ℤ) → length (rendered kind job pins) ≡ job.outputs }
+    ensures sample { (kind : UnitKind) (job : Job) (pins : List ℤ) (channel : ℕ) → channel < job.outputs
+        → slice_index_or (rendered kind job pins) channel (pos 0) ≡ pins_sample kind job pins channel }
+{}
+
+/// The pins in a row give what the sources' frames give, pin by pin.
+pub fn pins_are_the_sources()
+    ensures mixer { (job : Job) (sources : List (List ℤ)) (channel : ℕ)
+        → pins_sample Mixer job (in_a_row sources) channel ≡ unit_sample Mixer job sources channel }
+    ensures selector { (job : Job) (sources : List (List ℤ)) (channel : ℕ) → All (λ frame. length frame ≡ job.outputs) sources
+        → job.pin < length sources → channel < job.outputs
+        → pins_sample Selector job (in_a_row sources) channel ≡ unit_sample Selector job sources channel }
+    ensures feature { (job : Job) (sources : List (List ℤ)) (channel : ℕ) → channel < length (slice_index_or sources 0 [])
+        → pins_sample Feature job (in_a_row sources) channel ≡ unit_sample Feature job sources channel }
+    ensures effect { (job : Job) (sources : List (List ℤ)) (channel : ℕ) → channel < length (slice_index_or sources 0 [])
+        → pins_sample Effect job (in_a_row sources) channel ≡ unit_sample Effect job sources channel }
+{}
+
+/// A meter's value never falls, and stays a number of 64 bits.
+pub fn meters_never_fall()
+    ensures rises { (kind : MeterKind) (value : ℕ) (frame : List ℤ) → value < 2 ^ 64 → value ≤ heard kind value frame }
+    ensures fits { (kind : MeterKind) (value : ℕ) (frame : List ℤ) → heard kind value frame < 2 ^ 64 }
+{}

@@ -1,0 +1,24 @@
+//! The units of a signal graph and the meters that hear its outputs: boxed objects that a caller makes and hands in.
+#![tactic(auto)]
+
+mod counting;
+mod hearing;
+mod jobs;
+pub mod laws;
+mod panel;
+mod plain;
+mod rendering;
+mod slots;
+mod tallies;
+
+pub use counting::Steps;
+pub use hearing::{Meter, MeterKind};
+pub use jobs::{Job, Pins, UnitKind};
+pub use panel::Meters;
+pub use plain::{PlainEffect, PlainFeature, PlainMixer, PlainSelector};
+pub use rendering::Unit;
+pub use slots::Rack;
+pub use tallies::{ClippedMeter, PeakMeter, SumMeter};
+
+#[cfg(test)]
+mod tests;

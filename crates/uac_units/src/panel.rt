@@ -1,0 +1,81 @@
+//! All meters together.
+
+ghost use Rattle.std.specs.Prelude.{◌≡◌, ◌<◌, length, map, slice_get, Some};
+ghost use Rattle.uac_units.specs.Hearing.{after_hearing};
+ghost use Rattle.uac_units.specs.Panel.{readings, readings_of};
+
+use crate::hearing::{Meter, MeterKind};
+use uac_pcm::Frame;
+
+/// The meters that hear what a device plays, in a fixed order.
+#[derive(Drop)]
+pub struct Meters {
+    list: Vec<Box<dyn Meter>>,
+}
+
+impl Meters {
+    /// Takes the meters in the order of the list.
+    pub fn new(list: Vec<Box<dyn Meter>>) -> Meters
+        ensures { readings (λ v x. (⟦<dyn Meter as Meter>⟧ v).reading_of x) result
+            ≡ readings_of (λ v x. (⟦<dyn Meter as Meter>⟧ v).reading_of x) list.items }
+    {
+        Meters { list }
+    }
+
+    /// How many meters there are.
+    pub fn len(&self) -> usize
+        ensures { result ≡ length (readings (λ v x. (⟦<dyn Meter as Meter>⟧ v).reading_of x) self.now) }
+    {
+        self.list.len()
+    }
+
+    /// The kind of the meter at that place.
+    pub fn kind(&self, at: usize) -> MeterKind
+        requires { at < length (readings (λ v x. (⟦<dyn Meter as Meter>⟧ v).reading_of x) self.now) }
+        ensures { slice_get (map (λ r. r.kind) (readings (λ v x. (⟦<dyn Meter as Meter>⟧ v).reading_of x) self.now)) at
+            ≡ Some result }
+    {
+        kind_of(&self.list[at])
+    }
+
+    /// The value of the meter at that place.
+    pub fn value(&self, at: usize) -> u64
+        requires { at < length (readings (λ v x. (⟦<dyn Meter as Meter>⟧ v).reading_of x) self.now) }
+        ensures { slice_get (map (λ r. r.value) (readings (λ v x. (⟦<dyn Meter as Meter>⟧ v).reading_of x) self.now)) at
+            ≡ Some result }
+    {
+        value_of(&self.list[at])
+    }
+
+    /// Lets every meter hear the frame.
+    pub fn hear(&mut self, frame: &Frame)
+        ensures { readings (λ v x. (⟦<dyn Meter as Meter>⟧ v).reading_of x) self.new
+            ≡ map (after_hearing frame.now.items) (readings (λ v x. (⟦<dyn Meter as Meter>⟧ v).reading_of x) self.old) }
+    {
+        for at in 0..self.list.len() {
+            hear_one(&mut self.list[at], frame);
+        }
+    }
+}
+
+/// The kind of one meter.
+fn kind_of(meter: &Box<dyn Meter>) -> MeterKind
+    ensures { result ≡ ((⟦<dyn Meter as Meter>⟧ meter.now.vtable).reading_of meter.now.value).kind }
+{
+    meter.kind()
+}
+
+/// The value of one meter.
+fn value_of(meter: &Box<dyn Meter>) -> u64
+    ensures { result ≡ ((⟦<dyn Meter as Meter>⟧ meter.now.vtable).reading_of meter.now.value).value }
+{
+    meter.value()
+}
+
+/// Lets one meter hear the frame.
+fn hear_one(meter: &mut Box<dyn Meter>, frame: &Frame)
+    ensures { (⟦<dyn Meter as Meter>⟧ meter.new.vtable).reading_of meter.new.value
+        ≡ after_hearing frame.now.items ((⟦<dyn Meter as Meter>⟧ meter.old.vtable).reading_of meter.old.value) }
+{
+    meter.hear(frame);
+}

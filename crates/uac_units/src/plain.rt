@@ -1,0 +1,134 @@
+//! The units as they stand in the definitions, one sample after the other.
+
+ghost use Rattle.std.specs.Prelude.{◌≡◌, ◌+◌, ◌^◌, ◌<◌, ◌≤◌, length};
+ghost use Rattle.std.specs.List.{All};
+ghost use Rattle.uac_units.specs.declared.jobs.UnitKind.TheVariants.{Mixer, Selector, Feature, Effect};
+ghost use Rattle.uac_units.specs.Rendering.{FitsKind, gained, pins_sample, rendered};
+
+use crate::counting::Steps;
+use crate::jobs::{Job, Pins, UnitKind};
+use crate::rendering::Unit;
+use uac_gain::{saturate, scale};
+use uac_pcm::Frame;
+
+/// A mixer (Audio Class 2.0, 3.13.3): each output is the saturated sum of all inputs, each scaled by its node's gain.
+#[derive(Drop)]
+pub struct PlainMixer;
+
+/// A selector (Audio Class 2.0, 3.13.4): the outputs are its chosen pin's channels.
+#[derive(Drop)]
+pub struct PlainSelector;
+
+/// A feature (Audio Class 2.0, 3.13.5): each channel is scaled by its own gain and then by the master's.
+#[derive(Drop)]
+pub struct PlainFeature;
+
+/// An effect (Audio Class 2.0, 3.13.7), bypassed: the outputs are its inputs.
+#[derive(Drop)]
+pub struct PlainEffect;
+
+impl Unit for PlainMixer {
+    ghost kind_of = { λ _. Mixer };
+
+    fn kind(&self) -> UnitKind {
+        UnitKind::Mixer
+    }
+
+    fn render(&self, job: &Job, pins: &Pins, out: &mut Frame, steps: &mut Steps) {
+        render_as(UnitKind::Mixer, job, pins, out, steps);
+    }
+}
+
+impl Unit for PlainSelector {
+    ghost kind_of = { λ _. Selector };
+
+    fn kind(&self) -> UnitKind {
+        UnitKind::Selector
+    }
+
+    fn render(&self, job: &Job, pins: &Pins, out: &mut Frame, steps: &mut Steps) {
+        render_as(UnitKind::Selector, job, pins, out, steps);
+    }
+}
+
+impl Unit for PlainFeature {
+    ghost kind_of = { λ _. Feature };
+
+    fn kind(&self) -> UnitKind {
+        UnitKind::Feature
+    }
+
+    fn render(&self, job: &Job, pins: &Pins, out: &mut Frame, steps: &mut Steps) {
+        render_as(UnitKind::Feature, job, pins, out, steps);
+    }
+}
+
+impl Unit for PlainEffect {
+    ghost kind_of = { λ _. Effect };
+
+    fn kind(&self) -> UnitKind {
+        UnitKind::Effect
+    }
+
+    fn render(&self, job: &Job, pins: &Pins, out: &mut Frame, steps: &mut Steps) {
+        render_as(UnitKind::Effect, job, pins, out, steps);
+    }
+}
+
+/// Makes `out` the samples of a unit of that kind, and counts one render.
+fn render_as(kind: UnitKind, job: &Job, pins: &Pins, out: &mut Frame, steps: &mut Steps)
+    requires fits { FitsKind kind job.now pins.now.items }
+    requires gains { All (λ gain. gain ≤ 2 ^ 30) job.now.gains.items }
+    requires room { steps.old + 1 < 2 ^ 64 }
+    ensures samples { out.new.items ≡ rendered kind job.now pins.now.items }
+    ensures counted { steps.new ≡ steps.old + 1 }
+{
+    out.clear();
+    for channel in 0..job.outputs as usize {
+        out.push(sample_of(kind, job, pins, channel));
+    }
+    steps.tick();
+}
+
+/// The sample of one output channel of a unit of that kind.
+fn sample_of(kind: UnitKind, job: &Job, pins: &Pins, channel: usize) -> i32
+    requires fits { FitsKind kind job.now pins.now.items }
+    requires gains { All (λ gain. gain ≤ 2 ^ 30) job.now.gains.items }
+    requires inside { channel < job.now.outputs }
+    ensures { result ≡ pins_sample kind job.now pins.now.items channel }
+{
+    match kind {
+        UnitKind::Mixer => mix(job, pins, channel),
+        UnitKind::Selector => pins[job.pin as usize * job.outputs as usize + channel],
+        UnitKind::Feature => {
+            let own = gained(job, pins, channel, 2 * channel);
+            scale(own, job.gains[2 * channel + 1])
+        }
+        UnitKind::Effect => pins[channel],
+    }
+}
+
+/// The saturated sum of all inputs, each scaled by the gain of its node with this output.
+fn mix(job: &Job, pins: &Pins, channel: usize) -> i32
+    requires fits { FitsKind Mixer job.now pins.now.items }
+    requires gains { All (λ gain. gain ≤ 2 ^ 30) job.now.gains.items }
+    requires inside { channel < job.now.outputs }
+    ensures { result ≡ pins_sample Mixer job.now pins.now.items channel }
+{
+    let outputs = job.outputs as usize;
+    let mut sum: i64 = 0;
+    for at in 0..pins.len() {
+        sum += gained(job, pins, at, at * outputs + channel) as i64;
+    }
+    saturate(sum)
+}
+
+/// An input, scaled by the job's gain of that number.
+fn gained(job: &Job, pins: &Pins, at: usize, gain: usize) -> i32
+    requires input { at < length pins.now.items }
+    requires gain { gain < length job.now.gains.items }
+    requires gains { All (λ gain. gain ≤ 2 ^ 30) job.now.gains.items }
+    ensures { result ≡ gained job.now pins.now.items at gain }
+{
+    scale(pins[at], job.gains[gain])
+}
