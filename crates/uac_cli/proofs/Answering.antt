@@ -1,36 +1,146 @@
--- From what reading came to, and the writing of its line, to what the call means.
-use Rattle.std.proofs.Common.{◌≡◌, ℕ, inl, inr, List, [], ap, ◌∙◌, refl, subst, Option, None, Some}
-use Rattle.std.specs.Io.KnownBytes.{Consumes}
+-- From what reading came to, and the writing of its text, to what the call means.
+use Rattle.std.proofs.Common.{◌≡◌, ℕ, ◌⊎◌, inl, inr, List, [], sym, refl, subst, ◌∙◌, Option, None, Some}
+use Rattle.uac_descriptor.specs.declared.block.Block.{Block}
+use Rattle.uac_sentence.specs.Sentence.{IsSentence}
 use Rattle.uac_grammar.specs.declared.fault.ReadStop.{ReadStop}
-use Rattle.uac_cli.specs.declared.reading.Reading.TheVariants.{Stopped}
+use Rattle.uac_grammar.specs.declared.fault.ReadStop.TheVariants.{Fault, NoMemory}
+use Rattle.uac_rules.specs.declared.fault.TopologyFault.{TopologyFault}
+use Rattle.uac_topology.specs.declared.soundness.CheckStop.{CheckStop}
+use Rattle.uac_topology.specs.declared.soundness.CheckStop.TheVariants as stops
+use Rattle.uac_topology.specs.Function.{FunctionFields}
+use Rattle.uac_topology.specs.Topology.{first_broken, IsSound, IsFunctionOf, Tells}
+use Rattle.uac_cli.specs.declared.command.Command.{Command}
+use Rattle.uac_cli.specs.declared.reading.Reading.TheVariants.{Whole, Stopped, Failed}
 use Rattle.uac_cli.specs.declared.status.Status.{Status}
-use Rattle.uac_cli.specs.Outcome.{at_end, refused, Outcome, refusal, verdict, by_end}
-use Rattle.uac_cli.specs.Reading.{Reads, Comes}
-use Rattle.uac_cli.specs.Run.{Closes, IsChecked}
+use Rattle.uac_cli.specs.declared.status.Status.TheVariants as statuses
+use Rattle.uac_cli.specs.Outcome.{at_end, read_failed, stopped, Outcome, usage, no_memory, read_fault, refusal, sound, shows_fault, fails, ends_in_fault, is_sound, is_broken, is_read, unsound, IsOutcome}
+use Rattle.uac_cli.specs.Reading.{Reads}
+use Rattle.uac_cli.specs.Run.{Closes, Judges, Refuses, RefusesFunction, IsRun}
+use Rattle.uac_cli.proofs.Composing.{Consumes-none, nothing_shown, quiet_so_far}
 
--- no bytes were taken
-pub Consumes-none : (a : Option (List ℕ)) → Consumes a a []
-Consumes-none None = tt
-Consumes-none (Some xs) = refl
+module _ (a b : Option (List ℕ)) (r r' : ℕ) (w w' : Option (List ℕ)) (f f' : ℕ) (status : Status) where
+  -- the verdict on the blocks that were read was written
+  pub judged_run : (command : Command) (blocks : _) (lent : List Block) → Reads a b r r' (Whole blocks) → lent ≡ blocks.items
+      → Judges command lent w w' f f' status → IsRun (Some command) a b r r' w w' f f' status
+  judged_run command blocks lent reads same judges = elim judges.meant as (λ _. IsRun (Some command) a b r r' w w' f f' status) [
+    | inl verdict ↦ record {
+      taken = reads.taken;
+      end = at_end;
+      outcome = judges.outcome;
+      consumed = reads.consumed;
+      ended = reads.comes.0;
+      prompt = reads.prompt;
+      meant = inl (is_read lent judges.outcome (subst (λ (bs : List Block). IsSentence reads.taken bs) (sym same) reads.comes.1) verdict);
+      closed = judges.closed;
+    }
+    | inr none ↦ record {
+      taken = reads.taken;
+      end = at_end;
+      outcome = judges.outcome;
+      consumed = reads.consumed;
+      ended = reads.comes.0;
+      prompt = reads.prompt;
+      meant = inr (refl, none);
+      closed = judges.closed;
+    }
+  ]
 
--- a descriptor is refused
-refused_by : (taken : List ℕ) (a b : Option (List ℕ)) (r r' : ℕ) (w w' : Option (List ℕ)) (f f' : ℕ) (stop : ReadStop) (status : Status)
-    → Consumes a b taken → Comes (Stopped stop) taken b r r' → Closes (refusal stop) w w' f f' status → IsChecked a b r r' w w' f f' status
-refused_by taken a b r r' w w' f f' stop status consumed (inl e) closed =
-    record { taken = taken; end = refused; outcome = refusal stop; takes = record { consumed = consumed; ended = tt }; meant = inr (ap refusal e); closed = closed }
-refused_by taken a b r r' w w' f f' stop status consumed (inr (inl e)) closed =
-    record { taken = taken; end = refused; outcome = refusal stop; takes = record { consumed = consumed; ended = tt }; meant = inl (ap (by_end taken refused) e); closed = closed }
-refused_by taken a b r r' w w' f f' stop status consumed (inr (inr e)) closed =
-    record { taken = taken; end = at_end; outcome = refusal stop; takes = record { consumed = consumed; ended = e.0 }; meant = inl (ap (by_end taken at_end) e.1 ∙ ap (λ s. Some (verdict s)) e.2); closed = closed }
+  -- a read failed
+  pub failed_run : (command : Command) → Reads a b r r' Failed → Closes read_fault w w' f f' status → IsRun (Some command) a b r r' w w' f f' status
+  failed_run command reads closed = record {
+    taken = reads.taken;
+    end = read_failed;
+    outcome = read_fault;
+    consumed = reads.consumed;
+    prompt = reads.prompt;
+    ended = reads.comes.0;
+    meant = inl (fails reads.comes.1);
+    closed = closed;
+  }
 
--- an outcome by its parts
-same_outcome : (o : Outcome) (text : List ℕ) (status : Status) → text ≡ o.text → status ≡ o.status → record { text = text; status = status } ≡ o
-same_outcome o text status t s = λ i. record { text = t i; status = s i }
+  -- a descriptor was refused
+  pub refused_run : (command : Command) (stop : ReadStop) → Reads a b r r' (Stopped stop) → Refuses stop w w' f f' status → IsRun (Some command) a b r r' w w' f f' status
+  refused_run command NoMemory reads closed = record {
+    taken = reads.taken;
+    end = stopped;
+    outcome = no_memory;
+    consumed = reads.consumed;
+    prompt = reads.prompt;
+    ended = tt;
+    meant = inr (refl, refl);
+    closed = closed;
+  }
+  refused_run command (Fault fault) reads closed = elim reads.comes as (λ _. IsRun (Some command) a b r r' w w' f f' status) [
+    | inl shown ↦ record {
+      taken = reads.taken;
+      end = stopped;
+      outcome = refusal fault;
+      consumed = reads.consumed;
+      prompt = reads.prompt;
+      ended = tt;
+      meant = inl (shows_fault stopped fault shown);
+      closed = closed;
+    }
+    | inr last ↦ record {
+      taken = reads.taken;
+      end = at_end;
+      outcome = refusal fault;
+      consumed = reads.consumed;
+      prompt = reads.prompt;
+      ended = last.0;
+      meant = inl (ends_in_fault fault last.1);
+      closed = closed;
+    }
+  ]
 
--- the line of a refusal was written
-pub refused_line : (a b : Option (List ℕ)) (r r' : ℕ) (w w' : Option (List ℕ)) (f f' : ℕ) (stop : ReadStop) (text : List ℕ) (asked status : Status)
-    → Reads a b r r' (Stopped stop) → text ≡ (refusal stop).text → asked ≡ (refusal stop).status
-    → Closes (record { text = text; status = asked }) w w' f f' status → IsChecked a b r r' w w' f f' status
-refused_line a b r r' w w' f f' stop text asked status reads t s closed =
-    refused_by reads.taken a b r r' w w' f f' stop status reads.consumed reads.comes
-    (subst (λ (o : Outcome). Closes o w w' f f' status) (same_outcome (refusal stop) text asked t s) closed)
+-- the words are no command
+pub usage_run : (command : Option Command) (a : Option (List ℕ)) (r : ℕ) (w w' : Option (List ℕ)) (f f' : ℕ) (status : Status)
+    → command ≡ None → Closes usage w w' f f' status → IsRun command a a r r w w' f f' status
+usage_run command a r w w' f f' status none closed = record {
+  taken = [];
+  end = stopped;
+  outcome = usage;
+  consumed = Consumes-none a;
+  prompt = quiet_so_far [] nothing_shown;
+  ended = tt;
+  meant = inl (subst (λ (c : Option Command). IsOutcome c [] stopped usage) (sym none) (refl, refl));
+  closed = closed;
+}
+
+-- the line of an outcome was written
+line_of_outcome : (o : Outcome) (text : List ℕ) (w w' : Option (List ℕ)) (f f' : ℕ) (status : Status) → text ≡ o.text
+    → Closes (record { text = text; status = o.status }) w w' f f' status → Closes o w w' f f' status
+line_of_outcome o text w w' f f' status line closed =
+    subst (λ (t : List ℕ). Closes (record { text = t; status = o.status }) w w' f f' status) line closed
+
+-- a descriptor was refused by the grammar
+pub refuses_fault : (stop : ReadStop) (fault : _) (text : List ℕ) (w w' : Option (List ℕ)) (f f' : ℕ) (status : Status) → stop ≡ Fault fault → text ≡ (refusal fault).text
+    → Closes (record { text = text; status = statuses.Descriptor }) w w' f f' status → Refuses stop w w' f f' status
+refuses_fault stop fault text w w' f f' status is line closed =
+    subst (λ (s : ReadStop). Refuses s w w' f f' status) (sym is) (line_of_outcome (refusal fault) text w w' f f' status line closed)
+
+pub refuses_memory : (stop : ReadStop) (w w' : Option (List ℕ)) (f f' : ℕ) (status : Status) → stop ≡ NoMemory → Closes no_memory w w' f f' status → Refuses stop w w' f f' status
+refuses_memory stop w w' f f' status is closed = subst (λ (s : ReadStop). Refuses s w w' f f' status) (sym is) closed
+
+-- a function was refused by the topology
+pub refuses_function : (stop : CheckStop) (fault : TopologyFault) (text : List ℕ) (w w' : Option (List ℕ)) (f f' : ℕ) (status : Status) → stop ≡ stops.Fault fault → text ≡ (unsound fault).text
+    → Closes (record { text = text; status = statuses.Descriptor }) w w' f f' status → RefusesFunction stop w w' f f' status
+refuses_function stop fault text w w' f f' status is line closed =
+    subst (λ (s : CheckStop). RefusesFunction s w w' f f' status) (sym is) (line_of_outcome (unsound fault) text w w' f f' status line closed)
+
+pub refuses_function_memory : (stop : CheckStop) (w w' : Option (List ℕ)) (f f' : ℕ) (status : Status) → stop ≡ stops.NoMemory → Closes no_memory w w' f f' status → RefusesFunction stop w w' f f' status
+refuses_function_memory stop w w' f f' status is closed = subst (λ (s : CheckStop). RefusesFunction s w w' f f' status) (sym is) closed
+
+-- a sound function was printed
+pub judges_sound : (command : Command) (blocks : List Block) (function : FunctionFields) (w w' : Option (List ℕ)) (f f' : ℕ) (status : Status)
+    → IsSound blocks × IsFunctionOf function blocks
+    → Closes (sound command blocks function) w w' f f' status ⊎ Closes no_memory w w' f f' status → Judges command blocks w w' f f' status
+judges_sound command blocks function w w' f f' status holds (inl closed) =
+    record { outcome = sound command blocks function; meant = inl (is_sound function holds.0 holds.1); closed = closed }
+judges_sound command blocks function w w' f f' status holds (inr closed) = record { outcome = no_memory; meant = inr refl; closed = closed }
+
+-- it was refused
+pub judges_broken : (command : Command) (blocks : List Block) (stop : CheckStop) (w w' : Option (List ℕ)) (f f' : ℕ) (status : Status)
+    → Tells stop (first_broken blocks) → RefusesFunction stop w w' f f' status → Judges command blocks w w' f f' status
+judges_broken command blocks (stops.Fault fault) w w' f f' status tells closed = record { outcome = unsound fault; meant = inl (is_broken fault tells); closed = closed }
+judges_broken command blocks stops.NoMemory w w' f f' status tells closed = record { outcome = no_memory; meant = inr refl; closed = closed }

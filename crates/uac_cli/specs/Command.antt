@@ -1,7 +1,17 @@
--- The command line: which words the program takes (profile).
-use Rattle.std.specs.Prelude.{◌≡◌, ℕ, List, [], ◌∷◌, codes}
+-- The command line: the commands, each one word (profile).
+use Rattle.std.specs.Prelude.{ℕ, List, [], ◌∷◌, nat_eq, if◌then◌else◌, Option, Some, None, codes}
+use Rattle.std.specs.Cmp.Lexicographic.{pointwise}
+use Rattle.uac_cli.specs.declared.command.Command.{Command}
+use Rattle.uac_cli.specs.declared.command.Command.TheVariants.{Check, Show}
 
--- the words behind the program's name, as bytes, are the one word `check`
-abbrev pub IsCheck : List (List ℕ) → Type 0
-IsCheck (word ∷ []) = word ≡ codes "check"
-IsCheck _ = ⊥
+-- the command of this name
+abbrev pub named : List ℕ → Option Command
+named word =
+    if pointwise nat_eq word (codes "check") then Some Check
+    else if pointwise nat_eq word (codes "show") then Some Show
+    else None
+
+-- the command that the words behind the program's name are
+abbrev pub command_of : List (List ℕ) → Option Command
+command_of (word ∷ []) = named word
+command_of _ = None

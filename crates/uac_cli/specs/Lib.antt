@@ -1,4 +1,6 @@
 pub mod Command
+pub mod Entities
 pub mod Outcome
 pub mod Reading
 pub mod Run
+pub mod Show

@@ -1,10 +1,19 @@
--- What a run writes and how it ends, from the bytes that were taken of the input (profile).
-use Rattle.std.specs.Prelude.{ℕ, List, ◌++◌, Option, None, Some, codes, decimal}
-use Rattle.uac_grammar.specs.declared.fault.ReadStop.{ReadStop}
-use Rattle.uac_grammar.specs.declared.fault.ReadStop.TheVariants.{Fault, Unbuilt, NoMemory}
-use Rattle.uac_grammar.specs.Stop.{first_stop, shown_stop}
+-- What a run writes and how it ends, from the command and the bytes that were taken of the input (profile).
+use Rattle.std.specs.Prelude.{◌≡◌, ℕ, Bool, true, false, List, [], ◌++◌, length, flat_map, Option, None, Some, codes, decimal}
+use Rattle.uac_descriptor.specs.declared.block.Block.{Block}
+use Rattle.uac_sentence.specs.declared.faults.GrammarFault.{GrammarFault}
+use Rattle.uac_sentence.specs.Grammar.{first_fault}
+use Rattle.uac_sentence.specs.Sentence.{IsSentence}
+use Rattle.uac_grammar.specs.Stop.{shown_fault}
+use Rattle.uac_rules.specs.declared.fault.TopologyFault.{TopologyFault}
+use Rattle.uac_topology.specs.Function.{FunctionFields}
+use Rattle.uac_topology.specs.Topology.{first_broken, IsSound, IsFunctionOf}
+use Rattle.uac_cli.specs.declared.command.Command.{Command}
+use Rattle.uac_cli.specs.declared.command.Command.TheVariants.{Check, Show}
 use Rattle.uac_cli.specs.declared.status.Status.{Status}
 use Rattle.uac_cli.specs.declared.status.Status.TheVariants as statuses
+use Rattle.uac_cli.specs.Entities.{entity_line}
+use Rattle.uac_cli.specs.Show.{block_lines}
 
 -- why no more was taken of the source
 pub data End : Type 0 where
@@ -12,8 +21,8 @@ pub data End : Type 0 where
   at_end : End
   -- a read failed
   read_failed : End
-  -- a refusal stands in what was taken
-  refused : End
+  -- a refusal stands in what was taken, or memory was wanted
+  stopped : End
 
 -- the text and the status
 pub record Outcome : Type 0 where
@@ -21,7 +30,7 @@ pub record Outcome : Type 0 where
   pub status : Status
 
 abbrev pub usage : Outcome
-usage = record { text = codes "usage: uac_cli check\n"; status = statuses.Usage }
+usage = record { text = codes "usage: uac_cli check|show\n"; status = statuses.Usage }
 
 abbrev pub read_fault : Outcome
 read_fault = record { text = codes "read fault\n"; status = statuses.ReadFault }
@@ -29,31 +38,54 @@ read_fault = record { text = codes "read fault\n"; status = statuses.ReadFault }
 abbrev pub no_memory : Outcome
 no_memory = record { text = codes "no memory\n"; status = statuses.NoMemory }
 
--- a descriptor of so many blocks is sound
-abbrev pub sound : ℕ → Outcome
-sound blocks = record { text = codes "ok blocks " ++ decimal blocks ++ codes "\n"; status = statuses.Ok }
-
--- a descriptor is refused: the rule and its place, or the place that isn't built
-abbrev pub refusal : ReadStop → Outcome
-refusal (Fault f) = record {
-  text = codes "descriptor G" ++ decimal f.rule ++ codes " at " ++ decimal f.at ++ codes "\n";
+-- a descriptor breaks a rule of the grammar: the rule and its place
+abbrev pub refusal : GrammarFault → Outcome
+refusal fault = record {
+  text = codes "descriptor G" ++ decimal fault.rule ++ codes " at " ++ decimal fault.at ++ codes "\n";
   status = statuses.Descriptor;
 }
-refusal (Unbuilt at) = record { text = codes "not built at " ++ decimal at ++ codes "\n"; status = statuses.Unbuilt }
-refusal NoMemory = no_memory
 
--- all bytes were taken: the first stop of them, or that they are sound
-abbrev pub verdict : Option ReadStop → Outcome
-verdict (Some stop) = refusal stop
-verdict None = sound 4
+-- the function breaks a rule of the topology: the rule and its offender
+abbrev pub offender : Bool → List ℕ
+offender true = codes " interface "
+offender false = codes " entity "
 
--- A stop that is shown comes before a failed read, a failed read before what only the end shows.
-abbrev pub by_end : List ℕ → End → Option ReadStop → Option Outcome
-by_end taken end (Some stop) = Some (refusal stop)
-by_end taken at_end None = Some (verdict (first_stop taken))
-by_end taken read_failed None = Some read_fault
-by_end taken refused None = None
+abbrev pub unsound : TopologyFault → Outcome
+unsound fault = record {
+  text = codes "descriptor U" ++ decimal fault.rule ++ offender fault.interface ++ decimal fault.id ++ codes "\n";
+  status = statuses.Descriptor;
+}
 
--- the outcome of `check` on the bytes taken; there is none where nothing in them is refused and yet no more was taken
-abbrev pub check_outcome : List ℕ → End → Option Outcome
-check_outcome taken end = by_end taken end (shown_stop taken)
+-- what a command prints of a sound descriptor, its blocks and its function
+abbrev pub text_of : Command → List Block → FunctionFields → List ℕ
+text_of Check blocks function =
+    codes "ok blocks " ++ decimal (length blocks) ++ codes " entities " ++ decimal (length function.entities)
+    ++ codes " streams " ++ decimal (length function.streams) ++ codes " domains " ++ decimal (length function.domains) ++ codes "\n"
+text_of Show blocks function = block_lines 0 blocks ++ flat_map entity_line function.entities
+
+-- a descriptor is sound
+abbrev pub sound : Command → List Block → FunctionFields → Outcome
+sound command blocks function = record { text = text_of command blocks function; status = statuses.Ok }
+
+-- what the topology says of blocks
+pub data IsVerdict (command : Command) (blocks : List Block) : Outcome → Type 0 where
+  -- their function is sound
+  is_sound : (function : FunctionFields) → IsSound blocks → IsFunctionOf function blocks → IsVerdict command blocks (sound command blocks function)
+  -- it breaks a rule first
+  is_broken : (fault : TopologyFault) → first_broken blocks ≡ Some fault → IsVerdict command blocks (unsound fault)
+
+-- What a command comes to, by what was taken and why no more was.
+pub data Answers (command : Command) (taken : List ℕ) : End → Outcome → Type 0 where
+  -- the bytes show a fault, whatever would follow
+  shows_fault : (end : End) (fault : GrammarFault) → shown_fault taken ≡ Some fault → Answers command taken end (refusal fault)
+  -- no fault is shown, and a read failed
+  fails : shown_fault taken ≡ None → Answers command taken read_failed read_fault
+  -- the bytes are all, and have a fault
+  ends_in_fault : (fault : GrammarFault) → first_fault taken ≡ Some fault → Answers command taken at_end (refusal fault)
+  -- the bytes are all, and are these blocks
+  is_read : (blocks : List Block) (outcome : Outcome) → IsSentence taken blocks → IsVerdict command blocks outcome → Answers command taken at_end outcome
+
+-- The same of any words: those that are no command take nothing; want of memory is free where there is one.
+abbrev pub IsOutcome : Option Command → List ℕ → End → Outcome → Type 0
+IsOutcome None taken end outcome = (taken ≡ []) × (outcome ≡ usage)
+IsOutcome (Some command) taken end outcome = Answers command taken end outcome

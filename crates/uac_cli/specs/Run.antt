@@ -1,24 +1,24 @@
 -- One call of the program, as its source and its sink see it (profile).
-use Rattle.std.specs.Prelude.{◌≡◌, ℕ, ◌⊎◌, List, [], Option, Some}
+use Rattle.std.specs.Prelude.{◌≡◌, ℕ, ◌⊎◌, List, Option, Some, IsSome}
 use Rattle.std.specs.Io.KnownBytes.{Appends, Consumes, IsAtEnd}
 use Rattle.uac_script.specs.Faults.{Rose}
 use Rattle.uac_script.specs.Writing.{AppendsFront}
+use Rattle.uac_topology.specs.declared.soundness.CheckStop.{CheckStop}
+use Rattle.uac_topology.specs.declared.soundness.CheckStop.TheVariants as check
+use Rattle.uac_cli.specs.declared.command.Command.{Command}
 use Rattle.uac_cli.specs.declared.status.Status.{Status}
 use Rattle.uac_cli.specs.declared.status.Status.TheVariants as statuses
-use Rattle.uac_cli.specs.Command.{IsCheck}
-use Rattle.uac_cli.specs.Outcome.{End, at_end, read_failed, refused, Outcome, usage, no_memory, check_outcome}
+use Rattle.uac_grammar.specs.declared.fault.ReadStop.TheVariants.{Fault, NoMemory}
+use Rattle.uac_descriptor.specs.declared.block.Block.{Block}
+use Rattle.uac_grammar.specs.declared.fault.ReadStop.{ReadStop}
+use Rattle.uac_cli.specs.Reading.{StopsThere}
+use Rattle.uac_cli.specs.Outcome.{End, at_end, read_failed, stopped, Outcome, no_memory, refusal, unsound, IsVerdict, IsOutcome}
 
 -- why no more was taken shows on the source: what is left, and its counts of faults before and after
 abbrev pub HasEnded : End → Option (List ℕ) → ℕ → ℕ → Type 0
 HasEnded at_end left before after = IsAtEnd left
 HasEnded read_failed left before after = Rose before after
-HasEnded refused left before after = Unit {0}
-
--- what the words and the bytes taken come to; want of memory is free
-abbrev pub IsOutcome : List (List ℕ) → List ℕ → End → Outcome → Type 0
-IsOutcome words taken end outcome =
-    ((IsCheck words → ⊥) × (taken ≡ []) × (outcome ≡ usage))
-    ⊎ (IsCheck words × ((check_outcome taken end ≡ Some outcome) ⊎ (outcome ≡ no_memory)))
+HasEnded stopped left before after = Unit {0}
 
 -- The whole text was appended and the status is the outcome's; or the sink failed, and a front of the text was.
 abbrev pub Closes : Outcome → Option (List ℕ) → Option (List ℕ) → ℕ → ℕ → Status → Type 0
@@ -26,25 +26,29 @@ Closes outcome old new before after status =
     ((status ≡ outcome.status) × Appends old new outcome.text)
     ⊎ ((status ≡ statuses.WriteFault) × Rose before after × AppendsFront old new outcome.text)
 
--- what a call took of its source: these bytes, and no more for this reason
-pub record Takes (old new : Option (List ℕ)) (before after : ℕ) (taken : List ℕ) (end : End) : Type 0 where
-  pub consumed : Consumes old new taken
-  pub ended : HasEnded end new before after
-
--- The status and the text follow from the words and the bytes taken.
-pub record IsRun (words : List (List ℕ)) (left left' : Option (List ℕ)) (reads reads' : ℕ) (written written' : Option (List ℕ)) (writes writes' : ℕ) (status : Status) : Type 0 where
+-- The bytes that were taken, why no more were, that none was behind the piece that shows a fault, and what that comes to; or there was no memory.
+pub record IsRun (command : Option Command) (left left' : Option (List ℕ)) (reads reads' : ℕ) (written written' : Option (List ℕ)) (writes writes' : ℕ) (status : Status) : Type 0 where
   pub taken : List ℕ
   pub end : End
   pub outcome : Outcome
-  pub takes : Takes left left' reads reads' taken end
-  pub meant : IsOutcome words taken end outcome
+  pub consumed : Consumes left left' taken
+  pub ended : HasEnded end left' reads reads'
+  pub prompt : StopsThere taken
+  pub meant : IsOutcome command taken end outcome ⊎ (IsSome command × (outcome ≡ no_memory))
   pub closed : Closes outcome written written' writes writes' status
 
--- the same of `check`, whatever the words
-pub record IsChecked (left left' : Option (List ℕ)) (reads reads' : ℕ) (written written' : Option (List ℕ)) (writes writes' : ℕ) (status : Status) : Type 0 where
-  pub taken : List ℕ
-  pub end : End
+-- what is printed of a descriptor that is refused, or for which there was no memory
+abbrev pub Refuses : ReadStop → Option (List ℕ) → Option (List ℕ) → ℕ → ℕ → Status → Type 0
+Refuses (Fault fault) old new before after status = Closes (refusal fault) old new before after status
+Refuses NoMemory old new before after status = Closes no_memory old new before after status
+
+-- what is printed of a function that is refused, or for which there was no memory
+abbrev pub RefusesFunction : CheckStop → Option (List ℕ) → Option (List ℕ) → ℕ → ℕ → Status → Type 0
+RefusesFunction (check.Fault fault) old new before after status = Closes (unsound fault) old new before after status
+RefusesFunction check.NoMemory old new before after status = Closes no_memory old new before after status
+
+-- The text of a verdict on these blocks was written; or there was no memory for it.
+pub record Judges (command : Command) (blocks : List Block) (old new : Option (List ℕ)) (before after : ℕ) (status : Status) : Type 0 where
   pub outcome : Outcome
-  pub takes : Takes left left' reads reads' taken end
-  pub meant : (check_outcome taken end ≡ Some outcome) ⊎ (outcome ≡ no_memory)
-  pub closed : Closes outcome written written' writes writes' status
+  pub meant : IsVerdict command blocks outcome ⊎ (outcome ≡ no_memory)
+  pub closed : Closes outcome old new before after status

@@ -1,13 +1,38 @@
 // The words of the command line.
-ghost use Rattle.std.specs.Prelude.{◌↔◌, IsTrue, map, string_bytes};
-ghost use Rattle.uac_cli.specs.Command.{IsCheck};
+ghost use Rattle.std.specs.Prelude.{◌≡◌, map, string_bytes};
 
-/// Whether the words behind the program's name are the one word `check`.
-pub fn is_check(words: &[String]) -> bool
-    ensures { IsTrue result ↔ IsCheck (map (λ word. string_bytes word) words.now) }
-{
-    if words.len() != 1 {
-        return false;
+/// A command of the program.
+#[derive(Clone, Copy, Debug, PartialEq, Eq)]
+pub enum Command {
+    /// Says whether a descriptor is sound, and if not, which rule it breaks first.
+    Check,
+    /// Lists a sound descriptor's blocks.
+    Show,
+}
+
+impl Command {
+    ghost use Rattle.uac_cli.specs.Command.{command_of, named};
+
+    /// The command that the words behind the program's name are; None for every other list of words.
+    pub fn of(words: &[String]) -> Option<Command>
+        ensures { result ≡ command_of (map (λ word. string_bytes word) words.now) }
+    {
+        if words.len() != 1 {
+            return None;
+        }
+        Command::named(words[0].as_str())
     }
-    words[0].as_str() == "check"
+
+    /// The command of this name.
+    fn named(word: &str) -> Option<Command>
+        ensures { result ≡ named word.now }
+    {
+        if word == "check" {
+            Some(Command::Check)
+        } else if word == "show" {
+            Some(Command::Show)
+        } else {
+            None
+        }
+    }
 }

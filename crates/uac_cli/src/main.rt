@@ -1,14 +1,18 @@
-//! The program `uac_cli`: reads a configuration descriptor from standard input and says whether it is sound.
+//! The program `uac_cli`: reads a configuration descriptor from standard input and says whether it is sound, or lists it.
 #![tactic(auto)]
 
 /// The words of the command line.
 mod command;
 /// Standard input and output.
 mod edges;
+/// Printing the entities of a function.
+mod entities;
 /// The lines that are printed.
 mod lines;
 /// Reading a descriptor from a source.
 mod reading;
+/// Printing the blocks of a descriptor.
+mod show;
 /// How a run ends.
 mod status;
 #[cfg(test)]

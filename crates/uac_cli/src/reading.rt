@@ -1,4 +1,4 @@
-// Reading a descriptor from a source, to its end or to its first stop.
+// Reading a descriptor from a source, to its end or to its first fault.
 ghost use Rattle.std.specs.Prelude.{◌≡◌, ◌≤◌, None};
 ghost use Rattle.uac_cli.specs.Reading.{Reads, Finishes};
 
@@ -10,7 +10,7 @@ use uac_script::{Failed, Source};
 /// What came of reading a descriptor.
 #[derive(Drop)]
 pub enum Reading {
-    /// The input ended and is sound.
+    /// The input ended, and is these blocks.
     Whole(Vec<Block>),
     /// The descriptor is refused, or there was no memory for it.
     Stopped(ReadStop),
@@ -18,7 +18,7 @@ pub enum Reading {
     Failed,
 }
 
-/// Reads a descriptor: to the end of the input, a failed read, or the first stop that the bytes show.
+/// Reads a descriptor: to the end of the input, a failed read, or the first fault that the bytes show.
 pub fn read_descriptor<S: Source>(alloc: Global, source: &mut S) -> Reading
     ensures reads { Reads (S.left source.old) (S.left source.new) (S.faults source.old) (S.faults source.new) result }
     ensures never_falls { S.faults source.old ≤ S.faults source.new }

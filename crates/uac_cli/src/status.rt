@@ -16,6 +16,4 @@ pub enum Status {
     WriteFault = 5,
     /// There was no memory.
     NoMemory = 6,
-    /// The descriptor has a block that isn't built yet.
-    Unbuilt = 8,
 }

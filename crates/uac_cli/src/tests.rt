@@ -6,7 +6,7 @@ use std::test::Fail;
 use uac_descriptor::{ByteList, WordList};
 use uac_script::{MemorySink, MemorySource, SteadySource};
 
-/// The least descriptor of the form: 35 bytes, blocks at 0, 9, 17 and 26.
+/// The least descriptor: 35 bytes, blocks at 0, 9, 17 and 26.
 const MINIMAL: [u8; 35] = [
     9, 2, 35, 0, 1, 1, 0, 0x80, 0x32, 8, 11, 0, 1, 1, 0, 0x20, 0, 9, 4, 0, 0, 0, 1, 1, 0x20, 0, 9,
     0x24, 1, 0, 2, 4, 9, 0, 0,
@@ -20,18 +20,18 @@ fn numbers(alloc: Global, items: &[u32]) -> Result<WordList, Fail> {
     Ok(WordList::from_vec(Vec::from_slice(alloc, items)?))
 }
 
-/// A sink of 64 bytes.
+/// A sink of 224 bytes.
 fn sink_in_memory(alloc: Global, cut: usize, failing: &[u32]) -> Result<MemorySink, Fail>
     requires { 0 < cut }
 {
-    match MemorySink::new(alloc, cut, 64, numbers(alloc, failing)?) {
+    match MemorySink::new(alloc, cut, 224, numbers(alloc, failing)?) {
         Ok(sink) => Ok(sink),
         Err(NoMemory) => Err(Fail::new("no memory")),
     }
 }
 
-fn check_words(alloc: Global) -> Result<Vec<String>, Fail> {
-    Ok(vec![in alloc; String::from_str(alloc, "check")?]?)
+fn words(alloc: Global, word: &str) -> Result<Vec<String>, Fail> {
+    Ok(vec![in alloc; String::from_str(alloc, word)?]?)
 }
 
 /// `check` of the least descriptor with the byte at a place changed, its first `len` bytes alone.
@@ -51,7 +51,7 @@ fn checked(
     }
     let mut source = MemorySource::new(ByteList::from_vec(items), cut, numbers(alloc, &[])?);
     let mut sink = sink_in_memory(alloc, 64, &[])?;
-    let status = uac_main(alloc, &check_words(alloc)?, &mut source, &mut sink);
+    let status = uac_main(alloc, &words(alloc, "check")?, &mut source, &mut sink);
     Ok((status, sink))
 }
 
@@ -59,19 +59,27 @@ fn checked(
 fn verdicts(rt: HostRuntime) -> Result<(), Fail> {
     let alloc = rt.alloc();
     for (len, at, byte, text, status) in [
-        (35, 0, 9, "ok blocks 4\n", Status::Ok),
+        (
+            35,
+            0,
+            9,
+            "ok blocks 4 entities 0 streams 0 domains 0\n",
+            Status::Ok,
+        ),
         (0, 0, 9, "descriptor G1 at 0\n", Status::Descriptor),
         (34, 0, 9, "descriptor G1 at 26\n", Status::Descriptor),
         (35, 26, 1, "descriptor G2 at 26\n", Status::Descriptor),
         (35, 2, 0x24, "descriptor G5 at 35\n", Status::Descriptor),
         (35, 2, 0x22, "descriptor G5 at 26\n", Status::Descriptor),
-        (35, 1, 1, "not built at 0\n", Status::Unbuilt),
+        (35, 29, 1, "descriptor G4 at 26\n", Status::Descriptor),
+        (35, 13, 3, "descriptor G7 at 17\n", Status::Descriptor),
     ] {
-        for cut in [1, 9, 64] {
-            let (got, sink) = checked(alloc, cut, len, at, byte)?;
-            assert_eq!(rt; got, status, "{text}");
-            assert_eq!(rt; sink.written(), text.as_bytes(), "{text}");
-        }
+        let (got, whole) = checked(alloc, 64, len, at, byte)?;
+        let (same, in_pieces) = checked(alloc, 1, len, at, byte)?;
+        assert_eq!(rt; got, status, "{text}");
+        assert_eq!(rt; same, status, "{text}");
+        assert_eq!(rt; whole.written(), text.as_bytes(), "{text}");
+        assert_eq!(rt; in_pieces.written(), text.as_bytes(), "{text}");
     }
     Ok(())
 }
@@ -81,7 +89,7 @@ fn read_fault_at_the_second_call(rt: HostRuntime) -> Result<(), Fail> {
     let alloc = rt.alloc();
     let mut source = MemorySource::new(bytes(alloc, &MINIMAL)?, 9, numbers(alloc, &[2])?);
     let mut sink = sink_in_memory(alloc, 64, &[])?;
-    let status = uac_main(alloc, &check_words(alloc)?, &mut source, &mut sink);
+    let status = uac_main(alloc, &words(alloc, "show")?, &mut source, &mut sink);
     assert_eq!(rt; status, Status::ReadFault);
     assert_eq!(rt; sink.written(), b"read fault\n".as_slice());
     Ok(())
@@ -90,25 +98,28 @@ fn read_fault_at_the_second_call(rt: HostRuntime) -> Result<(), Fail> {
 #[test]
 fn write_fault_at_each_call(rt: HostRuntime) -> Result<(), Fail> {
     let alloc = rt.alloc();
-    for (call, written) in [
-        (1, ""),
-        (2, "ok bl"),
-        (3, "ok blocks "),
-        (4, "ok blocks 4\n"),
+    for (call, status, written) in [
+        (1, Status::WriteFault, ""),
+        (
+            2,
+            Status::WriteFault,
+            "0 configuration 090223000101008032\n",
+        ),
+        (
+            3,
+            Status::WriteFault,
+            "0 configuration 090223000101008032\n9 association 080b000101002000\n",
+        ),
+        (
+            9,
+            Status::Ok,
+            "0 configuration 090223000101008032\n9 association 080b000101002000\n17 interface 090400000001012000\n26 header 092401000204090000\n",
+        ),
     ] {
         let mut source = SteadySource::new(bytes(alloc, &MINIMAL)?);
-        let mut sink = MemorySink::new(alloc, 5, 64, numbers(alloc, &[call])?).map_err(
-            |_| "no memory",
-        )?;
-        let status = uac_main(alloc, &check_words(alloc)?, &mut source, &mut sink);
-        assert_eq!(rt;
-            status,
-            if call < 4 {
-                Status::WriteFault
-            } else {
-                Status::Ok
-            }
-        );
+        let mut sink = sink_in_memory(alloc, 64, &[call])?;
+        let got = uac_main(alloc, &words(alloc, "show")?, &mut source, &mut sink);
+        assert_eq!(rt; got, status);
         assert_eq!(rt; sink.written(), written.as_bytes());
     }
     Ok(())
@@ -121,6 +132,6 @@ fn other_words_take_nothing(rt: HostRuntime) -> Result<(), Fail> {
     let mut sink = sink_in_memory(alloc, 64, &[])?;
     let status = uac_main(alloc, &[], &mut source, &mut sink);
     assert_eq!(rt; status, Status::Usage);
-    assert_eq!(rt; sink.written(), b"usage: uac_cli check\n".as_slice());
+    assert_eq!(rt; sink.written(), b"usage: uac_cli check|show\n".as_slice());
     Ok(())
 }

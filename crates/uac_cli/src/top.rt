@@ -1,21 +1,28 @@
 // The top call: from the words and the bytes of a source to the text in a sink and a status.
-ghost use Rattle.std.specs.Prelude.{◌≡◌, map, string_bytes};
+ghost use Rattle.std.specs.Prelude.{◌≡◌, ◌⊎◌, flat_map, map, string_bytes, Some};
 ghost use Rattle.std.specs.Io.KnownBytes.{IsAtEnd};
-ghost use Rattle.uac_script.specs.Faults.{Rose};
-ghost use Rattle.uac_cli.specs.Outcome.{refusal};
-ghost use Rattle.uac_cli.specs.Run.{IsRun, IsChecked, Closes};
+ghost use Rattle.uac_descriptor.specs.Spelling.{spelling};
+ghost use Rattle.uac_script.specs.Faults.{Rose, HasCause};
+ghost use Rattle.uac_script.specs.Writing.{Writes};
+ghost use Rattle.uac_cli.specs.Command.{command_of};
+ghost use Rattle.uac_cli.specs.Outcome.{no_memory, sound, text_of};
+ghost use Rattle.uac_cli.specs.Run.{IsRun, Closes, Judges, Refuses, RefusesFunction};
 
-use crate::command::is_check;
-use crate::lines::{READ_FAULT, USAGE, refusal_line, sound_line};
+use crate::command::Command;
+use crate::entities::write_entities;
+use crate::lines::{NO_MEMORY, READ_FAULT, USAGE, refusal_line, sound_line, unsound_line};
 use crate::reading::{Reading, read_descriptor};
+use crate::show::{bytes_of, write_blocks};
 use crate::status::Status;
 use std::alloc::Global;
+use uac_descriptor::{Block, NoMemory};
 use uac_grammar::ReadStop;
-use uac_script::{Sink, Source, give_all};
+use uac_script::{Failed, Sink, Source, give_all};
+use uac_topology::{CheckStop, Function, check};
 
-/// Runs the program: `words` are those behind its name. The one word `check` reads a descriptor from the source, to its end or to the
-/// first stop that its bytes show, and writes the verdict to the sink; every other list of words takes nothing and is answered by the
-/// usage line.
+/// Runs the program: `words` are those behind its name. `check` and `show` read a descriptor from the source, to its end or to the
+/// first fault that its bytes show, and write the verdict, or the blocks, to the sink; every other list of words takes nothing and is
+/// answered by the usage line.
 pub fn uac_main<S: Source, K: Sink>(
     alloc: Global,
     words: &[String],
@@ -23,7 +30,7 @@ pub fn uac_main<S: Source, K: Sink>(
     sink: &mut K,
 ) -> Status
     // Status and text follow from the words and the bytes that were taken.
-    ensures run { IsRun (map (λ word. string_bytes word) words.now)
+    ensures run { IsRun (command_of (map (λ word. string_bytes word) words.now))
         (S.left source.old) (S.left source.new) (S.faults source.old) (S.faults source.new)
         (K.written sink.old) (K.written sink.new) (K.faults sink.old) (K.faults sink.new) result }
 
@@ -34,34 +41,102 @@ pub fn uac_main<S: Source, K: Sink>(
     // The whole input was read.
     ensures ok { result ≡ Status.Ok → IsAtEnd (S.left source.new) }
 {
-    if is_check(words) {
-        check(alloc, source, sink)
-    } else {
-        close(sink, USAGE, Status::Usage)
+    match Command::of(words) {
+        Some(command) => run(alloc, command, source, sink),
+        None => close(sink, USAGE, Status::Usage),
     }
 }
 
-/// Reads a descriptor and writes its verdict.
-fn check<S: Source, K: Sink>(alloc: Global, source: &mut S, sink: &mut K) -> Status
-    ensures { IsChecked (S.left source.old) (S.left source.new) (S.faults source.old) (S.faults source.new)
+/// Reads a descriptor and prints what the command says of it.
+fn run<S: Source, K: Sink>(alloc: Global, command: Command, source: &mut S, sink: &mut K) -> Status
+    ensures { IsRun (Some command) (S.left source.old) (S.left source.new) (S.faults source.old) (S.faults source.new)
         (K.written sink.old) (K.written sink.new) (K.faults sink.old) (K.faults sink.new) result }
 {
     match read_descriptor(alloc, source) {
-        Reading::Whole(blocks) => close(sink, sound_line(blocks.len()).as_bytes(), Status::Ok),
-        Reading::Stopped(stop) => close(sink, refusal_line(&stop).as_bytes(), status_of(&stop)),
+        Reading::Whole(blocks) => judge(alloc, command, &blocks, sink),
+        Reading::Stopped(stop) => refuse(stop, sink),
         Reading::Failed => close(sink, READ_FAULT, Status::ReadFault),
     }
 }
 
-/// The status of a run whose descriptor is refused.
-fn status_of(stop: &ReadStop) -> Status
-    ensures { result ≡ (refusal stop.now).status }
+/// Judges the function of the blocks, and prints what the command says of it.
+fn judge<K: Sink>(alloc: Global, command: Command, blocks: &[Block], sink: &mut K) -> Status
+    ensures { Judges command blocks.now (K.written sink.old) (K.written sink.new) (K.faults sink.old) (K.faults sink.new) result }
+{
+    match check(alloc, blocks) {
+        Ok(function) => print(alloc, command, blocks, &function, sink),
+        Err(stop) => refuse_function(stop, sink),
+    }
+}
+
+/// Prints why a function is refused.
+fn refuse_function<K: Sink>(stop: CheckStop, sink: &mut K) -> Status
+    ensures { RefusesFunction stop (K.written sink.old) (K.written sink.new) (K.faults sink.old) (K.faults sink.new) result }
 {
     match stop {
-        ReadStop::Fault(_) => Status::Descriptor,
-        ReadStop::Unbuilt(_) => Status::Unbuilt,
-        ReadStop::NoMemory => Status::NoMemory,
+        CheckStop::Fault(fault) => close(sink, unsound_line(&fault).as_bytes(), Status::Descriptor),
+        CheckStop::NoMemory => close(sink, NO_MEMORY, Status::NoMemory),
     }
+}
+
+/// Prints what the command says of a sound descriptor.
+fn print<K: Sink>(
+    alloc: Global,
+    command: Command,
+    blocks: &[Block],
+    function: &Function,
+    sink: &mut K,
+) -> Status
+    ensures { Closes (sound command blocks.now function.now) (K.written sink.old) (K.written sink.new) (K.faults sink.old) (K.faults sink.new) result
+        ⊎ Closes no_memory (K.written sink.old) (K.written sink.new) (K.faults sink.old) (K.faults sink.new) result }
+{
+    match command {
+        Command::Check => close(sink, sound_line(blocks, function).as_bytes(), Status::Ok),
+        Command::Show => show(alloc, blocks, function, sink),
+    }
+}
+
+/// Prints why a descriptor is refused.
+fn refuse<K: Sink>(stop: ReadStop, sink: &mut K) -> Status
+    ensures { Refuses stop (K.written sink.old) (K.written sink.new) (K.faults sink.old) (K.faults sink.new) result }
+{
+    match stop {
+        ReadStop::Fault(fault) => close(sink, refusal_line(&fault).as_bytes(), Status::Descriptor),
+        ReadStop::NoMemory => close(sink, NO_MEMORY, Status::NoMemory),
+    }
+}
+
+/// Prints the blocks and the entities, once all the memory for it is there.
+fn show<K: Sink>(alloc: Global, blocks: &[Block], function: &Function, sink: &mut K) -> Status
+    ensures { Closes (sound Command.Show blocks.now function.now) (K.written sink.old) (K.written sink.new) (K.faults sink.old) (K.faults sink.new) result
+        ⊎ Closes no_memory (K.written sink.old) (K.written sink.new) (K.faults sink.old) (K.faults sink.new) result }
+{
+    match bytes_of(alloc, blocks) {
+        Ok(bytes) => match write_all(sink, blocks, bytes.as_slice(), function) {
+            Ok(()) => Status::Ok,
+            Err(Failed) => Status::WriteFault,
+        },
+        Err(NoMemory) => close(sink, NO_MEMORY, Status::NoMemory),
+    }
+}
+
+/// Writes a line for each block, whose bytes are `bytes`, and then for each entity.
+#[tactic(auto, using(uac_script::proofs::WritingLemmas::writings))]
+fn write_all<K: Sink>(
+    sink: &mut K,
+    blocks: &[Block],
+    bytes: &[u8],
+    function: &Function,
+) -> Result<(), Failed>
+    requires { bytes.now ≡ flat_map spelling blocks.now }
+    ensures written { Writes (K.written sink.old) (K.written sink.new) result (text_of Command.Show blocks.now function.now) }
+    ensures cause { HasCause (K.faults sink.old) (K.faults sink.new) result }
+{
+    match write_blocks(sink, blocks, bytes) {
+        Ok(()) => {}
+        Err(failed) => return Err(failed),
+    }
+    write_entities(sink, function.entities())
 }
 
 /// Writes the text of a run, whose status comes where the sink takes all of it.

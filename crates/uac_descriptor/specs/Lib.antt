@@ -1,1 +1,9 @@
-pub mod Block
+-- What the blocks of a USB Audio Class 2.0 configuration are as bytes, and by which block bytes are read.
+pub mod Layout
+pub mod Little
+pub mod Spelling
+pub mod Rows
+pub mod Endpoints
+pub mod Classes
+pub mod Reading
+pub mod Laws

@@ -1,9 +1,10 @@
-ghost use Rattle.std.specs.Prelude.{◌≡◌};
+// Want of memory, and the lists of bytes and words.
+ghost use Rattle.std.specs.Prelude.{◌≡◌, ◌++◌, OnOk, OnErr};
 
 use std::marker::Model;
 
 /// No memory was found.
-#[derive(Clone, Copy, PartialEq, Eq, Debug, Drop)]
+#[derive(Clone, Copy, PartialEq, Eq, Debug)]
 pub struct NoMemory;
 
 /// A list of bytes.
@@ -33,6 +34,17 @@ impl ByteList {
         ensures { result.now ≡ self.now }
     {
         self.items.as_slice()
+    }
+
+    /// Appends `more`, or answers `NoMemory` and leaves the list as it was.
+    pub(crate) fn append(&mut self, more: &[u8]) -> Result<(), NoMemory>
+        ensures appended { OnOk result (self.new ≡ self.old ++ more.now) }
+        ensures unchanged { OnErr result (self.new ≡ self.old) }
+    {
+        match self.items.extend_from_slice(more) {
+            Ok(()) => Ok(()),
+            Err(_) => Err(NoMemory),
+        }
     }
 }
 

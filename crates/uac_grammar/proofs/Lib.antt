@@ -1,8 +1,5 @@
-pub mod Chopping
-pub mod Stopping
-pub mod Readings
-pub mod Spelling
-pub mod Judging
-pub mod Accepting
+pub mod Parts
+pub mod RowsIn
 pub mod Verdicts
-mod Worked
+pub mod Readings
+pub mod Worked

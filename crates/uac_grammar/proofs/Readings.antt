@@ -1,257 +1,227 @@
 -- What holds of a reader's parts, byte after byte.
-use Rattle.std.proofs.Common.{◌≡◌, ◌≢◌, ◌≤◌, ◌<◌, ◌+◌, ◌*◌, ◌/◌, ◌%◌, ℕ, suc, false, List, [], ◌∷◌, ◌++◌, map, length, refl, ap, ◌∙◌, sym, subst, inl, inr, arith, append_assoc, length-append, Option, Some, None}
-use Rattle.std.specs.Prelude.{slice_index, nat_lt}
-use Rattle.std.specs.List.{flat_map, concat}
+use Rattle.std.proofs.Common.{◌≡◌, ◌≢◌, ◌≤◌, ◌<◌, ◌+◌, ◌==◌, ℕ, zero, suc, Bool, true, not, cond, List, [], ◌∷◌, ◌++◌, length, refl, ap, ◌∙◌, sym, subst, inl, inr, arith, append_assoc, append-nil, length-append, Option, Some, None}
 use Rattle.std.proofs.lemmas.Bool.{cases_Bool}
 use Rattle.std.proofs.lemmas.Bool.Decides.{nat_tests}
-use Rattle.std.proofs.lemmas.Grind.{flat_map-append}
-use Rattle.std.proofs.lemmas.List.{append-nil, length-map, map-append, nil_from_length}
-use Rattle.std.proofs.lemmas.List.Concat.{concat_is}
-use Rattle.std.proofs.lemmas.List.Folds.{flat_map-map}
-use Rattle.uac_descriptor.specs.Block.{spelling}
+use Rattle.uac_descriptor.specs.Reading.{AreBytes}
 use Rattle.uac_descriptor.specs.declared.block.Block.{Block}
-use Rattle.uac_descriptor.specs.declared.block.Block.TheVariants.{Configuration, Association, Interface, Header}
+use Rattle.uac_sentence.specs.Fault.{IsShown, at_place, faults_from}
+use Rattle.uac_sentence.specs.Grammar.{grammar, start, state_after, first_fault, rule_at_end}
+use Rattle.uac_sentence.specs.Sentence.{spellings, IsSentence}
+use Rattle.uac_sentence.specs.declared.faults.GrammarFault.{GrammarFault}
+use Rattle.uac_sentence.specs.declared.states.State.{State}
+use Rattle.uac_sentence.proofs.FaultLaw.{shown_stays}
+use Rattle.uac_sentence.proofs.ProgressLaw.{nothing_read, block_read, read_faults, read_sentence, fault_at_end}
+use Rattle.uac_sentence.proofs.ReachLaw.{read_reach}
+use Rattle.uac_sentence.proofs.SentenceLaw.{bytes_left, bytes_right}
 use Rattle.uac_grammar.specs.declared.fault.ReadStop.{ReadStop}
-use Rattle.uac_grammar.specs.declared.fault.ReadStop.TheVariants.{NoMemory}
-use Rattle.uac_grammar.specs.Chop.{begins_with_block}
-use Rattle.uac_grammar.specs.Form.{form, is_configuration, IsConfiguration, IsDue, AreTheFour, HasTotal, IsForm}
-use Rattle.uac_grammar.specs.Reading.{IsUnstopped, most_taken, IsAt, IsPartial, AreDue, IsGoing, IsReading}
-use Rattle.uac_grammar.specs.Stop.{place_behind, total_of, ends_before_total, is_cut_off, is_too_short, stop_at_end, stop_from, first_stop, shown_within, shown_stop}
-use Rattle.uac_grammar.specs.Verdict.{StopsAt, IsKept}
-use Rattle.uac_grammar.proofs.Stopping.{place_behind-push, stop_from-left, end-cut_off, end-between, end-hidden, nothing-left, is_shown-more, shown-from}
-use Rattle.uac_grammar.proofs.Judging.{EndsFine, end-fine-is, reaches-total-is}
-use Rattle.uac_grammar.proofs.Verdicts.{partial-one}
+use Rattle.uac_grammar.specs.declared.fault.ReadStop.TheVariants.{Fault, NoMemory}
+use Rattle.uac_grammar.specs.Reading.{IsUnstopped, most_taken, IsPartial, IsGoing, IsReading}
+use Rattle.uac_grammar.specs.Stop.{is_shown, shown_within, shown_fault, stop_at, first_stop, shown_stop}
+use Rattle.uac_grammar.specs.Verdict.{Shows, IsKept}
+use Rattle.uac_grammar.proofs.Verdicts.{partial_one, pending_faults}
 
--- the blocks' bytes, and their place
-pub concat-spellings : (blocks : List Block) → concat (map spelling blocks) ≡ flat_map spelling blocks
-concat-spellings blocks = concat_is (map spelling blocks) ∙ flat_map-map (λ (bytes : List ℕ). bytes) spelling blocks
+-- ---- faults that are shown
 
-no_total : None ≡ total_of []
-unfolding total_of
-no_total = refl
+-- a fault that n bytes show
+pub shown_is : (n : ℕ) (fault : GrammarFault) → IsShown fault n → is_shown n fault ≡ true
+shown_is n fault shown = let not_one = shown.0 in let before = shown.1 in grind (arith, nat_tests)
 
--- a reader that took nothing
-pub going-start : IsGoing [] None 0 []
-going-start = record {
-  due = tt;
-  at = record { number_is = refl; total_is = no_total; place_is = refl; started = λ _. refl };
-  within = λ (most : ℕ) (e : None ≡ Some most). absurd (cc);
-  fits = omega arith;
-  partial = partial-one [] (omega arith);
-  goes_on = λ (rest : List ℕ). refl;
-}
+pub is_shown_is : (n : ℕ) (fault : GrammarFault) → is_shown n fault ≡ true → IsShown fault n
+is_shown_is n fault e = ((grind (arith, nat_tests)), (grind (arith, nat_tests)))
 
-no-more : (pending : List ℕ) (byte : ℕ) → begins_with_block pending ≡ false → is_too_short pending ≡ false → 2 < length (pending ++ byte ∷ []) → length (pending ++ byte ∷ []) ≤ slice_index (pending ++ byte ∷ []) 0
-unfolding is_too_short
-no-more [] byte w s p = absurd (omega arith)
-no-more (x ∷ []) byte w s p = absurd (omega arith)
-no-more (x ∷ y ∷ ys) byte w s p = grind (arith, nat_tests, length-append)
+-- the first fault of bytes that show it
+pub shows_fault : (bytes : List ℕ) (fault : GrammarFault) → first_fault bytes ≡ Some fault → IsShown fault (length bytes) → shown_fault bytes ≡ Some fault
+shows_fault bytes fault first shown =
+    ap (shown_within (length bytes)) first ∙ ap (λ (b : Bool). cond b (Some fault) None) (shown_is (length bytes) fault shown)
 
--- a byte more is still no more than the block
-pub partial-push : (pending : List ℕ) (byte : ℕ) → IsPartial pending → 2 < length (pending ++ byte ∷ []) → length (pending ++ byte ∷ []) ≤ slice_index (pending ++ byte ∷ []) 0
-partial-push pending byte partial p = no-more pending byte partial.not_whole partial.not_too_short p
+shown_first : (n : ℕ) (first : Option GrammarFault) (fault : GrammarFault) → shown_within n first ≡ Some fault → (first ≡ Some fault) × (is_shown n fault ≡ true)
+shown_first n None fault e = absurd (cc)
+shown_first n (Some other) fault e =
+    elim (cases_Bool (is_shown n other)) [
+      | inl shown ↦ (let same : Some other ≡ Some fault = sym (ap (λ (b : Bool). cond b (Some other) None) shown) ∙ e in
+          let it : other ≡ fault = cc in (same, subst (λ (f : GrammarFault). is_shown n f ≡ true) it shown))
+      | inr hidden ↦ absurd (let no : None ≡ Some fault = sym (ap (λ (b : Bool). cond b (Some other) None) hidden) ∙ e in cc)
+    ]
 
--- a stop, whatever follows
-pub going-stops : (blocks : List Block) (total : Option ℕ) (place : ℕ) (pending bytes : List ℕ) (byte : ℕ) (stop : ReadStop) → IsGoing blocks total place pending
-    → bytes ≡ pending ++ byte ∷ [] → StopsAt (map spelling blocks) bytes stop → (rest : List ℕ) → shown_stop (flat_map spelling blocks ++ (bytes ++ rest)) ≡ Some stop
-going-stops blocks total place pending bytes byte stop going e stops rest =
-    let before = map spelling blocks in
-    let longer : flat_map spelling blocks ++ (bytes ++ rest) ≡ flat_map spelling blocks ++ (pending ++ (byte ∷ rest)) =
-    ap (λ (xs : List ℕ). flat_map spelling blocks ++ xs) (ap (λ (xs : List ℕ). xs ++ rest) e ∙ append_assoc pending (byte ∷ []) rest) in
-    let back : stop_from before (pending ++ (byte ∷ rest)) ≡ stop_from before (bytes ++ rest) =
-    ap (stop_from before) (sym (append_assoc pending (byte ∷ []) rest) ∙ ap (λ (xs : List ℕ). xs ++ rest) (sym e)) in
-    let found : first_stop (flat_map spelling blocks ++ (bytes ++ rest)) ≡ Some stop =
-    ap first_stop longer ∙ (going.goes_on (byte ∷ rest) ∙ (back ∙ stops.stops rest)) in
-    let count : place_behind before + length bytes ≤ length (flat_map spelling blocks ++ (bytes ++ rest)) =
-    omega (arith, ap length (concat-spellings blocks), length-append (flat_map spelling blocks) (bytes ++ rest), length-append bytes rest) in
-    shown-from (length (flat_map spelling blocks ++ (bytes ++ rest))) (first_stop (flat_map spelling blocks ++ (bytes ++ rest))) stop found
-    (is_shown-more (place_behind before + length bytes) (length (flat_map spelling blocks ++ (bytes ++ rest))) stop count stops.shown)
+-- bytes show a fault exactly where it is the first and more bytes can't change it
+pub fault_shown : (bytes : List ℕ) (fault : GrammarFault) → shown_fault bytes ≡ Some fault → (first_fault bytes ≡ Some fault) × IsShown fault (length bytes)
+fault_shown bytes fault e =
+    let known = shown_first (length bytes) (first_fault bytes) fault e in
+    (known.0, is_shown_is (length bytes) fault known.1)
 
--- the blocks of the form, and the one that is due
-are_due-push : (number : ℕ) (blocks : List Block) (block : Block) → AreDue number blocks → IsDue (number + length blocks) block → AreDue number (blocks ++ block ∷ [])
-are_due-push number [] block due next = (subst (λ (n : ℕ). IsDue n block) (let same : number + 0 ≡ number = omega arith in same) next, tt)
-are_due-push number (b ∷ bs) block due next =
-    let moved : number + length (b ∷ bs) ≡ suc number + length bs = omega arith in
-    (due.0, are_due-push (suc number) bs block due.1 (subst (λ (n : ℕ). IsDue n block) moved next))
+stop_shown : (shown : Option GrammarFault) (s : ReadStop) → stop_at shown ≡ Some s → (fault : GrammarFault) × (s ≡ Fault fault) × (shown ≡ Some fault)
+stop_shown None s e = absurd (cc)
+stop_shown (Some fault) s e = (fault, (let it : Fault fault ≡ s = cc in sym it), refl)
 
--- a total that is spelt is a number of two bytes
-total-fits : (blocks : List Block) (total : ℕ) → total_of (map spelling blocks) ≡ Some total → total < 65536
-unfolding total_of is_configuration
-total-fits [] total e = absurd (cc)
-total-fits (Configuration wide interfaces value name attributes power ∷ blocks) total e =
-    let same : wide % 256 + 256 * (wide / 256 % 256 + 0) ≡ total = cc in omega arith
-total-fits (Association first count class subclass protocol name ∷ blocks) total e = absurd (cc)
-total-fits (Interface number setting endpoints class subclass protocol name ∷ blocks) total e = absurd (cc)
-total-fits (Header version category wide controls ∷ blocks) total e = absurd (cc)
+-- a shown stop is the first
+pub shown_stop_first : (bytes : List ℕ) (s : ReadStop) → shown_stop bytes ≡ Some s → first_stop bytes ≡ Some s
+shown_stop_first bytes s e =
+    let (fault, is, shown) = stop_shown (shown_fault bytes) s e in
+    ap stop_at (fault_shown bytes fault shown).0 ∙ ap Some (sym is)
+
+pub no_stop_no_fault : (first : Option GrammarFault) → stop_at first ≡ None → first ≡ None
+no_stop_no_fault None e = refl
+no_stop_no_fault (Some fault) e = absurd (cc)
+
+-- a fault that bytes show is shown by more
+shown_fault_stays : (bytes more : List ℕ) (fault : GrammarFault) → shown_fault bytes ≡ Some fault → shown_fault (bytes ++ more) ≡ Some fault
+unfolding first_fault
+shown_fault_stays bytes more fault e =
+    let (first, shown) = fault_shown bytes fault e in
+    let before = shown.1 in
+    shows_fault (bytes ++ more) fault (shown_stays grammar start 0 bytes more fault first (shown.0, omega (arith, before)))
+    (shown.0, omega (arith, before, length-append bytes more))
+
+pub shown_stop_stays : (bytes more : List ℕ) (s : ReadStop) → shown_stop bytes ≡ Some s → shown_stop (bytes ++ more) ≡ Some s
+shown_stop_stays bytes more s e =
+    let (fault, is, shown) = stop_shown (shown_fault bytes) s e in
+    ap stop_at (shown_fault_stays bytes more fault shown) ∙ ap Some (sym is)
+
+-- ---- a reader that goes on
+
+bytes_both : (xs ys : List ℕ) → AreBytes xs → AreBytes ys → AreBytes (xs ++ ys)
+bytes_both [] ys left right i = right i
+bytes_both (x ∷ xs) ys left right zero = left 0
+bytes_both (x ∷ xs) ys left right (suc i) = bytes_both xs ys (λ j. left (suc j)) right i
+
+no_bytes : AreBytes []
+no_bytes i = omega arith
+
+pub going_start : IsGoing [] start 0 []
+going_start = record { read = nothing_read; bytes = no_bytes; fits = omega arith; partial = partial_one [] (omega arith) }
+
+-- a fault, whatever follows
+pub going_shows : (blocks : List Block) (s : State) (place : ℕ) (pending bytes : List ℕ) (fault : GrammarFault) → IsGoing blocks s place pending
+    → Shows s place bytes fault → (rest : List ℕ) → shown_stop (spellings blocks ++ (bytes ++ rest)) ≡ Some (Fault fault)
+going_shows blocks s place pending bytes fault going shows rest =
+    let all : List ℕ = spellings blocks ++ (bytes ++ rest) in
+    let first : first_fault all ≡ Some fault = read_faults blocks s place going.read (bytes ++ rest) ∙ shows.first rest in
+    let before = shows.shown.1 in
+    let at = going.read.place_is in
+    let shown : IsShown fault (length all) = (
+      shows.shown.0,
+      omega (arith, before, at, length-append (spellings blocks) (bytes ++ rest), length-append bytes rest),
+    ) in
+    ap stop_at (shows_fault all fault first shown)
 
 -- a block more
-pub going-keeps : (blocks : List Block) (total : Option ℕ) (place : ℕ) (pending bytes : List ℕ) (byte : ℕ) (block : Block) (most : ℕ) → IsGoing blocks total place pending
-    → bytes ≡ pending ++ byte ∷ [] → IsKept (map spelling blocks) bytes block most → IsGoing (blocks ++ block ∷ []) (Some most) (place + length bytes) []
-going-keeps blocks total place pending bytes byte block most going e kept =
-    let before = map spelling blocks in
-    let more : map spelling (blocks ++ block ∷ []) ≡ before ++ bytes ∷ [] =
-    map-append spelling blocks (block ∷ []) ∙ ap (λ (xs : List ℕ). before ++ xs ∷ []) kept.spelt in
-    let place_is : place + length bytes ≡ place_behind (before ++ bytes ∷ []) =
-    ap (λ (n : ℕ). n + length bytes) going.at.place_is ∙ sym (place_behind-push before bytes) in
+pub going_keeps : (blocks : List Block) (s : State) (place : ℕ) (pending bytes : List ℕ) (b : Block) → IsGoing blocks s place pending
+    → AreBytes bytes → IsKept s place bytes b → IsGoing (blocks ++ b ∷ []) (state_after s place b) (place + length bytes) []
+going_keeps blocks s place pending bytes b going are kept =
+    let (read, spelt) = block_read blocks s place bytes b going.read are kept.read kept.unbroken in
+    let all : AreBytes (spellings (blocks ++ b ∷ [])) =
+    subst AreBytes (sym spelt) (bytes_both (spellings blocks) bytes (bytes_left (spellings blocks) pending going.bytes) are) in
     record {
-      due = are_due-push 0 blocks block going.due (subst (λ (n : ℕ). IsDue n block) (length-map blocks spelling ∙ (omega arith)) kept.due);
-      at = record {
-        number_is = sym (length-map (blocks ++ block ∷ []) spelling);
-        total_is = kept.total_is ∙ ap total_of (sym more);
-        place_is = place_is ∙ ap place_behind (sym more);
-        started = λ (none : Some most ≡ None). absurd (cc);
-      };
-      within = λ (other : ℕ) (same : Some most ≡ Some other). let it : most ≡ other = cc in let w = kept.within in omega (arith, going.at.place_is);
-      fits = (let w = kept.within in let f = total-fits (blocks ++ block ∷ []) most (ap total_of more ∙ sym kept.total_is) in omega (arith, going.at.place_is));
-      partial = partial-one [] (omega arith);
-      goes_on = λ (rest : List ℕ).
-          let spelt : flat_map spelling (blocks ++ block ∷ []) ≡ flat_map spelling blocks ++ bytes =
-          flat_map-append spelling blocks (block ∷ []) ∙ ap (λ (xs : List ℕ). flat_map spelling blocks ++ xs) (append-nil (spelling block) ∙ kept.spelt) in
-          let regrouped : bytes ++ rest ≡ pending ++ (byte ∷ rest) = ap (λ (xs : List ℕ). xs ++ rest) e ∙ append_assoc pending (byte ∷ []) rest in
-          let all : flat_map spelling (blocks ++ block ∷ []) ++ rest ≡ flat_map spelling blocks ++ (pending ++ (byte ∷ rest)) =
-          ap (λ (xs : List ℕ). xs ++ rest) spelt ∙ (append_assoc (flat_map spelling blocks) bytes rest ∙ ap (λ (xs : List ℕ). flat_map spelling blocks ++ xs) regrouped) in
-          ap first_stop all
-          ∙ (going.goes_on (byte ∷ rest)
-          ∙ (ap (stop_from before) (sym regrouped)
-          ∙ (kept.goes_on rest ∙ ap (λ (seen : List (List ℕ)). stop_from seen rest) (sym more))));
+      read = read;
+      bytes = subst AreBytes (sym (append-nil (spellings (blocks ++ b ∷ [])))) all;
+      fits = read_reach (blocks ++ b ∷ []) (state_after s place b) (place + length bytes) read all;
+      partial = partial_one [] (omega arith);
     }
 
 -- a byte more of a block
-pub going-partial : (blocks : List Block) (total : Option ℕ) (place : ℕ) (pending bytes : List ℕ) (byte : ℕ) → IsGoing blocks total place pending
-    → bytes ≡ pending ++ byte ∷ [] → IsPartial bytes → IsGoing blocks total place bytes
-going-partial blocks total place pending bytes byte going e partial =
-    record {
-      due = going.due;
-      at = going.at;
-      within = going.within;
-      fits = going.fits;
-      partial = partial;
-      goes_on = λ (rest : List ℕ).
-          let regrouped : bytes ++ rest ≡ pending ++ (byte ∷ rest) = ap (λ (xs : List ℕ). xs ++ rest) e ∙ append_assoc pending (byte ∷ []) rest in
-          ap (λ (xs : List ℕ). first_stop (flat_map spelling blocks ++ xs)) regrouped
-          ∙ (going.goes_on (byte ∷ rest) ∙ ap (stop_from (map spelling blocks)) (sym regrouped));
-    }
+pub going_partial : (blocks : List Block) (s : State) (place : ℕ) (pending bytes : List ℕ) → IsGoing blocks s place pending
+    → AreBytes bytes → IsPartial bytes → IsGoing blocks s place bytes
+going_partial blocks s place pending bytes going are partial = record {
+  read = going.read;
+  bytes = bytes_both (spellings blocks) bytes (bytes_left (spellings blocks) pending going.bytes) are;
+  fits = going.fits;
+  partial = partial;
+}
 
--- the first stop at the end
-pub going-end : (blocks : List Block) (total : Option ℕ) (place : ℕ) (pending : List ℕ) → IsGoing blocks total place pending → first_stop (flat_map spelling blocks ++ pending) ≡ stop_at_end (map spelling blocks) pending
-going-end blocks total place pending going =
-    ap (λ (xs : List ℕ). first_stop (flat_map spelling blocks ++ xs)) (sym (append-nil pending))
-    ∙ (going.goes_on []
-    ∙ (ap (stop_from (map spelling blocks)) (append-nil pending)
-    ∙ stop_from-left (map spelling blocks) pending going.partial.not_whole))
+-- the bytes of a block and one more
+pub one_more : (front pending : List ℕ) (byte : ℕ) → AreBytes (front ++ pending) → byte < 256 → AreBytes (pending ++ byte ∷ [])
+one_more front pending byte are small = bytes_both pending (byte ∷ []) (bytes_right front pending are) only
+  where
+    only : AreBytes (byte ∷ [])
+    only zero = small
+    only (suc i) = omega arith
 
-hidden-at_end : (n : ℕ) (before : List (List ℕ)) (pending : List ℕ) → n ≡ place_behind before + length pending → IsPartial pending → shown_within n (stop_at_end before pending) ≡ None
-hidden-at_end n before pending count partial =
-    elim (cases_Bool (is_cut_off before pending)) as (λ _. shown_within n (stop_at_end before pending) ≡ None) [
-      | inl cut ↦ rw (end-cut_off before pending cut) refl
-      | inr whole ↦
-          let none = nothing-left before pending partial.not_whole whole partial.not_too_short in
-          rw (end-between before pending whole partial.not_too_short) (end-hidden (ends_before_total before) (nat_lt (length before) (length form)) n (place_behind before) (omega arith))
+-- the bytes that were taken, with a byte that ends a block
+pub going_taken : (blocks : List Block) (s : State) (place : ℕ) (pending bytes : List ℕ) (byte : ℕ) (b : Block) → IsGoing blocks s place pending
+    → AreBytes bytes → bytes ≡ pending ++ byte ∷ [] → IsKept s place bytes b → spellings (blocks ++ b ∷ []) ++ [] ≡ (spellings blocks ++ pending) ++ byte ∷ []
+going_taken blocks s place pending bytes byte b going are e kept =
+    append-nil (spellings (blocks ++ b ∷ []))
+    ∙ ((block_read blocks s place bytes b going.read are kept.read kept.unbroken).1
+    ∙ (ap (λ (xs : List ℕ). spellings blocks ++ xs) e ∙ sym (append_assoc (spellings blocks) pending (byte ∷ []))))
+
+-- and with one that doesn't, and more
+pub taken_more : (blocks : List Block) (pending bytes : List ℕ) (byte : ℕ) (rest : List ℕ) → bytes ≡ pending ++ byte ∷ []
+    → (spellings blocks ++ pending) ++ byte ∷ rest ≡ spellings blocks ++ (bytes ++ rest)
+taken_more blocks pending bytes byte rest e =
+    append_assoc (spellings blocks) pending (byte ∷ rest)
+    ∙ ap (λ (xs : List ℕ). spellings blocks ++ xs) (sym (append_assoc pending (byte ∷ []) rest) ∙ ap (λ (xs : List ℕ). xs ++ rest) (sym e))
+
+-- ---- the end
+
+-- the first fault at the end
+pub going_end : (blocks : List Block) (s : State) (place : ℕ) (pending : List ℕ) → IsGoing blocks s place pending
+    → first_fault (spellings blocks ++ pending) ≡ faults_from grammar s place pending
+going_end blocks s place pending going = read_faults blocks s place going.read pending
+
+end_hidden : (n place : ℕ) (rule : Option ℕ) → n ≡ place → shown_within n (at_place place rule) ≡ None
+end_hidden n place None e = refl
+end_hidden n place (Some rule) e =
+    elim (cases_Bool (not (rule == 1))) [
+      | inl other ↦ grind (arith, nat_tests)
+      | inr one ↦ grind (arith, nat_tests)
     ]
 
--- nothing is shown while the reader goes on
-pub going-hidden : (blocks : List Block) (total : Option ℕ) (place : ℕ) (pending : List ℕ) → IsGoing blocks total place pending → shown_stop (flat_map spelling blocks ++ pending) ≡ None
-going-hidden blocks total place pending going =
-    let count : length (flat_map spelling blocks ++ pending) ≡ place_behind (map spelling blocks) + length pending =
-    length-append (flat_map spelling blocks) pending ∙ ap (λ (n : ℕ). n + length pending) (ap length (sym (concat-spellings blocks))) in
-    ap (shown_within (length (flat_map spelling blocks ++ pending))) (going-end blocks total place pending going)
-    ∙ hidden-at_end (length (flat_map spelling blocks ++ pending)) (map spelling blocks) pending count going.partial
+-- nothing is shown while a reader goes on
+pub going_hidden : (blocks : List Block) (s : State) (place : ℕ) (pending : List ℕ) → IsGoing blocks s place pending → shown_stop (spellings blocks ++ pending) ≡ None
+going_hidden blocks s place [] going =
+    let n : ℕ = length (spellings blocks ++ []) in
+    let at = going.read.place_is in
+    ap (λ (o : Option GrammarFault). stop_at (shown_within n o)) (going_end blocks s place [] going ∙ fault_at_end s place)
+    ∙ ap stop_at (end_hidden n place (rule_at_end s place) (omega (arith, at, ap length (append-nil (spellings blocks)))))
+going_hidden blocks s place (x ∷ xs) going =
+    let n : ℕ = length (spellings blocks ++ x ∷ xs) in
+    ap (λ (o : Option GrammarFault). stop_at (shown_within n o))
+    (going_end blocks s place (x ∷ xs) going ∙ pending_faults s place (x ∷ xs) going.partial (omega arith))
 
 -- and few bytes were taken
-pub going-bounded : (blocks : List Block) (total : Option ℕ) (place : ℕ) (pending : List ℕ) → IsGoing blocks total place pending → length (flat_map spelling blocks ++ pending) ≤ most_taken
-going-bounded blocks total place pending going =
+pub going_bounded : (blocks : List Block) (s : State) (place : ℕ) (pending : List ℕ) → IsGoing blocks s place pending → length (spellings blocks ++ pending) ≤ most_taken
+going_bounded blocks s place pending going =
     let few = going.partial.short in
     let low = going.fits in
-    omega (arith, length-append (flat_map spelling blocks) pending, ap length (concat-spellings blocks), going.at.place_is)
+    let at = going.read.place_is in
+    omega (arith, few, low, at, length-append (spellings blocks) pending)
 
--- four blocks that are due are the four
-are-four : (blocks : List Block) → AreDue 0 blocks → 4 ≤ length blocks → AreTheFour blocks
-are-four (a ∷ b ∷ c ∷ d ∷ []) due p = (due.0, due.1.0, due.1.1.0, due.1.1.1.0)
-are-four (a ∷ b ∷ c ∷ d ∷ e ∷ rest) due p = absurd due.1.1.1.1.0
-are-four [] due p = absurd (omega arith)
-are-four (a ∷ []) due p = absurd (omega arith)
-are-four (a ∷ b ∷ []) due p = absurd (omega arith)
-are-four (a ∷ b ∷ c ∷ []) due p = absurd (omega arith)
+ends_fine : (place : ℕ) (rule : Option ℕ) → at_place place rule ≡ None → rule ≡ None
+ends_fine place None e = refl
+ends_fine place (Some rule) e = absurd (cc)
 
--- a total of two bytes, spelt and read again
-total-again : (total : ℕ) → total < 65536 → total % 256 + 256 * (total / 256 % 256 + 0) ≡ total
-total-again total p = omega arith
+-- without a fault at the end the blocks are a sentence
+pub going_sentence : (blocks : List Block) (s : State) (place : ℕ) (pending : List ℕ) → IsGoing blocks s place pending
+    → faults_from grammar s place pending ≡ None → IsSentence (spellings blocks ++ pending) blocks
+going_sentence blocks s place [] going e =
+    let fine : rule_at_end s place ≡ None = ends_fine place (rule_at_end s place) (sym (fault_at_end s place) ∙ e) in
+    subst (λ (bytes : List ℕ). IsSentence bytes blocks) (sym (append-nil (spellings blocks)))
+    (read_sentence blocks s place going.read (bytes_left (spellings blocks) [] going.bytes) fine)
+going_sentence blocks s place (x ∷ xs) going e =
+    absurd (let cut = pending_faults s place (x ∷ xs) going.partial (omega arith) in
+    let no : None ≡ Some (record { rule = 1; at = place }) = sym e ∙ cut in cc)
 
-total-field : (block : Block) (blocks : List Block) (others : List (List ℕ)) (total : ℕ) → IsConfiguration block → total_of (spelling block ∷ others) ≡ Some total → HasTotal total (block ∷ blocks)
-unfolding total_of is_configuration
-total-field (Configuration total interfaces value name attributes power) blocks others found fits e =
-    let same : total % 256 + 256 * (total / 256 % 256 + 0) ≡ found = cc in sym (total-again total fits) ∙ same
-total-field (Association first count class subclass protocol name) blocks others found fits e = absurd fits
-total-field (Interface number setting endpoints class subclass protocol name) blocks others found fits e = absurd fits
-total-field (Header version category total controls) blocks others found fits e = absurd fits
+-- ---- the reader's value
 
-total-four : (blocks : List Block) (total : ℕ) → AreTheFour blocks → total_of (map spelling blocks) ≡ Some total → HasTotal total blocks
-total-four (a ∷ b ∷ c ∷ d ∷ []) total four e = total-field a (b ∷ c ∷ d ∷ []) (spelling b ∷ spelling c ∷ spelling d ∷ []) total four.0 e
-total-four _ total four e = absurd four
-
--- the form, where the end is fine
-form-fine : (blocks : List Block) (place : ℕ) (total : Option ℕ) (pending : List ℕ) → IsGoing blocks total place pending → EndsFine (map spelling blocks) pending
-    → (t : ℕ) → total ≡ Some t → IsForm (flat_map spelling blocks ++ pending) blocks
-form-fine blocks place total pending going fine t e =
-    let before = map spelling blocks in
-    let empty = nothing-left before pending going.partial.not_whole fine.not_cut_off going.partial.not_too_short in
-    let all : 4 ≤ length blocks = omega (arith, fine.all, length-map blocks spelling) in
-    let four = are-four blocks going.due all in
-    let total_is : total_of before ≡ Some t = sym going.at.total_is ∙ e in
-    let high = reaches-total-is before t total_is fine.reached in
-    let low = going.within t e in
-    let count : t ≡ length (flat_map spelling blocks ++ pending) =
-    omega (arith, going.at.place_is, low, high, empty, length-append (flat_map spelling blocks) pending, ap length (concat-spellings blocks)) in
-    record {
-      order = four;
-      spelt = ap (λ (xs : List ℕ). flat_map spelling blocks ++ xs) (nil_from_length pending (omega arith)) ∙ append-nil (flat_map spelling blocks);
-      total = subst (λ (n : ℕ). HasTotal n blocks) count (total-four blocks t four total_is);
-    }
-
-pub going-form : (blocks : List Block) (total : Option ℕ) (place : ℕ) (pending : List ℕ) → IsGoing blocks total place pending → stop_at_end (map spelling blocks) pending ≡ None
-    → IsForm (flat_map spelling blocks ++ pending) blocks
-going-form blocks None place pending going e =
-    absurd (let fine = end-fine-is (map spelling blocks) pending e in omega (arith, fine.all, ap length (going.at.started refl)))
-going-form blocks (Some t) place pending going e = form-fine blocks place (Some t) pending going (end-fine-is (map spelling blocks) pending e) t refl
-
--- The steps of the reader, in its parts: the number of blocks as it counts them, and the bytes as it
--- lends them.
-
--- the parts of a reader, counted
-pub record IsCounted (blocks : List Block) (total : Option ℕ) (place : ℕ) (pending : List ℕ) (number : ℕ) : Type 0 where
-  pub going : IsGoing blocks total place pending
-  pub at : IsAt (map spelling blocks) number total place
-
-pub counted : (blocks : List Block) (total : Option ℕ) (place : ℕ) (pending : List ℕ) (stop : Option ReadStop) (number : ℕ) → IsReading blocks total place pending stop → stop ≡ None → number ≡ length blocks
-    → IsCounted blocks total place pending number
-counted blocks total place pending stop number reading e n =
-    let going = reading.going e in
-    record {
-      going = going;
-      at = record { number_is = n ∙ going.at.number_is; total_is = going.at.total_is; place_is = going.at.place_is; started = going.at.started };
-    }
-
--- a reader that stopped
-pub reading-stopped : (blocks : List Block) (total : Option ℕ) (place : ℕ) (pending bytes : List ℕ) (byte : ℕ) (stop : ReadStop) → IsGoing blocks total place pending
-    → bytes ≡ pending ++ byte ∷ [] → StopsAt (map spelling blocks) bytes stop → IsReading blocks total place bytes (Some stop)
-reading-stopped blocks total place pending bytes byte stop going e stops = record {
-  going = λ (none : Some stop ≡ None). absurd (cc);
-  stopped = λ (s : ReadStop) (same : Some stop ≡ Some s) (fault : s ≢ NoMemory) (rest : List ℕ).
-      let it : stop ≡ s = cc in going-stops blocks total place pending bytes byte stop going e stops rest ∙ ap Some it;
+pub reading_stopped : (blocks : List Block) (s : State) (place : ℕ) (pending bytes : List ℕ) (fault : GrammarFault) → IsGoing blocks s place pending
+    → Shows s place bytes fault → IsReading blocks s place bytes (Some (Fault fault))
+reading_stopped blocks s place pending bytes fault going shows = record {
+  going = λ (none : Some (Fault fault) ≡ None). absurd (cc);
+  stopped = λ (stop : ReadStop) (same : Some (Fault fault) ≡ Some stop) (_ : stop ≢ NoMemory) (rest : List ℕ).
+      going_shows blocks s place pending bytes fault going shows rest ∙ same;
 }
 
--- a reader that goes on
-pub reading-going : (blocks : List Block) (total : Option ℕ) (place : ℕ) (pending : List ℕ) (stop : Option ReadStop) → stop ≡ None → IsGoing blocks total place pending → IsReading blocks total place pending stop
-reading-going blocks total place pending stop e going = record {
-  going = λ (none : stop ≡ None). going;
-  stopped = λ (s : ReadStop) (some : stop ≡ Some s) (fault : s ≢ NoMemory) (rest : List ℕ). absurd (cc);
+pub reading_going : (blocks : List Block) (s : State) (place : ℕ) (pending : List ℕ) (stop : Option ReadStop) → stop ≡ None
+    → IsGoing blocks s place pending → IsReading blocks s place pending stop
+reading_going blocks s place pending stop e going = record {
+  going = λ (_ : stop ≡ None). going;
+  stopped = λ (other : ReadStop) (some : stop ≡ Some other) (_ : other ≢ NoMemory) (rest : List ℕ). absurd (cc);
 }
 
--- what its value says
-pub unstopped : (blocks : List Block) (total : Option ℕ) (place : ℕ) (pending : List ℕ) (stop : Option ReadStop) → IsReading blocks total place pending stop → stop ≡ None
-    → IsUnstopped (record { taken = flat_map spelling blocks ++ pending; stop = stop })
-unstopped blocks total place pending stop reading e = record {
+pub unstopped : (blocks : List Block) (s : State) (place : ℕ) (pending : List ℕ) (stop : Option ReadStop) → IsReading blocks s place pending stop → stop ≡ None
+    → IsUnstopped (record { taken = spellings blocks ++ pending; stop = stop })
+unstopped blocks s place pending stop reading e = record {
   no_stop = e;
-  nothing_shown = going-hidden blocks total place pending (reading.going e);
-  bounded = going-bounded blocks total place pending (reading.going e);
+  nothing_shown = going_hidden blocks s place pending (reading.going e);
+  bounded = going_bounded blocks s place pending (reading.going e);
 }

@@ -1,50 +1,57 @@
--- The first stops of worked inputs.
-use Rattle.std.proofs.Common.{◌≡◌, ℕ, List, [], ◌∷◌, ◌++◌, Some, None, refl}
-use Rattle.std.specs.Prelude.{take, slice_set}
-use Rattle.uac_grammar.specs.declared.fault.ReadStop.TheVariants.{Unbuilt}
-use Rattle.uac_grammar.specs.Form.{is_configuration, is_audio_association, is_control_interface, is_header}
-use Rattle.uac_grammar.specs.Stop.{broken, total_of, ends_past_total, ends_before_total, is_cut_off, is_too_short, stop_at_block, stop_at_end, first_stop, shown_stop}
+-- What bytes show, read by hand and computed by the checker.
+use Rattle.std.proofs.Common.{◌≡◌, ℕ, List, [], ◌∷◌, Option, None, Some, refl}
+use Rattle.uac_descriptor.specs.Reading.{block_of, fields, is_whole, has_length}
+use Rattle.uac_descriptor.specs.Rows.{row_of, row_in}
+use Rattle.uac_sentence.specs.Cutting.{chop, chop_within}
+use Rattle.uac_sentence.specs.Fault.{faults_from}
+use Rattle.uac_sentence.specs.Grammar.{first_fault, grammar, start, rule_at_end, rule_broken, state_after, comes_again, lists_unknown, lacks_association, is_out_of_order, is_refused, passes_total, passes_list, ends_list_early, is_in_turn}
+use Rattle.uac_sentence.specs.Letter.{whole_letter, is_device, has_unknown_subtype}
+use Rattle.uac_sentence.specs.Values.{has_wrong_value, is_no_high_speed}
+use Rattle.uac_grammar.specs.Stop.{first_stop, shown_stop}
+use Rattle.uac_grammar.specs.declared.fault.ReadStop.{ReadStop}
+use Rattle.uac_grammar.specs.declared.fault.ReadStop.TheVariants.{Fault}
 
--- the least descriptor: a configuration, an audio association, a control interface and its header
-minimal : List ℕ
-minimal =
-    9 ∷ 2 ∷ 35 ∷ 0 ∷ 1 ∷ 1 ∷ 0 ∷ 128 ∷ 50 ∷ 8 ∷ 11 ∷ 0 ∷ 1 ∷ 1 ∷ 0 ∷ 32 ∷ 0
-    ∷ 9 ∷ 4 ∷ 0 ∷ 0 ∷ 0 ∷ 1 ∷ 1 ∷ 32 ∷ 0 ∷ 9 ∷ 36 ∷ 1 ∷ 0 ∷ 2 ∷ 4 ∷ 9 ∷ 0 ∷ 0 ∷ []
+-- the stops, with all that they are computed by
+shown : List ℕ → Option ReadStop
+unfolding first_fault grammar start rule_at_end rule_broken state_after comes_again lists_unknown lacks_association is_out_of_order is_refused passes_total passes_list ends_list_early is_in_turn faults_from chop chop_within has_wrong_value is_no_high_speed whole_letter is_device has_unknown_subtype block_of fields is_whole has_length row_of row_in
+shown bytes = shown_stop bytes
 
-whole : first_stop minimal ≡ None
-unfolding minimal is_configuration is_audio_association is_control_interface is_header total_of ends_past_total ends_before_total is_cut_off is_too_short stop_at_block stop_at_end
-whole = refl
+first : List ℕ → Option ReadStop
+unfolding first_fault grammar start rule_at_end rule_broken state_after comes_again lists_unknown lacks_association is_out_of_order is_refused passes_total passes_list ends_list_early is_in_turn faults_from chop chop_within has_wrong_value is_no_high_speed whole_letter is_device has_unknown_subtype block_of fields is_whole has_length row_of row_in
+first bytes = first_stop bytes
 
-no_bytes : first_stop [] ≡ Some (broken 1 0)
-unfolding is_cut_off is_too_short stop_at_end
+abbrev fault : ℕ → ℕ → Option ReadStop
+fault rule place = Some (Fault (record { rule = rule; at = place }))
+
+-- nothing at all is a fault, but more bytes can change it
+no_bytes : first [] ≡ fault 1 0
+unfolding first
 no_bytes = refl
 
-a_byte_short : first_stop (take 34 minimal) ≡ Some (broken 1 26)
-unfolding minimal is_configuration is_audio_association is_control_interface is_header total_of ends_past_total ends_before_total is_cut_off is_too_short stop_at_block stop_at_end
-a_byte_short = refl
+no_bytes_shown : shown [] ≡ None
+unfolding shown
+no_bytes_shown = refl
 
-length_of_one : first_stop (slice_set minimal 26 1) ≡ Some (broken 2 26)
-unfolding minimal is_configuration is_audio_association is_control_interface is_header total_of ends_past_total ends_before_total is_cut_off is_too_short stop_at_block stop_at_end
-length_of_one = refl
+-- so is one byte alone, of whatever value
+one_byte : shown (1 ∷ []) ≡ None
+unfolding shown
+one_byte = refl
 
-total_too_large : first_stop (slice_set minimal 2 36) ≡ Some (broken 5 35)
-unfolding minimal is_configuration is_audio_association is_control_interface is_header total_of ends_past_total ends_before_total is_cut_off is_too_short stop_at_block stop_at_end
-total_too_large = refl
+-- a length of 1 is shown by the byte behind it
+length_one : shown (1 ∷ 2 ∷ []) ≡ fault 2 0
+unfolding shown
+length_one = refl
 
-total_too_small : first_stop (slice_set minimal 2 34) ≡ Some (broken 5 26)
-unfolding minimal is_configuration is_audio_association is_control_interface is_header total_of ends_past_total ends_before_total is_cut_off is_too_short stop_at_block stop_at_end
-total_too_small = refl
+-- an endpoint where the configuration is due is shown by its last byte
+endpoint_cut_off : shown (7 ∷ 5 ∷ 1 ∷ 5 ∷ 150 ∷ 0 ∷ []) ≡ None
+unfolding shown
+endpoint_cut_off = refl
 
--- a device descriptor (USB 2.0, 9.6.1) in front
-device_in_front : first_stop ((18 ∷ 1 ∷ 0 ∷ 2 ∷ 239 ∷ 2 ∷ 1 ∷ 64 ∷ 9 ∷ 18 ∷ 1 ∷ 0 ∷ 0 ∷ 1 ∷ 0 ∷ 0 ∷ 0 ∷ 1 ∷ []) ++ minimal) ≡ Some (Unbuilt 0)
-unfolding minimal is_configuration is_audio_association is_control_interface is_header total_of ends_past_total ends_before_total is_cut_off is_too_short stop_at_block stop_at_end
-device_in_front = refl
+endpoint_first : shown (7 ∷ 5 ∷ 1 ∷ 5 ∷ 150 ∷ 0 ∷ 1 ∷ []) ≡ fault 6 0
+unfolding shown
+endpoint_first = refl
 
--- a fault is shown as soon as its place isn't the end
-shown_early : shown_stop (take 28 (slice_set minimal 26 1)) ≡ Some (broken 2 26)
-unfolding minimal is_configuration is_audio_association is_control_interface is_header total_of ends_past_total ends_before_total is_cut_off is_too_short stop_at_block stop_at_end
-shown_early = refl
-
-not_yet_shown : shown_stop (take 27 (slice_set minimal 26 1)) ≡ None
-unfolding minimal is_configuration is_audio_association is_control_interface is_header total_of ends_past_total ends_before_total is_cut_off is_too_short stop_at_block stop_at_end
-not_yet_shown = refl
+-- and an endpoint of another length is told by the lesser rule
+endpoint_of_six : shown (6 ∷ 5 ∷ 1 ∷ 5 ∷ 150 ∷ 0 ∷ []) ≡ fault 3 0
+unfolding shown
+endpoint_of_six = refl

@@ -1,5 +1,4 @@
-pub mod Chop
-pub mod Form
-pub mod Reading
+pub mod Row
 pub mod Stop
+pub mod Reading
 pub mod Verdict

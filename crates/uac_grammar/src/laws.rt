@@ -1,15 +1,25 @@
 //! Laws of the definitions that the reader's contracts cite. The functions do nothing: each contract is
 //! the law.
-ghost use Rattle.std.specs.Prelude.{◌≡◌, ◌≢◌, ◌<◌, ◌↔◌, ℕ, List, ◌++◌, length, slice_index};
+ghost use Rattle.std.specs.Prelude.{◌≡◌, ◌↔◌, ℕ, List, ◌++◌, length, flat_map, Some, None};
+ghost use Rattle.uac_descriptor.specs.Reading.{AreBytes};
+ghost use Rattle.uac_descriptor.specs.Spelling.{spelling};
 ghost use Rattle.uac_descriptor.specs.declared.block.Block.{Block};
-ghost use Rattle.uac_grammar.specs.Form.{IsForm};
-ghost use Rattle.uac_grammar.specs.Stop.{first_stop, shown_stop};
+ghost use Rattle.uac_sentence.specs.Fault.{IsShown};
+ghost use Rattle.uac_sentence.specs.Grammar.{first_fault};
+ghost use Rattle.uac_sentence.specs.Sentence.{IsSentence};
+ghost use Rattle.uac_sentence.specs.declared.faults.GrammarFault.{GrammarFault};
+ghost use Rattle.uac_grammar.specs.Stop.{shown_fault, first_stop, shown_stop};
 ghost use Rattle.uac_grammar.specs.declared.fault.ReadStop.{ReadStop};
 
-/// Bytes have no stop exactly where some blocks are of the form and spell them.
-pub fn no_stop_is_the_form()
-    ensures { (bytes : List ℕ) → ((k : ℕ) → slice_index bytes k < 256)
-        → (first_stop bytes ≡ None) ↔ ((blocks : List Block) × IsForm bytes blocks) }
+/// Bytes have no stop exactly where some blocks make a sentence of them.
+pub fn no_stop_is_a_sentence()
+    ensures { (bytes : List ℕ) → AreBytes bytes → (first_stop bytes ≡ None) ↔ ((blocks : List Block) × IsSentence bytes blocks) }
+{}
+
+/// The fault that bytes show is their first fault, where that is shown.
+pub fn shown_fault_is_the_first()
+    ensures { (bytes : List ℕ) (fault : GrammarFault)
+        → (shown_fault bytes ≡ Some fault) ↔ ((first_fault bytes ≡ Some fault) × IsShown fault (length bytes)) }
 {}
 
 /// A stop that bytes show is the stop of every longer input that begins with them.
@@ -18,13 +28,11 @@ pub fn shown_stops_stay()
     ensures shown { (bytes more : List ℕ) (stop : ReadStop) → shown_stop bytes ≡ Some stop → shown_stop (bytes ++ more) ≡ Some stop }
 {}
 
-/// A stop that bytes show is their first stop, and no bytes stop for want of memory.
-pub fn shown_stops_are_first()
-    ensures first { (bytes : List ℕ) (stop : ReadStop) → shown_stop bytes ≡ Some stop → first_stop bytes ≡ Some stop }
-    ensures never_memory { (bytes : List ℕ) → first_stop bytes ≢ Some ReadStop.NoMemory }
-{}
-
-/// The form has four blocks.
-pub fn the_form_has_four_blocks()
-    ensures { (bytes : List ℕ) (blocks : List Block) → IsForm bytes blocks → length blocks ≡ 4 }
+/// The blocks of a sentence, written again, are its bytes; and blocks that make a sentence are read back
+/// from what was written, since nothing stops a reader there and it finds no other blocks.
+pub fn written_blocks_are_read_back()
+    ensures written { (bytes : List ℕ) (blocks : List Block) → IsSentence bytes blocks → flat_map spelling blocks ≡ bytes }
+    ensures accepted { (blocks : List Block) → AreBytes (flat_map spelling blocks) → IsSentence (flat_map spelling blocks) blocks
+        → first_stop (flat_map spelling blocks) ≡ None }
+    ensures same { (blocks read : List Block) → IsSentence (flat_map spelling blocks) blocks → IsSentence (flat_map spelling blocks) read → read ≡ blocks }
 {}

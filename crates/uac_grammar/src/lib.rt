@@ -3,8 +3,8 @@
 
 /// Why a reader stopped.
 mod fault;
-/// The blocks of the one form that is read so far, from their bytes.
-mod form;
+/// One block from its bytes.
+mod blocks;
 /// What the bytes of a block come to, and the end of the input.
 mod judge;
 /// Laws of the definitions.
@@ -12,5 +12,6 @@ pub mod laws;
 /// The reader.
 mod reader;
 
-pub use fault::{GrammarFault, ReadStop};
+pub use fault::ReadStop;
 pub use reader::Reader;
+pub use uac_sentence::GrammarFault;

@@ -1,6 +1,7 @@
-ghost use Rattle.std.specs.Prelude.{◌≡◌, ◌≢◌, ◌≤◌, ℕ, List, [], ◌∷◌, ◌++◌, length, IsOk, IfOk, OnOk, IfErr, MatchResult};
+ghost use Rattle.std.specs.Prelude.{◌≡◌, ◌≢◌, ◌≤◌, ℕ, List, [], ◌∷◌, ◌++◌, length, IsOk, IfOk, OnOk, IfErr, MatchResult, None};
+ghost use Rattle.uac_sentence.specs.Grammar.{first_fault};
+ghost use Rattle.uac_sentence.specs.Sentence.{IsSentence};
 ghost use Rattle.uac_grammar.specs.Reading.{Reading, IsUnstopped, most_taken};
-ghost use Rattle.uac_grammar.specs.Form.{IsForm};
 ghost use Rattle.uac_grammar.specs.Stop.{first_stop, shown_stop};
 
 use crate::fault::ReadStop;
@@ -9,15 +10,17 @@ use arrayvec::ArrayVec;
 use std::alloc::Global;
 use std::marker::Model;
 use uac_descriptor::Block;
+use uac_sentence::State;
 
 /// Reads descriptor bytes, in pieces of any size, up to the first place that is wrong.
 #[derive(Drop)]
 pub struct Reader {
+    alloc: Global,
     blocks: Vec<Block>,
     /// What was taken of the block that isn't whole yet.
     pending: ArrayVec<u8, 255>,
-    /// The configuration's wTotalLength, once it was read.
-    total: Option<u16>,
+    /// What the blocks so far leave to be remembered.
+    state: State,
     /// The place of the pending block.
     place: u32,
     stop: Option<ReadStop>,
@@ -25,15 +28,14 @@ pub struct Reader {
 
 impl Model for Reader {
     ghost use Rattle.std.specs.Prelude.{◌++◌};
-    ghost use Rattle.std.specs.List.{flat_map};
-    ghost use Rattle.uac_descriptor.specs.Block.{spelling};
+    ghost use Rattle.uac_sentence.specs.Sentence.{spellings};
     ghost use Rattle.uac_grammar.specs.Reading.{Reading, IsReading};
 
     ghost Value = { Reading };
 
-    ghost view = { λ r. record { taken = flat_map spelling r.blocks.items ++ r.pending.items; stop = r.stop } };
+    ghost view = { λ r. record { taken = spellings r.blocks.items ++ r.pending.items; stop = r.stop } };
 
-    ghost invariant = { λ r. IsReading r.blocks.items r.total r.place r.pending.items r.stop };
+    ghost invariant = { λ r. IsReading r.blocks.items r.state r.place r.pending.items r.stop };
 }
 
 impl Reader {
@@ -42,15 +44,16 @@ impl Reader {
         ensures { result ≡ record { taken = []; stop = None } }
     {
         Reader {
+            alloc,
             blocks: Vec::new(alloc),
             pending: ArrayVec::new(),
-            total: None,
+            state: State::start(),
             place: 0,
             stop: None,
         }
     }
 
-    /// Takes the next bytes. It answers the first stop of all bytes so far as soon as their number is
+    /// Takes the next bytes. It answers the first fault of all bytes so far as soon as their number is
     /// past its place, unless the block there is cut off (rule G1), and stops there. A stop is answered
     /// again after that.
     pub fn feed(&mut self, piece: &[u8]) -> Result<(), ReadStop>
@@ -82,53 +85,55 @@ impl Reader {
         ensures shown { IfErr result (λ s. s ≢ ReadStop.NoMemory → (rest : List ℕ) → shown_stop (self.old.taken ++ byte ∷ rest) ≡ Some s) }
     {
         self.pending.push(byte);
-        match judge(
-            self.blocks.len(),
-            self.total,
-            self.place,
-            self.pending.as_slice(),
-        ) {
+        match judge(self.alloc, &self.state, self.place, self.pending.as_slice()) {
             Verdict::Partial => Ok(()),
-            Verdict::Stopped(stop) => {
-                self.stop = Some(stop);
-                Err(stop)
+            Verdict::Broken(fault) => {
+                self.stop = Some(ReadStop::Fault(fault));
+                Err(ReadStop::Fault(fault))
             }
-            Verdict::Whole { block, total } => match self.blocks.push(block) {
-                Ok(()) => {
-                    self.place += self.pending.len() as u32;
-                    self.total = Some(total);
-                    self.pending.clear();
-                    Ok(())
+            Verdict::NoMemory => {
+                self.stop = Some(ReadStop::NoMemory);
+                Err(ReadStop::NoMemory)
+            }
+            Verdict::Whole(block) => {
+                self.state.take(self.place, &block);
+                match self.blocks.push(block) {
+                    Ok(()) => {
+                        self.place += self.pending.len() as u32;
+                        self.pending.clear();
+                        return Ok(());
+                    }
+                    Err(_) => {
+                        self.stop = Some(ReadStop::NoMemory);
+                        return Err(ReadStop::NoMemory);
+                    }
                 }
-                Err(_) => {
-                    self.stop = Some(ReadStop::NoMemory);
-                    Err(ReadStop::NoMemory)
-                }
-            },
+            }
         }
     }
 
-    /// The blocks of the bytes, or their first stop. It takes no memory; where a `feed` found none, it
+    /// The blocks of the bytes, or their first fault. It takes no memory; where a `feed` found none, it
     /// answers `NoMemory`.
     pub fn finish(self) -> Result<Vec<Block>, ReadStop>
         ensures again { (s : ReadStop) → self.stop ≡ Some s → result ≡ Err s }
-        ensures form { IfOk result (λ blocks. IsForm self.taken blocks.items) }
-        ensures clear { OnOk result (first_stop self.taken ≡ None) }
+        ensures sentence { IfOk result (λ blocks. IsSentence self.taken blocks.items) }
+        ensures no_fault { OnOk result (first_fault self.taken ≡ None) }
         ensures stop { IfErr result (λ s. s ≢ ReadStop.NoMemory → first_stop self.taken ≡ Some s) }
         ensures no_memory { IfErr result (λ s. s ≡ ReadStop.NoMemory → self.stop ≡ Some s) }
     {
         let Reader {
+            alloc: _,
             blocks,
             pending,
-            total,
+            state,
             place,
             stop,
         } = self;
         if let Some(stop) = stop {
             return Err(stop);
         }
-        match judge_end(blocks.len(), total, place, pending.as_slice()) {
-            Some(stop) => Err(stop),
+        match judge_end(&state, place, pending.as_slice()) {
+            Some(fault) => Err(ReadStop::Fault(fault)),
             None => Ok(blocks),
         }
     }

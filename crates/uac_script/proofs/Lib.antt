@@ -1,2 +1,12 @@
 pub mod WritingLemmas
 pub mod MemoryLemmas
+pub mod WordsLemmas
+pub mod NumeralLemmas
+pub mod HexLemmas
+pub mod ListLemmas
+pub mod Numerals
+pub mod Grammar
+pub mod Answered
+pub mod Laws
+pub mod Kept
+pub mod Worked

@@ -1,7 +1,9 @@
 // A line of text in a buffer of fixed size, which takes no memory.
-ghost use Rattle.std.specs.Prelude.{◌≡◌, ℕ, ◌+◌, ◌≤◌, List, [], ◌++◌, length, decimal};
+ghost use Rattle.hex.specs.Hex.{encode_lower};
+ghost use Rattle.std.specs.Prelude.{◌≡◌, ℕ, ◌+◌, ◌*◌, ◌≤◌, List, [], ◌++◌, length, decimal};
 
 use arrayvec::ArrayVec;
+use hex::encode_to_slice;
 use itoa::Buffer;
 use std::marker::Model;
 
@@ -49,6 +51,21 @@ impl<const N: usize> TextLine<N> {
     {
         let mut digits = Buffer::new();
         self.push(digits.format(number).as_bytes());
+    }
+
+    /// Appends `bytes`, at most 255, in lower-case hexadecimal digits, for two of which each there has to be room.
+    pub fn push_hex(&mut self, bytes: &[u8])
+        requires few { length bytes.now ≤ 255 }
+        requires room { length self.old + 2 * length bytes.now ≤ N }
+        ensures text { self.new ≡ self.old ++ encode_lower bytes.now }
+        ensures len { length self.new ≡ length self.old + 2 * length bytes.now }
+    {
+        let mut digits = [0; 510];
+        let end = 2 * bytes.len();
+        match encode_to_slice(bytes, &mut digits[..end]) {
+            Ok(()) => self.push(&digits[..end]),
+            Err(_) => unreachable!(),
+        }
     }
 
     /// Lends the text.

@@ -1,5 +1,5 @@
-use Rattle.uac_cli.proofs.Composing.{four}
+use Rattle.uac_cli.proofs.Composing.{finished_by}
 use Rattle.uac_cli.proofs.reading.finished.Goals as goal
 
-pub returns-in-Ok : goal.returns-in-Ok
-returns-in-Ok c = (c.in-Ok.ensures.clear, four _ c.in-Ok.ensures.form.order)
+pub returns-in-Err : goal.returns-in-Err
+returns-in-Err c = finished_by _ _ c.in-Err.ensures.stop

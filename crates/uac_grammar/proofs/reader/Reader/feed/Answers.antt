@@ -8,7 +8,7 @@ use Rattle.uac_grammar.proofs.reader.Reader.feed.Goals as goal
 pub loop-byte-init : goal.loop-byte-init
 loop-byte-init c =
     let inside = c.self.inside in
-    let going = unstopped inside.blocks.items inside.total inside.place inside.pending.items inside.stop c.self.invariant c.in_default.is in
+    let going = unstopped inside.blocks.items inside.state inside.place inside.pending.items inside.stop c.self.invariant c.in_default.is in
     record { going = subst IsUnstopped c.self.view_is going; taken = sym (append-nil c.args.self.now.taken) }
 
 pub returns-in-Err-clause-shown : goal.returns-in-Err-clause-shown

@@ -1,0 +1,122 @@
+-- Blocks of a headset, read by the definitions; and which row reads what stands at an edge of the layouts.
+use Rattle.std.proofs.Common.{◌≡◌, [], ◌∷◌, refl}
+use Rattle.std.specs.Prelude.{Some, None}
+use Rattle.uac_descriptor.specs.Rows.{row_in, row_of}
+use Rattle.uac_descriptor.specs.declared.context.Context.TheVariants.{DeviceFront, ControlInterface, StreamingInterface, ForeignInterface}
+use Rattle.uac_descriptor.specs.Reading.{block_of, has_length, fields, is_whole}
+use Rattle.uac_descriptor.specs.declared.block.Block.TheVariants as variant
+
+configuration_read : block_of DeviceFront (9 ∷ 2 ∷ 19 ∷ 1 ∷ 4 ∷ 1 ∷ 0 ∷ 128 ∷ 50 ∷ [])
+    ≡ Some (variant.Configuration (record { total = 275; interfaces = 4; value = 1; name = 0; attributes = 128; power = 50 }))
+unfolding block_of is_whole row_in row_of has_length fields
+configuration_read = refl
+
+association_read : block_of DeviceFront (8 ∷ 11 ∷ 0 ∷ 3 ∷ 1 ∷ 0 ∷ 32 ∷ 0 ∷ [])
+    ≡ Some (variant.Association (record { first = 0; count = 3; «class» = 1; subclass = 0; protocol = 32; name = 0 }))
+unfolding block_of is_whole row_in row_of has_length fields
+association_read = refl
+
+control_read : block_of DeviceFront (9 ∷ 4 ∷ 0 ∷ 0 ∷ 0 ∷ 1 ∷ 1 ∷ 32 ∷ 0 ∷ [])
+    ≡ Some (variant.Interface (record { number = 0; setting = 0; endpoints = 0; «class» = 1; subclass = 1; protocol = 32; name = 0 }))
+unfolding block_of is_whole row_in row_of has_length fields
+control_read = refl
+
+header_read : block_of ControlInterface (9 ∷ 36 ∷ 1 ∷ 0 ∷ 2 ∷ 4 ∷ 107 ∷ 0 ∷ 0 ∷ [])
+    ≡ Some (variant.Header (record { version = 512; category = 4; total = 107; controls = 0 }))
+unfolding block_of is_whole row_in row_of has_length fields
+header_read = refl
+
+clock_read : block_of ControlInterface (8 ∷ 36 ∷ 10 ∷ 1 ∷ 3 ∷ 7 ∷ 0 ∷ 0 ∷ [])
+    ≡ Some (variant.ClockSource (record { id = 1; attributes = 3; controls = 7; assoc = 0; name = 0 }))
+unfolding block_of is_whole row_in row_of has_length fields
+clock_read = refl
+
+input_read : block_of ControlInterface (17 ∷ 36 ∷ 2 ∷ 2 ∷ 1 ∷ 1 ∷ 0 ∷ 1 ∷ 2 ∷ 3 ∷ 0 ∷ 0 ∷ 0 ∷ 0 ∷ 0 ∷ 0 ∷ 0 ∷ [])
+    ≡ Some (variant.InputTerminal (record { id = 2; terminal_type = 257; assoc = 0; clock = 1; channels = 2; locations = 3; names = 0; controls = 0; name = 0 }))
+unfolding block_of is_whole row_in row_of has_length fields
+input_read = refl
+
+feature_read : block_of ControlInterface (18 ∷ 36 ∷ 6 ∷ 3 ∷ 2 ∷ 3 ∷ 0 ∷ 0 ∷ 0 ∷ 12 ∷ 0 ∷ 0 ∷ 0 ∷ 12 ∷ 0 ∷ 0 ∷ 0 ∷ 0 ∷ [])
+    ≡ Some (variant.Feature (record { id = 3; source = 2; words = 3 ∷ 12 ∷ 12 ∷ []; name = 0 }))
+unfolding block_of is_whole row_in row_of has_length fields
+feature_read = refl
+
+output_read : block_of ControlInterface (12 ∷ 36 ∷ 3 ∷ 4 ∷ 2 ∷ 3 ∷ 0 ∷ 3 ∷ 1 ∷ 0 ∷ 0 ∷ 0 ∷ [])
+    ≡ Some (variant.OutputTerminal (record { id = 4; terminal_type = 770; assoc = 0; source = 3; clock = 1; controls = 0; name = 0 }))
+unfolding block_of is_whole row_in row_of has_length fields
+output_read = refl
+
+mixer_read : block_of ControlInterface (17 ∷ 36 ∷ 4 ∷ 8 ∷ 2 ∷ 2 ∷ 6 ∷ 3 ∷ 0 ∷ 0 ∷ 0 ∷ 0 ∷ 0 ∷ 255 ∷ 128 ∷ 0 ∷ 0 ∷ [])
+    ≡ Some (variant.Mixer (record { id = 8; sources = 2 ∷ 6 ∷ []; channels = 3; locations = 0; names = 0; mix_bits = 255 ∷ 128 ∷ []; controls = 0; name = 0 }))
+unfolding block_of is_whole row_in row_of has_length fields
+mixer_read = refl
+
+general_read : block_of StreamingInterface (16 ∷ 36 ∷ 1 ∷ 2 ∷ 5 ∷ 1 ∷ 1 ∷ 0 ∷ 0 ∷ 0 ∷ 2 ∷ 3 ∷ 0 ∷ 0 ∷ 0 ∷ 0 ∷ [])
+    ≡ Some (variant.General (record { link = 2; controls = 5; format_type = 1; formats = 1; channels = 2; locations = 3; names = 0 }))
+unfolding block_of is_whole row_in row_of has_length fields
+general_read = refl
+
+type_one_read : block_of StreamingInterface (6 ∷ 36 ∷ 2 ∷ 1 ∷ 3 ∷ 24 ∷ [])
+    ≡ Some (variant.TypeOne (record { subslot = 3; bits = 24 }))
+unfolding block_of is_whole row_in row_of has_length fields
+type_one_read = refl
+
+endpoint_read : block_of StreamingInterface (7 ∷ 5 ∷ 1 ∷ 5 ∷ 150 ∷ 0 ∷ 1 ∷ [])
+    ≡ Some (variant.Endpoint (record { address = 1; attributes = 5; max_packet = 150; interval = 1 }))
+unfolding block_of is_whole row_in row_of has_length fields
+endpoint_read = refl
+
+class_endpoint_read : block_of StreamingInterface (8 ∷ 37 ∷ 1 ∷ 0 ∷ 0 ∷ 0 ∷ 0 ∷ 0 ∷ [])
+    ≡ Some (variant.ClassEndpoint (record { attributes = 0; controls = 0; lock_units = 0; lock_delay = 0 }))
+unfolding block_of is_whole row_in row_of has_length fields
+class_endpoint_read = refl
+
+-- a device descriptor is kept whole
+device_kept : block_of DeviceFront (18 ∷ 1 ∷ 0 ∷ 2 ∷ 239 ∷ 2 ∷ 1 ∷ 64 ∷ 52 ∷ 18 ∷ 120 ∷ 86 ∷ 0 ∷ 1 ∷ 1 ∷ 2 ∷ 0 ∷ 1 ∷ []) ≡ Some (variant.Foreign (18 ∷ 1 ∷ 0 ∷ 2 ∷ 239 ∷ 2 ∷ 1 ∷ 64 ∷ 52 ∷ 18 ∷ 120 ∷ 86 ∷ 0 ∷ 1 ∷ 1 ∷ 2 ∷ 0 ∷ 1 ∷ []))
+unfolding block_of is_whole row_in row_of has_length fields
+device_kept = refl
+
+-- an endpoint of a foreign interface is kept whole
+hid_endpoint_kept : block_of ForeignInterface (7 ∷ 5 ∷ 131 ∷ 3 ∷ 4 ∷ 0 ∷ 10 ∷ []) ≡ Some (variant.Foreign (7 ∷ 5 ∷ 131 ∷ 3 ∷ 4 ∷ 0 ∷ 10 ∷ []))
+unfolding block_of is_whole row_in row_of has_length fields
+hid_endpoint_kept = refl
+
+-- a class block in front of every interface has no row
+class_in_front_kept : block_of DeviceFront (3 ∷ 36 ∷ 1 ∷ []) ≡ Some (variant.Foreign (3 ∷ 36 ∷ 1 ∷ []))
+unfolding block_of is_whole row_in row_of has_length fields
+class_in_front_kept = refl
+
+-- so has a subtype that the control interface does not know
+extension_kept : block_of ControlInterface (4 ∷ 36 ∷ 8 ∷ 1 ∷ []) ≡ Some (variant.Foreign (4 ∷ 36 ∷ 8 ∷ 1 ∷ []))
+unfolding block_of is_whole row_in row_of has_length fields
+extension_kept = refl
+
+-- a format block of three bytes has no format type
+short_format_read : block_of StreamingInterface (3 ∷ 36 ∷ 2 ∷ []) ≡ Some (variant.Extra (record { subtype = 2; rest = [] }))
+unfolding block_of is_whole row_in row_of has_length fields
+short_format_read = refl
+
+-- the row goes by type and subtype, never by the length
+long_type_one_not_read : block_of StreamingInterface (7 ∷ 36 ∷ 2 ∷ 1 ∷ 3 ∷ 24 ∷ 0 ∷ []) ≡ None
+unfolding block_of is_whole row_in row_of has_length fields
+long_type_one_not_read = refl
+
+-- an interface of a wrong length is none in a foreign interface too
+short_interface_not_read : block_of ForeignInterface (8 ∷ 4 ∷ 3 ∷ 0 ∷ 1 ∷ 3 ∷ 0 ∷ 0 ∷ []) ≡ None
+unfolding block_of is_whole row_in row_of has_length fields
+short_interface_not_read = refl
+
+-- a class block without a subtype
+no_subtype_not_read : block_of ControlInterface (2 ∷ 36 ∷ []) ≡ None
+unfolding block_of is_whole row_in row_of has_length fields
+no_subtype_not_read = refl
+
+-- a feature unit without a control word
+wordless_not_read : block_of ControlInterface (6 ∷ 36 ∷ 6 ∷ 3 ∷ 2 ∷ 0 ∷ []) ≡ None
+unfolding block_of is_whole row_in row_of has_length fields
+wordless_not_read = refl
+
+-- a mixer whose pins take more than its length
+crowded_not_read : block_of ControlInterface (14 ∷ 36 ∷ 4 ∷ 8 ∷ 2 ∷ 2 ∷ 6 ∷ 3 ∷ 0 ∷ 0 ∷ 0 ∷ 0 ∷ 0 ∷ 0 ∷ []) ≡ None
+unfolding block_of is_whole row_in row_of has_length fields
+crowded_not_read = refl

@@ -1,0 +1,5 @@
+use Rattle.uac_descriptor.proofs.KeptLemmas.{one_spelling_lem}
+use Rattle.uac_descriptor.proofs.laws.one_spelling.Goals as goal
+
+pub returns : goal.returns
+returns c = one_spelling_lem

@@ -1,0 +1,8 @@
+use Rattle.uac_descriptor.proofs.KeptLemmas.{spelt_is_read, read_is_spelt}
+use Rattle.uac_descriptor.proofs.laws.reading.Goals as goal
+
+pub returns-clause-spelt_is_read : goal.returns-clause-spelt_is_read
+returns-clause-spelt_is_read c = spelt_is_read
+
+pub returns-clause-read_is_spelt : goal.returns-clause-read_is_spelt
+returns-clause-read_is_spelt c = read_is_spelt

@@ -1,0 +1,102 @@
+// The bits D0 to D5 of an endpoint's attributes, by name.
+ghost use Rattle.std.specs.Prelude.{⊤, ◌≡◌, ◌==◌, [], ◌∷◌, codes};
+ghost use Rattle.uac_descriptor.specs.Endpoints.{transfer_type, synchronization_type, usage_type};
+
+use bitflags::{Flag, Flags, bitflag_items};
+
+/// The bits D0 to D5 of an endpoint's attributes (USB 2.0, 9.6.6): two for the kind of transfer, two for
+/// the synchronization, two for the usage.
+#[derive(Clone, Copy, PartialEq, Eq, Debug)]
+pub struct EndpointBits(u8);
+
+bitflag_items! {
+    impl EndpointBits: u8 {
+        const ISOCHRONOUS = 0x01;
+        const BULK = 0x02;
+        const ASYNCHRONOUS = 0x04;
+        const ADAPTIVE = 0x08;
+        const FEEDBACK = 0x10;
+        const IMPLICIT = 0x20;
+    }
+}
+
+impl Flags for EndpointBits {
+    type Bits = u8;
+
+    ghost exact = { ⊤ };
+
+    ghost table = { (codes "ISOCHRONOUS", 1) ∷ (codes "BULK", 2) ∷ (codes "ASYNCHRONOUS", 4) ∷ (codes "ADAPTIVE", 8) ∷ (codes "FEEDBACK", 16) ∷ (codes "IMPLICIT", 32) ∷ [] };
+
+    ghost set_of = { λ bits. bits.0 };
+
+    fn flags<'a>() -> &'a [Flag<EndpointBits>] {
+        EndpointBits::FLAGS
+    }
+
+    fn bits(&self) -> u8 {
+        self.0
+    }
+
+    fn from_bits_retain(bits: u8) -> EndpointBits {
+        EndpointBits(bits)
+    }
+}
+
+impl EndpointBits {
+    /// The bits of these attributes. Bits D6 and D7 are kept and belong to no name.
+    pub fn of(attributes: u8) -> EndpointBits
+        ensures { result.0 ≡ attributes }
+    {
+        EndpointBits(attributes)
+    }
+
+    /// Whether the transfers are isochronous: D1..0 is 01.
+    #[tactic(auto, using(crate::proofs::EndpointLemmas::isochronous))]
+    pub fn is_isochronous(self) -> bool
+        ensures { result ≡ (transfer_type self.0 == 1) }
+    {
+        let isochronous = self.contains(EndpointBits::ISOCHRONOUS);
+        let bulk = self.contains(EndpointBits::BULK);
+        isochronous & !bulk
+    }
+
+    /// Whether the endpoint is asynchronous: D3..2 is 01.
+    #[tactic(auto, using(crate::proofs::EndpointLemmas::asynchronous))]
+    pub fn is_asynchronous(self) -> bool
+        ensures { result ≡ (synchronization_type self.0 == 1) }
+    {
+        let asynchronous = self.contains(EndpointBits::ASYNCHRONOUS);
+        let adaptive = self.contains(EndpointBits::ADAPTIVE);
+        asynchronous & !adaptive
+    }
+
+    /// Whether it carries data alone: D5..4 is 00.
+    #[tactic(auto, using(crate::proofs::EndpointLemmas::data_alone))]
+    pub fn is_data(self) -> bool
+        ensures { result ≡ (usage_type self.0 == 0) }
+    {
+        let feedback = self.contains(EndpointBits::FEEDBACK);
+        let implicit = self.contains(EndpointBits::IMPLICIT);
+        !feedback & !implicit
+    }
+
+    /// Whether it carries feedback: D5..4 is 01.
+    #[tactic(auto, using(crate::proofs::EndpointLemmas::feedback_alone))]
+    pub fn is_feedback(self) -> bool
+        ensures { result ≡ (usage_type self.0 == 1) }
+    {
+        let feedback = self.contains(EndpointBits::FEEDBACK);
+        let implicit = self.contains(EndpointBits::IMPLICIT);
+        feedback & !implicit
+    }
+
+    /// Whether it carries data that is feedback too: D5..4 is 10.
+    #[tactic(auto, using(crate::proofs::EndpointLemmas::implicit_feedback))]
+    pub fn is_implicit_feedback(self) -> bool
+        ensures { result ≡ (usage_type self.0 == 2) }
+    {
+        let feedback = self.contains(EndpointBits::FEEDBACK);
+        let implicit = self.contains(EndpointBits::IMPLICIT);
+        implicit & !feedback
+    }
+}

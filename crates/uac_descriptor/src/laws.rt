@@ -1,0 +1,53 @@
+//! Laws of the spellings, each the contract of a function that does nothing.
+ghost use Rattle.uac_descriptor.specs.Laws.{OneSpelling, SpeltIsRead, ReadIsSpelt, IsKept, HasSpelling};
+
+use crate::block::Block;
+
+/// In one context no bytes are spelt by two blocks.
+pub fn one_spelling()
+    ensures { OneSpelling }
+{}
+
+/// Bytes are read as a block exactly where they spell it.
+pub fn reading()
+    ensures spelt_is_read { SpeltIsRead }
+    ensures read_is_spelt { ReadIsSpelt }
+{}
+
+/// The type `Block` keeps that its block has a spelling, of at most 255 bytes.
+#[tactic(auto, using(crate::proofs::KeptLemmas::kept_is_spelt))]
+pub fn has_spelling(block: &Block)
+    ensures { HasSpelling block.now }
+{
+    kept(block);
+}
+
+/// What the type keeps.
+fn kept(block: &Block)
+    ensures { IsKept block.now }
+{
+    match block {
+        Block::Mixer(block) => {
+            let _ = &block.id;
+        },
+        Block::Selector(block) => {
+            let _ = &block.id;
+        },
+        Block::Feature(block) => {
+            let _ = &block.id;
+        },
+        Block::Effect(block) => {
+            let _ = &block.id;
+        },
+        Block::ClockSelector(block) => {
+            let _ = &block.id;
+        },
+        Block::Extra(block) => {
+            let _ = &block.subtype;
+        },
+        Block::Foreign(block) => {
+            let _ = &block.bytes;
+        },
+        _ => {},
+    }
+}

@@ -1,0 +1,54 @@
+-- The streaming interfaces (Audio Class 2.0, 4.9).
+use Rattle.std.specs.Prelude.{ℕ, Bool, true, false, ◌==◌, if◌then◌else◌, List, Option, Some, None, slice_get, unwrap_or}
+use Rattle.std.specs.List.{filter_map, find}
+use Rattle.std.specs.Option.{option_map}
+use Rattle.uac_entities.specs.declared.entity.Entity.{Entity}
+use Rattle.uac_entities.specs.declared.entity.EntityKind.{EntityKind}
+use Rattle.uac_entities.specs.declared.entity.EntityKind.TheVariants as kind
+use Rattle.uac_entities.specs.declared.stream.Setting.{Setting}
+use Rattle.uac_entities.specs.declared.stream.StreamInterface.{StreamInterface}
+use Rattle.uac_entities.specs.declared.alternate.Alternate.{Alternate}
+
+-- the first entity with this id
+unfoldable pub named : List Entity → ℕ → Option Entity
+named entities id = find (λ e. e.id == id) entities
+
+abbrev pub is_input : Option EntityKind → Bool
+is_input (Some kind.InputTerminal) = true
+is_input _ = false
+
+-- the terminal that a setting links to
+unfoldable pub link_of : Setting → Option ℕ
+link_of s = option_map (λ g. g.link) s.general
+
+-- the terminals that the settings link to
+abbrev pub links_of : List Setting → List ℕ
+links_of settings = filter_map link_of settings
+
+-- a setting, where it is one of this interface
+unfoldable pub setting_of : ℕ → Alternate → Option Setting
+setting_of number a = if a.interface == number then Some a.setting else None
+
+-- the settings of an interface, in block order
+abbrev pub settings_of : List Alternate → ℕ → List Setting
+settings_of all number = filter_map (setting_of number) all
+
+-- a streaming interface goes from the host to the device where it links to an input terminal
+unfoldable pub stream_of : List Entity → List Alternate → ℕ → StreamInterface
+stream_of entities all number =
+    let settings = settings_of all number in
+    let terminal = unwrap_or (slice_get (links_of settings) 0) 0 in
+    record {
+      number = number;
+      terminal = terminal;
+      out = is_input (option_map (λ e. e.kind) (named entities terminal));
+      settings = settings;
+    }
+
+-- setting 0 begins a streaming interface
+unfoldable pub stream_at : List Entity → List Alternate → Alternate → Option StreamInterface
+stream_at entities all a = if a.setting.number == 0 then Some (stream_of entities all a.interface) else None
+
+-- the streaming interfaces, in block order
+abbrev pub streams_of : List Entity → List Alternate → List StreamInterface
+streams_of entities all = filter_map (stream_at entities all) all

@@ -1,0 +1,241 @@
+// The settings in turn, each with its own blocks.
+ghost use Rattle.std.specs.Prelude.{◌≡◌, length, slice_get, IfOk};
+ghost use Rattle.uac_entities.specs.Settings as spec;
+
+use crate::lists::keep;
+use crate::stream::Setting;
+use std::alloc::Global;
+use uac_descriptor::{Block, Endpoint, General, Interface, NoMemory, TypeOne};
+
+/// One setting of a streaming interface, with what its interface block says of it.
+#[derive(Drop)]
+pub struct Alternate {
+    /// bInterfaceNumber
+    pub interface: u8,
+    /// bNumEndpoints
+    pub declared: u8,
+    /// How many endpoint blocks stand behind it.
+    pub endpoints: usize,
+    pub setting: Setting,
+}
+
+/// The settings of the streaming interfaces, in block order.
+pub fn alternates_of(alloc: Global, blocks: &[Block]) -> Result<Vec<Alternate>, NoMemory>
+    ensures { IfOk result (λ all. all.items ≡ spec.alternates_of blocks.now) }
+{
+    let mut all = Vec::new(alloc);
+    for (place, block) in blocks.iter().enumerate() {
+        let alternate = alternate_at(block, &blocks[place + 1..]);
+        keep(&mut all, alternate)?;
+    }
+    Ok(all)
+}
+
+// The setting of a streaming interface that the block begins, with all that stands behind it.
+#[tactic(auto, unfolding(crate::specs::Settings::alternate_at))]
+fn alternate_at(block: &Block, behind: &[Block]) -> Option<Alternate>
+    ensures { result ≡ spec.alternate_at block.now behind.now }
+{
+    match block {
+        Block::Interface(interface) => {
+            if is_streaming(interface) {
+                Some(alternate_of(interface, behind))
+            } else {
+                None
+            }
+        }
+        _ => None,
+    }
+}
+
+fn is_streaming(interface: &Interface) -> bool
+    ensures { result ≡ spec.is_streaming interface.now }
+{
+    interface.class == 1 && interface.subclass == 2 && interface.protocol == 0x20
+}
+
+fn alternate_of(interface: &Interface, behind: &[Block]) -> Alternate
+    ensures { result ≡ spec.alternate_of interface.now behind.now }
+{
+    Alternate {
+        interface: interface.number,
+        declared: interface.endpoints,
+        endpoints: endpoints_behind(behind),
+        setting: Setting {
+            number: interface.setting,
+            general: general_behind(behind),
+            format: format_behind(behind),
+            first: endpoint_behind(behind, 0),
+            second: endpoint_behind(behind, 1),
+        },
+    }
+}
+
+// The first general block up to the next interface.
+fn general_behind(blocks: &[Block]) -> Option<General>
+    ensures { result ≡ slice_get (spec.own spec.general_of blocks.now) 0 }
+{
+    for block in blocks {
+        if is_interface(block) {
+            return None;
+        }
+        if let Some(general) = general_of(block) {
+            return Some(general);
+        }
+    }
+    None
+}
+
+// The first Type I format up to the next interface.
+fn format_behind(blocks: &[Block]) -> Option<TypeOne>
+    ensures { result ≡ slice_get (spec.own spec.format_of blocks.now) 0 }
+{
+    for block in blocks {
+        if is_interface(block) {
+            return None;
+        }
+        if let Some(format) = format_of(block) {
+            return Some(format);
+        }
+    }
+    None
+}
+
+// The endpoint behind so many others, up to the next interface.
+fn endpoint_behind(blocks: &[Block], others: usize) -> Option<Endpoint>
+    ensures { result ≡ slice_get (spec.own spec.endpoint_of blocks.now) others }
+{
+    let mut left = others;
+    for block in blocks {
+        if is_interface(block) {
+            return None;
+        }
+        if let Some(endpoint) = endpoint_of(block) {
+            if left == 0 {
+                return Some(endpoint);
+            }
+            left -= 1;
+        }
+    }
+    None
+}
+
+// How many endpoints there are up to the next interface.
+fn endpoints_behind(blocks: &[Block]) -> usize
+    ensures { result ≡ length (spec.own spec.endpoint_of blocks.now) }
+{
+    let mut count = 0;
+    for block in blocks {
+        if is_interface(block) {
+            return count;
+        }
+        if endpoint_of(block).is_some() {
+            count += 1;
+        }
+    }
+    count
+}
+
+#[tactic(auto, unfolding(crate::specs::Settings::is_interface))]
+fn is_interface(block: &Block) -> bool
+    ensures { result ≡ spec.is_interface block.now }
+{
+    match block {
+        Block::Interface(_) => true,
+        _ => false,
+    }
+}
+
+#[tactic(auto, unfolding(crate::specs::Settings::general_of))]
+fn general_of(block: &Block) -> Option<General>
+    ensures { result ≡ spec.general_of block.now }
+{
+    match block {
+        Block::General(g) => Some(copy_general(g)),
+        _ => None,
+    }
+}
+
+#[tactic(auto, unfolding(crate::specs::Settings::format_of))]
+fn format_of(block: &Block) -> Option<TypeOne>
+    ensures { result ≡ spec.format_of block.now }
+{
+    match block {
+        Block::TypeOne(t) => Some(copy_format(t)),
+        _ => None,
+    }
+}
+
+#[tactic(auto, unfolding(crate::specs::Settings::endpoint_of))]
+fn endpoint_of(block: &Block) -> Option<Endpoint>
+    ensures { result ≡ spec.endpoint_of block.now }
+{
+    match block {
+        Block::Endpoint(e) => Some(copy_endpoint(e)),
+        _ => None,
+    }
+}
+
+fn copy_general(g: &General) -> General
+    ensures { result ≡ g.now }
+{
+    General {
+        link: g.link,
+        controls: g.controls,
+        format_type: g.format_type,
+        formats: g.formats,
+        channels: g.channels,
+        locations: g.locations,
+        names: g.names,
+    }
+}
+
+fn copy_format(t: &TypeOne) -> TypeOne
+    ensures { result ≡ t.now }
+{
+    TypeOne {
+        subslot: t.subslot,
+        bits: t.bits,
+    }
+}
+
+fn copy_endpoint(e: &Endpoint) -> Endpoint
+    ensures { result ≡ e.now }
+{
+    Endpoint {
+        address: e.address,
+        attributes: e.attributes,
+        max_packet: e.max_packet,
+        interval: e.interval,
+    }
+}
+
+/// A setting of its own, with the same fields.
+pub(crate) fn copy_setting(s: &Setting) -> Setting
+    ensures { result ≡ s.now }
+{
+    let general = match &s.general {
+        Some(g) => Some(copy_general(g)),
+        None => None,
+    };
+    let format = match &s.format {
+        Some(t) => Some(copy_format(t)),
+        None => None,
+    };
+    Setting {
+        number: s.number,
+        general,
+        format,
+        first: copy_optional(&s.first),
+        second: copy_optional(&s.second),
+    }
+}
+
+fn copy_optional(endpoint: &Option<Endpoint>) -> Option<Endpoint>
+    ensures { result ≡ endpoint.now }
+{
+    match endpoint {
+        Some(e) => Some(copy_endpoint(e)),
+        None => None,
+    }
+}

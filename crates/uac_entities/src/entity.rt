@@ -1,0 +1,48 @@
+// Entities, their kinds and clusters.
+use uac_descriptor::{ByteList, WordList};
+
+/// What an entity is (Audio Class 2.0, 3.13).
+#[derive(Clone, Copy, PartialEq, Eq, Debug)]
+pub enum EntityKind {
+    ClockSource,
+    ClockSelector,
+    ClockMultiplier,
+    InputTerminal,
+    OutputTerminal,
+    Mixer,
+    Selector,
+    Feature,
+    Effect,
+}
+
+/// The channels that an entity puts out (Audio Class 2.0, 3.13.1 and 4.1).
+#[derive(Clone, Copy, PartialEq, Eq, Debug)]
+pub struct Cluster {
+    /// bNrChannels
+    pub channels: u8,
+    /// bmChannelConfig: the channels' spatial locations.
+    pub locations: u32,
+    /// iChannelNames
+    pub names: u8,
+}
+
+/// A terminal, a unit or a clock entity (Audio Class 2.0, 4.7.2).
+#[derive(Drop)]
+pub struct Entity {
+    pub id: u8,
+    pub kind: EntityKind,
+    /// wTerminalType of a terminal, 0 elsewhere; 0x0101 is USB streaming.
+    pub terminal_type: u16,
+    /// The entities of its pins, in their order: signal sources, or clock sources of a clock entity.
+    pub sources: ByteList,
+    /// The clock entity of a terminal, 0 elsewhere.
+    pub clock: u8,
+    /// No channels for a clock entity.
+    pub cluster: Cluster,
+    /// The control words of a feature or an effect; of any other entity the one field of its controls.
+    pub controls: WordList,
+    /// bmMixerControls of a mixer, empty elsewhere.
+    pub mix_bits: ByteList,
+    /// bmAttributes of a clock source, 0 elsewhere.
+    pub attributes: u8,
+}

@@ -1,0 +1,131 @@
+// The streaming interfaces, from the settings in turn.
+ghost use Rattle.std.specs.Prelude.{◌≡◌, IfOk, slice_get, unwrap_or};
+ghost use Rattle.std.specs.Option.{option_map};
+ghost use Rattle.uac_entities.specs.Streams as spec;
+
+use crate::alternate::{Alternate, copy_setting};
+use crate::entity::{Entity, EntityKind};
+use crate::lists::keep;
+use crate::stream::{Setting, SettingList, StreamInterface};
+use std::alloc::Global;
+use uac_descriptor::NoMemory;
+
+/// The streaming interfaces of these settings, in block order: setting 0 begins one.
+pub fn streams_of(
+    alloc: Global,
+    entities: &[Entity],
+    all: &[Alternate],
+) -> Result<Vec<StreamInterface>, NoMemory>
+    ensures { IfOk result (λ streams. streams.items ≡ spec.streams_of entities.now all.now) }
+{
+    let mut streams = Vec::new(alloc);
+    for alternate in all {
+        let stream = stream_at(alloc, entities, all, alternate)?;
+        keep(&mut streams, stream)?;
+    }
+    Ok(streams)
+}
+
+// The streaming interface that a setting begins.
+#[tactic(auto, unfolding(crate::specs::Streams::stream_at))]
+fn stream_at(
+    alloc: Global,
+    entities: &[Entity],
+    all: &[Alternate],
+    alternate: &Alternate,
+) -> Result<Option<StreamInterface>, NoMemory>
+    ensures { IfOk result (λ stream. stream ≡ spec.stream_at entities.now all.now alternate.now) }
+{
+    if alternate.setting.number == 0 {
+        Ok(Some(stream_of(alloc, entities, all, alternate.interface)?))
+    } else {
+        Ok(None)
+    }
+}
+
+#[tactic(auto, unfolding(crate::specs::Streams::stream_of))]
+fn stream_of(
+    alloc: Global,
+    entities: &[Entity],
+    all: &[Alternate],
+    number: u8,
+) -> Result<StreamInterface, NoMemory>
+    ensures { IfOk result (λ stream. stream ≡ spec.stream_of entities.now all.now number) }
+{
+    let settings = settings_of(alloc, all, number)?;
+    let terminal = first_link(settings.as_slice());
+    Ok(StreamInterface {
+        number,
+        terminal,
+        out: is_input(kind_of(entities, terminal)),
+        settings,
+    })
+}
+
+// The settings of one interface.
+fn settings_of(alloc: Global, all: &[Alternate], number: u8) -> Result<SettingList, NoMemory>
+    ensures { IfOk result (λ settings. settings ≡ spec.settings_of all.now number) }
+{
+    let mut settings = Vec::new(alloc);
+    for alternate in all {
+        let setting = setting_of(number, alternate);
+        keep(&mut settings, setting)?;
+    }
+    Ok(SettingList::from_vec(settings))
+}
+
+#[tactic(auto, unfolding(crate::specs::Streams::setting_of))]
+fn setting_of(number: u8, alternate: &Alternate) -> Option<Setting>
+    ensures { result ≡ spec.setting_of number alternate.now }
+{
+    if alternate.interface == number {
+        Some(copy_setting(&alternate.setting))
+    } else {
+        None
+    }
+}
+
+// The first terminal that a setting links to, 0 where none does.
+fn first_link(settings: &[Setting]) -> u8
+    ensures { result ≡ unwrap_or (slice_get (spec.links_of settings.now) 0) 0 }
+{
+    for setting in settings {
+        if let Some(link) = link_of(setting) {
+            return link;
+        }
+    }
+    0
+}
+
+/// The terminal that a setting links to.
+#[tactic(auto, unfolding(crate::specs::Streams::link_of))]
+pub fn link_of(setting: &Setting) -> Option<u8>
+    ensures { result ≡ spec.link_of setting.now }
+{
+    match &setting.general {
+        Some(g) => Some(g.link),
+        None => None,
+    }
+}
+
+// The kind of the first entity with this id.
+#[tactic(auto, unfolding(crate::specs::Streams::named))]
+fn kind_of(entities: &[Entity], id: u8) -> Option<EntityKind>
+    ensures { result ≡ option_map (λ e. e.kind) (spec.named entities.now id) }
+{
+    for entity in entities {
+        if entity.id == id {
+            return Some(entity.kind);
+        }
+    }
+    None
+}
+
+fn is_input(kind: Option<EntityKind>) -> bool
+    ensures { result ≡ spec.is_input kind }
+{
+    match kind {
+        Some(EntityKind::InputTerminal) => true,
+        _ => false,
+    }
+}

@@ -1,0 +1,21 @@
+//! The entities and the streaming interfaces that the blocks of a descriptor describe.
+#![tactic(auto)]
+
+/// Entities, their kinds and clusters.
+mod entity;
+/// Streaming interfaces and their settings.
+mod stream;
+/// Lists of bytes and words, made and copied.
+mod lists;
+/// From a block to its entity.
+mod describe;
+/// The settings in turn, each with its own blocks.
+mod alternate;
+/// The streaming interfaces, from the settings in turn.
+mod interfaces;
+
+pub use alternate::{Alternate, alternates_of};
+pub use describe::entities_of;
+pub use entity::{Cluster, Entity, EntityKind};
+pub use interfaces::{link_of, streams_of};
+pub use stream::{Setting, SettingList, StreamInterface};

@@ -1,0 +1,57 @@
+-- The row of a block, from its context, its type and its subtype.
+use Rattle.std.proofs.Common.{◌≡◌, ◌≤◌, ◌<◌, ℕ, true, false, List, [], ◌∷◌, length, drop, refl, ap, ◌∙◌, arith, None}
+use Rattle.std.specs.Prelude.{slice_index}
+use Rattle.uac_descriptor.specs.Layout.{IsWhole}
+use Rattle.uac_descriptor.specs.Reading.{is_whole, block_of, has_length}
+use Rattle.uac_descriptor.proofs.SpeltAsRead.{IsWhole-is_whole}
+use Rattle.uac_descriptor.specs.Rows as rows
+use Rattle.uac_grammar.specs.Row.{read_row}
+use Rattle.uac_descriptor.specs.Rows.{Row, row_beside, rows_of, row_in, row_of, control_row, streaming_row, class_endpoint_row, parting_rows}
+use Rattle.uac_descriptor.specs.declared.context.Context.{Context}
+
+-- bytes that aren't one block are read as none
+pub block_none : (context : Context) (bytes : List ℕ) → is_whole bytes ≡ false → block_of context bytes ≡ None
+unfolding block_of
+block_none context bytes e = rw e refl
+
+pub whole_is : (bytes : List ℕ) → is_whole bytes ≡ true → IsWhole bytes
+whole_is bytes e = IsWhole-is_whole bytes e
+
+-- one block is read by its row
+pub block_row : (context : Context) (bytes : List ℕ) → is_whole bytes ≡ true → block_of context bytes ≡ read_row (row_in context bytes) bytes
+unfolding block_of
+block_row context bytes e = rw e refl
+
+-- the row of a whole block
+pub row_of_whole : (context : Context) (bytes : List ℕ) → IsWhole bytes → row_in context bytes ≡ row_beside (slice_index bytes 1) (rows_of context (drop 2 bytes)) rows.foreign
+unfolding row_in row_of
+row_of_whole context [] (two, e) = absurd (omega arith)
+row_of_whole context (size ∷ []) (two, e) = absurd (omega arith)
+row_of_whole context (size ∷ kind ∷ rest) (two, e) = refl
+
+-- what follows the type of a class block
+pub subtype_and_rest : (bytes : List ℕ) → 3 ≤ length bytes → drop 2 bytes ≡ slice_index bytes 2 ∷ drop 3 bytes
+subtype_and_rest [] long = absurd (omega arith)
+subtype_and_rest (size ∷ []) long = absurd (omega arith)
+subtype_and_rest (size ∷ kind ∷ []) long = absurd (omega arith)
+subtype_and_rest (size ∷ kind ∷ subtype ∷ rest) long = refl
+
+pub no_subtype : (bytes : List ℕ) → length bytes < 3 → drop 2 bytes ≡ []
+no_subtype [] short = refl
+no_subtype (size ∷ []) short = refl
+no_subtype (size ∷ kind ∷ []) short = refl
+no_subtype (size ∷ kind ∷ subtype ∷ rest) short = absurd (omega arith)
+
+-- a class block that is too short for a subtype has no row
+none_too_short : (bytes : List ℕ) → read_row rows.too_short bytes ≡ None
+unfolding has_length
+none_too_short bytes = refl
+
+pub control_too_short : (bytes : List ℕ) → length bytes < 3 → read_row (control_row (drop 2 bytes)) bytes ≡ None
+control_too_short bytes short = ap (λ (rest : List ℕ). read_row (control_row rest) bytes) (no_subtype bytes short) ∙ none_too_short bytes
+
+pub streaming_too_short : (bytes : List ℕ) → length bytes < 3 → read_row (streaming_row (drop 2 bytes)) bytes ≡ None
+streaming_too_short bytes short = ap (λ (rest : List ℕ). read_row (streaming_row rest) bytes) (no_subtype bytes short) ∙ none_too_short bytes
+
+pub endpoint_too_short : (bytes : List ℕ) → length bytes < 3 → read_row (class_endpoint_row rows.too_short (drop 2 bytes)) bytes ≡ None
+endpoint_too_short bytes short = ap (λ (rest : List ℕ). read_row (class_endpoint_row rows.too_short rest) bytes) (no_subtype bytes short) ∙ none_too_short bytes

@@ -1,0 +1,13 @@
+pub mod Found
+pub mod TableSteps
+pub mod FirstPlace
+pub mod Sound
+pub mod WalkSteps
+pub mod Along
+pub mod Told
+pub mod KnownSteps
+pub mod Products
+pub mod DomainSteps
+pub mod StreamSteps
+pub mod ClusterTable
+pub mod Headset

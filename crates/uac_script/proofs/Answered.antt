@@ -1,0 +1,252 @@
+-- What a text is answered: its line where it spells one in range, and else the first of rules S2 to S4 that it breaks.
+use Rattle.std.proofs.Common.{◌≡◌, ◌≢◌, ℕ, ◌<◌, ◌≤◌, ◌↔◌, Bool, true, false, cond, List, [], ◌∷◌, length, Option, Some, None, is_some, Result, Ok, Err, eqb, inl, inr, sym, ap, ◌∙◌, refl, subst, arith}
+use Rattle.std.specs.List.{onto_first}
+use Rattle.std.specs.Result.{IfOk, IfErr}
+use Rattle.std.proofs.lemmas.Bool.{ne_eqb, false≢true, cond-true, cond-false}
+use Rattle.std.proofs.lemmas.Option.{same_Some}
+use Rattle.hex.specs.Hex.{decode_of}
+use Rattle.hex.specs.declared.error.FromHexError.{FromHexError}
+use Rattle.hex.proofs.HexLemmas.{decode_of-ok}
+use Rattle.std.specs.Result.{result_ok}
+use Rattle.uac_script.specs.declared.line.Line.{Line}
+use Rattle.uac_script.specs.Words.{Word, words_of, is_idle, hex_of}
+use Rattle.uac_script.specs.Phrase.{Phrase, idle, feeds, goes, controls, gets, sets, shows, breaks, appends, tracks, jacks, deviates, runs, details, reports, is_in_range}
+use Rattle.uac_script.specs.Line.{IsRow, Spells, begins_known, phrase_of, HasNoEmptyPart, Keeps, Gives, IsOutOfRange, IsMisspelt, IsUnknown}
+use Rattle.uac_script.specs.Reading.{row_of, judged, judged_row, answer_of, answer, said}
+use Rattle.uac_script.proofs.Grammar.{row_sound, row_complete, row_of-letter}
+
+-- ---- the first byte of a text, by its first word
+
+by_space : (b c : ℕ) (parts ws : List Word) (t : Bool) → cond t ([] ∷ parts) (onto_first b parts) ≡ (c ∷ []) ∷ ws → b ≡ c
+by_space b c parts ws true h = cc
+by_space b c [] ws false h = cc
+by_space b c (part ∷ parts) ws false h = cc
+
+first_byte : (text : List ℕ) (c : ℕ) (ws : List Word) → words_of text ≡ (c ∷ []) ∷ ws → is_idle text ≡ eqb c 35
+first_byte [] c ws h = cc
+first_byte (b ∷ rest) c ws h = ap (λ x. eqb x 35) (by_space b c (words_of rest) ws (eqb b 32) h)
+
+-- ---- a text whose words make a line
+
+not_a_letter : (letter : ℕ) (words : List Word) (p : Phrase) → row_of letter words ≡ Some (Some p) → letter ≡ 35 → ⊥
+not_a_letter letter words p h e = let g : row_of 35 words ≡ Some (Some p) = ap (λ l. row_of l words) (sym e) ∙ h in cc
+
+pub record Answers (text : List ℕ) (p : Phrase) : Type 0 where
+  pub not_idle : is_idle text ≡ false
+  pub known : begins_known (words_of text) ≡ true
+  pub answered : answer text ≡ judged (Some p)
+
+pub answers : (text : List ℕ) (p : Phrase) → IsRow (words_of text) p → Answers text p
+unfolding answer
+answers text p h =
+    let r = row_complete (words_of text) p h in
+    let quiet : is_idle text ≡ false = first_byte text r.letter r.behind r.words-is ∙ ne_eqb r.letter 35 (not_a_letter r.letter r.behind p r.row-is) in
+    record {
+      not_idle = quiet;
+      known = ap begins_known r.words-is ∙ sym (row_of-letter r.letter r.behind) ∙ ap is_some r.row-is;
+      answered = cond-false _ _ _ quiet ∙ ap answer_of r.words-is ∙ ap judged_row r.row-is;
+    }
+
+-- ---- the four kinds of texts
+
+data Case (text : List ℕ) : Type 0 where
+  idles : is_idle text ≡ true → answer text ≡ Ok idle → Case text
+  unknown : is_idle text ≡ false → begins_known (words_of text) ≡ false → answer text ≡ Err 2 → Case text
+  misspelt : is_idle text ≡ false → begins_known (words_of text) ≡ true → answer text ≡ Err 3 → Case text
+  spelt : (p : Phrase) → IsRow (words_of text) p → answer text ≡ judged (Some p) → Case text
+
+case_row : (text : List ℕ) (c : ℕ) (ws : List Word) (row : Option (Option Phrase)) → is_idle text ≡ false → words_of text ≡ (c ∷ []) ∷ ws → row_of c ws ≡ row → Case text
+unfolding answer
+case_row text c ws None quiet h e =
+    unknown quiet (ap begins_known h ∙ sym (row_of-letter c ws) ∙ ap is_some e) (cond-false _ _ _ quiet ∙ ap answer_of h ∙ ap judged_row e)
+case_row text c ws (Some None) quiet h e =
+    misspelt quiet (ap begins_known h ∙ sym (row_of-letter c ws) ∙ ap is_some e) (cond-false _ _ _ quiet ∙ ap answer_of h ∙ ap judged_row e)
+case_row text c ws (Some (Some p)) quiet h e =
+    spelt p (subst (λ words. IsRow words p) (sym h) (row_sound c ws p e)) (cond-false _ _ _ quiet ∙ ap answer_of h ∙ ap judged_row e)
+
+case_words : (text : List ℕ) (words : List Word) → is_idle text ≡ false → words_of text ≡ words → Case text
+unfolding answer
+case_words text [] quiet h = unknown quiet (ap begins_known h) (cond-false _ _ _ quiet ∙ ap answer_of h)
+case_words text ([] ∷ ws) quiet h = unknown quiet (ap begins_known h) (cond-false _ _ _ quiet ∙ ap answer_of h)
+case_words text ((c ∷ []) ∷ ws) quiet h = case_row text c ws (row_of c ws) quiet h refl
+case_words text ((c ∷ d ∷ rest) ∷ ws) quiet h =
+    unknown quiet (ap begins_known h) (cond-false _ _ _ quiet ∙ ap answer_of h ∙ cond-false _ _ _ (ne_eqb (length (c ∷ d ∷ rest)) 1 (λ e. omega arith)))
+
+case_idle : (text : List ℕ) (b : Bool) → is_idle text ≡ b → Case text
+unfolding answer
+case_idle text true h = idles h (cond-true _ _ _ h)
+case_idle text false h = case_words text (words_of text) h refl
+
+case_of : (text : List ℕ) → Case text
+case_of text = case_idle text (is_idle text) refl
+
+-- ---- a line, exactly where the text spells it and each number is in range
+
+same_rule : (m n : ℕ) → ◌≡◌ {A = Result Phrase ℕ} (Err m) (Err n) → m ≡ n
+same_rule m n h = cc
+
+judged_ok : (q p : Phrase) (b : Bool) → is_in_range q ≡ b → cond {A = Result Phrase ℕ} b (Ok q) (Err 4) ≡ Ok p → (q ≡ p) × (is_in_range q ≡ true)
+judged_ok q p true e h = (cc, e)
+judged_ok q p false e h = cc
+
+judged_four : (q : Phrase) (b : Bool) → is_in_range q ≡ b → cond {A = Result Phrase ℕ} b (Ok q) (Err 4) ≡ Err 4 → is_in_range q ≡ false
+judged_four q true e h = cc
+judged_four q false e h = e
+
+judged_not : (q : Phrase) (b : Bool) (rule : ℕ) → (rule ≡ 4 → ⊥) → cond {A = Result Phrase ℕ} b (Ok q) (Err 4) ≡ Err rule → ⊥
+judged_not q true rule other h = cc
+judged_not q false rule other h = other (sym (same_rule 4 rule h))
+
+idle_ok : (p : Phrase) → ◌≡◌ {A = Result Phrase ℕ} (Ok idle) (Ok p) → (p ≡ idle) × (is_in_range p ≡ true)
+idle_ok p h = let e : p ≡ idle = cc in (e, ap is_in_range e)
+
+ok_then : (text : List ℕ) (p : Phrase) → Case text → answer text ≡ Ok p → Spells text p × (is_in_range p ≡ true)
+ok_then text p (idles quiet e) h = let i = idle_ok p (sym e ∙ h) in (inl (quiet, i.0), i.1)
+ok_then text p (unknown a b e) h = cc
+ok_then text p (misspelt a b e) h = cc
+ok_then text p (spelt q row e) h =
+    let j = judged_ok q p (is_in_range q) refl (sym e ∙ h) in (inr (subst (λ x. IsRow (words_of text) x) j.0 row), ap is_in_range (sym j.0) ∙ j.1)
+
+then_ok : (text : List ℕ) (p : Phrase) → Spells text p → is_in_range p ≡ true → answer text ≡ Ok p
+unfolding answer
+then_ok text p (inl i) h = cond-true _ _ _ i.0 ∙ ap (λ x. Ok x) (sym i.1)
+then_ok text p (inr row) h = (answers text p row).answered ∙ cond-true _ _ _ h
+
+-- ---- rules S4, S3 and S2
+
+four_then : (text : List ℕ) → Case text → answer text ≡ Err 4 → IsOutOfRange text
+four_then text (idles quiet e) h = cc
+four_then text (unknown a b e) h = absurd (let x = same_rule 2 4 (sym e ∙ h) in omega arith)
+four_then text (misspelt a b e) h = absurd (let x = same_rule 3 4 (sym e ∙ h) in omega arith)
+four_then text (spelt q row e) h = (q, inr row, judged_four q (is_in_range q) refl (sym e ∙ h))
+
+then_four : (text : List ℕ) → IsOutOfRange text → answer text ≡ Err 4
+then_four text (p, inl i, h) = absurd (false≢true (sym h ∙ ap is_in_range i.1))
+then_four text (p, inr row, h) = (answers text p row).answered ∙ cond-false _ _ _ h
+
+never_spelt : (text : List ℕ) (rule : ℕ) → (rule ≡ 4 → ⊥) → is_idle text ≡ false → answer text ≡ Err rule → (p : Phrase) → Spells text p → ⊥
+never_spelt text rule other quiet h p (inl i) = false≢true (sym quiet ∙ i.0)
+never_spelt text rule other quiet h p (inr row) = judged_not p (is_in_range p) rule other (sym (answers text p row).answered ∙ h)
+
+three_then : (text : List ℕ) → Case text → answer text ≡ Err 3 → IsMisspelt text
+three_then text (idles quiet e) h = cc
+three_then text (unknown a b e) h = absurd (let x = same_rule 2 3 (sym e ∙ h) in omega arith)
+three_then text (misspelt quiet known e) h = (quiet, known, never_spelt text 3 (λ e. omega arith) quiet h)
+three_then text (spelt q row e) h = absurd (judged_not q (is_in_range q) 3 (λ e. omega arith) (sym e ∙ h))
+
+then_three : (text : List ℕ) → Case text → IsMisspelt text → answer text ≡ Err 3
+then_three text (idles loud e) h = absurd (false≢true (sym h.0 ∙ loud))
+then_three text (unknown a b e) h = absurd (false≢true (sym b ∙ h.1))
+then_three text (misspelt quiet known e) h = e
+then_three text (spelt q row e) h = absurd (h.2 q (inr row))
+
+two_then : (text : List ℕ) → Case text → answer text ≡ Err 2 → IsUnknown text
+two_then text (idles quiet e) h = cc
+two_then text (unknown a b e) h = (a, b)
+two_then text (misspelt quiet known e) h = absurd (let x = same_rule 3 2 (sym e ∙ h) in omega arith)
+two_then text (spelt q row e) h = absurd (judged_not q (is_in_range q) 2 (λ e. omega arith) (sym e ∙ h))
+
+then_two : (text : List ℕ) → Case text → IsUnknown text → answer text ≡ Err 2
+then_two text (idles loud e) h = absurd (false≢true (sym h.0 ∙ loud))
+then_two text (unknown a b e) h = e
+then_two text (misspelt quiet known e) h = absurd (false≢true (sym h.1 ∙ known))
+then_two text (spelt q row e) h = absurd (false≢true (sym h.1 ∙ (answers text q row).known))
+
+judged_rule : (q : Phrase) (b : Bool) (rule : ℕ) → cond {A = Result Phrase ℕ} b (Ok q) (Err 4) ≡ Err rule → 4 ≡ rule
+judged_rule q true rule h = cc
+judged_rule q false rule h = same_rule 4 rule h
+
+rules_only : (text : List ℕ) (rule : ℕ) → Case text → answer text ≡ Err rule → (2 ≤ rule) × (rule ≤ 4)
+rules_only text rule (idles quiet e) h = cc
+rules_only text rule (unknown a b e) h = let x = same_rule 2 rule (sym e ∙ h) in (omega arith, omega arith)
+rules_only text rule (misspelt a b e) h = let x = same_rule 3 rule (sym e ∙ h) in (omega arith, omega arith)
+rules_only text rule (spelt q row e) h = let x = judged_rule q (is_in_range q) rule (sym e ∙ h) in (omega arith, omega arith)
+
+-- ---- the answer is the grammar's, both ways
+
+pub answer_gives : (text : List ℕ) (p : Phrase) → (answer text ≡ Ok p) ↔ (Spells text p × (is_in_range p ≡ true))
+answer_gives text p = (ok_then text p (case_of text), λ h. then_ok text p h.0 h.1)
+
+pub answer_four : (text : List ℕ) → (answer text ≡ Err 4) ↔ IsOutOfRange text
+answer_four text = (four_then text (case_of text), then_four text)
+
+pub answer_three : (text : List ℕ) → (answer text ≡ Err 3) ↔ IsMisspelt text
+answer_three text = (three_then text (case_of text), then_three text (case_of text))
+
+pub answer_two : (text : List ℕ) → (answer text ≡ Err 2) ↔ IsUnknown text
+answer_two text = (two_then text (case_of text), then_two text (case_of text))
+
+-- ---- no part of a line is empty
+
+bytes_there : (digits : Word) (bytes : List ℕ) (r : Result (List ℕ) FromHexError) → 0 < length digits → decode_of digits ≡ r → result_ok r ≡ Some bytes → bytes ≢ []
+bytes_there digits bytes (Err e) long h ok = cc
+bytes_there digits bytes (Ok decoded) long h ok =
+    let d = decode_of-ok digits decoded h in
+    let same = same_Some decoded bytes ok in
+    λ none. let empty : length decoded ≡ 0 = ap length (same ∙ none) in absurd (omega (arith, d.2))
+
+hex_there : (digits : Word) (bytes : List ℕ) → hex_of digits ≡ Some bytes → bytes ≢ []
+hex_there [] bytes h = cc
+hex_there (c ∷ rest) bytes h = bytes_there (c ∷ rest) bytes (decode_of (c ∷ rest)) (omega arith) refl h
+
+row_there : (words : List Word) (p : Phrase) → IsRow words p → HasNoEmptyPart p
+row_there words idle h = tt
+row_there words (feeds bytes) h = hex_there h.0 bytes h.2
+row_there words goes h = tt
+row_there words (controls setup sent) h = tt
+row_there words (gets name) h = h.1
+row_there words (sets name value) h = h.1
+row_there words (shows name) h = h.1
+row_there words (breaks after) h = tt
+row_there words (appends z samples) h = h.1
+row_there words (tracks z v) h = tt
+row_there words (jacks z v) h = tt
+row_there words (deviates y z) h = tt
+row_there words (runs z losses) h = tt
+row_there words (details z) h = tt
+row_there words reports h = tt
+
+spells_there : (text : List ℕ) (p : Phrase) → Spells text p → HasNoEmptyPart p
+spells_there text p (inl i) = subst HasNoEmptyPart (sym i.1) tt
+spells_there text p (inr row) = row_there (words_of text) p row
+
+-- ---- the clauses of `Line::read`
+
+gives : (r : Result Line ℕ) (p : Phrase) → said r ≡ Ok p → Gives r p
+gives (Ok line) p h = cc
+gives (Err rule) p h = cc
+
+given : (r : Result Line ℕ) (p : Phrase) → Gives r p → said r ≡ Ok p
+given (Ok line) p h = ap (λ x. Ok x) h
+given (Err rule) p h = absurd h
+
+refuses : (r : Result Line ℕ) (rule : ℕ) → said r ≡ Err rule → r ≡ Err rule
+refuses (Ok line) rule h = cc
+refuses (Err other) rule h = cc
+
+pub read_gives : (text : List ℕ) (r : Result Line ℕ) → said r ≡ answer text → (p : Phrase) → Gives r p ↔ (Spells text p × (is_in_range p ≡ true))
+read_gives text r e p = (
+  λ g. (answer_gives text p).0 (sym e ∙ given r p g),
+  λ h. gives r p (e ∙ (answer_gives text p).1 h),
+)
+
+-- a rule is answered where the answer is that rule
+by_rule : (text : List ℕ) (r : Result Line ℕ) (rule : ℕ) (P : Type 0) → said r ≡ answer text → (answer text ≡ Err rule) ↔ P → (r ≡ Err rule) ↔ P
+by_rule text r rule P e means = (λ h. means.0 (sym e ∙ ap said h), λ h. refuses r rule (e ∙ means.1 h))
+
+pub read_four : (text : List ℕ) (r : Result Line ℕ) → said r ≡ answer text → (r ≡ Err 4) ↔ IsOutOfRange text
+read_four text r e = by_rule text r 4 (IsOutOfRange text) e (answer_four text)
+
+pub read_three : (text : List ℕ) (r : Result Line ℕ) → said r ≡ answer text → (r ≡ Err 3) ↔ IsMisspelt text
+read_three text r e = by_rule text r 3 (IsMisspelt text) e (answer_three text)
+
+pub read_two : (text : List ℕ) (r : Result Line ℕ) → said r ≡ answer text → (r ≡ Err 2) ↔ IsUnknown text
+read_two text r e = by_rule text r 2 (IsUnknown text) e (answer_two text)
+
+pub read_keeps : (text : List ℕ) (r : Result Line ℕ) → said r ≡ answer text → IfOk r Keeps
+read_keeps text (Ok line) e = let o = ok_then text (phrase_of line) (case_of text) (sym e) in (o.1, spells_there text (phrase_of line) o.0)
+read_keeps text (Err rule) e = tt
+
+pub read_refuses : (text : List ℕ) (r : Result Line ℕ) → said r ≡ answer text → IfErr r (λ rule. (2 ≤ rule) × (rule ≤ 4))
+read_refuses text (Ok line) e = tt
+read_refuses text (Err rule) e = rules_only text rule (case_of text) (sym e)

@@ -1,0 +1,117 @@
+-- Worked lines: what each row of the table spells, and what is answered where a rule is broken.
+use Rattle.std.proofs.Common.{◌≡◌, true, false, [], ◌∷◌, Err, pos, negsuc, inl, inr, refl, codes}
+use Rattle.hex.proofs.OnLiterals.{hex_on_literals}
+use Rattle.uac_script.specs.declared.line.MarkKind.TheVariants.{Out, In, Feedback}
+use Rattle.uac_script.specs.Numerals.{natural, numeral, is_natural, natural_of, number_of, is_number, value_of}
+use Rattle.uac_script.specs.Phrase.{silent, ramps, hisses, idle, feeds, goes, controls, gets, sets, shows, breaks, appends, tracks, jacks, deviates, runs, details, reports}
+use Rattle.uac_script.specs.Line.{Spells}
+use Rattle.uac_script.specs.Reading.{answer}
+
+-- ---- a line of each row
+
+empty_line : Spells [] idle
+empty_line = inl (refl, refl)
+
+remark : Spells (codes "# a remark") idle
+remark = inl (refl, refl)
+
+descriptor : Spells (codes "d 0902Af") (feeds (9 ∷ 2 ∷ 175 ∷ []))
+unfolding hex_on_literals
+descriptor = inr (codes "0902Af", refl, refl)
+
+go : Spells (codes "g") goes
+go = inr refl
+
+asking : Spells (codes "c a102010200030200") (controls (161 ∷ 2 ∷ 1 ∷ 2 ∷ 0 ∷ 3 ∷ 2 ∷ 0 ∷ []) [])
+unfolding hex_on_literals
+asking = inr (codes "a102010200030200", refl, refl, inl (refl, refl))
+
+sending : Spells (codes "c 2101010200030200 00F6") (controls (33 ∷ 1 ∷ 1 ∷ 2 ∷ 0 ∷ 3 ∷ 2 ∷ 0 ∷ []) (0 ∷ 246 ∷ []))
+unfolding hex_on_literals
+sending = inr (codes "2101010200030200", refl, refl, inr (codes "00F6", refl, refl))
+
+getting : Spells (codes "h get volume.3.1") (gets (codes "volume.3.1"))
+getting = inr (refl, λ e. cc)
+
+setting : Spells (codes "h set mute.3.0 -1") (sets (codes "mute.3.0") (negsuc 0))
+unfolding numeral natural
+setting = inr (refl, λ e. cc)
+
+showing : Spells (codes "h show x") (shows (codes "x"))
+showing = inr (refl, λ e. cc)
+
+breaking : Spells (codes "b after") (breaks true)
+breaking = inr refl
+
+breaking_before : Spells (codes "b before") (breaks false)
+breaking_before = inr refl
+
+appending : Spells (codes "a 1 256 -256 0") (appends (pos 1) (pos 256 ∷ negsuc 255 ∷ pos 0 ∷ []))
+unfolding numeral natural
+appending = inr (refl, λ e. cc)
+
+track : Spells (codes "t 255 none") (tracks (pos 255) silent)
+unfolding numeral natural
+track = inr refl
+
+jack : Spells (codes "j 5 ramp 100 -7") (jacks (pos 5) (ramps (pos 100) (negsuc 6)))
+unfolding numeral natural
+jack = inr refl
+
+noise : Spells (codes "t 1 noise 1234") (tracks (pos 1) (hisses (pos 1234)))
+unfolding numeral natural
+noise = inr refl
+
+deviation : Spells (codes "k 1 -1000") (deviates (pos 1) (negsuc 999))
+unfolding numeral natural
+deviation = inr refl
+
+running : Spells (codes "m 24 f1 o2 i3") (runs (pos 24) (record { letter = Feedback; place = pos 1 } ∷ record { letter = Out; place = pos 2 } ∷ record { letter = In; place = pos 3 } ∷ []))
+unfolding numeral natural
+running = inr refl
+
+-- a number out of its range is spelt all the same
+out_of_range : Spells (codes "m 9999 o-1 i256") (runs (pos 9999) (record { letter = Out; place = negsuc 0 } ∷ record { letter = In; place = pos 256 } ∷ []))
+unfolding numeral natural
+out_of_range = inr refl
+
+detail : Spells (codes "v 2") (details (pos 2))
+unfolding numeral natural
+detail = inr refl
+
+report : Spells (codes "q") reports
+report = inr refl
+
+-- ---- the first rule that is broken
+
+two_spaces : answer (codes "k 1  5") ≡ Err 3
+unfolding answer is_number value_of number_of natural_of is_natural
+two_spaces = refl
+
+minus_zero : answer (codes "k 1 -0") ≡ Err 3
+unfolding answer is_number value_of number_of natural_of is_natural
+minus_zero = refl
+
+leading_zero : answer (codes "m 1 o01") ≡ Err 3
+unfolding answer is_number value_of number_of natural_of is_natural
+leading_zero = refl
+
+spelling_first : answer (codes "m 0 x1") ≡ Err 3
+unfolding answer is_number value_of number_of natural_of is_natural
+spelling_first = refl
+
+no_id : answer (codes "m 1 o-1") ≡ Err 4
+unfolding answer is_number value_of number_of natural_of is_natural
+no_id = refl
+
+past_every_range : answer (codes "k 1 99999999999999999999999999999999999999") ≡ Err 4
+unfolding answer is_number value_of number_of natural_of is_natural
+past_every_range = refl
+
+space_first : answer (codes " q") ≡ Err 2
+unfolding answer
+space_first = refl
+
+longer_word : answer (codes "quit") ≡ Err 2
+unfolding answer
+longer_word = refl

@@ -1,0 +1,145 @@
+//! The rows of the table of lines that end in a list of words: samples, or marks.
+ghost use Rattle.std.specs.Prelude.{◌≡◌, ◌≤◌, ◌&&◌, true, false, Option, Some, None, map, MatchOption, IsTrue};
+ghost use Rattle.std.specs.Option.{option_map};
+ghost use Rattle.std.specs.List.{list_all};
+ghost use Rattle.uac_script.specs.Words.{words_left, bytes_left};
+ghost use Rattle.uac_script.specs.Numerals.{is_number};
+ghost use Rattle.uac_script.specs.Reading.{said, judged, appends_of, runs_of, samples_of, kind_of, is_mark, mark_of};
+ghost use Rattle.uac_script.specs.Phrase.{is_id, are_losses_in_range};
+ghost use Rattle.uac_script.specs.Line.{loss_of};
+
+use crate::line::{Line, Mark, MarkKind};
+use crate::numbers::{id, is_number, signed, within};
+use crate::rows::{MISSPELT, OUT_OF_RANGE};
+use crate::words::Words;
+use arrayvec::ArrayVec;
+
+// Whether all the words are numbers.
+fn are_numbers(mut words: Words<'_>) -> bool
+    ensures { result ≡ list_all is_number (words_left words.entry.rest) }
+{
+    while let Some(word) = words.take() {
+        if !is_number(word) {
+            return false;
+        }
+    }
+    true
+}
+
+// The samples that the words spell, where each is in range.
+fn samples(mut words: Words<'_>) -> Option<ArrayVec<i32, 2048>>
+    requires numbers { IsTrue (list_all is_number (words_left words.rest)) }
+    requires room { bytes_left words.rest ≤ 4096 }
+    ensures { option_map (λ samples. samples.items) result ≡ samples_of (words_left words.entry.rest) }
+{
+    let mut samples = ArrayVec::new();
+    while let Some(word) = words.take() {
+        samples.push(signed(word)?);
+    }
+    Some(samples)
+}
+
+/// Samples for a track.
+pub fn append(mut words: Words<'_>) -> Result<Line, u8>
+    requires { bytes_left words.rest ≤ 4096 }
+    ensures { said result ≡ judged (appends_of (words_left words.entry.rest)) }
+{
+    let Some(interface) = words.take() else {
+        return Err(MISSPELT);
+    };
+    if words.is_empty() || !is_number(interface) || !are_numbers(words) {
+        return Err(MISSPELT);
+    }
+    let Some(interface) = id(interface) else {
+        return Err(OUT_OF_RANGE);
+    };
+    match samples(words) {
+        Some(samples) => Ok(Line::Append { interface, samples }),
+        None => Err(OUT_OF_RANGE),
+    }
+}
+
+// What a mark's letter stands for.
+fn kind(letter: u8) -> Option<MarkKind>
+    ensures { result ≡ kind_of letter }
+{
+    match letter {
+        b'o' => Some(MarkKind::Out),
+        b'i' => Some(MarkKind::In),
+        b'f' => Some(MarkKind::Feedback),
+        _ => None,
+    }
+}
+
+// Whether a word is spelt as a mark: a letter and a number.
+fn is_mark(word: &[u8]) -> bool
+    ensures { result ≡ is_mark word.now }
+{
+    match word {
+        [] => false,
+        [letter, number @ ..] => kind(*letter).is_some() && is_number(number),
+    }
+}
+
+// The mark that a word spells, where its interface is in range.
+fn mark(word: &[u8]) -> Option<Mark>
+    requires { IsTrue (is_mark word.now) }
+    ensures { MatchOption result (is_id (mark_of word.now).place ≡ false)
+        (λ mark. (is_id (mark_of word.now).place ≡ true) × (loss_of mark ≡ mark_of word.now)) }
+{
+    let (letter, number) = word.split_first()?;
+    let kind = kind(*letter)?;
+    let interface = id(number)?;
+    Some(Mark { kind, interface })
+}
+
+// Whether all the words are spelt as marks.
+fn are_marks(mut words: Words<'_>) -> bool
+    ensures { result ≡ list_all is_mark (words_left words.entry.rest) }
+{
+    while let Some(word) = words.take() {
+        if !is_mark(word) {
+            return false;
+        }
+    }
+    true
+}
+
+// The marks that the words spell, where each is in range and there are no more than 24.
+fn marks(mut words: Words<'_>) -> Option<ArrayVec<Mark, 24>>
+    requires { IsTrue (list_all is_mark (words_left words.rest)) }
+    ensures { MatchOption result (are_losses_in_range (map mark_of (words_left words.entry.rest)) ≡ false)
+        (λ marks. (are_losses_in_range (map mark_of (words_left words.entry.rest)) ≡ true)
+        × (map loss_of marks.items ≡ map mark_of (words_left words.entry.rest))) }
+{
+    let mut marks = ArrayVec::new();
+    while let Some(word) = words.take() {
+        let mark = mark(word)?;
+        if marks.try_push(mark).is_err() {
+            return None;
+        }
+    }
+    Some(marks)
+}
+
+/// Microframes, and what is lost in each of them.
+pub fn run(mut words: Words<'_>) -> Result<Line, u8>
+    ensures { said result ≡ judged (runs_of (words_left words.entry.rest)) }
+{
+    let Some(count) = words.take() else {
+        return Err(MISSPELT);
+    };
+    if !is_number(count) || !are_marks(words) {
+        return Err(MISSPELT);
+    }
+    let Some(count) = within(count, 1, 8_000) else {
+        return Err(OUT_OF_RANGE);
+    };
+    match marks(words) {
+        Some(marks) => Ok(Line::Run {
+            count: count as u32,
+            marks,
+        }),
+        None => Err(OUT_OF_RANGE),
+    }
+}

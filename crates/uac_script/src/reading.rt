@@ -1,0 +1,63 @@
+//! A whole line: its first word names the row.
+ghost use Rattle.std.specs.Prelude.{◌≡◌, ◌≤◌, ◌==◌, length, Ok, Err};
+ghost use Rattle.uac_script.specs.Words.{words_left, bytes_left, is_idle};
+ghost use Rattle.uac_script.specs.Reading.{said, judged_row, row_of, answer};
+
+use crate::line::Line;
+use crate::lists::{append, run};
+use crate::rows::{alone, break_at, control, detail, deviate, element, feed, jack, track};
+use crate::words::Words;
+
+/// Rule S2: no row has this first word.
+const UNKNOWN: u8 = 2;
+
+// Whether a line does nothing.
+fn is_idle(text: &[u8]) -> bool
+    ensures { result ≡ is_idle text.now }
+{
+    match text {
+        [] => true,
+        [first, ..] => *first == b'#',
+    }
+}
+
+// The row of a letter, from the words behind it.
+fn row(letter: u8, words: Words<'_>) -> Result<Line, u8>
+    requires { bytes_left words.rest ≤ 4096 }
+    ensures { said result ≡ judged_row (row_of letter (words_left words.entry.rest)) }
+{
+    match letter {
+        b'd' => feed(words),
+        b'g' => alone(Line::Go, words),
+        b'c' => control(words),
+        b'h' => element(words),
+        b'b' => break_at(words),
+        b'a' => append(words),
+        b't' => track(words),
+        b'j' => jack(words),
+        b'k' => deviate(words),
+        b'm' => run(words),
+        b'v' => detail(words),
+        b'q' => alone(Line::Report, words),
+        _ => Err(UNKNOWN),
+    }
+}
+
+/// The line that a text spells, or the first of rules S2 to S4 that it breaks.
+#[tactic(auto, unfolding(crate::specs::Reading::answer))]
+pub fn read(text: &[u8]) -> Result<Line, u8>
+    requires { length text.now ≤ 4096 }
+    ensures { said result ≡ answer text.now }
+{
+    if is_idle(text) {
+        return Ok(Line::Nothing);
+    }
+    let mut words = Words::new(text);
+    let Some(word) = words.take() else {
+        return Err(UNKNOWN);
+    };
+    if word.len() != 1 {
+        return Err(UNKNOWN);
+    }
+    row(word[0], words)
+}

@@ -1,0 +1,296 @@
+//! The rows of the table of lines, each read from the words behind the first one.
+ghost use Rattle.std.specs.Prelude.{◌≡◌, ◌≤◌, ◌==◌, length, Option, Some, None, IsTrue};
+ghost use Rattle.std.specs.Option.{option_map};
+ghost use Rattle.uac_script.specs.Words.{words_left, bytes_left};
+ghost use Rattle.uac_script.specs.Numerals.{is_number};
+ghost use Rattle.uac_script.specs.Reading.{said, said_voice, said_signal, judged, judged_voice, judged_signal, name_of, only_of, then_of, when_empty, feeds_of, controls_of, element_of, breaks_of, voice_of, signal_of, tracks_of, jacks_of, deviates_of, details_of, sets_of, pair_of, sent_of, ramp_of, numbered};
+ghost use Rattle.uac_script.specs.Phrase.{silent, hisses, is_in_range};
+ghost use Rattle.uac_script.specs.Line.{phrase_of};
+
+use crate::hex_bytes::{bytes, setup};
+use crate::line::{Line, Name};
+use crate::numbers::{id, is_number, signed, within};
+use crate::words::Words;
+use arrayvec::ArrayVec;
+use uac_pcm::Tone;
+
+/// Rule S3: the words aren't as in the table.
+pub const MISSPELT: u8 = 3;
+
+/// Rule S4: a number is out of range.
+pub const OUT_OF_RANGE: u8 = 4;
+
+/// A line that has no word but its first.
+pub fn alone(line: Line, words: Words<'_>) -> Result<Line, u8>
+    requires { IsTrue (is_in_range (phrase_of line)) }
+    ensures { said result ≡ (judged (when_empty (phrase_of line) (words_left words.entry.rest))) }
+{
+    if words.is_empty() {
+        Ok(line)
+    } else {
+        Err(MISSPELT)
+    }
+}
+
+/// The next bytes of the descriptor.
+pub fn feed(words: Words<'_>) -> Result<Line, u8>
+    requires { bytes_left words.rest ≤ 4097 }
+    ensures { said result ≡ judged (feeds_of (words_left words.entry.rest)) }
+{
+    let Some(digits) = words.only() else {
+        return Err(MISSPELT);
+    };
+    match bytes(digits) {
+        Some(bytes) => Ok(Line::Bytes(bytes)),
+        None => Err(MISSPELT),
+    }
+}
+
+// The bytes that a control transfer sends.
+fn sent(words: Words<'_>) -> Option<ArrayVec<u8, 2048>>
+    requires { bytes_left words.rest ≤ 4097 }
+    ensures { option_map (λ sent. sent.items) result ≡ sent_of (words_left words.entry.rest) }
+{
+    if words.is_empty() {
+        return Some(ArrayVec::new());
+    }
+    let digits = words.only()?;
+    bytes(digits)
+}
+
+/// A control transfer.
+pub fn control(mut words: Words<'_>) -> Result<Line, u8>
+    requires { bytes_left words.rest ≤ 4097 }
+    ensures { said result ≡ judged (controls_of (words_left words.entry.rest)) }
+{
+    let Some(head) = words.take() else {
+        return Err(MISSPELT);
+    };
+    let Some(setup) = setup(head) else {
+        return Err(MISSPELT);
+    };
+    match sent(words) {
+        Some(sent) => Ok(Line::Control { setup, sent }),
+        None => Err(MISSPELT),
+    }
+}
+
+// A name: any word but the empty one.
+fn name(word: &[u8]) -> Option<Name>
+    requires { length word.now ≤ 4096 }
+    ensures { option_map (λ name. name.items) result ≡ name_of word.now }
+{
+    if word.is_empty() {
+        return None;
+    }
+    Name::try_from(word).ok()
+}
+
+// The last word, as a name.
+fn last_name(words: Words<'_>) -> Option<Name>
+    requires { bytes_left words.rest ≤ 4097 }
+    ensures { option_map (λ name. name.items) result ≡ then_of name_of (only_of (words_left words.entry.rest)) }
+{
+    let word = words.only()?;
+    name(word)
+}
+
+// Sets an element, by its name and the value.
+fn set(words: Words<'_>) -> Result<Line, u8>
+    requires { bytes_left words.rest ≤ 4097 }
+    ensures { said result ≡ judged (then_of sets_of (pair_of (words_left words.entry.rest))) }
+{
+    let Some((word, numeral)) = words.pair() else {
+        return Err(MISSPELT);
+    };
+    if !is_number(numeral) {
+        return Err(MISSPELT);
+    }
+    let Some(name) = name(word) else {
+        return Err(MISSPELT);
+    };
+    match signed(numeral) {
+        Some(value) => Ok(Line::Set(name, value)),
+        None => Err(OUT_OF_RANGE),
+    }
+}
+
+/// Reads, sets or shows an element.
+pub fn element(mut words: Words<'_>) -> Result<Line, u8>
+    requires { bytes_left words.rest ≤ 4097 }
+    ensures { said result ≡ judged (element_of (words_left words.entry.rest)) }
+{
+    let Some(verb) = words.take() else {
+        return Err(MISSPELT);
+    };
+    if verb == b"set".as_slice() {
+        return set(words);
+    }
+    let get = verb == b"get".as_slice();
+    if !get && verb != b"show".as_slice() {
+        return Err(MISSPELT);
+    }
+    match last_name(words) {
+        Some(name) if get => Ok(Line::Get(name)),
+        Some(name) => Ok(Line::Show(name)),
+        None => Err(MISSPELT),
+    }
+}
+
+/// The next transfer breaks.
+pub fn break_at(words: Words<'_>) -> Result<Line, u8>
+    ensures { said result ≡ judged (breaks_of (words_left words.entry.rest)) }
+{
+    let Some(word) = words.only() else {
+        return Err(MISSPELT);
+    };
+    if word == b"before".as_slice() {
+        Ok(Line::Break { after: false })
+    } else if word == b"after".as_slice() {
+        Ok(Line::Break { after: true })
+    } else {
+        Err(MISSPELT)
+    }
+}
+
+// The tone of a track or a jack.
+fn tone(mut words: Words<'_>) -> Result<Tone, u8>
+    ensures { said_voice result ≡ judged_voice (voice_of (words_left words.entry.rest)) }
+{
+    let Some(kind) = words.take() else {
+        return Err(MISSPELT);
+    };
+    if kind == b"none".as_slice() {
+        silence(words)
+    } else if kind == b"ramp".as_slice() {
+        ramp(words)
+    } else if kind == b"noise".as_slice() {
+        noise(words)
+    } else {
+        Err(MISSPELT)
+    }
+}
+
+// A tone of zeros has no numbers.
+fn silence(words: Words<'_>) -> Result<Tone, u8>
+    ensures { said_voice result ≡ judged_voice (when_empty silent (words_left words.entry.rest)) }
+{
+    if words.is_empty() {
+        Ok(Tone::Silent)
+    } else {
+        Err(MISSPELT)
+    }
+}
+
+// A straight line has its start and its step.
+fn ramp(words: Words<'_>) -> Result<Tone, u8>
+    ensures { said_voice result ≡ judged_voice (then_of ramp_of (pair_of (words_left words.entry.rest))) }
+{
+    let Some((start, step)) = words.pair() else {
+        return Err(MISSPELT);
+    };
+    if !is_number(start) || !is_number(step) {
+        return Err(MISSPELT);
+    }
+    let Some(start) = signed(start) else {
+        return Err(OUT_OF_RANGE);
+    };
+    let Some(step) = signed(step) else {
+        return Err(OUT_OF_RANGE);
+    };
+    Ok(Tone::Ramp { start, step })
+}
+
+// Noise has its seed.
+fn noise(words: Words<'_>) -> Result<Tone, u8>
+    ensures { said_voice result ≡ judged_voice (then_of (numbered hisses) (only_of (words_left words.entry.rest))) }
+{
+    let Some(seed) = words.only() else {
+        return Err(MISSPELT);
+    };
+    if !is_number(seed) {
+        return Err(MISSPELT);
+    }
+    match within(seed, 0, i64::from(u32::MAX)) {
+        Some(seed) => Ok(Tone::Noise { seed: seed as u32 }),
+        None => Err(OUT_OF_RANGE),
+    }
+}
+
+// An id and its tone.
+fn signal(mut words: Words<'_>) -> Result<(u8, Tone), u8>
+    ensures { said_signal result ≡ judged_signal (signal_of (words_left words.entry.rest)) }
+{
+    let Some(word) = words.take() else {
+        return Err(MISSPELT);
+    };
+    if !is_number(word) {
+        return Err(MISSPELT);
+    }
+    let tone = match tone(words) {
+        Ok(tone) => tone,
+        Err(rule) => return Err(rule),
+    };
+    match id(word) {
+        Some(id) => Ok((id, tone)),
+        None => Err(OUT_OF_RANGE),
+    }
+}
+
+/// The tone of a track.
+pub fn track(words: Words<'_>) -> Result<Line, u8>
+    ensures { said result ≡ judged (tracks_of (words_left words.entry.rest)) }
+{
+    match signal(words) {
+        Ok((interface, tone)) => Ok(Line::Track { interface, tone }),
+        Err(rule) => Err(rule),
+    }
+}
+
+/// The tone of an input jack.
+pub fn jack(words: Words<'_>) -> Result<Line, u8>
+    ensures { said result ≡ judged (jacks_of (words_left words.entry.rest)) }
+{
+    match signal(words) {
+        Ok((terminal, tone)) => Ok(Line::Jack { terminal, tone }),
+        Err(rule) => Err(rule),
+    }
+}
+
+/// The deviation of a domain.
+pub fn deviate(words: Words<'_>) -> Result<Line, u8>
+    ensures { said result ≡ judged (deviates_of (words_left words.entry.rest)) }
+{
+    let Some((domain, ppm)) = words.pair() else {
+        return Err(MISSPELT);
+    };
+    if !is_number(domain) || !is_number(ppm) {
+        return Err(MISSPELT);
+    }
+    let Some(domain) = id(domain) else {
+        return Err(OUT_OF_RANGE);
+    };
+    match within(ppm, -100_000, 100_000) {
+        Some(ppm) => Ok(Line::Deviate {
+            domain,
+            ppm: ppm as i32,
+        }),
+        None => Err(OUT_OF_RANGE),
+    }
+}
+
+/// How much is printed.
+pub fn detail(words: Words<'_>) -> Result<Line, u8>
+    ensures { said result ≡ judged (details_of (words_left words.entry.rest)) }
+{
+    let Some(level) = words.only() else {
+        return Err(MISSPELT);
+    };
+    if !is_number(level) {
+        return Err(MISSPELT);
+    }
+    match within(level, 0, 2) {
+        Some(level) => Ok(Line::Detail(level as u8)),
+        None => Err(OUT_OF_RANGE),
+    }
+}

@@ -1,0 +1,338 @@
+-- Descriptors read by the rules by hand: a headset, and what becomes of it where it is edited.
+use Rattle.std.proofs.Common.{◌≡◌, ℕ, List, [], ◌∷◌, ◌++◌, Option, None, Some, get_or, set, take, drop, insert, flat_map, refl}
+use Rattle.uac_sentence.specs.Grammar.{
+  first_fault,
+  grammar,
+  start,
+  rule_at_end,
+  rule_broken,
+  state_after,
+  comes_again,
+  lists_unknown,
+  lacks_association,
+  is_out_of_order,
+  is_refused,
+  passes_total,
+  passes_list,
+  ends_list_early,
+  is_in_turn,
+}
+use Rattle.uac_sentence.specs.Fault.{GrammarFault, faults_from}
+use Rattle.uac_sentence.specs.Cutting.{chop, chop_within}
+use Rattle.uac_sentence.specs.Values.{has_wrong_value, is_no_format, is_no_high_speed}
+use Rattle.uac_sentence.specs.Letter.{
+  interface_context,
+  interface_letter,
+  whole_letter,
+  is_device,
+  has_unknown_subtype,
+}
+use Rattle.uac_descriptor.specs.Classes.{is_audio_association, is_control_interface, is_streaming_interface}
+use Rattle.uac_descriptor.specs.Reading.{block_of, fields, is_whole, has_length}
+use Rattle.uac_descriptor.specs.Rows.{row_of, row_in}
+
+-- the first fault, with all that it is computed by
+verdict : List ℕ → Option GrammarFault
+unfolding first_fault grammar start rule_at_end rule_broken state_after comes_again lists_unknown lacks_association is_out_of_order is_refused passes_total passes_list ends_list_early is_in_turn faults_from chop chop_within has_wrong_value is_no_format is_no_high_speed is_audio_association is_control_interface is_streaming_interface interface_context interface_letter whole_letter is_device has_unknown_subtype block_of fields is_whole has_length row_of row_in
+verdict bytes = first_fault bytes
+
+abbrev bytes_of : List (List ℕ) → List ℕ
+bytes_of rows = flat_map (λ row. row) rows
+
+-- byte i of row n becomes v
+abbrev edit : ℕ → ℕ → ℕ → List (List ℕ) → List (List ℕ)
+edit n i v rows = set rows n (set (get_or rows n []) i v)
+
+-- the two bytes of the configuration's total
+abbrev with_total : ℕ → ℕ → List (List ℕ) → List (List ℕ)
+with_total low high rows = edit 1 2 low (edit 1 3 high rows)
+
+abbrev fault : ℕ → ℕ → Option GrammarFault
+fault rule place = Some (record { rule = rule; at = place })
+
+abbrev device : List ℕ
+device = 18 ∷ 1 ∷ 0 ∷ 2 ∷ 239 ∷ 2 ∷ 1 ∷ 64 ∷ 52 ∷ 18 ∷ 120 ∷ 86 ∷ 0 ∷ 1 ∷ 1 ∷ 2 ∷ 0 ∷ 1 ∷ []
+
+abbrev configuration : List ℕ
+configuration = 9 ∷ 2 ∷ 19 ∷ 1 ∷ 4 ∷ 1 ∷ 0 ∷ 128 ∷ 50 ∷ []
+
+abbrev association : List ℕ
+association = 8 ∷ 11 ∷ 0 ∷ 3 ∷ 1 ∷ 0 ∷ 32 ∷ 0 ∷ []
+
+abbrev control : List ℕ
+control = 9 ∷ 4 ∷ 0 ∷ 0 ∷ 0 ∷ 1 ∷ 1 ∷ 32 ∷ 0 ∷ []
+
+abbrev header : List ℕ
+header = 9 ∷ 36 ∷ 1 ∷ 0 ∷ 2 ∷ 4 ∷ 107 ∷ 0 ∷ 0 ∷ []
+
+-- clock source 1
+abbrev clock : List ℕ
+clock = 8 ∷ 36 ∷ 10 ∷ 1 ∷ 3 ∷ 7 ∷ 0 ∷ 0 ∷ []
+
+-- input terminal 2, USB
+abbrev usb_in : List ℕ
+usb_in = 17 ∷ 36 ∷ 2 ∷ 2 ∷ 1 ∷ 1 ∷ 0 ∷ 1 ∷ 2 ∷ 3 ∷ 0 ∷ 0 ∷ 0 ∷ 0 ∷ 0 ∷ 0 ∷ 0 ∷ []
+
+-- feature 3
+abbrev feature : List ℕ
+feature = 18 ∷ 36 ∷ 6 ∷ 3 ∷ 2 ∷ 3 ∷ 0 ∷ 0 ∷ 0 ∷ 12 ∷ 0 ∷ 0 ∷ 0 ∷ 12 ∷ 0 ∷ 0 ∷ 0 ∷ 0 ∷ []
+
+-- output terminal 4
+abbrev speaker : List ℕ
+speaker = 12 ∷ 36 ∷ 3 ∷ 4 ∷ 2 ∷ 3 ∷ 0 ∷ 3 ∷ 1 ∷ 0 ∷ 0 ∷ 0 ∷ []
+
+-- input terminal 5
+abbrev microphone : List ℕ
+microphone = 17 ∷ 36 ∷ 2 ∷ 5 ∷ 1 ∷ 2 ∷ 0 ∷ 1 ∷ 1 ∷ 0 ∷ 0 ∷ 0 ∷ 0 ∷ 0 ∷ 0 ∷ 0 ∷ 0 ∷ []
+
+-- feature 6
+abbrev mono_feature : List ℕ
+mono_feature = 14 ∷ 36 ∷ 6 ∷ 6 ∷ 5 ∷ 3 ∷ 0 ∷ 0 ∷ 0 ∷ 12 ∷ 0 ∷ 0 ∷ 0 ∷ 0 ∷ []
+
+-- output terminal 7, USB
+abbrev usb_out : List ℕ
+usb_out = 12 ∷ 36 ∷ 3 ∷ 7 ∷ 1 ∷ 1 ∷ 0 ∷ 6 ∷ 1 ∷ 0 ∷ 0 ∷ 0 ∷ []
+
+-- interface 1, setting 0
+abbrev idle_out : List ℕ
+idle_out = 9 ∷ 4 ∷ 1 ∷ 0 ∷ 0 ∷ 1 ∷ 2 ∷ 32 ∷ 0 ∷ []
+
+-- interface 1, setting 1
+abbrev play : List ℕ
+play = 9 ∷ 4 ∷ 1 ∷ 1 ∷ 2 ∷ 1 ∷ 2 ∷ 32 ∷ 0 ∷ []
+
+abbrev general_out : List ℕ
+general_out = 16 ∷ 36 ∷ 1 ∷ 2 ∷ 5 ∷ 1 ∷ 1 ∷ 0 ∷ 0 ∷ 0 ∷ 2 ∷ 3 ∷ 0 ∷ 0 ∷ 0 ∷ 0 ∷ []
+
+abbrev format_out : List ℕ
+format_out = 6 ∷ 36 ∷ 2 ∷ 1 ∷ 3 ∷ 24 ∷ []
+
+abbrev endpoint_out : List ℕ
+endpoint_out = 7 ∷ 5 ∷ 1 ∷ 5 ∷ 150 ∷ 0 ∷ 1 ∷ []
+
+abbrev class_endpoint : List ℕ
+class_endpoint = 8 ∷ 37 ∷ 1 ∷ 0 ∷ 0 ∷ 0 ∷ 0 ∷ 0 ∷ []
+
+abbrev feedback : List ℕ
+feedback = 7 ∷ 5 ∷ 129 ∷ 17 ∷ 4 ∷ 0 ∷ 4 ∷ []
+
+-- interface 2, setting 0
+abbrev idle_in : List ℕ
+idle_in = 9 ∷ 4 ∷ 2 ∷ 0 ∷ 0 ∷ 1 ∷ 2 ∷ 32 ∷ 0 ∷ []
+
+-- interface 2, setting 1
+abbrev record_in : List ℕ
+record_in = 9 ∷ 4 ∷ 2 ∷ 1 ∷ 1 ∷ 1 ∷ 2 ∷ 32 ∷ 0 ∷ []
+
+abbrev general_in : List ℕ
+general_in = 16 ∷ 36 ∷ 1 ∷ 7 ∷ 5 ∷ 1 ∷ 1 ∷ 0 ∷ 0 ∷ 0 ∷ 1 ∷ 0 ∷ 0 ∷ 0 ∷ 0 ∷ 0 ∷ []
+
+abbrev format_in : List ℕ
+format_in = 6 ∷ 36 ∷ 2 ∷ 1 ∷ 2 ∷ 16 ∷ []
+
+abbrev endpoint_in : List ℕ
+endpoint_in = 7 ∷ 5 ∷ 130 ∷ 5 ∷ 50 ∷ 0 ∷ 1 ∷ []
+
+-- interface 3, of human interface devices
+abbrev hid : List ℕ
+hid = 9 ∷ 4 ∷ 3 ∷ 0 ∷ 1 ∷ 3 ∷ 0 ∷ 0 ∷ 0 ∷ []
+
+abbrev hid_class : List ℕ
+hid_class = 9 ∷ 33 ∷ 17 ∷ 1 ∷ 0 ∷ 1 ∷ 34 ∷ 25 ∷ 0 ∷ []
+
+abbrev hid_endpoint : List ℕ
+hid_endpoint = 7 ∷ 5 ∷ 131 ∷ 3 ∷ 4 ∷ 0 ∷ 10 ∷ []
+
+-- the headset, a device descriptor in front and an interface for its keys behind
+abbrev headset : List (List ℕ)
+headset =
+    device ∷ configuration ∷ association ∷ control
+    ∷ header ∷ clock ∷ usb_in ∷ feature ∷ speaker ∷ microphone ∷ mono_feature ∷ usb_out
+    ∷ idle_out ∷ play ∷ general_out ∷ format_out ∷ endpoint_out ∷ class_endpoint ∷ feedback
+    ∷ idle_in ∷ record_in ∷ general_in ∷ format_in ∷ endpoint_in ∷ class_endpoint
+    ∷ hid ∷ hid_class ∷ hid_endpoint ∷ []
+
+-- the headset has no fault
+whole : verdict (bytes_of headset) ≡ None
+unfolding verdict
+whole = refl
+
+-- no bytes: the configuration is missing
+no_bytes : verdict ([]) ≡ fault 1 0
+unfolding verdict
+no_bytes = refl
+
+-- behind the device descriptor the configuration is missing
+device_alone : verdict (bytes_of (take 1 headset)) ≡ fault 1 18
+unfolding verdict
+device_alone = refl
+
+-- the total is one byte more than there are
+total_differs : verdict (bytes_of (with_total 20 1 headset)) ≡ fault 5 293
+unfolding verdict
+total_differs = refl
+
+-- the last block runs past the end
+last_byte_missing : verdict (take 292 (bytes_of headset)) ≡ fault 1 286
+unfolding verdict
+last_byte_missing = refl
+
+-- bits 10 for mute in the word of the master of feature 3
+mute_bits_10 : verdict (bytes_of (edit 7 5 2 headset)) ≡ fault 4 78
+unfolding verdict
+mute_bits_10 = refl
+
+-- feature 3 has another type, so the list of entities ends before the total of the header
+list_ends_early : verdict (bytes_of (edit 7 1 48 headset)) ≡ fault 5 78
+unfolding verdict
+list_ends_early = refl
+
+-- the format has another type, and no endpoint may follow that
+endpoint_behind_other : verdict (bytes_of (edit 15 1 48 headset)) ≡ fault 6 191
+unfolding verdict
+endpoint_behind_other = refl
+
+-- a mixer of two pins, with two bytes of bits and with one
+abbrev mixer_of_two_bytes : List ℕ
+mixer_of_two_bytes = 17 ∷ 36 ∷ 4 ∷ 8 ∷ 2 ∷ 2 ∷ 6 ∷ 3 ∷ 0 ∷ 0 ∷ 0 ∷ 0 ∷ 0 ∷ 255 ∷ 128 ∷ 0 ∷ 0 ∷ []
+
+abbrev mixer_of_one_byte : List ℕ
+mixer_of_one_byte = 16 ∷ 36 ∷ 4 ∷ 8 ∷ 2 ∷ 2 ∷ 6 ∷ 3 ∷ 0 ∷ 0 ∷ 0 ∷ 0 ∷ 0 ∷ 255 ∷ 0 ∷ 0 ∷ []
+
+-- the longer mixer at the end of the entities
+two_bytes : verdict (bytes_of (with_total 36 1 (edit 4 6 124 (insert headset 12 mixer_of_two_bytes)))) ≡ None
+unfolding verdict
+two_bytes = refl
+
+-- the shorter one
+one_byte : verdict (bytes_of (with_total 35 1 (edit 4 6 123 (insert headset 12 mixer_of_one_byte)))) ≡ None
+unfolding verdict
+one_byte = refl
+
+-- a second Type I format in one setting
+second_format : verdict (bytes_of (insert headset 16 format_out)) ≡ fault 6 191
+unfolding verdict
+second_format = refl
+
+-- a class block of another subtype behind an endpoint
+class_endpoint_of_other_subtype : verdict (bytes_of (edit 17 2 2 headset)) ≡ fault 6 198
+unfolding verdict
+class_endpoint_of_other_subtype = refl
+
+-- setting 2 behind setting 0
+setting_skipped : verdict (bytes_of (edit 13 3 2 headset)) ≡ fault 6 160
+unfolding verdict
+setting_skipped = refl
+
+-- setting 1 of interface 3 behind setting 0 of interface 1
+setting_of_another : verdict (bytes_of (edit 13 2 3 headset)) ≡ fault 6 160
+unfolding verdict
+setting_of_another = refl
+
+-- a streaming interface with the number of the control interface
+number_of_control : verdict (bytes_of (edit 12 2 0 headset)) ≡ fault 6 151
+unfolding verdict
+number_of_control = refl
+
+-- a streaming interface with the number of an earlier one
+number_again : verdict (bytes_of (edit 19 2 1 headset)) ≡ fault 6 213
+unfolding verdict
+number_again = refl
+
+-- the association of another function
+abbrev foreign_association : List ℕ
+foreign_association = 8 ∷ 11 ∷ 1 ∷ 1 ∷ 3 ∷ 0 ∷ 0 ∷ 0 ∷ []
+
+-- a block of a type that audio has no rule for
+abbrev other : List ℕ
+other = 3 ∷ 48 ∷ 0 ∷ []
+
+-- an association between two settings is no interface
+association_between : verdict (bytes_of (with_total 27 1 (insert headset 13 foreign_association))) ≡ None
+unfolding verdict
+association_between = refl
+
+-- another interface between two settings
+interface_between : verdict (bytes_of (insert headset 13 hid)) ≡ fault 6 169
+unfolding verdict
+interface_between = refl
+
+-- a second audio association
+second_association : verdict (bytes_of (insert headset 12 association)) ≡ fault 9 151
+unfolding verdict
+second_association = refl
+
+-- a second control interface
+second_control : verdict (bytes_of (set headset 25 control)) ≡ fault 9 268
+unfolding verdict
+second_control = refl
+
+-- a class block of an unknown subtype in the list of entities
+unknown_subtype : verdict (bytes_of (edit 5 2 8 headset)) ≡ fault 8 53
+unfolding verdict
+unknown_subtype = refl
+
+-- such a block behind the list
+unknown_behind_list : verdict (bytes_of (insert (insert headset 12 (3 ∷ 36 ∷ 8 ∷ [])) 12 other)) ≡ fault 6 154
+unfolding verdict
+unknown_behind_list = refl
+
+-- a streaming interface before the audio association
+early_stream : verdict (bytes_of (insert headset 2 idle_out)) ≡ fault 7 27
+unfolding verdict
+early_stream = refl
+
+-- a block between the audio association and the control interface
+block_between : verdict (bytes_of (insert headset 3 other)) ≡ fault 7 35
+unfolding verdict
+block_between = refl
+
+-- the input ends before the audio association
+association_missing : verdict (bytes_of (with_total 9 0 (take 2 headset))) ≡ fault 7 27
+unfolding verdict
+association_missing = refl
+
+-- the input ends behind the control interface
+header_missing : verdict (bytes_of (with_total 26 0 (take 4 headset))) ≡ fault 6 44
+unfolding verdict
+header_missing = refl
+
+-- the last entity ends past the total of the header
+list_passes : verdict (bytes_of (edit 4 6 106 headset)) ≡ fault 5 139
+unfolding verdict
+list_passes = refl
+
+-- the entities end before the total of the header
+list_stops_short : verdict (bytes_of (edit 4 6 108 headset)) ≡ fault 5 151
+unfolding verdict
+list_stops_short = refl
+
+-- an audio association behind another interface does not end that, but the control interface may follow
+association_in_foreign : verdict (bytes_of (with_total 44 1 (take 2 headset ++ drop 25 headset ++ drop 2 headset))) ≡ None
+unfolding verdict
+association_in_foreign = refl
+
+-- an endpoint of another length in front of every interface
+short_endpoint_in_front : verdict (bytes_of (insert headset 2 (6 ∷ 5 ∷ 0 ∷ 0 ∷ 0 ∷ 0 ∷ []))) ≡ fault 3 27
+unfolding verdict
+short_endpoint_in_front = refl
+
+-- the same in an interface of another function is kept whole
+short_endpoint_in_foreign : verdict (bytes_of (with_total 25 1 (headset ++ (6 ∷ 5 ∷ 0 ∷ 0 ∷ 0 ∷ 0 ∷ []) ∷ []))) ≡ None
+unfolding verdict
+short_endpoint_in_foreign = refl
+
+-- an isochronous endpoint with interval 0
+period_of_0 : verdict (bytes_of (edit 16 6 0 headset)) ≡ fault 4 191
+unfolding verdict
+period_of_0 = refl
+
+-- a length of 1
+length_1 : verdict (bytes_of (edit 26 0 1 headset)) ≡ fault 2 277
+unfolding verdict
+length_1 = refl
+
+-- one byte alone
+lone_byte : verdict (bytes_of (headset ++ (9 ∷ []) ∷ [])) ≡ fault 1 293
+unfolding verdict
+lone_byte = refl

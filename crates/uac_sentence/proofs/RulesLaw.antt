@@ -1,0 +1,290 @@
+-- What the stage says of the letters before it, and the flags and the latest setting of the interfaces before them.
+use Rattle.std.proofs.Common.{◌≡◌, ℕ, ◌+◌, Bool, true, false, ◌&&◌, ◌||◌, not, List, [], ◌∷◌, ◌++◌, get_or, map, reverse, filter_map, Option, Some, None, is_none, refl, sym, ap, ◌∙◌, subst, append_assoc, append-nil}
+use Rattle.std.specs.List.{list_all}
+use Rattle.std.proofs.lemmas.Grind.{reverse_onto}
+use Rattle.std.proofs.Math.Bool.{or_comm, or_assoc, and-or_distrib_right, and_assoc}
+use Rattle.std.proofs.lemmas.Bool.{or_parts, or_from, not-false, not_from_true}
+use Rattle.uac_descriptor.specs.declared.standard.Interface as interface
+use Rattle.uac_descriptor.specs.declared.block.Block as block
+use Rattle.uac_descriptor.specs.declared.block.Block.TheVariants as variant
+use Rattle.uac_descriptor.specs.Reading.{AreBytes}
+use Rattle.uac_sentence.specs.declared.letters.Letter.{Letter}
+use Rattle.uac_sentence.specs.declared.letters.Letter.TheVariants as letter
+use Rattle.uac_sentence.specs.declared.stages.Stage.{Stage}
+use Rattle.uac_sentence.specs.declared.stages.Stage.TheVariants.{Start, Due, Opening, Before, Announced, Headless, Listing, Quiet, Setting, Formats, Formatted, FirstEndpoint, FirstDone, SecondEndpoint, Closing, Behind}
+use Rattle.uac_sentence.specs.declared.states.State.{State}
+use Rattle.uac_sentence.specs.Letter.{letter_of}
+use Rattle.uac_sentence.specs.Steps.{step, may_end, is_before_association}
+use Rattle.uac_sentence.specs.Grammar.{start, state_after, stage_after, is_in_turn, is_refused, is_due, is_announced, is_headless, is_listing, is_past_control, lacks_association, lists_unknown, comes_again, is_audio_interface, is_control, is_unknown, is_association}
+use Rattle.uac_sentence.specs.Sentence.{spellings, interface_of}
+use Rattle.uac_sentence.specs.Progress.{state_behind, BreakNone, HasRead}
+use Rattle.uac_sentence.specs.Earlier.{lead, stage_behind, is_same, has, latest_is, is_header_list, is_in_list, is_unknown_in_list, stands_without_association, is_second, interfaces_before, IsInTurn, IsAllowedBehind}
+use Rattle.uac_sentence.proofs.Parts.{bytes_in, broken_passes, step_there}
+use Rattle.uac_sentence.proofs.TurnLaw.{HasSmallNumbers, IsUsed, latest_of, flags_after, turn_of, of_turn, at_start}
+use Rattle.uac_sentence.proofs.SentenceLaw.{small_numbers}
+use Rattle.uac_sentence.proofs.EarlierLaw.{led_first, first_led, lead-push, lead_none}
+
+-- ---- the stage
+
+-- what a stage says of the letters before it, and what it says behind one more
+abbrev told : Option Stage → List Bool
+told None = []
+told (Some t) =
+    not (is_before_association t) ∷ is_past_control t ∷ not (is_due t) ∷ is_announced t ∷ is_headless t ∷ is_listing t ∷ []
+
+abbrev tells : Option Stage → Stage → Letter → List Bool
+tells None s k = []
+tells (Some t) s k =
+    (is_same letter.AudioAssociation k || not (is_before_association s))
+    ∷ (is_same letter.ControlInterface k || is_past_control s)
+    ∷ (is_same letter.Configuration k || not (is_due s))
+    ∷ is_same letter.AudioAssociation k
+    ∷ is_same letter.ControlInterface k
+    ∷ (is_headless s && is_same letter.Header k || is_listing s && is_same letter.Entity k) ∷ []
+
+told_behind : (s : Stage) (k : Letter) → told (step s k) ≡ tells (step s k) s k
+told_behind Start letter.Device = refl
+told_behind Start k = refl
+told_behind Due letter.Device = refl
+told_behind Due k = refl
+told_behind Opening letter.Device = refl
+told_behind Opening k = refl
+told_behind Before letter.Device = refl
+told_behind Before k = refl
+told_behind Announced letter.Device = refl
+told_behind Announced k = refl
+told_behind Headless letter.Device = refl
+told_behind Headless k = refl
+told_behind Listing letter.Device = refl
+told_behind Listing k = refl
+told_behind Quiet letter.Device = refl
+told_behind Quiet k = refl
+told_behind Setting letter.Device = refl
+told_behind Setting k = refl
+told_behind Formats letter.Device = refl
+told_behind Formats k = refl
+told_behind Formatted letter.Device = refl
+told_behind Formatted k = refl
+told_behind FirstEndpoint letter.Device = refl
+told_behind FirstEndpoint k = refl
+told_behind FirstDone letter.Device = refl
+told_behind FirstDone k = refl
+told_behind SecondEndpoint letter.Device = refl
+told_behind SecondEndpoint k = refl
+told_behind Closing letter.Device = refl
+told_behind Closing k = refl
+told_behind Behind letter.Device = refl
+told_behind Behind k = refl
+
+told_at : (n : ℕ) (s t : Stage) (k : Letter) → step s k ≡ Some t → get_or (told (Some t)) n false ≡ get_or (tells (Some t) s k) n false
+told_at n s t k e = ap (λ bits. get_or bits n false) (subst (λ o. told o ≡ tells o s k) e (told_behind s k))
+
+-- the first step of a lead
+first_step : (o : Option Stage) (ks : List Letter) (t : Stage) → lead o ks ≡ Some t → (u : Stage) × (o ≡ Some u)
+first_step None ks t e = (let none : None ≡ Some t = sym (lead_none ks) ∙ e in cc)
+first_step (Some u) ks t e = (u, refl)
+
+-- a letter among those that lead to a stage
+module _ (p : Stage → Bool) (j : Letter) (keeps : (s t : Stage) (k : Letter) → step s k ≡ Some t → p t ≡ (is_same j k || p s)) where
+  has_along : (s t : Stage) (ks : List Letter) → lead (Some s) ks ≡ Some t → p t ≡ (has j ks || p s)
+  has_along s t [] e = (let same : s ≡ t = cc in ap p (sym same))
+  has_along s t (k ∷ ks) e =
+      let (u, is) = first_step (step s k) ks t e in
+      has_along u t ks (subst (λ o. lead o ks ≡ Some t) is e)
+      ∙ ap (λ b. has j ks || b) (keeps s u k is)
+      ∙ sym (or_assoc (has j ks) (is_same j k) (p s))
+      ∙ ap (λ b. b || p s) (or_comm (has j ks) (is_same j k))
+
+-- the latest letter
+module _ (p : Stage → Bool) (j : Letter) (is_latest : (s t : Stage) (k : Letter) → step s k ≡ Some t → p t ≡ is_same j k) where
+  latest_along : (s t : Stage) (k : Letter) (ks : List Letter) → lead (Some s) (k ∷ ks) ≡ Some t → p t ≡ latest_is j (k ∷ ks)
+  latest_along s t k [] e = is_latest s t k e
+  latest_along s t k (next ∷ ks) e =
+      let (u, is) = first_step (step s k) (next ∷ ks) t e in
+      latest_along u t next ks (subst (λ o. lead o (next ∷ ks) ≡ Some t) is e)
+
+  latest_behind : p Start ≡ false → (t : Stage) (ks : List Letter) → stage_behind ks ≡ Some t → p t ≡ latest_is j ks
+  latest_behind none t [] e = (let same : Start ≡ t = cc in ap p (sym same) ∙ none)
+  latest_behind none t (k ∷ ks) e = latest_along Start t k ks e
+
+-- the list of entities
+arrange : (x c l hk e a : Bool) → (x || c && l || (hk || e) && a) ≡ (c && l || x || hk && a || e && a)
+arrange x c l hk e a =
+    ap (λ b. b || (hk || e) && a) (or_comm x (c && l))
+    ∙ ap (λ b. c && l || x || b) (and-or_distrib_right hk e a)
+    ∙ sym (or_assoc (c && l || x) (hk && a) (e && a))
+
+listed_along : (s t : Stage) (ks : List Letter) → lead (Some s) ks ≡ Some t
+    → is_listing t ≡ (is_in_list ks || is_headless s && is_header_list ks || is_listing s && list_all (is_same letter.Entity) ks)
+listed_along s t [] e = (let same : s ≡ t = cc in ap is_listing (sym same) ∙ at_end (is_headless s) (is_listing s))
+  where
+    at_end : (h l : Bool) → l ≡ (false || h && false || l && true)
+    at_end true true = refl
+    at_end true false = refl
+    at_end false true = refl
+    at_end false false = refl
+listed_along s t (k ∷ ks) e =
+    let (u, is) = first_step (step s k) ks t e in
+    let all : Bool = list_all (is_same letter.Entity) ks in
+    let header : Bool = is_same letter.Header k in
+    let entity : Bool = is_same letter.Entity k in
+    listed_along u t ks (subst (λ o. lead o ks ≡ Some t) is e)
+    ∙ ap (λ h. is_in_list ks || h && is_header_list ks || is_listing u && all) (told_at 4 s u k is)
+    ∙ ap (λ l. is_in_list ks || is_same letter.ControlInterface k && is_header_list ks || l && all) (told_at 5 s u k is)
+    ∙ arrange (is_in_list ks) (is_same letter.ControlInterface k) (is_header_list ks) (is_headless s && header) (is_listing s && entity) all
+    ∙ ap (λ b. is_same letter.ControlInterface k && is_header_list ks || is_in_list ks || b || is_listing s && entity && all) (and_assoc (is_headless s) header all)
+    ∙ ap (λ b. is_same letter.ControlInterface k && is_header_list ks || is_in_list ks || is_headless s && (header && all) || b) (and_assoc (is_listing s) entity all)
+
+-- the tests of a letter
+is_control_same : (k : Letter) → is_control k ≡ is_same letter.ControlInterface k
+is_control_same letter.Device = refl
+is_control_same k = refl
+
+is_association_same : (k : Letter) → is_association k ≡ is_same letter.AudioAssociation k
+is_association_same letter.Device = refl
+is_association_same k = refl
+
+is_unknown_same : (k : Letter) → is_unknown k ≡ is_same letter.UnknownSubtype k
+is_unknown_same letter.Device = refl
+is_unknown_same k = refl
+
+is_audio_same : (k : Letter) → is_audio_interface k ≡ (is_same letter.ControlInterface k || is_same letter.StreamingInterface k)
+is_audio_same letter.Device = refl
+is_audio_same k = refl
+
+or_none : (b : Bool) → (b || false) ≡ b
+or_none true = refl
+or_none false = refl
+
+not_not : (b : Bool) → not (not b) ≡ b
+not_not true = refl
+not_not false = refl
+
+ends_behind_control : (s : Stage) → may_end s ≡ (is_past_control s && not (is_headless s))
+ends_behind_control Start = refl
+ends_behind_control s = refl
+
+module _ (ks : List Letter) (s : Stage) (e : stage_behind ks ≡ Some s) where
+  association_came : not (is_before_association s) ≡ has letter.AudioAssociation ks
+  association_came = has_along (λ t. not (is_before_association t)) letter.AudioAssociation (told_at 0) Start s ks e ∙ or_none (has letter.AudioAssociation ks)
+
+  control_came : is_past_control s ≡ has letter.ControlInterface ks
+  control_came = has_along is_past_control letter.ControlInterface (told_at 1) Start s ks e ∙ or_none (has letter.ControlInterface ks)
+
+  configuration_came : not (is_due s) ≡ has letter.Configuration ks
+  configuration_came = has_along (λ t. not (is_due t)) letter.Configuration (told_at 2) Start s ks e ∙ or_none (has letter.Configuration ks)
+
+  association_is_latest : is_announced s ≡ latest_is letter.AudioAssociation ks
+  association_is_latest = latest_behind is_announced letter.AudioAssociation (told_at 3) refl s ks e
+
+  control_is_latest : is_headless s ≡ latest_is letter.ControlInterface ks
+  control_is_latest = latest_behind is_headless letter.ControlInterface (told_at 4) refl s ks e
+
+  list_is_open : is_listing s ≡ is_in_list ks
+  list_is_open = listed_along Start s ks e ∙ or_none (is_in_list ks || false) ∙ or_none (is_in_list ks)
+
+  pub lacks_is : (k : Letter) → lacks_association s k ≡ stands_without_association ks k
+  unfolding lacks_association
+  lacks_is k =
+      ap (λ b. b && is_audio_interface k || is_announced s && not (is_control k)) (sym (not_not (is_before_association s)) ∙ ap not association_came)
+      ∙ ap (λ b. not (has letter.AudioAssociation ks) && is_audio_interface k || b && not (is_control k)) association_is_latest
+      ∙ ap (λ b. not (has letter.AudioAssociation ks) && b || latest_is letter.AudioAssociation ks && not (is_control k)) (is_audio_same k)
+      ∙ ap (λ b. not (has letter.AudioAssociation ks) && (is_same letter.ControlInterface k || is_same letter.StreamingInterface k) || latest_is letter.AudioAssociation ks && not b) (is_control_same k)
+
+  pub lists_is : (k : Letter) → lists_unknown s k ≡ is_unknown_in_list ks k
+  unfolding lists_unknown
+  lists_is k = ap (λ b. b && is_unknown k) list_is_open ∙ ap (λ b. is_in_list ks && b) (is_unknown_same k)
+
+  pub again_is : (k : Letter) → comes_again s k ≡ is_second ks k
+  unfolding comes_again
+  again_is k =
+      ap (λ b. b && is_association k || is_past_control s && is_control k) association_came
+      ∙ ap (λ b. has letter.AudioAssociation ks && is_association k || b && is_control k) control_came
+      ∙ ap (λ b. has letter.AudioAssociation ks && b || has letter.ControlInterface ks && is_control k) (is_association_same k)
+      ∙ ap (λ b. has letter.AudioAssociation ks && is_same letter.AudioAssociation k || has letter.ControlInterface ks && b) (is_control_same k)
+
+  pub end_is : (is_due s ≡ not (has letter.Configuration ks)) × (is_headless s ≡ latest_is letter.ControlInterface ks)
+      × (may_end s ≡ (has letter.ControlInterface ks && not (latest_is letter.ControlInterface ks)))
+  end_is = (
+    sym (not_not (is_due s)) ∙ ap not configuration_came,
+    control_is_latest,
+    ends_behind_control s ∙ ap (λ b. b && not (is_headless s)) control_came ∙ ap (λ b. has letter.ControlInterface ks && not b) control_is_latest,
+  )
+
+-- ---- the state
+
+stage_along : (s : State) (place : ℕ) (blocks : List block.Block) → BreakNone s place blocks
+    → lead (Some s.stage) (map letter_of blocks) ≡ Some (state_behind s place blocks).stage
+unfolding state_after
+stage_along s place [] unbroken = refl
+stage_along s place (b ∷ blocks) (here, unbroken) =
+    let (t, e) = step_there (step s.stage (letter_of b)) (broken_passes s place b here).allowed in
+    ap (λ o. lead o (map letter_of blocks)) (e ∙ sym (ap (λ o. Some (stage_after o s.stage)) e))
+    ∙ stage_along (state_after s place b) (place + bytes_in b) blocks unbroken
+
+pub read_stage : (blocks : List block.Block) (s : State) (place : ℕ) → HasRead blocks s place → stage_behind (map letter_of blocks) ≡ Some s.stage
+unfolding start
+read_stage blocks s place read = stage_along start 0 blocks read.unbroken ∙ ap (λ u. Some u.stage) (sym read.state_is)
+
+-- the flags and the latest setting are those of the interfaces before
+record IsBehind (s : State) (earlier : List interface.Interface) : Type 0 where
+  used : IsUsed s.used earlier
+  latest : s.latest ≡ latest_of earlier
+
+behind_along : (s : State) (place : ℕ) (blocks : List block.Block) (earlier : List interface.Interface) → HasSmallNumbers blocks
+    → IsBehind s earlier → IsBehind (state_behind s place blocks) (reverse (filter_map interface_of blocks) ++ earlier)
+unfolding state_after latest_of
+behind_along s place [] earlier small is = is
+behind_along s place (variant.Interface i ∷ blocks) earlier (small, rest) is =
+    subst (IsBehind (state_behind (state_after s place (variant.Interface i)) (place + bytes_in (variant.Interface i)) blocks))
+    (sym (ap (λ xs. xs ++ earlier) (reverse_onto (filter_map interface_of blocks) i []) ∙ append_assoc (reverse (filter_map interface_of blocks)) (i ∷ []) earlier))
+    (behind_along (state_after s place (variant.Interface i)) (place + bytes_in (variant.Interface i)) blocks (i ∷ earlier) rest
+    (record { used = flags_after s.used i earlier small is.used; latest = refl }))
+behind_along s place (b ∷ blocks) earlier small is =
+    behind_along (state_after s place b) (place + bytes_in b) blocks earlier small (record { used = is.used; latest = is.latest })
+
+small_front : (blocks : List block.Block) (b : block.Block) → HasSmallNumbers (blocks ++ b ∷ []) → HasSmallNumbers blocks × HasSmallNumbers (b ∷ [])
+small_front [] b small = (tt, small)
+small_front (variant.Interface i ∷ blocks) b (small, rest) = (let (front, last) = small_front blocks b rest in ((small, front), last))
+small_front (a ∷ blocks) b small = small_front blocks b small
+
+turn_is : (used : List Bool) (earlier : List interface.Interface) (b : block.Block) → HasSmallNumbers (b ∷ []) → IsUsed used earlier
+    → is_in_turn used (latest_of earlier) b ≡ true → IsInTurn earlier b
+turn_is used earlier (variant.Interface i) (small, rest) is h = turn_of used earlier i small is h
+turn_is used earlier b small is h = tt
+
+is_turn : (used : List Bool) (earlier : List interface.Interface) (b : block.Block) → HasSmallNumbers (b ∷ []) → IsUsed used earlier
+    → IsInTurn earlier b → is_in_turn used (latest_of earlier) b ≡ true
+unfolding is_in_turn
+is_turn used earlier (variant.Interface i) (small, rest) is h = of_turn used earlier i small is h
+is_turn used earlier b small is h = refl
+
+module _ (blocks : List block.Block) (s : State) (place : ℕ) (b : block.Block) (read : HasRead blocks s place) (are : AreBytes (spellings (blocks ++ b ∷ []))) where
+  numbers : HasSmallNumbers blocks × HasSmallNumbers (b ∷ [])
+  numbers = small_front blocks b (small_numbers (blocks ++ b ∷ []) are)
+
+  is_behind : IsBehind s (interfaces_before blocks)
+  unfolding start latest_of
+  is_behind =
+      subst (λ u. IsBehind u (interfaces_before blocks)) (sym read.state_is)
+      (subst (IsBehind (state_behind start 0 blocks)) (append-nil (interfaces_before blocks))
+      (behind_along start 0 blocks [] numbers.0 (record { used = at_start; latest = refl })))
+
+  pub taken_is_allowed : is_refused s b ≡ false → IsAllowedBehind blocks b
+  unfolding is_refused
+  taken_is_allowed h =
+      let (order, turn) = or_parts (is_none (step s.stage (letter_of b))) (not (is_in_turn s.used s.latest b)) h in
+      let (t, e) = step_there (step s.stage (letter_of b)) order in (
+        led_first (map letter_of blocks ++ letter_of b ∷ []) t (lead-push (Some Start) (map letter_of blocks) s.stage (letter_of b) (read_stage blocks s place read) ∙ e),
+        turn_is s.used (interfaces_before blocks) b numbers.1 is_behind.used
+            (subst (λ l. is_in_turn s.used l b ≡ true) is_behind.latest (not-false (is_in_turn s.used s.latest b) turn)),
+      )
+
+  pub allowed_is_taken : IsAllowedBehind blocks b → is_refused s b ≡ false
+  unfolding is_refused
+  allowed_is_taken (first, turn) =
+      let (t, led) = first_led (map letter_of blocks ++ letter_of b ∷ []) first in
+      or_from (is_none (step s.stage (letter_of b))) (not (is_in_turn s.used s.latest b))
+      (ap is_none (sym (lead-push (Some Start) (map letter_of blocks) s.stage (letter_of b) (read_stage blocks s place read)) ∙ led))
+      (not_from_true (is_in_turn s.used s.latest b)
+      (subst (λ l. is_in_turn s.used l b ≡ true) (sym is_behind.latest) (is_turn s.used (interfaces_before blocks) b numbers.1 is_behind.used turn)))

@@ -1,0 +1,86 @@
+-- What a block is to the order: USB 2.0, 9.4 and 9.6.5; Audio Class 2.0, A.1 to A.9.
+use Rattle.std.specs.Prelude.{ℕ, Bool, ◌&&◌, ◌||◌, not, ◌==◌, nat_le, if◌then◌else◌, List, length, slice_index}
+use Rattle.uac_descriptor.specs.declared.context.Context.{Context}
+use Rattle.uac_descriptor.specs.declared.context.Context.TheVariants as context
+use Rattle.uac_descriptor.specs.declared.codes.TheConstants.{DEVICE, CONFIGURATION, INTERFACE, ENDPOINT, INTERFACE_ASSOCIATION, CS_INTERFACE, CS_ENDPOINT, HEADER, EFFECT_UNIT, CLOCK_SOURCE, CLOCK_MULTIPLIER}
+use Rattle.uac_descriptor.specs.declared.standard.Interface as interface
+use Rattle.uac_descriptor.specs.declared.block.Block as block
+use Rattle.uac_descriptor.specs.declared.block.Block.TheVariants as variant
+use Rattle.uac_descriptor.specs.declared.classes.TheConstants.{DEVICE_LENGTH}
+use Rattle.uac_descriptor.specs.Classes.{is_audio_association, is_control_interface, is_streaming_interface}
+use Rattle.uac_sentence.specs.declared.letters.Letter.{Letter}
+use Rattle.uac_sentence.specs.declared.letters.Letter.TheVariants.{Device, Configuration, AudioAssociation, ForeignAssociation, ControlInterface, StreamingInterface, ForeignInterface, Endpoint, Header, Entity, General, TypeOne, Extra, ClassEndpoint, Other, UnknownSubtype, Stray}
+
+-- bDescriptorType and bDescriptorSubtype of a block that is kept whole
+abbrev pub type_of : List ℕ → ℕ
+type_of bytes = slice_index bytes 1
+
+abbrev pub subtype_of : List ℕ → ℕ
+subtype_of bytes = slice_index bytes 2
+
+-- the subtypes of this profile: the header up to the effect unit, and the clock entities
+abbrev pub is_known_subtype : ℕ → Bool
+is_known_subtype n = nat_le HEADER n && nat_le n EFFECT_UNIT || nat_le CLOCK_SOURCE n && nat_le n CLOCK_MULTIPLIER
+
+-- a class block of an interface or an endpoint
+abbrev pub is_class_type : ℕ → Bool
+is_class_type kind = kind == CS_INTERFACE || kind == CS_ENDPOINT
+
+-- a type that has its place in the order: every other may stand where the standard allows further descriptors
+abbrev pub has_place : ℕ → Bool
+has_place kind =
+    kind == DEVICE || kind == CONFIGURATION || kind == INTERFACE || kind == ENDPOINT || kind == INTERFACE_ASSOCIATION || is_class_type kind
+
+-- a device descriptor
+unfoldable pub is_device : List ℕ → Bool
+is_device bytes = type_of bytes == DEVICE && length bytes == DEVICE_LENGTH
+
+-- a class block whose subtype is none of this profile
+unfoldable pub has_unknown_subtype : List ℕ → Bool
+has_unknown_subtype bytes = is_class_type (type_of bytes) && nat_le 3 (length bytes) && not (is_known_subtype (subtype_of bytes))
+
+-- the letter of a block that is kept whole
+unfoldable pub whole_letter : List ℕ → Letter
+whole_letter bytes =
+    if is_device bytes then Device
+    else if has_unknown_subtype bytes then UnknownSubtype
+    else if has_place (type_of bytes) then Stray else Other
+
+-- the letter of an interface
+unfoldable pub interface_letter : interface.Interface → Letter
+interface_letter i =
+    if is_control_interface i then ControlInterface else if is_streaming_interface i then StreamingInterface else ForeignInterface
+
+-- the letter of a block
+abbrev pub letter_of : block.Block → Letter
+letter_of (variant.Configuration _) = Configuration
+letter_of (variant.Association a) = if is_audio_association a then AudioAssociation else ForeignAssociation
+letter_of (variant.Interface i) = interface_letter i
+letter_of (variant.Endpoint _) = Endpoint
+letter_of (variant.Header _) = Header
+letter_of (variant.InputTerminal _) = Entity
+letter_of (variant.OutputTerminal _) = Entity
+letter_of (variant.Mixer _) = Entity
+letter_of (variant.Selector _) = Entity
+letter_of (variant.Feature _) = Entity
+letter_of (variant.Effect _) = Entity
+letter_of (variant.ClockSource _) = Entity
+letter_of (variant.ClockSelector _) = Entity
+letter_of (variant.ClockMultiplier _) = Entity
+letter_of (variant.General _) = General
+letter_of (variant.TypeOne _) = TypeOne
+letter_of (variant.Extra _) = Extra
+letter_of (variant.ClassEndpoint _) = ClassEndpoint
+letter_of (variant.Foreign bytes) = whole_letter bytes
+
+-- what an interface makes the context of the blocks behind it
+unfoldable pub interface_context : interface.Interface → Context
+interface_context i =
+    if is_control_interface i then context.ControlInterface else if is_streaming_interface i then context.StreamingInterface else context.ForeignInterface
+
+-- the context behind a block: the latest interface decides, and what follows a foreign association counts as
+-- standing in a foreign interface
+abbrev pub context_after : Context → block.Block → Context
+context_after place (variant.Interface i) = interface_context i
+context_after place (variant.Association a) = if is_audio_association a then place else context.ForeignInterface
+context_after place _ = place

@@ -1,0 +1,12 @@
+-- Which blocks make a descriptor of USB Audio Class 2.0.
+pub mod Production
+pub mod Letter
+pub mod Order
+pub mod Steps
+pub mod Values
+pub mod Cutting
+pub mod Fault
+pub mod Grammar
+pub mod Sentence
+pub mod Progress
+pub mod Earlier

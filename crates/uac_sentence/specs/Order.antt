@@ -1,0 +1,73 @@
+-- The order of the blocks: USB 2.0, 9.4.3, and Audio Class 2.0, 4.
+use Rattle.std.specs.Prelude.{Bool, true, false, not, ◌==◌, ℕ}
+use Rattle.uac_sentence.specs.Production.{Production, one, then', either, many, option}
+use Rattle.uac_sentence.specs.declared.letters.Letter.{Letter}
+use Rattle.uac_sentence.specs.declared.letters.Letter.TheVariants.{Device, Configuration, AudioAssociation, ForeignAssociation, ControlInterface, StreamingInterface, ForeignInterface, Endpoint, Header, Entity, General, TypeOne, Extra, ClassEndpoint, Other, UnknownSubtype, Stray}
+
+-- the place of a letter in the list of letters
+abbrev pub number : Letter → ℕ
+number Device = 0
+number Configuration = 1
+number AudioAssociation = 2
+number ForeignAssociation = 3
+number ControlInterface = 4
+number StreamingInterface = 5
+number ForeignInterface = 6
+number Endpoint = 7
+number Header = 8
+number Entity = 9
+number General = 10
+number TypeOne = 11
+number Extra = 12
+number ClassEndpoint = 13
+number Other = 14
+number UnknownSubtype = 15
+number Stray = 16
+
+-- a block of this letter
+abbrev pub a : Letter → Production Letter
+a letter = one (λ k. number letter == number k)
+
+-- a configuration, an association or an interface: what ends a foreign part
+abbrev pub ends_part : Letter → Bool
+ends_part Configuration = true
+ends_part AudioAssociation = true
+ends_part ForeignAssociation = true
+ends_part ControlInterface = true
+ends_part StreamingInterface = true
+ends_part ForeignInterface = true
+ends_part _ = false
+
+abbrev pub stays_in_part : Letter → Bool
+stays_in_part k = not (ends_part k)
+
+-- blocks of types that audio has no rule for
+abbrev pub others : Production Letter
+others = many (a Other)
+
+-- another function's part: an association or an interface, and whatever follows
+abbrev pub foreign : Production Letter
+foreign = then' (either (a ForeignAssociation) (a ForeignInterface)) (many (one stays_in_part))
+
+-- the control interface: its header, the entities, and perhaps the endpoint for interrupts
+abbrev pub control : Production Letter
+control =
+    then' (a ControlInterface) (then' (a Header) (then' (many (a Entity)) (then' others (option (then' (a Endpoint) others)))))
+
+-- at most one Type I format among the class blocks
+abbrev pub formats : Production Letter
+formats = then' (many (a Extra)) (option (then' (a TypeOne) (many (a Extra))))
+
+-- an endpoint, and perhaps its class block
+abbrev pub endpoint : Production Letter
+endpoint = then' (a Endpoint) (option (a ClassEndpoint))
+
+-- one setting of a streaming interface
+abbrev pub stream : Production Letter
+stream =
+    then' (a StreamingInterface) (then' others (option (then' (a General) (then' formats (then' (option (then' endpoint (option endpoint))) others)))))
+
+-- the whole descriptor
+abbrev pub input : Production Letter
+input =
+    then' (option (a Device)) (then' (a Configuration) (then' others (then' (many foreign) (then' (a AudioAssociation) (then' control (many (either foreign stream)))))))

@@ -1,0 +1,151 @@
+// What each part of the state becomes behind a block.
+ghost use Rattle.std.specs.Prelude.{◌≡◌, ◌≤◌, length};
+ghost use Rattle.uac_sentence.specs.Letter.{context_after, interface_context, letter_of};
+ghost use Rattle.uac_sentence.specs.Grammar.{
+  continues,
+  end_after,
+  is_in_turn,
+  is_listed,
+  latest_after,
+  listing_after,
+  used_after,
+};
+
+use crate::letters::Letter;
+use crate::states::{FURTHEST, Latest, Listing};
+use uac_descriptor::classes::{is_audio_association, is_control_interface, is_streaming_interface};
+use uac_descriptor::{Block, Context, Interface};
+
+/// The context behind a block.
+pub fn context_after(context: Context, block: &Block) -> Context
+    ensures { result ≡ context_after context block.now }
+{
+    match block {
+        Block::Interface(interface) => interface_context(interface),
+        Block::Association(association) => {
+            if is_audio_association(association) {
+                context
+            } else {
+                Context::ForeignInterface
+            }
+        }
+        _ => context,
+    }
+}
+
+#[tactic(auto, unfolding(crate::specs::Letter::interface_context))]
+fn interface_context(interface: &Interface) -> Context
+    ensures { result ≡ interface_context interface.now }
+{
+    if is_control_interface(interface) {
+        Context::ControlInterface
+    } else if is_streaming_interface(interface) {
+        Context::StreamingInterface
+    } else {
+        Context::ForeignInterface
+    }
+}
+
+/// Where the configuration's total ends, once the configuration was read.
+pub fn end_after(end: Option<u32>, place: u32, block: &Block) -> Option<u32>
+    requires { place ≤ FURTHEST }
+    ensures { result ≡ end_after end place block.now }
+{
+    match (end, block) {
+        (Some(end), _) => Some(end),
+        (None, Block::Configuration(configuration)) => Some(place + configuration.total as u32),
+        (None, _) => None,
+    }
+}
+
+/// Whether the list of entities has a block of this letter.
+pub fn is_listed(letter: Letter) -> bool
+    ensures { result ≡ is_listed letter }
+{
+    match letter {
+        Letter::Entity => true,
+        Letter::UnknownSubtype => true,
+        _ => false,
+    }
+}
+
+/// How far the list of entities has come behind a block.
+pub fn listing_after(listing: Listing, place: u32, block: &Block) -> Listing
+    requires { place ≤ FURTHEST }
+    ensures { result ≡ listing_after listing place block.now }
+{
+    match (listing, block) {
+        (Listing::Awaited, Block::Header(header)) => Listing::Open(place + header.total as u32),
+        (Listing::Awaited, _) => Listing::Awaited,
+        (Listing::Open(end), block) => {
+            if is_listed(Letter::of(block)) {
+                Listing::Open(end)
+            } else {
+                Listing::Closed
+            }
+        }
+        (Listing::Closed, _) => Listing::Closed,
+    }
+}
+
+/// Marks the number of a control or streaming interface as used.
+pub fn use_number(used: &mut [bool; 256], block: &Block)
+    ensures { used.new ≡ used_after used.old block.now }
+{
+    if let Block::Interface(interface) = block {
+        if is_control_interface(interface) || is_streaming_interface(interface) {
+            used[interface.number as usize] = true;
+        }
+    }
+}
+
+/// The latest interface, if it is a streaming interface.
+pub fn latest_after(latest: Option<Latest>, block: &Block) -> Option<Latest>
+    ensures { result ≡ latest_after latest block.now }
+{
+    match block {
+        Block::Interface(interface) => {
+            if is_streaming_interface(interface) {
+                Some(Latest {
+                    number: interface.number,
+                    setting: interface.setting,
+                })
+            } else {
+                None
+            }
+        }
+        _ => latest,
+    }
+}
+
+/// Whether the interface is the next setting of the latest one.
+fn continues(latest: Option<Latest>, interface: &Interface) -> bool
+    ensures { result ≡ continues latest interface.now }
+{
+    match latest {
+        None => false,
+        Some(latest) => {
+            interface.number == latest.number
+                && interface.setting as u16 == latest.setting as u16 + 1
+        }
+    }
+}
+
+/// Whether a streaming interface has a new number in setting 0, and else continues the latest setting.
+#[tactic(auto, unfolding(crate::specs::Grammar::is_in_turn))]
+pub fn is_in_turn(used: &[bool; 256], latest: Option<Latest>, block: &Block) -> bool
+    ensures { result ≡ is_in_turn used.now latest block.now }
+{
+    match block {
+        Block::Interface(interface) => {
+            if !is_streaming_interface(interface) {
+                true
+            } else if interface.setting == 0 {
+                !used[interface.number as usize]
+            } else {
+                continues(latest, interface)
+            }
+        }
+        _ => true,
+    }
+}

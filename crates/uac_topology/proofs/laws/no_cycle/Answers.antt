@@ -1,0 +1,5 @@
+use Rattle.uac_topology.proofs.Cycles.{sound_has_no_cycle}
+use Rattle.uac_topology.proofs.laws.no_cycle.Goals as goal
+
+pub returns : goal.returns
+returns c = sound_has_no_cycle

@@ -1,0 +1,14 @@
+-- What a function is seen as.
+use Rattle.std.specs.Prelude.{ℕ, List}
+use Rattle.uac_entities.specs.declared.entity.Entity.{Entity}
+use Rattle.uac_entities.specs.declared.stream.StreamInterface.{StreamInterface}
+
+-- the entities in block order, each with the cluster that it puts out; the clocks that terminals name, in the order in
+-- which they are first named; the streaming interfaces in block order; the number of the control interface; and the
+-- configuration's wTotalLength
+pub record FunctionFields : Type 0 where
+  pub entities : List Entity
+  pub domains : List ℕ
+  pub streams : List StreamInterface
+  pub control_interface : ℕ
+  pub total : ℕ

@@ -1,0 +1,70 @@
+-- The function that the blocks describe, and whether it is sound.
+use Rattle.std.specs.Prelude.{◌≡◌, ℕ, ◌<◌, suc, Bool, false, cond, ◌==◌, ◌&&◌, List, Option, Some, None, slice_get, unwrap_or, length}
+use Rattle.std.specs.List.{filter_map}
+use Rattle.uac_descriptor.specs.declared.standard.Interface.{Interface}
+use Rattle.uac_descriptor.specs.declared.block.Block as block
+use Rattle.uac_descriptor.specs.declared.block.Block.TheVariants as row
+use Rattle.uac_walk.specs.Walk.{leads}
+use Rattle.uac_entities.specs.Entities.{entities_of}
+use Rattle.uac_entities.specs.Settings.{alternates_of}
+use Rattle.uac_entities.specs.Streams.{streams_of}
+use Rattle.uac_entities.specs.declared.stream.StreamInterface.{StreamInterface}
+use Rattle.uac_rules.specs.declared.fault.TopologyFault.{TopologyFault}
+use Rattle.uac_rules.specs.Links.{signal_links, clock_links}
+use Rattle.uac_rules.specs.Clusters.{clustered}
+use Rattle.uac_rules.specs.Domains.{domains_of}
+use Rattle.uac_rules.specs.Faults.{broken}
+use Rattle.uac_topology.specs.Function.{FunctionFields}
+use Rattle.uac_topology.specs.declared.soundness.CheckStop.{CheckStop}
+use Rattle.uac_topology.specs.declared.soundness.CheckStop.TheVariants as stop
+
+-- class 1, subclass 1 and protocol 0x20: audio control of this version (Audio Class 2.0, A.4 to A.6)
+abbrev pub is_control : Interface → Bool
+is_control i = i.class == 1 && (i.subclass == 1 && i.protocol == 32)
+
+-- the number of a control interface
+unfoldable pub control_number : block.Block → Option ℕ
+control_number (row.Interface i) = cond (is_control i) (Some i.number) None
+control_number _ = None
+
+-- the bytes of a configuration (USB 2.0, 9.6.3)
+unfoldable pub total_length : block.Block → Option ℕ
+total_length (row.Configuration c) = Some c.total
+total_length _ = None
+
+-- the first that some block gives, 0 where none gives one
+abbrev pub first_given : (block.Block → Option ℕ) → List block.Block → ℕ
+first_given gives blocks = unwrap_or (slice_get (filter_map gives blocks) 0) 0
+
+-- the streaming interfaces of the blocks
+abbrev pub streams_in : List block.Block → List StreamInterface
+streams_in blocks = streams_of (entities_of blocks) (alternates_of blocks)
+
+-- the least broken rule with its first offender in block order
+unfoldable pub first_broken : List block.Block → Option TopologyFault
+first_broken blocks = broken (entities_of blocks) (alternates_of blocks) (streams_in blocks)
+
+-- no rule is broken
+abbrev pub IsSound : List block.Block → Type 0
+IsSound blocks = first_broken blocks ≡ None
+
+-- the function is that of the blocks
+pub record IsFunctionOf (function : FunctionFields) (blocks : List block.Block) : Type 0 where
+  pub entities : function.entities ≡ clustered (entities_of blocks)
+  pub domains : function.domains ≡ domains_of (entities_of blocks)
+  pub streams : function.streams ≡ streams_in blocks
+  pub control_interface : function.control_interface ≡ first_given control_number blocks
+  pub total : function.total ≡ first_given total_length blocks
+
+-- a stop tells the fault, where it isn't want of memory
+abbrev pub Tells : CheckStop → Option TopologyFault → Type 0
+Tells (stop.Fault fault) first = first ≡ Some fault
+Tells stop.NoMemory first = Unit {0}
+
+-- no entity of a sound function has a walk of signal source links, or of clock source links, back to itself
+pub record HasNoCycle (blocks : List block.Block) : Type 0 where
+  pub signals : (place n : ℕ) → place < length (entities_of blocks) → leads (signal_links (entities_of blocks)) (suc n) place place ≡ false
+  pub clocks : (place n : ℕ) → place < length (entities_of blocks) → leads (clock_links (entities_of blocks)) (suc n) place place ≡ false
+
+abbrev pub SoundHasNoCycle : Type 0
+SoundHasNoCycle = (blocks : List block.Block) → IsSound blocks → HasNoCycle blocks

@@ -1,0 +1,61 @@
+// The configuration's own fields.
+ghost use Rattle.std.specs.Prelude.{◌≡◌};
+ghost use Rattle.uac_topology.specs.Topology as spec;
+
+use uac_descriptor::{Block, Interface};
+
+/// The number of the first control interface.
+pub(crate) fn control_interface_of(blocks: &[Block]) -> u8
+    ensures { result ≡ spec.first_given spec.control_number blocks.now }
+{
+    for block in blocks {
+        if let Some(number) = control_number(block) {
+            return number;
+        }
+    }
+    0
+}
+
+/// wTotalLength of the first configuration.
+pub(crate) fn total_of(blocks: &[Block]) -> u16
+    ensures { result ≡ spec.first_given spec.total_length blocks.now }
+{
+    for block in blocks {
+        if let Some(total) = total_length(block) {
+            return total;
+        }
+    }
+    0
+}
+
+#[tactic(auto, unfolding(crate::specs::Topology::control_number))]
+fn control_number(block: &Block) -> Option<u8>
+    ensures { result ≡ spec.control_number block.now }
+{
+    match block {
+        Block::Interface(interface) => {
+            if is_control(interface) {
+                Some(interface.number)
+            } else {
+                None
+            }
+        }
+        _ => None,
+    }
+}
+
+fn is_control(interface: &Interface) -> bool
+    ensures { result ≡ spec.is_control interface.now }
+{
+    interface.class == 1 && interface.subclass == 1 && interface.protocol == 0x20
+}
+
+#[tactic(auto, unfolding(crate::specs::Topology::total_length))]
+fn total_length(block: &Block) -> Option<u16>
+    ensures { result ≡ spec.total_length block.now }
+{
+    match block {
+        Block::Configuration(configuration) => Some(configuration.total),
+        _ => None,
+    }
+}

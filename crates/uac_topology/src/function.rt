@@ -1,0 +1,79 @@
+// A sound function.
+ghost use Rattle.std.specs.Prelude.{◌≡◌, ◌==◌, position};
+ghost use Rattle.uac_topology.specs.Function.{FunctionFields};
+
+use std::marker::Model;
+use uac_entities::{Entity, StreamInterface};
+use uac_rules::EntityTable;
+
+/// A sound audio function.
+#[derive(Drop)]
+pub struct Function {
+    pub(crate) table: EntityTable,
+    pub(crate) domains: Vec<u8>,
+    pub(crate) streams: Vec<StreamInterface>,
+    pub(crate) control_interface: u8,
+    pub(crate) total: u16,
+}
+
+impl Model for Function {
+    ghost use Rattle.uac_topology.specs.Function.{FunctionFields};
+
+    ghost Value = { FunctionFields };
+
+    ghost view = { λ f. record { entities = f.table; domains = f.domains.items; streams = f.streams.items; control_interface = f.control_interface; total = f.total } };
+}
+
+impl Function {
+    /// The entities in block order, each with the cluster that it puts out.
+    pub fn entities(&self) -> &[Entity]
+        ensures { result.now ≡ self.now.entities }
+    {
+        self.table.as_slice()
+    }
+
+    /// The index of the entity with this id, None exactly where no entity has it.
+    #[tactic(auto, unfolding(uac_rules::specs::Table::found))]
+    pub fn find(&self, id: u8) -> Option<usize>
+        ensures { result ≡ position (λ e. e.id == id) self.now.entities }
+    {
+        self.table.find(id)
+    }
+
+    /// The clocks that terminals name, each once, in the order in which they are first named.
+    pub fn domains(&self) -> &[u8]
+        ensures { result.now ≡ self.now.domains }
+    {
+        self.domains.as_slice()
+    }
+
+    /// The streaming interfaces in block order.
+    pub fn streams(&self) -> &[StreamInterface]
+        ensures { result.now ≡ self.now.streams }
+    {
+        self.streams.as_slice()
+    }
+
+    /// The index of the streaming interface with this number, None exactly where none has it.
+    pub fn stream_at(&self, interface: u8) -> Option<usize>
+        ensures { result ≡ position (λ s. s.number == interface) self.now.streams }
+    {
+        self.streams()
+            .iter()
+            .position(|stream| stream.number == interface)
+    }
+
+    /// The number of the control interface.
+    pub fn control_interface(&self) -> u8
+        ensures { result ≡ self.now.control_interface }
+    {
+        self.control_interface
+    }
+
+    /// The configuration's wTotalLength.
+    pub fn total(&self) -> u16
+        ensures { result ≡ self.now.total }
+    {
+        self.total
+    }
+}

@@ -1,0 +1,20 @@
+//! Whether the audio function that the blocks of a descriptor describe is sound, and if not, which entity or
+//! interface breaks which rule.
+#![tactic(auto)]
+
+/// A sound function.
+mod function;
+/// The configuration's own fields.
+mod configuration;
+/// The rules one after the other.
+mod soundness;
+/// Laws of sound functions, each the contract of a function that does nothing.
+pub mod laws;
+
+pub use function::Function;
+pub use soundness::{CheckStop, check};
+pub use uac_entities::{Cluster, Entity, EntityKind, Setting, SettingList, StreamInterface};
+pub use uac_rules::TopologyFault;
+
+#[cfg(test)]
+mod tests;

@@ -1,0 +1,117 @@
+// A small function, and one whose output terminal names no entity, with ample memory.
+use super::*;
+use std::alloc::{AllocError, Global};
+use std::test::Fail;
+use uac_descriptor::{Block, ClockSource, Configuration, InputTerminal, Interface, OutputTerminal};
+
+fn interface(number: u8, subclass: u8) -> Block {
+    Block::Interface(Interface {
+        number,
+        setting: 0,
+        endpoints: 0,
+        class: 1,
+        subclass,
+        protocol: 0x20,
+        name: 0,
+    })
+}
+
+fn push(blocks: &mut Vec<Block>, block: Block) -> Result<(), AllocError> {
+    match blocks.push(block) {
+        Ok(()) => Ok(()),
+        Err(_) => Err(AllocError),
+    }
+}
+
+// A USB terminal 2 under clock 1 that feeds a jack 3, and the streaming interface 7.
+fn blocks(alloc: Global, source: u8) -> Result<Vec<Block>, AllocError> {
+    let mut blocks = Vec::new(alloc);
+    push(
+        &mut blocks,
+        Block::Configuration(Configuration {
+            total: 77,
+            interfaces: 2,
+            value: 1,
+            name: 0,
+            attributes: 0x80,
+            power: 50,
+        }),
+    )?;
+    push(&mut blocks, interface(4, 1))?;
+    push(
+        &mut blocks,
+        Block::ClockSource(ClockSource {
+            id: 1,
+            attributes: 3,
+            controls: 7,
+            assoc: 0,
+            name: 0,
+        }),
+    )?;
+    push(
+        &mut blocks,
+        Block::InputTerminal(InputTerminal {
+            id: 2,
+            terminal_type: 0x0101,
+            assoc: 0,
+            clock: 1,
+            channels: 2,
+            locations: 3,
+            names: 0,
+            controls: 0,
+            name: 0,
+        }),
+    )?;
+    push(
+        &mut blocks,
+        Block::OutputTerminal(OutputTerminal {
+            id: 3,
+            terminal_type: 0x0301,
+            assoc: 0,
+            source,
+            clock: 1,
+            controls: 0,
+            name: 0,
+        }),
+    )?;
+    push(&mut blocks, interface(7, 2))?;
+    Ok(blocks)
+}
+
+#[test]
+fn tells_the_parts_of_a_small_function(rt: HostRuntime) -> Result<(), Fail> {
+    let blocks = blocks(rt.alloc(), 2)?;
+    match check(rt.alloc(), blocks.as_slice()) {
+        Ok(function) => {
+            assert_eq!(rt; function.entities().len(), 3);
+            assert_eq!(rt; function.entities()[2].cluster.channels, 2);
+            assert_eq!(rt; function.find(3), Some(2));
+            assert_eq!(rt; function.find(9), None);
+            assert_eq!(rt; function.domains(), [1].as_slice());
+            assert_eq!(rt; function.streams().len(), 1);
+            assert_eq!(rt; function.stream_at(7), Some(0));
+            assert_eq!(rt; function.stream_at(4), None);
+            assert_eq!(rt; function.control_interface(), 4);
+            assert_eq!(rt; function.total(), 77);
+        }
+        Err(_) => assert!(rt; false),
+    }
+    Ok(())
+}
+
+#[test]
+fn tells_the_terminal_that_names_no_entity(rt: HostRuntime) -> Result<(), Fail> {
+    let blocks = blocks(rt.alloc(), 9)?;
+    match check(rt.alloc(), blocks.as_slice()) {
+        Ok(_) => assert!(rt; false),
+        Err(stop) => assert_eq!(rt;
+            stop,
+            CheckStop::Fault(TopologyFault {
+                rule: 3,
+                id: 3,
+                interface: false
+            })
+        ),
+    }
+    Ok(())
+}
