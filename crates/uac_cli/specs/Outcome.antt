@@ -85,7 +85,7 @@ pub data Answers (command : Command) (taken : List ℕ) : End → Outcome → Ty
   -- the bytes are all, and are these blocks
   is_read : (blocks : List Block) (outcome : Outcome) → IsSentence taken blocks → IsVerdict command blocks outcome → Answers command taken at_end outcome
 
--- The same of any words: those that are no command take nothing; want of memory is free where there is one.
+-- The same of any words: those that are no command take nothing and give the usage line.
 abbrev pub IsOutcome : Option Command → List ℕ → End → Outcome → Type 0
 IsOutcome None taken end outcome = (taken ≡ []) × (outcome ≡ usage)
 IsOutcome (Some command) taken end outcome = Answers command taken end outcome

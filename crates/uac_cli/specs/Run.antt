@@ -26,7 +26,8 @@ Closes outcome old new before after status =
     ((status ≡ outcome.status) × Appends old new outcome.text)
     ⊎ ((status ≡ statuses.WriteFault) × Rose before after × AppendsFront old new outcome.text)
 
--- The bytes that were taken, why no more were, that none was behind the piece that shows a fault, and what that comes to; or there was no memory.
+-- The bytes that were taken, why no more were, that all but at most the last 4,096 of them show no fault, and what they come to; or there
+-- was no memory.
 pub record IsRun (command : Option Command) (left left' : Option (List ℕ)) (reads reads' : ℕ) (written written' : Option (List ℕ)) (writes writes' : ℕ) (status : Status) : Type 0 where
   pub taken : List ℕ
   pub end : End

@@ -6,7 +6,7 @@ ghost use Rattle.std.specs.Prelude.{◌≡◌, map, string_bytes};
 pub enum Command {
     /// Says whether a descriptor is sound, and if not, which rule it breaks first.
     Check,
-    /// Lists a sound descriptor's blocks.
+    /// Lists a sound descriptor's blocks and entities.
     Show,
 }
 

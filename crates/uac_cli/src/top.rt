@@ -21,7 +21,7 @@ use uac_script::{Failed, Sink, Source, give_all};
 use uac_topology::{CheckStop, Function, check};
 
 /// Runs the program: `words` are those behind its name. `check` and `show` read a descriptor from the source, to its end or to the
-/// first fault that its bytes show, and write the verdict, or the blocks, to the sink; every other list of words takes nothing and is
+/// first fault that its bytes show, and write the verdict, or the blocks and the entities, to the sink; every other list of words takes nothing and is
 /// answered by the usage line.
 pub fn uac_main<S: Source, K: Sink>(
     alloc: Global,

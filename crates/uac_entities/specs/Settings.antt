@@ -1,6 +1,7 @@
 -- The settings of streaming interfaces in turn, each with the blocks behind it (USB 2.0, 9.6.5; Audio Class 2.0, 4.9).
-use Rattle.std.specs.Prelude.{Bool, true, false, cond, ◌&&◌, ◌==◌, List, [], ◌∷◌, Option, Some, None, length, slice_get}
+use Rattle.std.specs.Prelude.{Bool, true, false, cond, List, [], ◌∷◌, Option, Some, None, length, slice_get}
 use Rattle.std.specs.List.{filter_map, cons_option}
+use Rattle.uac_descriptor.specs.Classes.{is_streaming_interface}
 use Rattle.uac_descriptor.specs.declared.standard.Interface.{Interface}
 use Rattle.uac_descriptor.specs.declared.standard.Endpoint.{Endpoint}
 use Rattle.uac_descriptor.specs.declared.streaming.General.{General}
@@ -8,10 +9,6 @@ use Rattle.uac_descriptor.specs.declared.streaming.TypeOne.{TypeOne}
 use Rattle.uac_descriptor.specs.declared.block.Block as block
 use Rattle.uac_descriptor.specs.declared.block.Block.TheVariants as row
 use Rattle.uac_entities.specs.declared.alternate.Alternate.{Alternate}
-
--- class 1, subclass 2 and protocol 0x20: audio streaming of this version (Audio Class 2.0, A.4 to A.6)
-abbrev pub is_streaming : Interface → Bool
-is_streaming i = i.class == 1 && (i.subclass == 2 && i.protocol == 32)
 
 unfoldable pub is_interface : block.Block → Bool
 is_interface (row.Interface i) = true
@@ -57,7 +54,7 @@ alternate_of i behind =
 
 -- the setting of a streaming interface that a block begins, with all that stands behind it
 unfoldable pub alternate_at : block.Block → List block.Block → Option Alternate
-alternate_at (row.Interface i) behind = cond (is_streaming i) (Some (alternate_of i behind)) None
+alternate_at (row.Interface i) behind = cond (is_streaming_interface i) (Some (alternate_of i behind)) None
 alternate_at _ behind = None
 
 -- the settings of the streaming interfaces, in block order

@@ -1,7 +1,7 @@
 -- The streaming interfaces (Audio Class 2.0, 4.9).
 use Rattle.std.specs.Prelude.{ℕ, Bool, true, false, ◌==◌, if◌then◌else◌, List, Option, Some, None, slice_get, unwrap_or}
 use Rattle.std.specs.List.{filter_map, find}
-use Rattle.std.specs.Option.{option_map}
+use Rattle.std.specs.Option.{option_map, option_map_or}
 use Rattle.uac_entities.specs.declared.entity.Entity.{Entity}
 use Rattle.uac_entities.specs.declared.entity.EntityKind.{EntityKind}
 use Rattle.uac_entities.specs.declared.entity.EntityKind.TheVariants as kind
@@ -13,8 +13,8 @@ use Rattle.uac_entities.specs.declared.alternate.Alternate.{Alternate}
 unfoldable pub named : List Entity → ℕ → Option Entity
 named entities id = find (λ e. e.id == id) entities
 
-abbrev pub is_input : Option EntityKind → Bool
-is_input (Some kind.InputTerminal) = true
+abbrev pub is_input : EntityKind → Bool
+is_input kind.InputTerminal = true
 is_input _ = false
 
 -- the terminal that a setting links to
@@ -41,7 +41,7 @@ stream_of entities all number =
     record {
       number = number;
       terminal = terminal;
-      out = is_input (option_map (λ e. e.kind) (named entities terminal));
+      out = option_map_or is_input (option_map (λ e. e.kind) (named entities terminal)) false;
       settings = settings;
     }
 

@@ -5,6 +5,7 @@ ghost use Rattle.uac_entities.specs.Settings as spec;
 use crate::lists::keep;
 use crate::stream::Setting;
 use std::alloc::Global;
+use uac_descriptor::classes::is_streaming_interface;
 use uac_descriptor::{Block, Endpoint, General, Interface, NoMemory, TypeOne};
 
 /// One setting of a streaming interface, with what its interface block says of it.
@@ -38,7 +39,7 @@ fn alternate_at(block: &Block, behind: &[Block]) -> Option<Alternate>
 {
     match block {
         Block::Interface(interface) => {
-            if is_streaming(interface) {
+            if is_streaming_interface(interface) {
                 Some(alternate_of(interface, behind))
             } else {
                 None
@@ -46,12 +47,6 @@ fn alternate_at(block: &Block, behind: &[Block]) -> Option<Alternate>
         }
         _ => None,
     }
-}
-
-fn is_streaming(interface: &Interface) -> bool
-    ensures { result ≡ spec.is_streaming interface.now }
-{
-    interface.class == 1 && interface.subclass == 2 && interface.protocol == 0x20
 }
 
 fn alternate_of(interface: &Interface, behind: &[Block]) -> Alternate

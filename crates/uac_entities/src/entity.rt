@@ -1,6 +1,9 @@
 // Entities, their kinds and clusters.
 use uac_descriptor::{ByteList, WordList};
 
+/// USB Terminal Types 2.0, 2.1: a terminal that carries the data of a streaming interface.
+pub const USB_STREAMING: u16 = 0x0101;
+
 /// What an entity is (Audio Class 2.0, 3.13).
 #[derive(Clone, Copy, PartialEq, Eq, Debug)]
 pub enum EntityKind {
@@ -15,7 +18,7 @@ pub enum EntityKind {
     Effect,
 }
 
-/// The channels that an entity puts out (Audio Class 2.0, 3.13.1 and 4.1).
+/// The channels that an entity puts out (Audio Class 2.0, 3.7.2.3 and 4.1).
 #[derive(Clone, Copy, PartialEq, Eq, Debug)]
 pub struct Cluster {
     /// bNrChannels
@@ -31,7 +34,7 @@ pub struct Cluster {
 pub struct Entity {
     pub id: u8,
     pub kind: EntityKind,
-    /// wTerminalType of a terminal, 0 elsewhere; 0x0101 is USB streaming.
+    /// wTerminalType of a terminal, 0 elsewhere.
     pub terminal_type: u16,
     /// The entities of its pins, in their order: signal sources, or clock sources of a clock entity.
     pub sources: ByteList,

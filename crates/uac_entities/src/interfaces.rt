@@ -1,6 +1,6 @@
 // The streaming interfaces, from the settings in turn.
-ghost use Rattle.std.specs.Prelude.{◌≡◌, IfOk, slice_get, unwrap_or};
-ghost use Rattle.std.specs.Option.{option_map};
+ghost use Rattle.std.specs.Prelude.{◌≡◌, false, IfOk, slice_get, unwrap_or};
+ghost use Rattle.std.specs.Option.{option_map, option_map_or};
 ghost use Rattle.uac_entities.specs.Streams as spec;
 
 use crate::alternate::{Alternate, copy_setting};
@@ -122,7 +122,7 @@ fn kind_of(entities: &[Entity], id: u8) -> Option<EntityKind>
 }
 
 fn is_input(kind: Option<EntityKind>) -> bool
-    ensures { result ≡ spec.is_input kind }
+    ensures { result ≡ option_map_or spec.is_input kind false }
 {
     match kind {
         Some(EntityKind::InputTerminal) => true,

@@ -7,6 +7,7 @@ pub mod Along
 pub mod Told
 pub mod KnownSteps
 pub mod Products
+pub mod EachOnce
 pub mod DomainSteps
 pub mod StreamSteps
 pub mod ClusterTable

@@ -1,4 +1,4 @@
--- The channels that an entity puts out (Audio Class 2.0, 3.13.1): an input terminal and a mixer have their own
+-- The channels that an entity puts out (Audio Class 2.0, 3.7.2.3 and 4.1): an input terminal and a mixer have their own
 -- cluster, a selector that of its first pin, a feature, an effect and an output terminal that of their source.
 use Rattle.std.specs.Prelude.{◌≡◌, ℕ, ◌+◌, zero, suc, Bool, true, false, if◌then◌else◌, List, [], ◌∷◌, map, length, slice_get, sum}
 use Rattle.std.specs.List.{flat_map, range_with_len}
@@ -9,6 +9,7 @@ use Rattle.uac_entities.specs.declared.entity.Cluster.{Cluster}
 use Rattle.uac_entities.specs.declared.entity.Entity.{Entity}
 use Rattle.uac_entities.specs.declared.entity.EntityKind.{EntityKind}
 use Rattle.uac_entities.specs.declared.entity.EntityKind.TheVariants as kind
+pub use Rattle.uac_entities.specs.Streams.{is_input}
 use Rattle.uac_rules.specs.Table.{at, with_cluster}
 use Rattle.uac_rules.specs.Links.{signal_links}
 
@@ -28,7 +29,7 @@ cluster_by e sources below = if takes_over e.kind then option_map_or below (slic
 unfoldable pub cluster_step : List Entity → (ℕ → Cluster) → ℕ → Cluster
 cluster_step entities below place = cluster_by (at entities place) (links (signal_links entities) place) below
 
--- the cluster, along at most n links
+-- the cluster, along fewer than n links
 unfoldable pub cluster_within : ℕ → List Entity → ℕ → Cluster
 cluster_within zero entities place = no_cluster
 cluster_within (suc n) entities place = cluster_step entities (cluster_within n entities) place
@@ -45,10 +46,6 @@ pins entities place = map (λ p. (cluster_of entities p).channels) (links (signa
 abbrev pub inputs : List Entity → ℕ → ℕ
 inputs entities place = sum (pins entities place)
 
-abbrev pub is_input : EntityKind → Bool
-is_input kind.InputTerminal = true
-is_input _ = false
-
 -- the clocks behind an entity, by those behind its sources
 abbrev pub clocks_by : Entity → List ℕ → (ℕ → List ℕ) → List ℕ
 clocks_by e sources below = if is_input e.kind then e.clock ∷ [] else flat_map below sources
@@ -57,7 +54,7 @@ clocks_by e sources below = if is_input e.kind then e.clock ∷ [] else flat_map
 unfoldable pub clocks_step : List Entity → (ℕ → List ℕ) → ℕ → List ℕ
 clocks_step entities below place = clocks_by (at entities place) (links (signal_links entities) place) below
 
--- the clocks of the input terminals to which a walk of at most n signal source links leads
+-- the clocks of the input terminals to which a walk of fewer than n signal source links leads
 unfoldable pub clocks_within : ℕ → List Entity → ℕ → List ℕ
 clocks_within zero entities place = []
 clocks_within (suc n) entities place = clocks_step entities (clocks_within n entities) place

@@ -1,4 +1,4 @@
--- Signal links and clock links (Audio Class 2.0, 3.13 and 3.13.5): a unit or an output terminal names signal
+-- Signal links and clock links (Audio Class 2.0, 3.13, and 4.7.2.1 to 4.7.2.3): a unit or an output terminal names signal
 -- sources, a clock entity names clock sources.
 use Rattle.std.specs.Prelude.{ℕ, Bool, true, false, if◌then◌else◌, List, [], map}
 use Rattle.uac_entities.specs.declared.entity.Entity.{Entity}

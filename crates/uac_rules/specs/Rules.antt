@@ -8,6 +8,7 @@ use Rattle.uac_descriptor.specs.Endpoints.{transfer_type, usage_type}
 use Rattle.uac_descriptor.specs.declared.standard.Endpoint.{Endpoint}
 use Rattle.uac_entities.specs.Streams.{links_of}
 use Rattle.uac_entities.specs.declared.alternate.Alternate.{Alternate}
+use Rattle.uac_entities.specs.declared.entity.TheConstants.{USB_STREAMING}
 use Rattle.uac_entities.specs.declared.entity.Entity.{Entity}
 use Rattle.uac_entities.specs.declared.entity.EntityKind.{EntityKind}
 use Rattle.uac_entities.specs.declared.entity.EntityKind.TheVariants as kind
@@ -15,7 +16,7 @@ use Rattle.uac_entities.specs.declared.stream.StreamInterface.{StreamInterface}
 use Rattle.uac_rules.specs.Table.{at, found, kind_of}
 use Rattle.uac_rules.specs.Links.{is_clock, is_terminal, signal_sources, clock_sources, signal_links, clock_links}
 use Rattle.uac_rules.specs.Clusters.{cluster_of, pins, inputs, clocks_of}
-use Rattle.uac_rules.specs.Domains.{domains_of}
+use Rattle.uac_rules.specs.Domains.{domains_of, names_new}
 
 -- U1 (Audio Class 2.0, 4.7.2): an id is not 0
 unfoldable pub breaks_u1 : List Entity → ℕ → Bool
@@ -114,21 +115,31 @@ too_large kind.Mixer channels nodes = channels || nodes
 too_large kind.Selector channels nodes = channels
 too_large _ channels nodes = false
 
+-- the entity at a place is the terminal that first names the ninth different clock: those before it name eight, none
+-- of which is its own
+unfoldable pub names_ninth : List Entity → ℕ → Bool
+names_ninth entities place =
+    let before = domains_of (take place entities) in
+    names_new before (at entities place) && length before == 8
+
 -- U14 (profile), of an entity: at most 256 nodes of a mixer, at most 256 input channels of a mixer or a selector, and
 -- no ninth clock
 unfoldable pub breaks_u14 : List Entity → ℕ → Bool
 breaks_u14 entities place =
     let e = at entities place in
     too_large e.kind (nat_lt 256 (inputs entities place)) (nat_lt 256 (inputs entities place * (cluster_of entities place).channels))
-    || (is_terminal e.kind && nat_lt 8 (length (domains_of (take (place + 1) entities))))
+    || names_ninth entities place
 
 -- the streaming interface at a place
 unfoldable pub at_stream : {X : Type 0} → (StreamInterface → X) → X → List StreamInterface → ℕ → X
 at_stream f none streams place = option_map_or f (slice_get streams place) none
 
--- a terminal of type 0x0101, USB streaming
+abbrev pub is_usb_terminal : Entity → Bool
+is_usb_terminal e = is_terminal e.kind && e.terminal_type == USB_STREAMING
+
+-- the entity with an id is a USB streaming terminal
 unfoldable pub is_usb : List Entity → ℕ → Bool
-is_usb entities id = option_map_or (λ place. is_terminal (at entities place).kind && (at entities place).terminal_type == 257) (found entities id) false
+is_usb entities id = option_map_or (λ place. is_usb_terminal (at entities place)) (found entities id) false
 
 -- U12 (Audio Class 2.0, 4.9.2; profile: one terminal each): a link is to a USB streaming terminal, the settings of an
 -- interface have one link, and no earlier interface has it

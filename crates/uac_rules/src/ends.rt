@@ -17,7 +17,7 @@ use crate::names::is_terminal;
 use crate::shapes::entity_limit;
 use crate::table::EntityTable;
 use uac_descriptor::{Endpoint, EndpointBits};
-use uac_entities::{Alternate, Setting, StreamInterface, link_of};
+use uac_entities::{Alternate, Setting, StreamInterface, USB_STREAMING, link_of};
 
 /// The most streaming interfaces of a function, and the most settings of each (profile).
 const MOST_STREAMS: usize = 8;
@@ -246,8 +246,8 @@ fn has_too_many(stream: &StreamInterface) -> bool
 
 fn is_usb_terminal(table: &EntityTable, place: usize) -> bool
     requires { place < length table.now }
-    ensures { result ≡ (links.is_terminal (at table.now place).kind && (at table.now place).terminal_type == 257) }
+    ensures { result ≡ rules.is_usb_terminal (at table.now place) }
 {
     let entity = table.at(place);
-    is_terminal(entity.kind) && entity.terminal_type == 0x0101
+    is_terminal(entity.kind) && entity.terminal_type == USB_STREAMING
 }

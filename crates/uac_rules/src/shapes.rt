@@ -1,5 +1,5 @@
 // The rules on clusters, sizes and clocks, U8 to U11, and the limits of entities, U14.
-ghost use Rattle.std.specs.Prelude.{◌≡◌, ◌<◌, length};
+ghost use Rattle.std.specs.Prelude.{◌≡◌, ◌<◌, ◌-◌, ◌==◌, ◌&&◌, nat_lt, length, slice_index};
 ghost use Rattle.uac_rules.specs.Clusters as spec;
 ghost use Rattle.uac_rules.specs.Rules as rules;
 ghost use Rattle.uac_rules.specs.Faults.{of_entity, broken_shapes};
@@ -173,7 +173,15 @@ fn breaks_u14(known: &Known, domains: &Domains, place: usize) -> bool
     let inputs = known.inputs(place);
     let nodes = inputs * u128::from(known.channels(place));
     too_large(entity.kind, inputs > MOST_INPUTS, nodes > MOST_NODES)
-        || (is_terminal(entity.kind) && domains.counts[place] > MOST_CLOCKS)
+        || passes_limit(&domains.counts, place)
+}
+
+// Whether the clocks named before the place are as many as there may be, and with it there is one more.
+fn passes_limit(counts: &[usize], place: usize) -> bool
+    requires { place < length counts.now }
+    ensures { result ≡ (nat_lt 0 place && (slice_index counts.now (place - 1) == 8 && nat_lt 8 (slice_index counts.now place))) }
+{
+    place > 0 && (counts[place - 1] == MOST_CLOCKS && counts[place] > MOST_CLOCKS)
 }
 
 fn too_large(kind: EntityKind, channels: bool, nodes: bool) -> bool

@@ -1,7 +1,7 @@
 -- The function that the blocks describe, and whether it is sound.
-use Rattle.std.specs.Prelude.{◌≡◌, ℕ, ◌<◌, suc, Bool, false, cond, ◌==◌, ◌&&◌, List, Option, Some, None, slice_get, unwrap_or, length}
+use Rattle.std.specs.Prelude.{◌≡◌, ℕ, ◌<◌, suc, false, cond, List, Option, Some, None, slice_get, unwrap_or, length}
 use Rattle.std.specs.List.{filter_map}
-use Rattle.uac_descriptor.specs.declared.standard.Interface.{Interface}
+use Rattle.uac_descriptor.specs.Classes.{is_control_interface}
 use Rattle.uac_descriptor.specs.declared.block.Block as block
 use Rattle.uac_descriptor.specs.declared.block.Block.TheVariants as row
 use Rattle.uac_walk.specs.Walk.{leads}
@@ -18,13 +18,9 @@ use Rattle.uac_topology.specs.Function.{FunctionFields}
 use Rattle.uac_topology.specs.declared.soundness.CheckStop.{CheckStop}
 use Rattle.uac_topology.specs.declared.soundness.CheckStop.TheVariants as stop
 
--- class 1, subclass 1 and protocol 0x20: audio control of this version (Audio Class 2.0, A.4 to A.6)
-abbrev pub is_control : Interface → Bool
-is_control i = i.class == 1 && (i.subclass == 1 && i.protocol == 32)
-
--- the number of a control interface
+-- the number of a control interface (Audio Class 2.0, 4.7.1)
 unfoldable pub control_number : block.Block → Option ℕ
-control_number (row.Interface i) = cond (is_control i) (Some i.number) None
+control_number (row.Interface i) = cond (is_control_interface i) (Some i.number) None
 control_number _ = None
 
 -- the bytes of a configuration (USB 2.0, 9.6.3)

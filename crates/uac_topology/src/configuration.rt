@@ -2,7 +2,8 @@
 ghost use Rattle.std.specs.Prelude.{◌≡◌};
 ghost use Rattle.uac_topology.specs.Topology as spec;
 
-use uac_descriptor::{Block, Interface};
+use uac_descriptor::Block;
+use uac_descriptor::classes::is_control_interface;
 
 /// The number of the first control interface.
 pub(crate) fn control_interface_of(blocks: &[Block]) -> u8
@@ -34,7 +35,7 @@ fn control_number(block: &Block) -> Option<u8>
 {
     match block {
         Block::Interface(interface) => {
-            if is_control(interface) {
+            if is_control_interface(interface) {
                 Some(interface.number)
             } else {
                 None
@@ -42,12 +43,6 @@ fn control_number(block: &Block) -> Option<u8>
         }
         _ => None,
     }
-}
-
-fn is_control(interface: &Interface) -> bool
-    ensures { result ≡ spec.is_control interface.now }
-{
-    interface.class == 1 && interface.subclass == 1 && interface.protocol == 0x20
 }
 
 #[tactic(auto, unfolding(crate::specs::Topology::total_length))]

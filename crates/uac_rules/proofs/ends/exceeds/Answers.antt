@@ -1,4 +1,4 @@
-use Rattle.std.proofs.Common.{◌<◌, ◌≤◌, arith, ◌||◌, Bool, false, ltb, length, ap, sym, ◌∙◌}
+use Rattle.std.proofs.Common.{arith, ◌||◌, Bool, false, ltb, length, ap, sym, ◌∙◌}
 use Rattle.std.proofs.lemmas.Bool.{lt-ltb, le-ltb}
 use Rattle.uac_entities.specs.declared.stream.StreamInterface.{StreamInterface}
 use Rattle.uac_rules.specs.Rules.{exceeds, at_stream}

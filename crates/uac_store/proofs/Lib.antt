@@ -1,0 +1,9 @@
+pub mod Finding
+pub mod Initial
+pub mod Keeping
+pub mod Setting
+pub mod Settling
+pub mod Soundness
+pub mod Starting
+pub mod Steps
+mod Worked

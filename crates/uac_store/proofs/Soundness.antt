@@ -1,0 +1,174 @@
+-- A sound function has a key for each control, and no clock that feeds itself.
+use Rattle.std.proofs.Common.{◌≡◌, ℕ, ◌+◌, ◌*◌, ◌<◌, ◌≤◌, zero, suc, ◌==◌, not, nat_lt, nat_eq, List, [], ◌∷◌, map, length, take, sum, get_or, slice_get, Option, Some, cond, if◌then◌else◌, false, refl, ap, sym, subst, ◌∙◌, arith, ◌⊎◌, inl, inr}
+use Rattle.std.specs.Option.{option_map_or}
+use Rattle.std.specs.List.{position_or_len, IsDistinct}
+use Rattle.std.proofs.lemmas.Bool.{or_parts, cases_lt, ltb-false}
+use Rattle.std.proofs.lemmas.List.{length-map, length-take-le, get_or-map, get_or-take, get_or_past, ext_get_or}
+use Rattle.std.proofs.lemmas.List.FromFn.{length-map-range_with_len, get_or-map-range_with_len}
+use Rattle.std.proofs.lemmas.List.Folds.{find_at}
+use Rattle.std.proofs.lemmas.Map.Keys.{IsDistinct-from_apart}
+use Rattle.std.proofs.lemmas.Option.{slice_get-get_or, slice_get_past}
+use Rattle.uac_descriptor.specs.declared.block.Block as block
+use Rattle.uac_walk.specs.Walk.{links, has_walk}
+use Rattle.uac_entities.specs.Entities.{entities_of, no_cluster}
+use Rattle.uac_entities.specs.Streams.{named}
+use Rattle.uac_entities.specs.declared.entity.Cluster.{Cluster}
+use Rattle.uac_entities.specs.declared.entity.Entity.{Entity}
+use Rattle.uac_entities.specs.declared.entity.EntityKind.{EntityKind}
+use Rattle.uac_entities.specs.declared.entity.EntityKind.TheVariants as kind
+use Rattle.uac_rules.specs.Table.{at, nothing, place_of, with_cluster}
+use Rattle.uac_rules.specs.Links.{is_clock, signal_sources, clock_sources, signal_links, clock_links}
+use Rattle.uac_rules.specs.Clusters.{takes_over, cluster_step, cluster_within, cluster_of, clustered, pins, inputs}
+use Rattle.uac_rules.specs.Rules.{breaks_u2, breaks_u7, breaks_u14, too_large}
+use Rattle.uac_rules.specs.Faults.{broken, broken_walks, broken_ends}
+use Rattle.uac_rules.proofs.Sound.{or_none, has_names, signal_links-at}
+use Rattle.uac_rules.proofs.FirstPlace.{breaks_none}
+use Rattle.uac_topology.specs.Function.{FunctionFields}
+use Rattle.uac_topology.specs.Topology.{first_broken, IsSound, IsFunctionOf}
+use Rattle.uac_store.specs.Controls.{channels_of, pins_of, IsSmall, IsKeyed}
+use Rattle.uac_store.specs.Rates.{IsClockTree}
+use Rattle.uac_store.proofs.Settling.{none_passes}
+
+-- the rules that are used, of sound entities
+record Holds (es : List Entity) : Type 0 where
+  u2 : (k : ℕ) → k < length es → breaks_u2 es k ≡ false
+  u7 : (k : ℕ) → k < length es → breaks_u7 es k ≡ false
+  u14 : (k : ℕ) → k < length es → breaks_u14 es k ≡ false
+
+rules_hold : (blocks : List block.Block) → IsSound blocks → Holds (entities_of blocks)
+unfolding first_broken broken broken_walks broken_ends
+rules_hold blocks sound =
+    let es = entities_of blocks in
+    let names = or_none _ _ sound in
+    let walks = or_none _ _ names.1 in
+    let shapes = or_none _ _ walks.1 in
+    let ends = or_none _ _ shapes.1 in
+    let u6 = or_none _ _ walks.0 in
+    let u12 = or_none _ _ ends.0 in
+    let u13 = or_none _ _ u12.1 in
+    record {
+      u2 = breaks_none 2 es breaks_u2 (has_names es names.0).u2;
+      u7 = breaks_none 7 es breaks_u7 (or_none _ _ u6.1).0;
+      u14 = breaks_none 14 es breaks_u14 (or_none _ _ u13.1).0;
+    }
+
+-- the first place of an id, by the ids alone
+place_by_ids : (xs : List Entity) (id : ℕ) → place_of xs id ≡ position_or_len (λ i. i == id) (map (λ e. e.id) xs)
+unfolding place_of
+place_by_ids [] id = refl
+place_by_ids (x ∷ xs) id = ap (λ n. cond (not (x.id == id)) (1 + n) 0) (place_by_ids xs id)
+
+no_cluster_past : (n : ℕ) (es : List Entity) (p : ℕ) → length es ≤ p → cluster_within n es p ≡ no_cluster
+unfolding cluster_within cluster_step at
+no_cluster_past zero es p past = refl
+no_cluster_past (suc n) es p past =
+    ap (λ (e : Entity). if takes_over e.kind then option_map_or (cluster_within n es) (slice_get (links (signal_links es) p) 0) no_cluster else e.cluster)
+    (get_or_past es p nothing past)
+
+module _ (es : List Entity) where
+  length-clustered : length (clustered es) ≡ length es
+  unfolding clustered
+  length-clustered = length-map-range_with_len (λ k. with_cluster (at es k) (cluster_of es k)) 0 (length es)
+
+  clustered-at : (k : ℕ) (d : Entity) → k < length es → get_or (clustered es) k d ≡ with_cluster (at es k) (cluster_of es k)
+  unfolding clustered
+  clustered-at k d below = get_or-map-range_with_len (λ k. with_cluster (at es k) (cluster_of es k)) 0 (length es) k k d below (omega arith)
+
+  -- what doesn't look at clusters sees the same
+  seen_alike : {X : Type 0} (d : X) (g : Entity → X) → ((e : Entity) (c : Cluster) → g (with_cluster e c) ≡ g e) → map g (clustered es) ≡ map g es
+  unfolding at
+  seen_alike d g same =
+      ext_get_or d (map g (clustered es)) (map g es) (length-map (clustered es) g ∙ length-clustered ∙ sym (length-map es g))
+      (λ i within.
+      let below : i < length es = omega (arith, within, length-map (clustered es) g, length-clustered) in
+      let below' : i < length (clustered es) = omega (arith, below, length-clustered) in
+      get_or-map g (clustered es) i nothing d below' ∙ ap g (clustered-at i nothing below) ∙ same (at es i) (cluster_of es i)
+      ∙ sym (get_or-map g es i nothing d below))
+
+  same_place : (id : ℕ) → place_of (clustered es) id ≡ place_of es id
+  same_place id =
+      place_by_ids (clustered es) id
+      ∙ ap (position_or_len (λ i. i == id)) (seen_alike 0 (λ e. e.id) (λ e c. refl))
+      ∙ sym (place_by_ids es id)
+
+  -- the channels of an entity are those of its place
+  same_channels : (id : ℕ) → channels_of (clustered es) id ≡ (cluster_of es (place_of es id)).channels
+  unfolding channels_of named place_of cluster_of
+  same_channels id = ap channels (find_at (λ (e : Entity). e.id == id) (clustered es) ∙ ap (slice_get (clustered es)) (same_place id)) ∙ from (cases_lt (place_of es id) (length es)) where
+    channels : Option Entity → ℕ
+    channels o = option_map_or (λ e. e.cluster.channels) o 0
+
+    from : (place_of es id < length es) ⊎ (length es ≤ place_of es id) → channels (slice_get (clustered es) (place_of es id)) ≡ (cluster_of es (place_of es id)).channels
+    from (inl below) =
+        ap channels (slice_get-get_or (clustered es) (place_of es id) nothing (omega (arith, below, length-clustered)))
+        ∙ ap (λ (e : Entity). e.cluster.channels) (clustered-at (place_of es id) nothing below)
+    from (inr past) =
+        ap channels (slice_get_past (clustered es) (place_of es id) (omega (arith, past, length-clustered)))
+        ∙ sym (ap (λ (c : Cluster). c.channels) (no_cluster_past (length es) es (place_of es id) past))
+
+  same_pins : (ids : List ℕ) → map (λ p. (cluster_of es p).channels) (map (place_of es) ids) ≡ map (channels_of (clustered es)) ids
+  same_pins [] = refl
+  same_pins (id ∷ ids) = λ j. sym (same_channels id) j ∷ same_pins ids j
+
+  module _ (h : Holds es) where
+    ids_apart : IsDistinct nat_eq (map (λ e. e.id) es)
+    unfolding breaks_u2 at
+    ids_apart = IsDistinct-from_apart nat_eq (map (λ e. e.id) es) (λ i j d before within.
+        let below : j < length es = omega (arith, within, length-map es (λ (e : Entity). e.id)) in
+        let early : i < length es = omega (arith, before, below) in
+        let earlier : slice_get (take j es) i ≡ Some (at es i) =
+        slice_get-get_or (take j es) i nothing (omega (arith, before, below, length-take-le j es)) ∙ ap (λ (e : Entity). Some e) (get_or-take j es i nothing before) in
+        subst (λ n. nat_eq n (get_or (map (λ e. e.id) es) j d) ≡ false) (sym (get_or-map (λ (e : Entity). e.id) es i nothing d early))
+        (subst (λ n. nat_eq (at es i).id n ≡ false) (sym (get_or-map (λ (e : Entity). e.id) es j nothing d below))
+        (none_passes (λ (e : Entity). e.id == (at es j).id) (take j es) i (at es i) (h.u2 j below) earlier)))
+
+    -- a mixer's inputs and nodes
+    small_at : (k : ℕ) → k < length es → (kd : EntityKind) → (at es k).kind ≡ kd
+        → IsSmall kd (sum (map (channels_of (clustered es)) (at es k).sources)) (cluster_of es k).channels
+    unfolding breaks_u14 pins signal_sources
+    small_at k below kind.Mixer is =
+        let limits = (or_parts _ _ (h.u14 k below)).0 in
+        let sizes = or_parts _ _ (ap (λ kd. too_large kd (nat_lt 256 (inputs es k)) (nat_lt 256 (inputs es k * (cluster_of es k).channels))) (sym is) ∙ limits) in
+        let sources : links (signal_links es) k ≡ map (place_of es) (at es k).sources =
+        signal_links-at es k below ∙ ap (λ kd. map (place_of es) (if is_clock kd then [] else (at es k).sources)) is in
+        let total : inputs es k ≡ sum (map (channels_of (clustered es)) (at es k).sources) =
+        ap (λ ls. sum (map (λ p. (cluster_of es p).channels) ls)) sources ∙ ap sum (same_pins (at es k).sources) in (
+          subst (λ n. n ≤ 256) total (ltb-false 256 (inputs es k) sizes.0),
+          subst (λ n. n * (cluster_of es k).channels ≤ 256) total (ltb-false 256 (inputs es k * (cluster_of es k).channels) sizes.1),
+        )
+    small_at k below kind.ClockSource is = tt
+    small_at k below kind.ClockSelector is = tt
+    small_at k below kind.ClockMultiplier is = tt
+    small_at k below kind.InputTerminal is = tt
+    small_at k below kind.OutputTerminal is = tt
+    small_at k below kind.Selector is = tt
+    small_at k below kind.Feature is = tt
+    small_at k below kind.Effect is = tt
+
+    keyed_entities : IsKeyed (clustered es)
+    unfolding pins_of
+    keyed_entities = record {
+      apart = subst (IsDistinct nat_eq) (sym (seen_alike 0 (λ e. e.id) (λ e c. refl))) ids_apart;
+      small = λ k d within.
+          let below : k < length es = omega (arith, within, length-clustered) in
+          subst (λ (e : Entity). IsSmall e.kind (sum (pins_of (clustered es) e)) e.cluster.channels) (sym (clustered-at k d below))
+          (small_at k below (at es k).kind refl);
+    }
+
+    same_links : clock_links (clustered es) ≡ clock_links es
+    unfolding clock_sources
+    same_links =
+        (λ j. map (λ e. map (λ id. same_place id j) (clock_sources e)) (clustered es))
+        ∙ seen_alike [] (λ e. map (place_of es) (clock_sources e)) (λ e c. refl)
+
+    clocks_end : IsClockTree (clustered es)
+    unfolding breaks_u7
+    clocks_end place within =
+        let below : place < length es = omega (arith, within, length-clustered) in
+        (λ j. has_walk (same_links j) (length-clustered j) place) ∙ h.u7 place below
+
+pub keyed : (function : FunctionFields) (blocks : List block.Block) → IsSound blocks → IsFunctionOf function blocks → IsKeyed function.entities
+keyed function blocks sound is = subst IsKeyed (sym is.entities) (keyed_entities (entities_of blocks) (rules_hold blocks sound))
+
+pub clock_tree : (function : FunctionFields) (blocks : List block.Block) → IsSound blocks → IsFunctionOf function blocks → IsClockTree function.entities
+clock_tree function blocks sound is = subst IsClockTree (sym is.entities) (clocks_end (entities_of blocks) (rules_hold blocks sound))

@@ -1,0 +1,105 @@
+-- Worked values of the definitions, on the entities of a headset with a mixer, and on a tree of clocks.
+use Rattle.std.proofs.Common.{◌≡◌, ℤ, pos, negsuc, List, [], ◌∷◌, true, false, Some, None, refl}
+use Rattle.uac_entities.specs.Entities as entity
+use Rattle.uac_entities.specs.Streams.{named}
+use Rattle.uac_entities.specs.declared.entity.Cluster.{Cluster}
+use Rattle.uac_entities.specs.declared.entity.Entity.{Entity}
+use Rattle.uac_rules.specs.Table.{with_cluster}
+use Rattle.uac_store.specs.declared.keys.Key.{Key}
+use Rattle.uac_store.specs.Keyed.{key_of, value_of}
+use Rattle.uac_store.specs.Controls.{channels_of, pins_of, count_of, node_start, start_of, first_channels, channels_at, controls_of, initial_controls, has_on, has_control, takes_on, takes}
+use Rattle.uac_store.specs.Rates.{source_rate, chosen_source, multiplier_rate, rate_step, rate_within, rate_of}
+
+abbrev stereo : Cluster
+stereo = record { channels = 2; locations = 3; names = 0 }
+
+abbrev mono : Cluster
+mono = record { channels = 1; locations = 0; names = 0 }
+
+-- the first five entities of the headset, its second feature, and a mixer of three outputs on the USB terminal and that feature
+headset : List Entity
+headset =
+    entity.clock_source (record { id = 1; attributes = 3; controls = 7; assoc = 0; name = 0 })
+    ∷ entity.input_terminal (record { id = 2; terminal_type = 257; assoc = 0; clock = 1; channels = 2; locations = 3; names = 0; controls = 0; name = 0 })
+    ∷ with_cluster (entity.feature (record { id = 3; source = 2; words = 3 ∷ 12 ∷ 12 ∷ []; name = 0 })) stereo
+    ∷ with_cluster (entity.output_terminal (record { id = 4; terminal_type = 770; assoc = 0; source = 3; clock = 1; controls = 0; name = 0 })) stereo
+    ∷ entity.input_terminal (record { id = 5; terminal_type = 513; assoc = 0; clock = 1; channels = 1; locations = 0; names = 0; controls = 0; name = 0 })
+    ∷ with_cluster (entity.feature (record { id = 6; source = 5; words = 3 ∷ 12 ∷ []; name = 0 })) mono
+    ∷ entity.mixer (record { id = 8; sources = 2 ∷ 6 ∷ []; channels = 3; locations = 0; names = 0; mix_bits = 255 ∷ 128 ∷ []; controls = 0; name = 0 })
+    ∷ []
+
+abbrev closed : ℤ
+closed = negsuc 32767
+
+-- each control that is kept, with its start value
+kept : initial_controls headset
+    ≡ (key_of 1 1 0, pos 48000)
+    ∷ (key_of 3 1 0, pos 0) ∷ (key_of 3 1 1, pos 0) ∷ (key_of 3 1 2, pos 0) ∷ (key_of 3 2 0, pos 0) ∷ (key_of 3 2 1, pos 0) ∷ (key_of 3 2 2, pos 0)
+    ∷ (key_of 6 1 0, pos 0) ∷ (key_of 6 1 1, pos 0) ∷ (key_of 6 2 0, pos 0) ∷ (key_of 6 2 1, pos 0)
+    ∷ (key_of 8 1 0, pos 0) ∷ (key_of 8 1 1, closed) ∷ (key_of 8 1 2, closed)
+    ∷ (key_of 8 1 3, closed) ∷ (key_of 8 1 4, pos 0) ∷ (key_of 8 1 5, closed)
+    ∷ (key_of 8 1 6, pos 0) ∷ (key_of 8 1 7, closed) ∷ (key_of 8 1 8, closed)
+    ∷ []
+unfolding headset initial_controls controls_of channels_at first_channels count_of start_of node_start pins_of channels_of named
+kept = refl
+
+-- there is a volume of the second channel, and none of a third; it takes -1 decibel and no half
+second_volume : has_control headset (key_of 3 2 2) ≡ true
+unfolding headset has_control has_on count_of named
+second_volume = refl
+
+third_volume : has_control headset (key_of 3 2 3) ≡ false
+unfolding headset has_control has_on count_of named
+third_volume = refl
+
+one_down : takes headset (key_of 3 2 2) (negsuc 255) ≡ true
+unfolding headset takes takes_on named
+one_down = refl
+
+half_down : takes headset (key_of 3 2 2) (negsuc 127) ≡ false
+unfolding headset takes takes_on named
+half_down = refl
+
+-- two sources, a selector over them, and a multiplier of what it chooses
+clocks : List Entity
+clocks =
+    entity.clock_source (record { id = 1; attributes = 3; controls = 7; assoc = 0; name = 0 })
+    ∷ entity.clock_source (record { id = 2; attributes = 3; controls = 7; assoc = 0; name = 0 })
+    ∷ entity.clock_selector (record { id = 3; sources = 1 ∷ 2 ∷ []; controls = 3; name = 0 })
+    ∷ entity.clock_multiplier (record { id = 4; source = 3; controls = 15; name = 0 })
+    ∷ []
+
+-- the controls of the clocks: the second source's frequency, the pin that is chosen, numerator and denominator
+abbrev held : ℤ → ℤ → ℤ → ℤ → List (Key × ℤ)
+held frequency pin numerator denominator =
+    (key_of 1 1 0, pos 48000) ∷ (key_of 2 1 0, frequency) ∷ (key_of 3 1 0, pin) ∷ (key_of 4 1 0, numerator) ∷ (key_of 4 2 0, denominator) ∷ []
+
+first_pin : rate_of clocks (held (pos 44100) (pos 1) (pos 2) (pos 1)) 4 ≡ Some 96000
+unfolding clocks rate_of rate_within rate_step source_rate chosen_source multiplier_rate named value_of
+first_pin = refl
+
+second_pin : rate_of clocks (held (pos 44100) (pos 2) (pos 2) (pos 8)) 4 ≡ Some 11025
+unfolding clocks rate_of rate_within rate_step source_rate chosen_source multiplier_rate named value_of
+second_pin = refl
+
+-- 12000 is none of the twelve, and 44100 / 8 is no whole number
+not_listed : rate_of clocks (held (pos 44100) (pos 1) (pos 2) (pos 8)) 4 ≡ None
+unfolding clocks rate_of rate_within rate_step source_rate chosen_source multiplier_rate named value_of
+not_listed = refl
+
+not_whole : rate_of clocks (held (pos 44100) (pos 2) (pos 1) (pos 8)) 4 ≡ None
+unfolding clocks rate_of rate_within rate_step source_rate chosen_source multiplier_rate named value_of
+not_whole = refl
+
+-- a pin that is not there, a denominator of 0, and a frequency off the list
+no_pin : rate_of clocks (held (pos 44100) (pos 3) (pos 1) (pos 1)) 3 ≡ None
+unfolding clocks rate_of rate_within rate_step source_rate chosen_source named value_of
+no_pin = refl
+
+no_denominator : rate_of clocks (held (pos 44100) (pos 1) (pos 1) (pos 0)) 4 ≡ None
+unfolding clocks rate_of rate_within rate_step source_rate chosen_source multiplier_rate named value_of
+no_denominator = refl
+
+off_the_list : rate_of clocks (held (pos 44000) (pos 2) (pos 1) (pos 1)) 2 ≡ None
+unfolding clocks rate_of rate_within rate_step source_rate named value_of
+off_the_list = refl

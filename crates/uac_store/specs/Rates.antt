@@ -1,0 +1,80 @@
+-- The rate of a clock entity (Audio Class 2.0, 3.13.5 and 4.7.2.1 to 4.7.2.3), found along its clock sources.
+use Rattle.std.specs.Prelude.{◌≡◌, ℕ, ◌-◌, ◌*◌, ◌/◌, ◌%◌, ◌<◌, false, ◌==◌, ◌&&◌, nat_lt, zero, suc, ℤ, pos, if◌then◌else◌, List, length, slice_get, Option, Some, None}
+use Rattle.std.specs.Option.{option_and_then}
+use Rattle.uac_clock.specs.Nominal.{is_listed}
+use Rattle.uac_entities.specs.Streams.{named}
+use Rattle.uac_entities.specs.declared.entity.Entity.{Entity}
+use Rattle.uac_entities.specs.declared.entity.EntityKind.{EntityKind}
+use Rattle.uac_entities.specs.declared.entity.EntityKind.TheVariants as kind
+use Rattle.uac_walk.specs.Walk.{has_walk}
+use Rattle.uac_rules.specs.Table.{place_of}
+use Rattle.uac_rules.specs.Links.{clock_links}
+use Rattle.uac_store.specs.declared.keys.Key.{Key}
+use Rattle.uac_store.specs.Keyed.{key_of, value_of}
+
+-- a number of hertz that is one of the twelve rates
+abbrev pub listed : ℕ → Option ℕ
+listed hertz = if is_listed hertz then Some hertz else None
+
+-- profile: a source has the rate that its frequency is, where that is one of the twelve
+abbrev pub of_frequency : ℤ → Option ℕ
+of_frequency (pos hertz) = listed hertz
+of_frequency _ = None
+
+-- the pin that a selector's value chooses, where it is there; pins count from 1
+abbrev pub chosen : List ℕ → ℤ → Option ℕ
+chosen sources (pos pin) = if nat_lt 0 pin then slice_get sources (pin - 1) else None
+chosen sources _ = None
+
+-- profile: a multiplier has a rate where numerator and denominator are positive and the quotient is a whole number and one
+-- of the twelve
+abbrev pub multiplied : ℕ → ℤ → ℤ → Option ℕ
+multiplied rate (pos n) (pos d) =
+    if nat_lt 0 n && nat_lt 0 d && (rate * n % d == 0) then listed (rate * n / d) else None
+multiplied rate _ _ = None
+
+-- the value of a control that has no channel but 0
+abbrev pub value_at : List (Key × ℤ) → ℕ → ℕ → Option ℤ
+value_at controls entity selector = value_of controls (key_of entity selector 0)
+
+-- the rate of a source by the controls: that of its frequency
+unfoldable pub source_rate : List (Key × ℤ) → ℕ → Option ℕ
+source_rate controls id = option_and_then of_frequency (value_at controls id 1)
+
+-- the clock source that a clock selector chooses
+unfoldable pub chosen_source : List (Key × ℤ) → Entity → Option ℕ
+chosen_source controls e = option_and_then (chosen e.sources) (value_at controls e.id 1)
+
+-- the rate of a multiplier by the rate of its source
+unfoldable pub multiplier_rate : List (Key × ℤ) → ℕ → ℕ → Option ℕ
+multiplier_rate controls id rate =
+    option_and_then (λ n. option_and_then (multiplied rate n) (value_at controls id 2)) (value_at controls id 1)
+
+-- one step: from the rates of its sources to that of an entity
+abbrev pub rate_by : List (Key × ℤ) → (ℕ → Option ℕ) → Entity → EntityKind → Option ℕ
+rate_by controls below e kind.ClockSource = source_rate controls e.id
+rate_by controls below e kind.ClockSelector = option_and_then below (chosen_source controls e)
+rate_by controls below e kind.ClockMultiplier =
+    option_and_then (multiplier_rate controls e.id) (option_and_then below (slice_get e.sources 0))
+rate_by controls below e _ = None
+
+-- the same, from an entity's id
+unfoldable pub rate_step : List Entity → List (Key × ℤ) → (ℕ → Option ℕ) → ℕ → Option ℕ
+rate_step entities controls below id = option_and_then (λ e. rate_by controls below e e.kind) (named entities id)
+
+-- the rate, along at most n entities
+unfoldable pub rate_within : ℕ → List Entity → List (Key × ℤ) → ℕ → Option ℕ
+rate_within zero entities controls id = None
+rate_within (suc n) entities controls id = rate_step entities controls (rate_within n entities controls) id
+
+-- the rate of the clock entity with an id, if it has one
+unfoldable pub rate_of : List Entity → List (Key × ℤ) → ℕ → Option ℕ
+rate_of entities controls id = rate_within (length entities) entities controls id
+
+-- no walk of so many clock source links leads on from the entity with an id
+abbrev pub EndsWithin : ℕ → List Entity → ℕ → Type 0
+EndsWithin n entities id = has_walk (clock_links entities) n (place_of entities id) ≡ false
+
+-- no walk of as many clock source links as there are entities leads on from any entity
+abbrev pub IsClockTree : List Entity → Type 0
+IsClockTree entities = (place : ℕ) → place < length entities → has_walk (clock_links entities) (length entities) place ≡ false

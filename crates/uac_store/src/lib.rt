@@ -1,0 +1,17 @@
+//! The values of an audio function's controls, and the rates of its clocks that follow from them.
+#![tactic(auto)]
+
+/// Keys, and the ranges that a control's values lie in.
+mod keys;
+pub mod laws;
+/// The rates of clock entities.
+mod rates;
+/// The values at the start.
+mod start;
+/// The store of all values.
+mod store;
+#[cfg(test)]
+mod tests;
+
+pub use keys::{Key, Range, Ranges};
+pub use store::Store;

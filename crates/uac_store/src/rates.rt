@@ -1,0 +1,114 @@
+// The rates of clock entities.
+ghost use Rattle.std.specs.Prelude.{◌≡◌, ◌≤◌};
+ghost use Rattle.uac_clock.specs.Nominal.{is_listed};
+ghost use Rattle.uac_store.specs.Rates as spec;
+
+use crate::keys::Key;
+use crate::start::entity_with;
+use crate::store::Store;
+use uac_clock::RATES;
+use uac_topology::{Entity, EntityKind, Function};
+
+/// The rate of the clock entity with an id, along at most so many entities.
+#[tactic(auto, unfolding(crate::specs::Rates::rate_step), using(crate::proofs::Steps::rate_within_none, crate::proofs::Steps::rate_within_more))]
+pub(crate) fn rate_within(steps: usize, function: &Function, store: &Store, id: u8) -> Option<u32>
+    ensures { result ≡ spec.rate_within steps function.now.entities store.now id }
+{
+    if steps == 0 {
+        return None;
+    }
+    let entity = entity_with(function, id)?;
+    match entity.kind {
+        EntityKind::ClockSource => source_rate(store, entity.id),
+        EntityKind::ClockSelector => {
+            let source = chosen_source(store, entity)?;
+            rate_within(steps - 1, function, store, source)
+        }
+        EntityKind::ClockMultiplier => {
+            let source = entity.sources.as_slice().first().copied()?;
+            let rate = rate_within(steps - 1, function, store, source)?;
+            multiplier_rate(store, entity.id, rate)
+        }
+        _ => None,
+    }
+}
+
+// The rate that a source's frequency is.
+#[tactic(auto, unfolding(crate::specs::Rates::source_rate))]
+fn source_rate(store: &Store, id: u8) -> Option<u32>
+    ensures { result ≡ spec.source_rate store.now id }
+{
+    let hertz = value(store, id, 1)?;
+    of_frequency(hertz)
+}
+
+// The clock source that a clock selector chooses.
+#[tactic(auto, unfolding(crate::specs::Rates::chosen_source))]
+fn chosen_source(store: &Store, entity: &Entity) -> Option<u8>
+    ensures { result ≡ spec.chosen_source store.now entity.now }
+{
+    let pin = value(store, entity.id, 1)?;
+    chosen(entity.sources.as_slice(), pin)
+}
+
+// The rate of a multiplier by the rate of its source.
+#[tactic(auto, unfolding(crate::specs::Rates::multiplier_rate))]
+fn multiplier_rate(store: &Store, id: u8, rate: u32) -> Option<u32>
+    ensures { result ≡ spec.multiplier_rate store.now id rate }
+{
+    let numerator = value(store, id, 1)?;
+    let denominator = value(store, id, 2)?;
+    multiplied(rate, numerator, denominator)
+}
+
+// The value of a control that has no channels but 0.
+fn value(store: &Store, entity: u8, selector: u8) -> Option<i32>
+    ensures { result ≡ spec.value_at store.now entity selector }
+{
+    store.cur(Key {
+        entity,
+        selector,
+        channel: 0,
+    })
+}
+
+fn listed(hertz: u64) -> Option<u32>
+    ensures { result ≡ spec.listed hertz }
+{
+    let hertz = u32::try_from(hertz).ok()?;
+    if RATES.contains(&hertz) {
+        Some(hertz)
+    } else {
+        None
+    }
+}
+
+fn of_frequency(hertz: i32) -> Option<u32>
+    ensures { result ≡ spec.of_frequency hertz }
+{
+    listed(u64::try_from(hertz).ok()?)
+}
+
+// The pin that a selector's value chooses.
+fn chosen(sources: &[u8], pin: i32) -> Option<u8>
+    ensures { result ≡ spec.chosen sources.now pin }
+{
+    if pin < 1 {
+        return None;
+    }
+    sources.get((pin - 1) as usize).copied()
+}
+
+fn multiplied(rate: u32, numerator: i32, denominator: i32) -> Option<u32>
+    ensures { result ≡ spec.multiplied rate numerator denominator }
+{
+    if numerator < 1 || denominator < 1 {
+        return None;
+    }
+    let times = u64::from(rate) * numerator as u64;
+    let parts = denominator as u64;
+    if times % parts != 0 {
+        return None;
+    }
+    listed(times / parts)
+}

@@ -1,0 +1,187 @@
+// The values at the start.
+ghost use Rattle.std.specs.Prelude.{◌≡◌, ℕ, ◌+◌, ◌*◌, ◌<◌, ◌≤◌, ◌++◌, None, IfOk, OnOk, sum};
+ghost use Rattle.std.specs.Option.{option_copied};
+ghost use Rattle.uac_entities.specs.Streams.{named};
+ghost use Rattle.uac_store.specs.Keyed.{key_of, value_of};
+ghost use Rattle.uac_store.specs.Controls as spec;
+ghost use Rattle.uac_store.specs.Controls.{IsKeyed, IsSmall, initial_controls, controls_of, channels_at};
+
+use crate::keys::Key;
+use indexmap::IndexMap;
+use std::alloc::Global;
+use uac_descriptor::NoMemory;
+use uac_topology::{Entity, EntityKind, Function};
+
+/// The volume that means silence (Audio Class 2.0, 5.2.5.7.2).
+const SILENCE: i32 = -32768;
+
+/// The value that each control of these entities has at the start.
+pub(crate) fn start_values(
+    alloc: Global,
+    function: &Function,
+) -> Result<IndexMap<Key, i32>, NoMemory>
+    requires { IsKeyed function.now.entities }
+    ensures { IfOk result (λ values. values.entries ≡ initial_controls function.now.entities) }
+{
+    let mut values = IndexMap::new(alloc);
+    for entity in function.entities() {
+        add_controls(alloc, function, entity, &mut values)?;
+    }
+    Ok(values)
+}
+
+// Adds the controls of one entity.
+fn add_controls(
+    alloc: Global,
+    function: &Function,
+    entity: &Entity,
+    values: &mut IndexMap<Key, i32>,
+) -> Result<(), NoMemory>
+    requires small { IsSmall entity.now.kind (sum (spec.pins_of function.now.entities entity.now)) entity.now.cluster.channels }
+    requires absent { (selector channel : ℕ) → value_of values.old.entries (key_of entity.now.id selector channel) ≡ None }
+    ensures { OnOk result (values.new.entries ≡ values.old.entries ++ controls_of function.now.entities entity.now) }
+{
+    let pins = pins_of(alloc, function, entity)?;
+    for below in 0..selectors_of(entity.kind) {
+        add_channels(function, entity, &pins, below + 1, values)?;
+    }
+    Ok(())
+}
+
+// Adds one control of an entity, for each of its channels.
+fn add_channels(
+    function: &Function,
+    entity: &Entity,
+    pins: &[u8],
+    selector: u8,
+    values: &mut IndexMap<Key, i32>,
+) -> Result<(), NoMemory>
+    requires pins { pins.now ≡ spec.pins_of function.now.entities entity.now }
+    requires small { IsSmall entity.now.kind (sum pins.now) entity.now.cluster.channels }
+    requires absent { (channel : ℕ) → value_of values.old.entries (key_of entity.now.id selector channel) ≡ None }
+    ensures { OnOk result (values.new.entries ≡ values.old.entries ++ channels_at function.now.entities entity.now selector) }
+{
+    for channel in 0..count_of(entity, pins) {
+        let key = Key {
+            entity: entity.id,
+            selector,
+            channel: channel as u8,
+        };
+        match values.insert(key, start_of(entity, pins, channel)) {
+            Ok(_) => {}
+            Err(_) => return Err(NoMemory),
+        }
+    }
+    Ok(())
+}
+
+fn selectors_of(kind: EntityKind) -> u8
+    ensures value { result ≡ spec.selectors_of kind }
+    ensures few { result ≤ 2 }
+{
+    match kind {
+        EntityKind::InputTerminal | EntityKind::OutputTerminal => 0,
+        EntityKind::ClockMultiplier | EntityKind::Feature => 2,
+        _ => 1,
+    }
+}
+
+// How many of each control an entity has.
+fn count_of(entity: &Entity, pins: &[u8]) -> usize
+    requires { IsSmall entity.now.kind (sum pins.now) entity.now.cluster.channels }
+    ensures few { result ≤ 256 }
+    ensures value { result ≡ spec.count_by entity.now.kind (sum pins.now * entity.now.cluster.channels) entity.now.cluster.channels }
+{
+    let channels = entity.cluster.channels as usize;
+    match entity.kind {
+        EntityKind::Mixer => total(pins) * channels,
+        EntityKind::Feature | EntityKind::Effect => channels + 1,
+        _ => 1,
+    }
+}
+
+fn total(pins: &[u8]) -> usize
+    requires { sum pins.now ≤ 256 }
+    ensures { result ≡ sum pins.now }
+{
+    let mut total = 0;
+    for channels in pins {
+        total += *channels as usize;
+    }
+    total
+}
+
+fn start_of(entity: &Entity, pins: &[u8], channel: usize) -> i32
+    requires { channel < spec.count_by entity.now.kind (sum pins.now * entity.now.cluster.channels) entity.now.cluster.channels }
+    ensures { result ≡ spec.start_by entity.now.kind (spec.node_start pins.now entity.now.cluster.channels channel) }
+{
+    match entity.kind {
+        EntityKind::ClockSource => 48000,
+        EntityKind::ClockSelector | EntityKind::ClockMultiplier | EntityKind::Selector => 1,
+        EntityKind::Mixer => node_start(pins, entity.cluster.channels as usize, channel),
+        _ => 0,
+    }
+}
+
+// A mixer passes each channel of a pin on to its own channel of the same number.
+#[tactic(auto, unfolding(crate::specs::Controls::node_start))]
+fn node_start(pins: &[u8], outputs: usize, node: usize) -> i32
+    requires { 0 < outputs }
+    ensures { result ≡ spec.node_start pins.now outputs node }
+{
+    if channel_within(pins, node / outputs) == node % outputs {
+        0
+    } else {
+        SILENCE
+    }
+}
+
+fn channel_within(pins: &[u8], input: usize) -> usize
+    ensures { result ≡ spec.channel_within pins.now input }
+{
+    let mut left = input;
+    for channels in pins {
+        let channels = *channels as usize;
+        if left < channels {
+            return left;
+        }
+        left -= channels;
+    }
+    left
+}
+
+// The channels of each pin.
+#[tactic(auto, unfolding(crate::specs::Controls::pins_of))]
+fn pins_of(alloc: Global, function: &Function, entity: &Entity) -> Result<Vec<u8>, NoMemory>
+    ensures { IfOk result (λ pins. pins.items ≡ spec.pins_of function.now.entities entity.now) }
+{
+    let mut pins = Vec::new(alloc);
+    for id in entity.sources.as_slice() {
+        match pins.push(channels_of(function, *id)) {
+            Ok(()) => {}
+            Err(_) => return Err(NoMemory),
+        }
+    }
+    Ok(pins)
+}
+
+#[tactic(auto, unfolding(crate::specs::Controls::channels_of))]
+fn channels_of(function: &Function, id: u8) -> u8
+    ensures { result ≡ spec.channels_of function.now.entities id }
+{
+    match entity_with(function, id) {
+        Some(entity) => entity.cluster.channels,
+        None => 0,
+    }
+}
+
+/// The entity with this id.
+#[tactic(auto, using(crate::proofs::Finding::named_at, crate::proofs::Finding::named_nowhere))]
+pub(crate) fn entity_with(function: &Function, id: u8) -> Option<&Entity>
+    ensures { option_copied result ≡ named function.now.entities id }
+{
+    match function.find(id) {
+        Some(place) => function.entities().get(place),
+        None => None,
+    }
+}
