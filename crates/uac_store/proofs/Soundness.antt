@@ -66,16 +66,16 @@ no_cluster_past (suc n) es p past =
     (get_or_past es p nothing past)
 
 module _ (es : List Entity) where
-  length-clustered : length (clustered es) ≡ length es
+  pub length-clustered : length (clustered es) ≡ length es
   unfolding clustered
   length-clustered = length-map-range_with_len (λ k. with_cluster (at es k) (cluster_of es k)) 0 (length es)
 
-  clustered-at : (k : ℕ) (d : Entity) → k < length es → get_or (clustered es) k d ≡ with_cluster (at es k) (cluster_of es k)
+  pub clustered-at : (k : ℕ) (d : Entity) → k < length es → get_or (clustered es) k d ≡ with_cluster (at es k) (cluster_of es k)
   unfolding clustered
   clustered-at k d below = get_or-map-range_with_len (λ k. with_cluster (at es k) (cluster_of es k)) 0 (length es) k k d below (omega arith)
 
   -- what doesn't look at clusters sees the same
-  seen_alike : {X : Type 0} (d : X) (g : Entity → X) → ((e : Entity) (c : Cluster) → g (with_cluster e c) ≡ g e) → map g (clustered es) ≡ map g es
+  pub seen_alike : {X : Type 0} (d : X) (g : Entity → X) → ((e : Entity) (c : Cluster) → g (with_cluster e c) ≡ g e) → map g (clustered es) ≡ map g es
   unfolding at
   seen_alike d g same =
       ext_get_or d (map g (clustered es)) (map g es) (length-map (clustered es) g ∙ length-clustered ∙ sym (length-map es g))
@@ -85,7 +85,7 @@ module _ (es : List Entity) where
       get_or-map g (clustered es) i nothing d below' ∙ ap g (clustered-at i nothing below) ∙ same (at es i) (cluster_of es i)
       ∙ sym (get_or-map g es i nothing d below))
 
-  same_place : (id : ℕ) → place_of (clustered es) id ≡ place_of es id
+  pub same_place : (id : ℕ) → place_of (clustered es) id ≡ place_of es id
   same_place id =
       place_by_ids (clustered es) id
       ∙ ap (position_or_len (λ i. i == id)) (seen_alike 0 (λ e. e.id) (λ e c. refl))

@@ -1,0 +1,12 @@
+pub mod Links
+pub mod Equation
+pub mod Lookups
+pub mod FromRules
+pub mod Loudness
+pub mod Recursion
+pub mod Ticking
+pub mod Walking
+pub mod Rows
+pub mod Needed
+pub mod OneSource
+pub mod Rendered

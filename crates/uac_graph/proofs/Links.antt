@@ -1,0 +1,46 @@
+-- From ids to places along the signal links.
+use Rattle.std.proofs.Common.{◌≡◌, ◌∙◌, ap, sym, arith, ℕ, suc, ◌<◌, false, List, length, get_or, map, ◌⊎◌, inl, inr}
+use Rattle.std.specs.List.{list_any, All}
+use Rattle.std.proofs.lemmas.Bool.{cases_lt}
+use Rattle.std.proofs.lemmas.List.{get_or_past}
+use Rattle.std.proofs.Math.ListN as listn
+use Rattle.std.proofs.Math.ListN.{length-map}
+use Rattle.uac_walk.specs.Walk.{links, has_walk}
+use Rattle.uac_walk.proofs.Walks.{none_at}
+use Rattle.uac_entities.specs.declared.entity.Entity.{Entity}
+use Rattle.uac_rules.specs.Links.{signal_sources, signal_links}
+use Rattle.uac_rules.specs.Table.{at, place_of, nothing}
+use Rattle.uac_rules.proofs.Found.{or_len-le}
+use Rattle.uac_graph.specs.Meaning.{entity}
+
+-- the places of an entity's signal sources
+pub links_at : (entities : List Entity) (place : ℕ) → links (signal_links entities) place ≡ map (place_of entities) (signal_sources (at entities place))
+unfolding at signal_sources
+links_at entities place = listn.get_or-map (λ e. map (place_of entities) (signal_sources e)) entities place nothing
+
+-- where no walk of n + 1 links leads on from an entity, none of n leads on from a source
+pub source_ends : (entities : List Entity) (n id k : ℕ) → has_walk (signal_links entities) (suc n) (place_of entities id) ≡ false
+    → k < length (signal_sources (entity entities id)) → has_walk (signal_links entities) n (place_of entities (get_or (signal_sources (entity entities id)) k 0)) ≡ false
+unfolding has_walk entity
+source_ends entities n id k ends below =
+    let sources = signal_sources (at entities (place_of entities id)) in
+    let places = map (place_of entities) sources in
+    let e : list_any (has_walk (signal_links entities) n) places ≡ false =
+    ap (list_any (has_walk (signal_links entities) n)) (sym (links_at entities (place_of entities id))) ∙ ends in
+    let here : get_or places k (place_of entities 0) ≡ place_of entities (get_or sources k 0) = listn.get_or-map (place_of entities) sources k 0 in
+    ap (has_walk (signal_links entities) n) (sym here)
+    ∙ none_at (has_walk (signal_links entities) n) places k (place_of entities 0) (omega (arith, length-map sources (place_of entities))) e
+
+-- an id past the entities
+pub entity_past : (entities : List Entity) (id : ℕ) → place_of entities id ≡ length entities → entity entities id ≡ nothing
+unfolding entity at
+entity_past entities id past = get_or_past entities (place_of entities id) nothing (omega arith)
+
+-- an id names an entity, or none
+pub place_or_none : (entities : List Entity) (id : ℕ) → (place_of entities id < length entities) ⊎ (place_of entities id ≡ length entities)
+unfolding place_of
+place_or_none entities id =
+    elim (cases_lt (place_of entities id) (length entities)) [
+      | inl below ↦ inl below
+      | inr past ↦ inr (omega (arith, or_len-le (λ (e : Entity). Rattle.std.specs.Prelude.nat_eq e.id id) entities))
+    ]

@@ -1,0 +1,170 @@
+-- Frames by id, as the wires keep them.
+use Rattle.std.proofs.Common.{◌≡◌, ◌∙◌, sym, refl, ap, subst, arith, ℕ, ◌+◌, ◌<◌, Bor, Bool, true, false, cond, eqb, ltb, ℤ, pos, Option, Some, None, List, length, map, inl, inr, if◌then◌else◌}
+use Rattle.std.specs.Map.{lookup}
+use Rattle.std.specs.Option.{option_map, option_copied, IsSome}
+use Rattle.std.proofs.lemmas.Bool.{cases_eq, cases_lt, eqb-true, eq-eqb, ne_eqb, lt-ltb, le-ltb}
+use Rattle.std.proofs.lemmas.List.{length-replicate}
+use Rattle.std.proofs.lemmas.List.Sums.{passes_at_first}
+use Rattle.std.proofs.lemmas.Map.Made.{lookup-map_values}
+use Rattle.uac_entities.specs.declared.entity.Entity.{Entity}
+use Rattle.uac_rules.specs.Links.{is_clock}
+use Rattle.uac_rules.specs.Table.{at, place_of, nothing}
+use Rattle.uac_graph.specs.Fitness.{IsSignalGraph, channels_of}
+use Rattle.uac_graph.specs.Meaning.{entity}
+use Rattle.uac_graph.specs.Wiring.{AreSilent, AreWiresOf, Frames, frame_on, silence}
+use Rattle.uac_graph.proofs.Links.{entity_past, place_or_none}
+
+-- what is read of a lent value is read of the value
+pub read_copied : {X Y : Type 0} (read : X → Y) (o : Option (Bor X)) → option_map (λ b. read b.now) o ≡ option_map read (option_copied o)
+read_copied read None = refl
+read_copied read (Some b) = refl
+
+-- one value written, as it is read
+pub written : {X : Type 0} (read : X → List ℤ) (old new : List (ℕ × X)) (key : ℕ) (value : X)
+    → ((id : ℕ) → lookup (eqb id) new ≡ cond (eqb key id) (Some value) (lookup (eqb id) old))
+    → (id : ℕ) → frame_on (map (λ e. (e.0, read e.1)) new) id ≡ (if eqb key id then Some (read value) else frame_on (map (λ e. (e.0, read e.1)) old) id)
+written {X = X} read old new key value updates id =
+    lookup-map_values read (eqb id) new
+    ∙ ap (option_map read) (updates id)
+    ∙ at_key (eqb key id)
+    ∙ ap (λ o. if eqb key id then Some (read value) else o) (sym (lookup-map_values read (eqb id) old))
+  where
+    at_key : (b : Bool) → option_map read (cond b (Some value) (lookup (eqb id) old)) ≡ (if b then Some (read value) else option_map read (lookup (eqb id) old))
+    at_key true = refl
+    at_key false = refl
+
+-- the wires of the entities below a place are silent, and there are no others
+pub record AreSilentBelow (entities : List Entity) (place : ℕ) (frames : Frames) : Type 0 where
+  pub wires : (id : ℕ) → frame_on frames id ≡ (if ltb (place_of entities id) place then option_map silence (channels_of entities id) else None)
+
+-- the entity at a place is the first with its id
+pub id_at : (entities : List Entity) (id : ℕ) → place_of entities id < length entities → (at entities (place_of entities id)).id ≡ id
+unfolding at place_of
+id_at entities id below = eqb-true (at entities (place_of entities id)).id id (passes_at_first (λ (e : Entity). eqb e.id id) entities nothing below)
+
+-- a number below the next one and not this one is below this one
+below_next : (p place : ℕ) → (p ≡ place → ⊥) → ltb p place ≡ ltb p (place + 1)
+below_next p place other =
+    elim (cases_lt p place) [
+      | inl below ↦ lt-ltb p place below ∙ sym (lt-ltb p (place + 1) (omega arith))
+      | inr past ↦ le-ltb p place past ∙ sym (le-ltb p (place + 1) (omega arith))
+    ]
+
+-- one wire more, or none
+pub silent_more : (entities : List Entity) (place : ℕ) (old new : Frames)
+    → ((id : ℕ) → frame_on new id ≡ (if eqb (place_of entities id) place then option_map silence (channels_of entities id) else frame_on old id))
+    → AreSilentBelow entities place old → AreSilentBelow entities (place + 1) new
+silent_more entities place old new e before = record {
+  wires = λ id.
+      let p = place_of entities id in
+      let silent = option_map silence (channels_of entities id) in
+      elim (cases_eq p place) [
+        | inl same ↦
+            e id ∙ ap (λ (b : Bool). if b then silent else frame_on old id) (eq-eqb p place same)
+            ∙ sym (ap (λ (b : Bool). if b then silent else None) (lt-ltb p (place + 1) (omega arith)))
+        | inr other ↦
+            e id ∙ ap (λ (b : Bool). if b then silent else frame_on old id) (ne_eqb p place other)
+            ∙ before.wires id ∙ ap (λ (b : Bool). if b then silent else None) (below_next p place other)
+      ];
+}
+
+-- the channels of the entity at a place
+pub channels_at : (entities : List Entity) (id place : ℕ) → place_of entities id ≡ place
+    → channels_of entities id ≡ (if is_clock (at entities place).kind then None else Some (at entities place).cluster.channels)
+unfolding channels_of entity
+channels_at entities id place here = ap (λ (p : ℕ). if is_clock (at entities p).kind then None else Some (at entities p).cluster.channels) here
+
+-- a clock entity has no wire
+pub silent_clock : (entities : List Entity) (place : ℕ) (frames : Frames) → place < length entities → is_clock (at entities place).kind ≡ true
+    → AreSilentBelow entities place frames → AreSilentBelow entities (place + 1) frames
+silent_clock entities place frames below clock before = silent_more entities place frames frames same before
+  where
+    same : (id : ℕ) → frame_on frames id ≡ (if eqb (place_of entities id) place then option_map silence (channels_of entities id) else frame_on frames id)
+    same id =
+        let p = place_of entities id in
+        let silent = option_map silence (channels_of entities id) in
+        elim (cases_eq p place) [
+          | inl here ↦
+              before.wires id
+              ∙ ap (λ (b : Bool). if b then silent else None) (le-ltb p place (omega arith))
+              ∙ sym (
+              ap (λ (b : Bool). if b then silent else frame_on frames id) (eq-eqb p place here)
+              ∙ ap (option_map silence) (channels_at entities id place here)
+              ∙ ap (λ (b : Bool). option_map silence (if b then None else Some (at entities place).cluster.channels)) clock)
+          | inr other ↦ sym (ap (λ (b : Bool). if b then silent else frame_on frames id) (ne_eqb p place other))
+        ]
+
+-- the wire of the entity at a place is put there, silent
+pub silent_wire : {X : Type 0} (read : X → List ℤ) (entities : List Entity) (place : ℕ) (old new : List (ℕ × X)) (value : X)
+    → IsSignalGraph entities → place < length entities → is_clock (at entities place).kind ≡ false → read value ≡ silence (at entities place).cluster.channels
+    → ((id : ℕ) → lookup (eqb id) new ≡ cond (eqb (at entities place).id id) (Some value) (lookup (eqb id) old))
+    → AreSilentBelow entities place (map (λ e. (e.0, read e.1)) old) → AreSilentBelow entities (place + 1) (map (λ e. (e.0, read e.1)) new)
+silent_wire {X = X} read entities place old new value sound below signal silent updates before =
+    silent_more entities place (map (λ e. (e.0, read e.1)) old) (map (λ e. (e.0, read e.1)) new)
+    (λ id. written read old new (at entities place).id value updates id ∙ same id (frame_on (map (λ e. (e.0, read e.1)) old) id)) before
+  where
+    same : (id : ℕ) (other : Option (List ℤ)) → (if eqb (at entities place).id id then Some (read value) else other)
+        ≡ (if eqb (place_of entities id) place then option_map silence (channels_of entities id) else other)
+    same id o =
+        let p = place_of entities id in
+        let wire = option_map silence (channels_of entities id) in
+        elim (cases_eq p place) [
+          | inl here ↦
+              (let named : (at entities place).id ≡ id = ap (λ (q : ℕ). (at entities q).id) (sym here) ∙ id_at entities id (omega arith) in
+              ap (λ (b : Bool). if b then Some (read value) else o) (eq-eqb (at entities place).id id named)
+              ∙ ap Some silent
+              ∙ sym (
+              ap (λ (b : Bool). if b then wire else o) (eq-eqb p place here)
+              ∙ ap (option_map silence) (channels_at entities id place here)
+              ∙ ap (λ (b : Bool). option_map silence (if b then None else Some (at entities place).cluster.channels)) signal))
+          | inr other ↦
+              (let apart : (at entities place).id ≡ id → ⊥ = λ e. other (ap (place_of entities) (sym e) ∙ sound.distinct place below) in
+              ap (λ (b : Bool). if b then Some (read value) else o) (ne_eqb (at entities place).id id apart)
+              ∙ sym (ap (λ (b : Bool). if b then wire else o) (ne_eqb p place other)))
+        ]
+
+-- all wires are silent
+pub silent_all : (entities : List Entity) (frames : Frames) → AreSilentBelow entities (length entities) frames → AreSilent entities frames
+unfolding channels_of
+silent_all entities frames all = record {
+  wires = λ id. elim (place_or_none entities id) [
+    | inl below ↦
+        all.wires id ∙ ap (λ (b : Bool). if b then option_map silence (channels_of entities id) else None) (lt-ltb (place_of entities id) (length entities) below)
+    | inr past ↦
+        all.wires id
+        ∙ ap (λ (b : Bool). if b then option_map silence (channels_of entities id) else None) (le-ltb (place_of entities id) (length entities) (omega arith))
+        ∙ sym (ap (λ (e : Entity). option_map silence (if is_clock e.kind then None else Some e.cluster.channels)) (entity_past entities id past))
+  ];
+}
+
+-- silent wires have a sample for each channel
+pub silent_fits : (entities : List Entity) (frames : Frames) → AreSilent entities frames → AreWiresOf entities frames
+silent_fits entities frames silent = record { channels = λ id. ap (option_map length) (silent.wires id) ∙ counted (channels_of entities id) }
+  where
+    counted : (o : Option ℕ) → option_map length (option_map silence o) ≡ o
+    counted None = refl
+    counted (Some n) = ap Some (length-replicate n (pos 0))
+
+-- what is there is there
+pub there : {X : Type 0} (o : Option X) (x : X) → o ≡ Some x → IsSome o
+there o x e = subst IsSome (sym e) refl
+
+-- an id with no value has no wire
+pub no_wire : {X : Type 0} (read : X → List ℤ) (es : List (ℕ × X)) (id count : ℕ) → lookup (eqb id) es ≡ None
+    → option_map length (frame_on (map (λ e. (e.0, read e.1)) es) id) ≡ Some count → ⊥
+no_wire read es id count absent wire =
+    let none : option_map length (frame_on (map (λ e. (e.0, read e.1)) es) id) ≡ None =
+    ap (option_map length) (lookup-map_values read (eqb id) es ∙ ap (option_map read) absent) in cc
+
+-- a frame of as many samples as stood on the wire leaves the wires fitting
+pub set_fits : (entities : List Entity) (old new : Frames) (terminal : ℕ) (frame : List ℤ) → option_map length (frame_on old terminal) ≡ Some (length frame)
+    → ((id : ℕ) → frame_on new id ≡ (if eqb terminal id then Some frame else frame_on old id)) → AreWiresOf entities old → AreWiresOf entities new
+set_fits entities old new terminal frame same set fitting = record {
+  channels = λ id. elim (cases_eq terminal id) [
+    | inl here ↦
+        ap (option_map length) (set id ∙ ap (λ (b : Bool). if b then Some frame else frame_on old id) (eq-eqb terminal id here))
+        ∙ sym same ∙ fitting.channels terminal ∙ ap (channels_of entities) here
+    | inr other ↦
+        ap (option_map length) (set id ∙ ap (λ (b : Bool). if b then Some frame else frame_on old id) (ne_eqb terminal id other)) ∙ fitting.channels id
+  ];
+}

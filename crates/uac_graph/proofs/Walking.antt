@@ -1,0 +1,80 @@
+-- Wires rendered one after the other, each after its sources.
+use Rattle.std.proofs.Common.{◌≡◌, ◌∙◌, sym, ap, refl, ℕ, ◌<◌, Bool, true, false, ◌||◌, if◌then◌else◌, ℤ, List, [], Option, Some, None, length, map, inl, inr}
+use Rattle.uac_entities.specs.declared.entity.Entity.{Entity}
+use Rattle.uac_rules.specs.Clusters.{is_input}
+use Rattle.uac_rules.specs.Links.{is_clock, signal_sources}
+use Rattle.uac_rules.specs.Table.{place_of}
+use Rattle.uac_graph.specs.Controls.{Controls}
+use Rattle.uac_graph.specs.Fitness.{IsSignalGraph, channels_of}
+use Rattle.uac_graph.specs.Meaning.{entity, frame_of, meaning, samples_by}
+use Rattle.uac_graph.specs.Wiring.{AreGiven, AreRendered, Frames, frame_on}
+use Rattle.uac_graph.proofs.Equation.{equation}
+use Rattle.uac_graph.proofs.Links.{entity_past, place_or_none}
+
+-- an entity that isn't a clock is there
+pub signal_below : (entities : List Entity) (id : ℕ) → is_clock (entity entities id).kind ≡ false → place_of entities id < length entities
+signal_below entities id signal =
+    elim (place_or_none entities id) [
+      | inl below ↦ below
+      | inr past ↦ absurd (let clock : true ≡ false = ap (λ (e : Entity). is_clock e.kind) (sym (entity_past entities id past)) ∙ signal in cc)
+    ]
+
+-- its channels
+pub signal_channels : (entities : List Entity) (id : ℕ) → is_clock (entity entities id).kind ≡ false → channels_of entities id ≡ Some (entity entities id).cluster.channels
+unfolding channels_of
+signal_channels entities id signal = ap (λ (b : Bool). if b then None else Some (entity entities id).cluster.channels) signal
+
+-- its sources
+pub signal_sources_of : (e : Entity) → is_clock e.kind ≡ false → signal_sources e ≡ e.sources
+unfolding signal_sources
+signal_sources_of e signal = ap (λ (b : Bool). if b then [] else e.sources) signal
+
+-- nothing rendered
+pub rendered_none : (entities : List Entity) (controls : Controls) (ins : ℕ → List ℤ) (frames : Frames) → AreRendered entities controls ins (λ _. false) frames frames
+rendered_none entities controls ins frames = record { wires = λ id. refl }
+
+-- the same wires, told otherwise
+pub rendered_by : (entities : List Entity) (controls : Controls) (ins : ℕ → List ℤ) (done told : ℕ → Bool) (old new : Frames) → ((id : ℕ) → done id ≡ told id)
+    → AreRendered entities controls ins done old new → AreRendered entities controls ins told old new
+rendered_by entities controls ins done told old new same rendered = record {
+  wires = λ id.
+      rendered.wires id ∙ ap (λ (b : Bool). if b then Some (meaning entities controls ins id) else frame_on old id) (same id);
+}
+
+-- some wires and then some more
+pub rendered_more : (entities : List Entity) (controls : Controls) (ins : ℕ → List ℤ) (first second : ℕ → Bool) (old mid new : Frames)
+    → AreRendered entities controls ins first old mid → AreRendered entities controls ins second mid new
+    → AreRendered entities controls ins (λ id. first id || second id) old new
+rendered_more entities controls ins first second old mid new before after = record {
+  wires = λ id. after.wires id ∙ ap (λ o. if second id then Some (meaning entities controls ins id) else o) (before.wires id) ∙ joined (first id) (second id) _ _;
+}
+  where
+    joined : (a b : Bool) (w o : Option (List ℤ)) → (if b then w else if a then w else o) ≡ (if a || b then w else o)
+    joined true true w o = refl
+    joined true false w o = refl
+    joined false true w o = refl
+    joined false false w o = refl
+
+-- an input terminal's meaning is what it is given
+pub meaning_given : (entities : List Entity) (controls : Controls) (ins : ℕ → List ℤ) (id : ℕ) → IsSignalGraph entities
+    → is_input (entity entities id).kind ≡ true → meaning entities controls ins id ≡ ins id
+unfolding samples_by
+meaning_given entities controls ins id sound input =
+    equation entities controls ins id sound
+    ∙ ap (λ (b : Bool). if b then ins id
+    else frame_of controls id (entity entities id).kind (entity entities id).cluster.channels (map (meaning entities controls ins) (signal_sources (entity entities id)))) input
+
+-- input terminals keep what they are given
+pub given_kept : (entities : List Entity) (controls : Controls) (ins : ℕ → List ℤ) (done : ℕ → Bool) (old new : Frames) → IsSignalGraph entities
+    → AreGiven entities ins old → AreRendered entities controls ins done old new → AreGiven entities ins new
+given_kept entities controls ins done old new sound given rendered = record {
+  inputs = λ id input.
+      rendered.wires id
+      ∙ ap (λ frame. if done id then Some frame else frame_on old id) (meaning_given entities controls ins id sound input)
+      ∙ ap (λ o. if done id then Some (ins id) else o) (given.inputs id input)
+      ∙ same (done id) (Some (ins id));
+}
+  where
+    same : (b : Bool) (o : Option (List ℤ)) → (if b then o else o) ≡ o
+    same true o = refl
+    same false o = refl

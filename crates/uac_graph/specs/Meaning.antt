@@ -1,0 +1,59 @@
+-- The sample on each wire of a signal graph (Audio Class 2.0, 3.13: terminals and units), by recursion over entities.
+-- Profile: the arithmetic, and that an effect unit is always bypassed.
+use Rattle.std.specs.Prelude.{ℕ, ◌+◌, ◌*◌, zero, suc, if◌then◌else◌, ℤ, pos, ◌+ℤ◌, List, [], map, length, slice_index_or}
+use Rattle.std.specs.List.{fold, range_with_len}
+use Rattle.uac_entities.specs.declared.entity.Entity.{Entity}
+use Rattle.uac_entities.specs.declared.entity.EntityKind.{EntityKind}
+use Rattle.uac_entities.specs.declared.entity.EntityKind.TheVariants as kind
+use Rattle.uac_rules.specs.Clusters.{is_input}
+use Rattle.uac_rules.specs.Links.{signal_sources}
+use Rattle.uac_rules.specs.Table.{at, place_of}
+use Rattle.uac_gain.specs.Gain.{scaled, saturated}
+use Rattle.uac_units.specs.Rendering.{input, in_a_row}
+use Rattle.uac_graph.specs.Controls.{Controls, feature_gain, node_gain, chosen_pin}
+
+-- the entity with this id; where no entity has it, one with no sources and no channels
+unfoldable pub entity : List Entity → ℕ → Entity
+entity entities id = at entities (place_of entities id)
+
+-- the frame of a pin, counted from 0
+abbrev pub pin : List (List ℤ) → ℕ → List ℤ
+pin frames number = slice_index_or frames number []
+
+-- a mixer's output: the saturated sum of all input channels, each scaled by the gain of its node with this output
+abbrev pub mixed : Controls → ℕ → ℕ → List ℤ → ℕ → ℤ
+mixed controls id outputs inputs channel =
+    saturated (fold (λ sum sample. sum +ℤ sample) (pos 0)
+    (map (λ at. scaled (input inputs at) (node_gain controls id (at * outputs + channel))) (range_with_len 0 (length inputs))))
+
+-- the sample of an output channel of the entity with this id, from the frames of its sources, pin by pin. A feature scales by
+-- the channel's gain, then by the master's; channels of controls count from 1, the master being 0
+abbrev pub sample_of : Controls → ℕ → EntityKind → ℕ → List (List ℤ) → ℕ → ℤ
+sample_of controls id kind.Feature outputs frames channel =
+    scaled (scaled (input (pin frames 0) channel) (feature_gain controls id (channel + 1))) (feature_gain controls id 0)
+sample_of controls id kind.Mixer outputs frames channel = mixed controls id outputs (in_a_row frames) channel
+sample_of controls id kind.Selector outputs frames channel = input (pin frames (chosen_pin controls id (length frames))) channel
+sample_of controls id _ outputs frames channel = input (pin frames 0) channel
+
+-- the samples of all output channels
+unfoldable pub frame_of : Controls → ℕ → EntityKind → ℕ → List (List ℤ) → List ℤ
+frame_of controls id kind outputs frames = map (sample_of controls id kind outputs frames) (range_with_len 0 outputs)
+
+-- one step: the samples of an entity, by those of its sources. An input terminal gives what it is given
+unfoldable pub samples_by : List Entity → Controls → (ℕ → List ℤ) → (ℕ → List ℤ) → ℕ → List ℤ
+samples_by entities controls ins below id =
+    let e = entity entities id in
+    if is_input e.kind then ins id else frame_of controls id e.kind e.cluster.channels (map below (signal_sources e))
+
+-- the samples, along at most n links
+unfoldable pub samples : ℕ → List Entity → Controls → (ℕ → List ℤ) → ℕ → List ℤ
+samples zero entities controls ins id = []
+samples (suc n) entities controls ins id = samples_by entities controls ins (samples n entities controls ins) id
+
+-- the samples on the wire of the entity with this id, one for each channel
+unfoldable pub meaning : List Entity → Controls → (ℕ → List ℤ) → ℕ → List ℤ
+meaning entities controls ins id = samples (length entities) entities controls ins id
+
+-- the sample of a channel on a wire
+abbrev pub wire : List Entity → Controls → (ℕ → List ℤ) → ℕ → ℕ → ℤ
+wire entities controls ins id channel = input (meaning entities controls ins id) channel

@@ -1,0 +1,33 @@
+-- The units that the output terminals of a clock domain need (Audio Class 2.0, 3.13.5: a clock domain).
+use Rattle.std.specs.Prelude.{ℕ, zero, suc, Bool, true, false, ◌==◌, ◌&&◌, ◌||◌, List, map, length, filter}
+use Rattle.std.specs.List.{list_any}
+use Rattle.uac_entities.specs.declared.entity.Entity.{Entity}
+use Rattle.uac_entities.specs.declared.entity.EntityKind.{EntityKind}
+use Rattle.uac_entities.specs.declared.entity.EntityKind.TheVariants as kind
+use Rattle.uac_rules.specs.Links.{signal_sources}
+use Rattle.uac_rules.specs.Rules.{is_output}
+use Rattle.uac_graph.specs.Meaning.{entity}
+
+-- a walk of at most n signal source links leads from the one entity to the other
+unfoldable pub reaches : List Entity → ℕ → ℕ → ℕ → Bool
+reaches entities zero from id = from == id
+reaches entities (suc n) from id = from == id || list_any (λ s. reaches entities n s id) (signal_sources (entity entities from))
+
+-- an output terminal of the domain
+abbrev pub is_end : ℕ → Entity → Bool
+is_end domain e = is_output e.kind && e.clock == domain
+
+-- an output terminal of the domain, or an entity on which one depends
+unfoldable pub depended : List Entity → ℕ → ℕ → Bool
+depended entities domain id = list_any (λ e. is_end domain e && reaches entities (length entities) e.id id) entities
+
+abbrev pub is_unit : EntityKind → Bool
+is_unit kind.Mixer = true
+is_unit kind.Selector = true
+is_unit kind.Feature = true
+is_unit kind.Effect = true
+is_unit _ = false
+
+-- the ids of the units that the domain needs, in block order
+unfoldable pub needed : List Entity → ℕ → List ℕ
+needed entities domain = map (λ e. e.id) (filter (λ e. is_unit e.kind && depended entities domain e.id) entities)

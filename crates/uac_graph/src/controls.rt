@@ -1,0 +1,80 @@
+// What the held controls make of a signal.
+ghost use Rattle.std.specs.Prelude.{◌≡◌, ◌≤◌, ◌<◌, ◌^◌, ◌%◌, ◌+◌, ◌/◌};
+ghost use Rattle.uac_graph.specs.Controls as spec;
+ghost use Rattle.uac_graph.specs.Controls.{held_in};
+
+use uac_gain::gain;
+use uac_store::{Key, Store};
+
+/// The volume that means silence (Audio Class 2.0, 5.2.5.7.2).
+const SILENCE: i32 = -32768;
+
+/// A gain of 0 decibels.
+const UNITY: u32 = 1073741824;
+
+/// The selector of a feature unit's mute control (Audio Class 2.0, A.17.7).
+const MUTE: u8 = 1;
+
+/// The selector of a feature unit's volume control (Audio Class 2.0, A.17.7).
+const VOLUME: u8 = 2;
+
+/// The selector of a mixer's nodes and of a selector's pin (Audio Class 2.0, A.17.5 and A.17.6).
+const ONLY: u8 = 1;
+
+/// The gain of a feature unit's channel, 0 being the master; none where it is muted.
+pub(crate) fn feature_gain(store: &Store, id: u8, channel: u8) -> u32
+    ensures value { result ≡ spec.feature_gain (held_in store.now) id channel }
+    ensures bound { result ≤ 2 ^ 30 }
+{
+    if control_value(store, id, MUTE, channel) != 0 {
+        0
+    } else {
+        volume_gain(store, id, VOLUME, channel)
+    }
+}
+
+/// The gain of a mixer's node.
+pub(crate) fn node_gain(store: &Store, id: u8, node: u8) -> u32
+    ensures value { result ≡ spec.node_gain (held_in store.now) id node }
+    ensures bound { result ≤ 2 ^ 30 }
+{
+    volume_gain(store, id, ONLY, node)
+}
+
+/// The pin, from 0, that a selector of so many pins has chosen.
+pub(crate) fn chosen_pin(store: &Store, id: u8, pins: usize) -> u16
+    requires { pins ≤ 256 }
+    ensures { result ≡ spec.chosen_pin (held_in store.now) id pins }
+{
+    let value = control_value(store, id, ONLY, 0);
+    if value >= 1 && value as usize <= pins {
+        (value - 1) as u16
+    } else {
+        0
+    }
+}
+
+fn volume_gain(store: &Store, id: u8, selector: u8, channel: u8) -> u32
+    ensures value { result ≡ spec.volume_gain (held_in store.now) id selector channel }
+    ensures bound { result ≤ 2 ^ 30 }
+{
+    let volume = control_value(store, id, selector, channel);
+    if volume < SILENCE || volume > 0 {
+        return UNITY;
+    }
+    match gain(volume as i16) {
+        Some(gain) => gain,
+        None => UNITY,
+    }
+}
+
+fn control_value(store: &Store, id: u8, selector: u8, channel: u8) -> i32
+    ensures { result ≡ spec.control_value (held_in store.now) id selector channel }
+{
+    let key = Key {
+        entity: id,
+        selector,
+        channel,
+    };
+    store.cur(key).unwrap_or(0)
+}

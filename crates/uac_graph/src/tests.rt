@@ -1,0 +1,252 @@
+//! A small function, tick by tick: a jack through a feature, and a stereo jack through a mixer, a selector and an effect.
+
+ghost use Rattle.std.specs.Prelude.{◌≡◌, IfOk, IsTrue, List, Some, length};
+ghost use Rattle.std.specs.Option.{option_map};
+ghost use Rattle.uac_entities.specs.declared.entity.Entity.{Entity};
+ghost use Rattle.uac_store.specs.Controls.{IsKeyed};
+ghost use Rattle.uac_topology.specs.Topology.{IsFunctionOf, IsSound};
+ghost use Rattle.uac_units.specs.Fitting.{IsFitted};
+ghost use Rattle.uac_graph.specs.Fitness.{IsSignalGraph};
+ghost use Rattle.uac_graph.specs.Wiring.{AreWiresOf, frame_on};
+
+use crate::*;
+use arrayvec::ArrayVec;
+use std::alloc::{AllocError, Global};
+use std::test::Fail;
+use uac_descriptor::{
+    Block, ByteList, ClockSource, Effect, Feature, InputTerminal, Mixer, OutputTerminal, Selector,
+    WordList,
+};
+use uac_pcm::Frame;
+use uac_store::{Key, Store};
+use uac_topology::{Function, check};
+use uac_units::{PlainEffect, PlainFeature, PlainMixer, PlainSelector, Rack, Steps, Unit};
+
+fn bytes(alloc: Global, items: &[u8]) -> Result<ByteList, AllocError>
+    ensures { IfOk result (λ list. list ≡ items.now) }
+{
+    let items = Vec::from_slice(alloc, items)?;
+    Ok(ByteList::from_vec(items))
+}
+
+fn words(alloc: Global, items: &[u32]) -> Result<WordList, AllocError>
+    ensures { IfOk result (λ list. list ≡ items.now) }
+{
+    let items = Vec::from_slice(alloc, items)?;
+    Ok(WordList::from_vec(items))
+}
+
+fn push(blocks: &mut Vec<Block>, block: Block) -> Result<(), AllocError> {
+    match blocks.push(block) {
+        Ok(()) => Ok(()),
+        Err(_) => Err(AllocError),
+    }
+}
+
+fn input(id: u8, channels: u8, locations: u32) -> Block {
+    Block::InputTerminal(InputTerminal {
+        id,
+        terminal_type: 0x0201,
+        assoc: 0,
+        clock: 1,
+        channels,
+        locations,
+        names: 0,
+        controls: 0,
+        name: 0,
+    })
+}
+
+fn output(id: u8, source: u8) -> Block {
+    Block::OutputTerminal(OutputTerminal {
+        id,
+        terminal_type: 0x0301,
+        assoc: 0,
+        source,
+        clock: 1,
+        controls: 0,
+        name: 0,
+    })
+}
+
+/// Jack 2 is stereo, and jack 5 mono. Feature 3 hears jack 2, and feature 6 jack 5. Terminal 4 plays feature 6.
+fn ends(alloc: Global, blocks: &mut Vec<Block>) -> Result<(), AllocError> {
+    push(
+        blocks,
+        Block::ClockSource(ClockSource {
+            id: 1,
+            attributes: 3,
+            controls: 7,
+            assoc: 0,
+            name: 0,
+        }),
+    )?;
+    push(blocks, input(2, 2, 3))?;
+    push(blocks, input(5, 1, 0))?;
+    let stereo = words(alloc, &[15, 15, 15])?;
+    push(
+        blocks,
+        Block::Feature(Feature {
+            id: 3,
+            source: 2,
+            words: stereo,
+            name: 0,
+        }),
+    )?;
+    let mono = words(alloc, &[15, 15])?;
+    push(
+        blocks,
+        Block::Feature(Feature {
+            id: 6,
+            source: 5,
+            words: mono,
+            name: 0,
+        }),
+    )?;
+    push(blocks, output(4, 6))
+}
+
+/// Mixer 8 hears jack 2 twice, selector 9 feature 3 and the mixer, effect 10 the selector, and terminal 7 the effect.
+fn chain(alloc: Global, blocks: &mut Vec<Block>) -> Result<(), AllocError> {
+    let pins = bytes(alloc, &[2, 2])?;
+    let mix_bits = bytes(alloc, &[255])?;
+    push(
+        blocks,
+        Block::Mixer(Mixer {
+            id: 8,
+            sources: pins,
+            channels: 2,
+            locations: 3,
+            names: 0,
+            mix_bits,
+            controls: 0,
+            name: 0,
+        }),
+    )?;
+    let pins = bytes(alloc, &[3, 8])?;
+    push(
+        blocks,
+        Block::Selector(Selector {
+            id: 9,
+            sources: pins,
+            controls: 3,
+            name: 0,
+        }),
+    )?;
+    let enable = words(alloc, &[3, 3, 3])?;
+    push(
+        blocks,
+        Block::Effect(Effect {
+            id: 10,
+            effect_type: 1,
+            source: 9,
+            words: enable,
+            name: 0,
+        }),
+    )?;
+    push(blocks, output(7, 10))
+}
+
+/// Whether the wire has as many channels as the frame.
+fn takes(wires: &Wires, terminal: u8, frame: &Frame) -> bool
+    ensures { IsTrue result → option_map length (frame_on wires.now terminal) ≡ Some (length frame.now.items) }
+{
+    match wires.get(terminal) {
+        Some(held) => held.len() == frame.len(),
+        None => false,
+    }
+}
+
+fn give(wires: &mut Wires, terminal: u8, samples: &[i32])
+    ensures { (entities : List Entity) → AreWiresOf entities wires.old → AreWiresOf entities wires.new }
+{
+    let mut frame: Frame = ArrayVec::new();
+    let _ = frame.try_extend_from_slice(samples);
+    if takes(wires, terminal, &frame) {
+        wires.set(terminal, &frame);
+    }
+}
+
+fn hold(store: &mut Store, entity: u8, selector: u8, channel: u8, value: i32) {
+    let key = Key {
+        entity,
+        selector,
+        channel,
+    };
+    if store.cur(key).is_some() {
+        store.set(key, value);
+    }
+}
+
+/// The sound function of the two groups of blocks.
+fn function(alloc: Global) -> Result<Function, AllocError>
+    ensures graph { IfOk result (λ function. IsSignalGraph function.entities) }
+    ensures keyed { IfOk result (λ function. IsKeyed function.entities) }
+{
+    let mut blocks = Vec::new(alloc);
+    ends(alloc, &mut blocks)?;
+    chain(alloc, &mut blocks)?;
+    laws::sound_functions_have_a_graph();
+    match check(alloc, blocks.as_slice()) {
+        Ok(function) => Ok(function),
+        Err(_) => Err(AllocError),
+    }
+}
+
+/// One tick after these changes of controls, with (1, -1) at jack 2 and 65536 at jack 5.
+fn play(alloc: Global, rack: &Rack, changes: &[(u8, u8, u8, i32)]) -> Result<Wires, AllocError>
+    requires { IsFitted (λ v x. (⟦<dyn Unit as Unit>⟧ v).kind_of x) rack.now }
+{
+    let function = function(alloc)?;
+    let mut store = match Store::new(alloc, &function) {
+        Ok(store) => store,
+        Err(_) => return Err(AllocError),
+    };
+    for (entity, selector, channel, value) in changes {
+        hold(&mut store, *entity, *selector, *channel, *value);
+    }
+    let graph = match Graph::build(alloc, &function) {
+        Ok(graph) => graph,
+        Err(_) => return Err(AllocError),
+    };
+    let mut wires = match Wires::new(alloc, &function) {
+        Ok(wires) => wires,
+        Err(_) => return Err(AllocError),
+    };
+    give(&mut wires, 2, &[1, -1]);
+    give(&mut wires, 5, &[65536]);
+    graph.tick(1, &store, rack, &mut wires, &mut Steps::new());
+    Ok(wires)
+}
+
+/// Whether the wire of an entity has these samples.
+fn has(wires: &Wires, entity: u8, samples: &[i32]) -> bool {
+    match wires.get(entity) {
+        Some(frame) => frame.as_slice() == samples,
+        None => false,
+    }
+}
+
+#[test]
+fn ticks_of_a_small_function(rt: HostRuntime) -> Result<(), Fail> {
+    let alloc = rt.alloc();
+    let rack = Rack::new(
+        Box::new(alloc, PlainMixer)?,
+        Box::new(alloc, PlainSelector)?,
+        Box::new(alloc, PlainFeature)?,
+        Box::new(alloc, PlainEffect)?,
+    );
+    let wires = play(alloc, &rack, &[])?;
+    assert!(rt; has(&wires, 4, &[65536]));
+    assert!(rt; has(&wires, 8, &[2, -2]));
+    assert!(rt; has(&wires, 7, &[1, -1]));
+    assert!(rt; wires.get(1).is_none());
+
+    let wires = play(alloc, &rack, &[(9, 1, 0, 2)])?;
+    assert!(rt; has(&wires, 7, &[2, -2]));
+
+    let wires = play(alloc, &rack, &[(3, 1, 0, 1), (6, 2, 1, -256)])?;
+    assert!(rt; has(&wires, 7, &[0, 0]));
+    assert!(rt; has(&wires, 4, &[58409]));
+    Ok(())
+}
