@@ -1,5 +1,5 @@
 -- From what reading came to, and the writing of its text, to what the call means.
-use Rattle.std.proofs.Common.{◌≡◌, ℕ, ◌⊎◌, inl, inr, List, [], sym, refl, subst, ◌∙◌, Option, None, Some}
+use Rattle.std.proofs.Common.{◌≡◌, ℕ, ◌⊎◌, inl, inr, List, [], sym, refl, ap, subst, ◌∙◌, Option, None, Some, IsSome}
 use Rattle.uac_descriptor.specs.declared.block.Block.{Block}
 use Rattle.uac_sentence.specs.Sentence.{IsSentence}
 use Rattle.uac_grammar.specs.declared.fault.ReadStop.{ReadStop}
@@ -10,19 +10,23 @@ use Rattle.uac_topology.specs.declared.soundness.CheckStop.TheVariants as stops
 use Rattle.uac_topology.specs.Function.{FunctionFields}
 use Rattle.uac_topology.specs.Topology.{first_broken, IsSound, IsFunctionOf, Tells}
 use Rattle.uac_cli.specs.declared.command.Command.{Command}
+use Rattle.uac_cli.specs.declared.command.Command.TheVariants.{Check, Show}
 use Rattle.uac_cli.specs.declared.reading.Reading.TheVariants.{Whole, Stopped, Failed}
 use Rattle.uac_cli.specs.declared.status.Status.{Status}
 use Rattle.uac_cli.specs.declared.status.Status.TheVariants as statuses
-use Rattle.uac_cli.specs.Outcome.{at_end, read_failed, stopped, Outcome, usage, no_memory, read_fault, refusal, sound, shows_fault, fails, ends_in_fault, is_sound, is_broken, is_read, unsound, IsOutcome}
+use Rattle.uac_cli.specs.Outcome.{at_end, read_failed, stopped, Outcome, usage, no_memory, read_fault, refusal, sound, shows_fault, fails, ends_in_fault, is_sound, is_broken, is_read, unsound}
 use Rattle.uac_cli.specs.Reading.{Reads}
-use Rattle.uac_cli.specs.Run.{Closes, Judges, Refuses, RefusesFunction, IsRun}
-use Rattle.uac_cli.proofs.Composing.{Consumes-none, nothing_shown, quiet_so_far}
+use Rattle.uac_cli.specs.Run.{Closes, Judges, Refuses, RefusesFunction, IsAnswered, IsEnding, IsRun}
+use Rattle.uac_cli.specs.Transcript.{Ending}
+use Rattle.uac_units.specs.Hearing.{Reading}
+use Rattle.uac_script.proofs.Consuming.{Consumes-none}
+use Rattle.uac_cli.proofs.Composing.{nothing_shown, quiet_so_far}
 
 module _ (a b : Option (List ℕ)) (r r' : ℕ) (w w' : Option (List ℕ)) (f f' : ℕ) (status : Status) where
   -- the verdict on the blocks that were read was written
   pub judged_run : (command : Command) (blocks : _) (lent : List Block) → Reads a b r r' (Whole blocks) → lent ≡ blocks.items
-      → Judges command lent w w' f f' status → IsRun (Some command) a b r r' w w' f f' status
-  judged_run command blocks lent reads same judges = elim judges.meant as (λ _. IsRun (Some command) a b r r' w w' f f' status) [
+      → Judges command lent w w' f f' status → IsAnswered command a b r r' w w' f f' status
+  judged_run command blocks lent reads same judges = elim judges.meant as (λ _. IsAnswered command a b r r' w w' f f' status) [
     | inl verdict ↦ record {
       taken = reads.taken;
       end = at_end;
@@ -40,13 +44,13 @@ module _ (a b : Option (List ℕ)) (r r' : ℕ) (w w' : Option (List ℕ)) (f f'
       consumed = reads.consumed;
       ended = reads.comes.0;
       prompt = reads.prompt;
-      meant = inr (refl, none);
+      meant = inr none;
       closed = judges.closed;
     }
   ]
 
   -- a read failed
-  pub failed_run : (command : Command) → Reads a b r r' Failed → Closes read_fault w w' f f' status → IsRun (Some command) a b r r' w w' f f' status
+  pub failed_run : (command : Command) → Reads a b r r' Failed → Closes read_fault w w' f f' status → IsAnswered command a b r r' w w' f f' status
   failed_run command reads closed = record {
     taken = reads.taken;
     end = read_failed;
@@ -59,7 +63,7 @@ module _ (a b : Option (List ℕ)) (r r' : ℕ) (w w' : Option (List ℕ)) (f f'
   }
 
   -- a descriptor was refused
-  pub refused_run : (command : Command) (stop : ReadStop) → Reads a b r r' (Stopped stop) → Refuses stop w w' f f' status → IsRun (Some command) a b r r' w w' f f' status
+  pub refused_run : (command : Command) (stop : ReadStop) → Reads a b r r' (Stopped stop) → Refuses stop w w' f f' status → IsAnswered command a b r r' w w' f f' status
   refused_run command NoMemory reads closed = record {
     taken = reads.taken;
     end = stopped;
@@ -67,10 +71,10 @@ module _ (a b : Option (List ℕ)) (r r' : ℕ) (w w' : Option (List ℕ)) (f f'
     consumed = reads.consumed;
     prompt = reads.prompt;
     ended = tt;
-    meant = inr (refl, refl);
+    meant = inr refl;
     closed = closed;
   }
-  refused_run command (Fault fault) reads closed = elim reads.comes as (λ _. IsRun (Some command) a b r r' w w' f f' status) [
+  refused_run command (Fault fault) reads closed = elim reads.comes as (λ _. IsAnswered command a b r r' w w' f f' status) [
     | inl shown ↦ record {
       taken = reads.taken;
       end = stopped;
@@ -93,19 +97,71 @@ module _ (a b : Option (List ℕ)) (r r' : ℕ) (w w' : Option (List ℕ)) (f f'
     }
   ]
 
+-- the same of a command that reads a descriptor, in the words of a run: the meters hear nothing
+module _ (shown : List Reading) (a b : Option (List ℕ)) (r r' : ℕ) (w w' : Option (List ℕ)) (f f' : ℕ) (status : Status) where
+  -- an outcome with the meters as they were
+  abbrev ended_in : Outcome → Ending
+  ended_in outcome = record { outcome = outcome; meters = shown }
+
+  check_run : IsAnswered Check a b r r' w w' f f' status → IsRun (Some Check) shown shown a b r r' w w' f f' status
+  check_run answered = record {
+    taken = answered.taken;
+    end = answered.end;
+    ending = ended_in answered.outcome;
+    consumed = answered.consumed;
+    ended = answered.ended;
+    prompt = answered.prompt;
+    meant = elim answered.meant as (λ _. IsEnding (Some Check) shown answered.taken answered.end (ended_in answered.outcome) ⊎ (IsSome (Some Check) × (ended_in answered.outcome ≡ ended_in no_memory))) [
+      | inl answers ↦ inl (answers, refl)
+      | inr none ↦ inr (refl, ap ended_in none)
+    ];
+    closed = answered.closed;
+    heard = (λ _. refl);
+  }
+
+  show_run : IsAnswered Show a b r r' w w' f f' status → IsRun (Some Show) shown shown a b r r' w w' f f' status
+  show_run answered = record {
+    taken = answered.taken;
+    end = answered.end;
+    ending = ended_in answered.outcome;
+    consumed = answered.consumed;
+    ended = answered.ended;
+    prompt = answered.prompt;
+    meant = elim answered.meant as (λ _. IsEnding (Some Show) shown answered.taken answered.end (ended_in answered.outcome) ⊎ (IsSome (Some Show) × (ended_in answered.outcome ≡ ended_in no_memory))) [
+      | inl answers ↦ inl (answers, refl)
+      | inr none ↦ inr (refl, ap ended_in none)
+    ];
+    closed = answered.closed;
+    heard = (λ _. refl);
+  }
+
+-- the words are this command
+pub check_words : (command : Option Command) (got : Command) (shown : List Reading) (a b : Option (List ℕ)) (r r' : ℕ) (w w' : Option (List ℕ)) (f f' : ℕ) (status : Status)
+    → Some got ≡ command → got ≡ Check → IsAnswered Check a b r r' w w' f f' status → IsRun command shown shown a b r r' w w' f f' status
+check_words command got shown a b r r' w w' f f' status is got-is answered =
+    subst (λ (c : Option Command). IsRun c shown shown a b r r' w w' f f' status) (ap (λ (c : Command). Some c) (sym got-is) ∙ is)
+    (check_run shown a b r r' w w' f f' status answered)
+
+pub show_words : (command : Option Command) (got : Command) (shown : List Reading) (a b : Option (List ℕ)) (r r' : ℕ) (w w' : Option (List ℕ)) (f f' : ℕ) (status : Status)
+    → Some got ≡ command → got ≡ Show → IsAnswered Show a b r r' w w' f f' status → IsRun command shown shown a b r r' w w' f f' status
+show_words command got shown a b r r' w w' f f' status is got-is answered =
+    subst (λ (c : Option Command). IsRun c shown shown a b r r' w w' f f' status) (ap (λ (c : Command). Some c) (sym got-is) ∙ is)
+    (show_run shown a b r r' w w' f f' status answered)
+
 -- the words are no command
-pub usage_run : (command : Option Command) (a : Option (List ℕ)) (r : ℕ) (w w' : Option (List ℕ)) (f f' : ℕ) (status : Status)
-    → command ≡ None → Closes usage w w' f f' status → IsRun command a a r r w w' f f' status
-usage_run command a r w w' f f' status none closed = record {
+pub usage_run : (command : Option Command) (shown : List Reading) (a : Option (List ℕ)) (r : ℕ) (w w' : Option (List ℕ)) (f f' : ℕ) (status : Status)
+    → command ≡ None → Closes usage w w' f f' status → IsRun command shown shown a a r r w w' f f' status
+usage_run command shown a r w w' f f' status none closed = subst (λ (c : Option Command). IsRun c shown shown a a r r w w' f f' status) (sym none) (record {
   taken = [];
   end = stopped;
-  outcome = usage;
+  ending = record { outcome = usage; meters = shown };
   consumed = Consumes-none a;
   prompt = quiet_so_far [] nothing_shown;
   ended = tt;
-  meant = inl (subst (λ (c : Option Command). IsOutcome c [] stopped usage) (sym none) (refl, refl));
+  meant = inl ((refl, refl), refl);
   closed = closed;
-}
+  heard = (λ _. refl);
+})
 
 -- the line of an outcome was written
 line_of_outcome : (o : Outcome) (text : List ℕ) (w w' : Option (List ℕ)) (f f' : ℕ) (status : Status) → text ≡ o.text

@@ -1,39 +1,19 @@
--- What is told of a source composes over calls, and what a reader that goes on or stops has shown.
-use Rattle.std.proofs.Common.{◌≡◌, ◌≢◌, ◌<◌, ◌≤◌, length, take, subst, arith, ℕ, ◌⊎◌, inl, inr, List, [], ◌++◌, ◌∙◌, ap, sym, append_assoc, Option, None, Some, refl}
+-- What a reader that goes on or stops has shown.
+use Rattle.std.proofs.Common.{◌≡◌, ◌≢◌, ◌<◌, ◌≤◌, length, take, subst, arith, ℕ, inl, inr, List, [], ◌++◌, ◌∙◌, ap, sym, Option, None, Some, refl}
 use Rattle.std.proofs.lemmas.List.{append-nil}
 use Rattle.std.specs.Io.KnownBytes.{Consumes, IsAtEnd}
-use Rattle.uac_sentence.specs.declared.faults.GrammarFault.{GrammarFault}
 use Rattle.uac_grammar.specs.declared.fault.ReadStop.{ReadStop}
 use Rattle.uac_grammar.specs.declared.fault.ReadStop.TheVariants.{Fault, NoMemory}
-use Rattle.uac_grammar.specs.Stop.{stop_at, first_stop, shown_fault, shown_stop}
+use Rattle.uac_grammar.specs.Stop.{first_stop, shown_fault, shown_stop}
+use Rattle.uac_grammar.proofs.Readings.{no_stop_no_fault}
+use Rattle.uac_grammar.proofs.Stops.{stop_at-Fault}
 use Rattle.uac_cli.specs.declared.reading.Reading.{Reading}
 use Rattle.uac_cli.specs.declared.reading.Reading.TheVariants.{Whole, Stopped, Failed}
 use Rattle.uac_sentence.specs.Cutting.{chop, chop_within}
 use Rattle.uac_sentence.specs.Fault.{faults_from}
 use Rattle.uac_sentence.specs.Grammar.{first_fault, grammar, rule_at_end, start}
 use Rattle.uac_cli.specs.Reading.{piece_size, StopsThere, Comes, Reads, Finishes}
-
--- no bytes were taken
-pub Consumes-none : (a : Option (List ℕ)) → Consumes a a []
-Consumes-none None = tt
-Consumes-none (Some xs) = refl
-
--- these bytes, and then those
-pub Consumes-Consumes : (a b c : Option (List ℕ)) (xs ys : List ℕ) → Consumes a b xs → Consumes b c ys → Consumes a c (xs ++ ys)
-Consumes-Consumes None b c xs ys p q = tt
-Consumes-Consumes (Some a) None c xs ys p q = absurd p
-Consumes-Consumes (Some a) (Some b) None xs ys p q = absurd q
-Consumes-Consumes (Some a) (Some b) (Some c) xs ys p q = p ∙ ap (λ zs. xs ++ zs) q ∙ sym (append_assoc xs ys c)
-
--- a stop at a fault is that fault
-stop_at-Fault : (found : Option GrammarFault) (fault : GrammarFault) → stop_at found ≡ Some (Fault fault) → found ≡ Some fault
-stop_at-Fault None fault e = absurd (cc)
-stop_at-Fault (Some f) fault e = cc
-
--- no stop is no fault
-stop_at-None : (found : Option GrammarFault) → stop_at found ≡ None → found ≡ None
-stop_at-None None e = refl
-stop_at-None (Some f) e = absurd (cc)
+use Rattle.uac_script.proofs.Consuming.{Consumes-Consumes}
 
 -- no bytes show nothing: their fault is that the configuration is missing
 pub nothing_shown : shown_fault [] ≡ None
@@ -68,7 +48,7 @@ stopped_at a b c before after taken piece (Fault f) told p q quiet short e shown
 pub went_on : (taken piece taken' : List ℕ) (told : Option ReadStop) → told ≡ None → taken' ≡ taken ++ piece
     → (told ≢ Some NoMemory → told ≡ shown_stop (taken ++ piece)) → shown_fault taken' ≡ None
 went_on taken piece taken' told none e shown =
-    ap shown_fault e ∙ stop_at-None (shown_fault (taken ++ piece)) (sym (shown (λ n. cc)) ∙ none)
+    ap shown_fault e ∙ no_stop_no_fault (shown_fault (taken ++ piece)) (sym (shown (λ n. cc)) ∙ none)
 
 -- The verdict on all bytes, by what stopped it.
 pub finished_by : (taken : List ℕ) (stop : ReadStop) → (stop ≢ NoMemory → first_stop taken ≡ Some stop) → Finishes taken (Stopped stop)

@@ -1,3 +1,6 @@
 pub mod Answering
 pub mod Composing
+pub mod Describing
+pub mod Following
+pub mod Going
 pub mod Showing

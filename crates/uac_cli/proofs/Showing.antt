@@ -1,10 +1,6 @@
 -- A block's bytes begin with their number, and the blocks' bytes stand one after the other.
-use Rattle.std.proofs.Common.{Option, Bool, true, false, ◌==◌, decimal, ◌≡◌, ℕ, ◌+◌, ◌-◌, ◌<◌, ◌≤◌, List, [], ◌∷◌, ◌++◌, length, take, drop, get_or, flat_map, arith, refl, ap, sym, subst, ◌∙◌, append_assoc, length-append}
-use Rattle.std.proofs.lemmas.List.{get_or_append_left, take_at, drop_at, drop_more, drop-drop, length-drop, take-append-drop, take_rest}
-use Rattle.std.proofs.lemmas.Grind.{flat_map-append}
-use Rattle.std.specs.Io.KnownBytes.{Appends}
-use Rattle.uac_script.specs.Writing.{AppendsFront}
-use Rattle.uac_script.proofs.WritingLemmas.{AppendsFront-after, AppendsFront-longer}
+use Rattle.std.proofs.Common.{false, ◌==◌, decimal, ◌≡◌, ℕ, ◌+◌, ◌-◌, ◌<◌, ◌≤◌, List, [], ◌∷◌, ◌++◌, length, take, drop, get_or, flat_map, arith, refl, ap, sym, ◌∙◌, append_assoc, length-append}
+use Rattle.std.proofs.lemmas.List.{get_or_append_left, take_at, drop_at, drop_more, drop-drop, length-drop, take_rest}
 use Rattle.uac_descriptor.specs.declared.block.Block.{Block}
 use Rattle.uac_descriptor.specs.Laws.{HasSpelling}
 use Rattle.uac_descriptor.specs.Layout.{IsWhole}
@@ -62,22 +58,6 @@ bytes_more bytes place size i blocks b h is within rest n =
     let count : length (drop place bytes) ≡ length (spelling b) + length behind = ap length parts ∙ length-append (spelling b) behind in
     let left = length-drop place bytes in
     (omega arith, sym (drop-drop size place bytes) ∙ (ap (drop size) parts ∙ drop_at (spelling b) behind size (sym n)))
-
--- items up to this one, this one and the rest
-split_at : {X : Type 0} (xs : List X) (i : ℕ) (d : X) → i < length xs → xs ≡ take i xs ++ (get_or xs i d ∷ drop (i + 1) xs)
-split_at xs i d h = sym (ap (λ ys. take i xs ++ ys) (sym (drop_more xs i d h)) ∙ take-append-drop i xs)
-
--- a front of the text of each: the texts up to an item, and a front of its text
-pub front_of_each : {X : Type 0} (old mid new : Option (List ℕ)) (f : X → List ℕ) (xs : List X) (i : ℕ) (d : X) (text : List ℕ) → i < length xs
-    → Appends old mid (flat_map f (take i xs)) → AppendsFront mid new text → text ≡ f (get_or xs i d) → AppendsFront old new (flat_map f xs)
-front_of_each old mid new f xs i d text h before front is =
-    let rest : List ℕ = flat_map f (drop (i + 1) xs) in
-    let whole : (flat_map f (take i xs) ++ text) ++ rest ≡ flat_map f xs =
-    append_assoc (flat_map f (take i xs)) text rest
-    ∙ (ap (λ ys. flat_map f (take i xs) ++ (ys ++ rest)) is
-    ∙ (sym (flat_map-append f (take i xs) (get_or xs i d ∷ drop (i + 1) xs)) ∙ ap (flat_map f) (sym (split_at xs i d h)))) in
-    subst (λ (t : List ℕ). AppendsFront old new t) whole
-    (AppendsFront-longer old new (flat_map f (take i xs) ++ text) rest (AppendsFront-after old mid new (flat_map f (take i xs)) text before front))
 
 -- the first id, and the others behind it
 pub ids_parts : (ids text : List ℕ) → false ≡ (length ids == 0) → text ≡ decimal (get_or ids 0 0) → text ++ more_ids (take (length ids - 1) (drop 1 ids)) ≡ ids_text ids

@@ -9,7 +9,7 @@ use Rattle.uac_rules.specs.declared.fault.TopologyFault.{TopologyFault}
 use Rattle.uac_topology.specs.Function.{FunctionFields}
 use Rattle.uac_topology.specs.Topology.{first_broken, IsSound, IsFunctionOf}
 use Rattle.uac_cli.specs.declared.command.Command.{Command}
-use Rattle.uac_cli.specs.declared.command.Command.TheVariants.{Check, Show}
+use Rattle.uac_cli.specs.declared.command.Command.TheVariants.{Check, Show, Run}
 use Rattle.uac_cli.specs.declared.status.Status.{Status}
 use Rattle.uac_cli.specs.declared.status.Status.TheVariants as statuses
 use Rattle.uac_cli.specs.Entities.{entity_line}
@@ -30,7 +30,7 @@ pub record Outcome : Type 0 where
   pub status : Status
 
 abbrev pub usage : Outcome
-usage = record { text = codes "usage: uac_cli check|show\n"; status = statuses.Usage }
+usage = record { text = codes "usage: uac_cli check|show|run\n"; status = statuses.Usage }
 
 abbrev pub read_fault : Outcome
 read_fault = record { text = codes "read fault\n"; status = statuses.ReadFault }
@@ -56,12 +56,13 @@ unsound fault = record {
   status = statuses.Descriptor;
 }
 
--- what a command prints of a sound descriptor, its blocks and its function
+-- what a command prints of a sound descriptor, its blocks and its function; `run` reads none whole and prints lines of its own
 abbrev pub text_of : Command → List Block → FunctionFields → List ℕ
 text_of Check blocks function =
     codes "ok blocks " ++ decimal (length blocks) ++ codes " entities " ++ decimal (length function.entities)
     ++ codes " streams " ++ decimal (length function.streams) ++ codes " domains " ++ decimal (length function.domains) ++ codes "\n"
 text_of Show blocks function = block_lines 0 blocks ++ flat_map entity_line function.entities
+text_of Run blocks function = []
 
 -- a descriptor is sound
 abbrev pub sound : Command → List Block → FunctionFields → Outcome

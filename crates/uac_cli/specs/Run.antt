@@ -1,18 +1,22 @@
 -- One call of the program, as its source and its sink see it (profile).
-use Rattle.std.specs.Prelude.{◌≡◌, ℕ, ◌⊎◌, List, Option, Some, IsSome}
+use Rattle.std.specs.Prelude.{◌≡◌, ◌≢◌, ◌≤◌, ℕ, ◌+◌, ◌⊎◌, List, length, Option, Some, IsSome}
 use Rattle.std.specs.Io.KnownBytes.{Appends, Consumes, IsAtEnd}
 use Rattle.uac_script.specs.Faults.{Rose}
 use Rattle.uac_script.specs.Writing.{AppendsFront}
+use Rattle.uac_script.specs.Lines.{most_of_input}
+use Rattle.uac_units.specs.Hearing.{Reading}
 use Rattle.uac_topology.specs.declared.soundness.CheckStop.{CheckStop}
 use Rattle.uac_topology.specs.declared.soundness.CheckStop.TheVariants as check
 use Rattle.uac_cli.specs.declared.command.Command.{Command}
+use Rattle.uac_cli.specs.declared.command.Command.TheVariants.{Run}
 use Rattle.uac_cli.specs.declared.status.Status.{Status}
 use Rattle.uac_cli.specs.declared.status.Status.TheVariants as statuses
 use Rattle.uac_grammar.specs.declared.fault.ReadStop.TheVariants.{Fault, NoMemory}
 use Rattle.uac_descriptor.specs.declared.block.Block.{Block}
 use Rattle.uac_grammar.specs.declared.fault.ReadStop.{ReadStop}
 use Rattle.uac_cli.specs.Reading.{StopsThere}
-use Rattle.uac_cli.specs.Outcome.{End, at_end, read_failed, stopped, Outcome, no_memory, refusal, unsound, IsVerdict, IsOutcome}
+use Rattle.uac_cli.specs.Outcome.{End, at_end, read_failed, stopped, Outcome, no_memory, refusal, unsound, IsVerdict, Answers, IsOutcome}
+use Rattle.uac_cli.specs.Transcript.{Ending, transcript}
 
 -- why no more was taken shows on the source: what is left, and its counts of faults before and after
 abbrev pub HasEnded : End → Option (List ℕ) → ℕ → ℕ → Type 0
@@ -26,16 +30,39 @@ Closes outcome old new before after status =
     ((status ≡ outcome.status) × Appends old new outcome.text)
     ⊎ ((status ≡ statuses.WriteFault) × Rose before after × AppendsFront old new outcome.text)
 
--- The bytes that were taken, why no more were, that all but at most the last 4,096 of them show no fault, and what they come to; or there
--- was no memory.
-pub record IsRun (command : Option Command) (left left' : Option (List ℕ)) (reads reads' : ℕ) (written written' : Option (List ℕ)) (writes writes' : ℕ) (status : Status) : Type 0 where
+-- How many bytes are taken past what decides: of a descriptor all but at most the last 4,096 show no fault, and of a script at
+-- most one byte is taken past the limit.
+abbrev pub IsPrompt : Option Command → List ℕ → Type 0
+IsPrompt (Some Run) taken = length taken ≤ most_of_input + 1
+IsPrompt _ taken = StopsThere taken
+
+-- What a call comes to, with meters that show this at first.
+abbrev pub IsEnding : Option Command → List Reading → List ℕ → End → Ending → Type 0
+IsEnding (Some Run) shown taken end ending = ending ≡ transcript shown taken end
+IsEnding command shown taken end ending = IsOutcome command taken end ending.outcome × (ending.meters ≡ shown)
+
+-- The bytes that were taken, why no more were, and what they come to; or there was no memory, and then `no memory` is the whole text. Unless
+-- a write failed, the meters show at the end what they show in the world after the lines done.
+pub record IsRun (command : Option Command) (shown shown' : List Reading) (left left' : Option (List ℕ)) (reads reads' : ℕ) (written written' : Option (List ℕ)) (writes writes' : ℕ) (status : Status) : Type 0 where
+  pub taken : List ℕ
+  pub end : End
+  pub ending : Ending
+  pub consumed : Consumes left left' taken
+  pub ended : HasEnded end left' reads reads'
+  pub prompt : IsPrompt command taken
+  pub meant : IsEnding command shown taken end ending ⊎ (IsSome command × (ending ≡ record { outcome = no_memory; meters = shown }))
+  pub closed : Closes ending.outcome written written' writes writes' status
+  pub heard : status ≢ statuses.WriteFault → shown' ≡ ending.meters
+
+-- The same of a command that reads one descriptor, and of its outcome alone.
+pub record IsAnswered (command : Command) (left left' : Option (List ℕ)) (reads reads' : ℕ) (written written' : Option (List ℕ)) (writes writes' : ℕ) (status : Status) : Type 0 where
   pub taken : List ℕ
   pub end : End
   pub outcome : Outcome
   pub consumed : Consumes left left' taken
   pub ended : HasEnded end left' reads reads'
   pub prompt : StopsThere taken
-  pub meant : IsOutcome command taken end outcome ⊎ (IsSome command × (outcome ≡ no_memory))
+  pub meant : Answers command taken end outcome ⊎ (outcome ≡ no_memory)
   pub closed : Closes outcome written written' writes writes' status
 
 -- what is printed of a descriptor that is refused, or for which there was no memory

@@ -8,6 +8,8 @@ pub enum Command {
     Check,
     /// Lists a sound descriptor's blocks and entities.
     Show,
+    /// Runs a script.
+    Run,
 }
 
 impl Command {
@@ -31,6 +33,8 @@ impl Command {
             Some(Command::Check)
         } else if word == "show" {
             Some(Command::Show)
+        } else if word == "run" {
+            Some(Command::Run)
         } else {
             None
         }

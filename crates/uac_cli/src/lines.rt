@@ -3,17 +3,20 @@ ghost use Rattle.std.specs.Prelude.{◌≡◌, ◌≤◌, length};
 ghost use Rattle.uac_cli.specs.declared.command.Command.TheVariants.{Check};
 ghost use Rattle.uac_cli.specs.Outcome.{offender, refusal, text_of, unsound};
 ghost use Rattle.uac_cli.specs.Show.{kind_of, line_of};
+ghost use Rattle.uac_cli.specs.Transcript.{misread};
 
 use uac_descriptor::Block;
 use uac_grammar::GrammarFault;
 use uac_script::TextLine;
 use uac_topology::{Function, TopologyFault};
 
-pub const USAGE: &[u8] = b"usage: uac_cli check|show\n";
+pub const USAGE: &[u8] = b"usage: uac_cli check|show|run\n";
 
 pub const READ_FAULT: &[u8] = b"read fault\n";
 
 pub const NO_MEMORY: &[u8] = b"no memory\n";
+
+pub const TOO_LONG: &[u8] = b"input too long\n";
 
 /// `check`'s line for a sound descriptor.
 pub fn sound_line(blocks: &[Block], function: &Function) -> TextLine<160>
@@ -66,6 +69,19 @@ pub fn refusal_line(fault: &GrammarFault) -> TextLine<64>
     line.push_number(u64::from(fault.rule));
     line.push(b" at ");
     line.push_number(u64::from(fault.at));
+    line.push(b"\n");
+    line
+}
+
+/// The line for a script whose line of this number breaks a rule.
+pub fn misread_line(rule: u8, number: u64) -> TextLine<64>
+    ensures { result ≡ (misread rule number).text }
+{
+    let mut line = TextLine::new();
+    line.push(b"script S");
+    line.push_number(u64::from(rule));
+    line.push(b" line ");
+    line.push_number(number);
     line.push(b"\n");
     line
 }

@@ -1,6 +1,9 @@
-//! The program `uac_cli`: reads a configuration descriptor from standard input and says whether it is sound, or lists it.
+//! The program `uac_cli`: reads a configuration descriptor from standard input and says whether it is sound, or lists it; or runs
+//! a script on a device.
 #![tactic(auto)]
 
+/// The boxes of the program: its units and its meters.
+mod boxes;
 /// The words of the command line.
 mod command;
 /// Standard input and output.
@@ -11,6 +14,8 @@ mod entities;
 mod lines;
 /// Reading a descriptor from a source.
 mod reading;
+/// Running a script.
+mod running;
 /// Printing the blocks of a descriptor.
 mod show;
 /// How a run ends.
@@ -20,6 +25,7 @@ mod tests;
 /// The top call.
 mod top;
 
+use boxes::run_in_boxes;
 use edges::{StdSink, StdSource};
 use lines::NO_MEMORY;
 pub use status::Status;
@@ -28,7 +34,7 @@ use std::env::{self, Args};
 use std::io::{self, ErrorKind};
 use std::process::ExitCode;
 use top::close;
-pub use top::uac_main;
+pub use top::{Racks, uac_main};
 use uac_descriptor::NoMemory;
 
 fn main(rt: HostRuntime) -> ExitCode {
@@ -36,7 +42,10 @@ fn main(rt: HostRuntime) -> ExitCode {
     let mut source = StdSource::new(rt.stdin());
     let mut sink = StdSink::new(rt.stdout());
     let status = match words(alloc, env::args(&rt)) {
-        Ok(words) => uac_main(alloc, &words, &mut source, &mut sink),
+        Ok(words) => match run_in_boxes(alloc, &words, &mut source, &mut sink) {
+            Ok(status) => status,
+            Err(_) => close(&mut sink, NO_MEMORY, Status::NoMemory),
+        },
         Err(NoMemory) => close(&mut sink, NO_MEMORY, Status::NoMemory),
     };
     ExitCode::from(status as u8)

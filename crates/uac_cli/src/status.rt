@@ -8,6 +8,8 @@ pub enum Status {
     Ok = 0,
     /// The descriptor breaks a rule.
     Descriptor = 1,
+    /// A line of the script breaks a rule.
+    Script = 2,
     /// The words of the command line are refused.
     Usage = 3,
     /// A read failed.
@@ -16,4 +18,6 @@ pub enum Status {
     WriteFault = 5,
     /// There was no memory.
     NoMemory = 6,
+    /// The input is too long.
+    TooLong = 7,
 }

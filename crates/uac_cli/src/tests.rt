@@ -51,7 +51,7 @@ fn checked(
     }
     let mut source = MemorySource::new(ByteList::from_vec(items), cut, numbers(alloc, &[])?);
     let mut sink = sink_in_memory(alloc, 64, &[])?;
-    let status = uac_main(alloc, &words(alloc, "check")?, &mut source, &mut sink);
+    let status = run_in_boxes(alloc, &words(alloc, "check")?, &mut source, &mut sink)?;
     Ok((status, sink))
 }
 
@@ -89,7 +89,7 @@ fn read_fault_at_the_second_call(rt: HostRuntime) -> Result<(), Fail> {
     let alloc = rt.alloc();
     let mut source = MemorySource::new(bytes(alloc, &MINIMAL)?, 9, numbers(alloc, &[2])?);
     let mut sink = sink_in_memory(alloc, 64, &[])?;
-    let status = uac_main(alloc, &words(alloc, "show")?, &mut source, &mut sink);
+    let status = run_in_boxes(alloc, &words(alloc, "show")?, &mut source, &mut sink)?;
     assert_eq!(rt; status, Status::ReadFault);
     assert_eq!(rt; sink.written(), b"read fault\n".as_slice());
     Ok(())
@@ -118,7 +118,7 @@ fn write_fault_at_each_call(rt: HostRuntime) -> Result<(), Fail> {
     ] {
         let mut source = SteadySource::new(bytes(alloc, &MINIMAL)?);
         let mut sink = sink_in_memory(alloc, 64, &[call])?;
-        let got = uac_main(alloc, &words(alloc, "show")?, &mut source, &mut sink);
+        let got = run_in_boxes(alloc, &words(alloc, "show")?, &mut source, &mut sink)?;
         assert_eq!(rt; got, status);
         assert_eq!(rt; sink.written(), written.as_bytes());
     }
@@ -130,8 +130,95 @@ fn other_words_take_nothing(rt: HostRuntime) -> Result<(), Fail> {
     let alloc = rt.alloc();
     let mut source = MemorySource::new(bytes(alloc, &MINIMAL)?, 9, numbers(alloc, &[1])?);
     let mut sink = sink_in_memory(alloc, 64, &[])?;
-    let status = uac_main(alloc, &[], &mut source, &mut sink);
+    let status = run_in_boxes(alloc, &[], &mut source, &mut sink)?;
     assert_eq!(rt; status, Status::Usage);
-    assert_eq!(rt; sink.written(), b"usage: uac_cli check|show\n".as_slice());
+    assert_eq!(rt;
+        sink.written(),
+        b"usage: uac_cli check|show|run\n".as_slice()
+    );
+    Ok(())
+}
+
+/// `run` of a script, whose source moves so many bytes in a call and fails at these calls.
+fn ran(
+    alloc: Global,
+    cut: usize,
+    script: &[u8],
+    failing: &[u32],
+) -> Result<(Status, MemorySink), Fail>
+    requires { 0 < cut }
+{
+    let mut source = MemorySource::new(bytes(alloc, script)?, cut, numbers(alloc, failing)?);
+    let mut sink = sink_in_memory(alloc, 64, &[])?;
+    let status = run_in_boxes(alloc, &words(alloc, "run")?, &mut source, &mut sink)?;
+    Ok((status, sink))
+}
+
+#[test]
+fn scripts_without_a_descriptor(rt: HostRuntime) -> Result<(), Fail> {
+    let alloc = rt.alloc();
+    for (script, text, status) in [
+        ("", "script S8 line 1\n", Status::Script),
+        ("x", "script S2 line 1\n", Status::Script),
+        ("# a\n\n", "script S8 line 3\n", Status::Script),
+        ("#\nm 1\n", "script S5 line 2\n", Status::Script),
+        ("g\n", "descriptor G1 at 0\n", Status::Descriptor),
+    ] {
+        let (got, whole) = ran(alloc, 64, script.as_bytes(), &[])?;
+        let (same, in_pieces) = ran(alloc, 1, script.as_bytes(), &[])?;
+        assert_eq!(rt; got, status, "{text}");
+        assert_eq!(rt; same, status, "{text}");
+        assert_eq!(rt; whole.written(), text.as_bytes(), "{text}");
+        assert_eq!(rt; in_pieces.written(), text.as_bytes(), "{text}");
+    }
+    Ok(())
+}
+
+#[test]
+fn third_line_is_too_long(rt: HostRuntime) -> Result<(), Fail> {
+    let alloc = rt.alloc();
+    let mut script = Vec::from_slice(alloc, b"#\n#\n")?;
+    for _ in 0..4097 {
+        script.push(b'#')?;
+    }
+    let (status, sink) = ran(alloc, 100, script.as_slice(), &[])?;
+    assert_eq!(rt; status, Status::Script);
+    assert_eq!(rt; sink.written(), b"script S1 line 3\n".as_slice());
+    Ok(())
+}
+
+#[test]
+fn script_fails_at_its_second_call(rt: HostRuntime) -> Result<(), Fail> {
+    let alloc = rt.alloc();
+    let (status, sink) = ran(alloc, 1, b"#\nx\n", &[2])?;
+    assert_eq!(rt; status, Status::ReadFault);
+    assert_eq!(rt; sink.written(), b"read fault\n".as_slice());
+    Ok(())
+}
+
+#[test]
+fn no_call_behind_the_end(rt: HostRuntime) -> Result<(), Fail> {
+    let alloc = rt.alloc();
+    let (status, sink) = ran(alloc, 64, b"#", &[3])?;
+    assert_eq!(rt; status, Status::Script);
+    assert_eq!(rt; sink.written(), b"script S8 line 2\n".as_slice());
+    Ok(())
+}
+
+#[test]
+fn two_words_are_no_command(rt: HostRuntime) -> Result<(), Fail> {
+    let alloc = rt.alloc();
+    let words = vec![in alloc;
+        String::from_str(alloc, "run")?,
+        String::from_str(alloc, "7")?,
+    ]?;
+    let mut source = MemorySource::new(bytes(alloc, &MINIMAL)?, 9, numbers(alloc, &[])?);
+    let mut sink = sink_in_memory(alloc, 64, &[])?;
+    let status = run_in_boxes(alloc, &words, &mut source, &mut sink)?;
+    assert_eq!(rt; status, Status::Usage);
+    assert_eq!(rt;
+        sink.written(),
+        b"usage: uac_cli check|show|run\n".as_slice()
+    );
     Ok(())
 }

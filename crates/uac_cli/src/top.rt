@@ -1,17 +1,20 @@
 // The top call: from the words and the bytes of a source to the text in a sink and a status.
-ghost use Rattle.std.specs.Prelude.{◌≡◌, ◌⊎◌, flat_map, map, string_bytes, Some};
+ghost use Rattle.std.specs.Prelude.{◌≡◌, ◌⊎◌, flat_map, map, string_bytes};
 ghost use Rattle.std.specs.Io.KnownBytes.{IsAtEnd};
 ghost use Rattle.uac_descriptor.specs.Spelling.{spelling};
 ghost use Rattle.uac_script.specs.Faults.{Rose, HasCause};
 ghost use Rattle.uac_script.specs.Writing.{Writes};
+ghost use Rattle.uac_units.specs.Fitting.{IsFitted};
+ghost use Rattle.uac_units.specs.Panel.{readings};
 ghost use Rattle.uac_cli.specs.Command.{command_of};
 ghost use Rattle.uac_cli.specs.Outcome.{no_memory, sound, text_of};
-ghost use Rattle.uac_cli.specs.Run.{IsRun, Closes, Judges, Refuses, RefusesFunction};
+ghost use Rattle.uac_cli.specs.Run.{IsRun, IsAnswered, Closes, Judges, Refuses, RefusesFunction};
 
 use crate::command::Command;
 use crate::entities::write_entities;
 use crate::lines::{NO_MEMORY, READ_FAULT, USAGE, refusal_line, sound_line, unsound_line};
 use crate::reading::{Reading, read_descriptor};
+use crate::running::run_script;
 use crate::show::{bytes_of, write_blocks};
 use crate::status::Status;
 use std::alloc::Global;
@@ -19,18 +22,33 @@ use uac_descriptor::{Block, NoMemory};
 use uac_grammar::ReadStop;
 use uac_script::{Failed, Sink, Source, give_all};
 use uac_topology::{CheckStop, Function, check};
+use uac_units::{Meter, Meters, Rack, Unit};
+
+/// The units with which graphs are rendered: one sample after the other, and many side by side.
+#[derive(Drop)]
+pub struct Racks {
+    pub plain: Rack,
+    pub lanes: Rack,
+}
 
 /// Runs the program: `words` are those behind its name. `check` and `show` read a descriptor from the source, to its end or to the
-/// first fault that its bytes show, and write the verdict, or the blocks and the entities, to the sink; every other list of words takes nothing and is
-/// answered by the usage line.
+/// first fault that its bytes show, and write the verdict, or the blocks and the entities, to the sink. `run` does the lines of a
+/// script, to its end or to the first that is refused: they are rendered with the racks' units and heard by the meters. Every
+/// other list of words takes nothing and is answered by the usage line.
 pub fn uac_main<S: Source, K: Sink>(
     alloc: Global,
     words: &[String],
     source: &mut S,
     sink: &mut K,
+    racks: &Racks,
+    meters: &mut Meters,
 ) -> Status
-    // Status and text follow from the words and the bytes that were taken.
+    requires plain { IsFitted (λ v x. (⟦<dyn Unit as Unit>⟧ v).kind_of x) racks.now.plain }
+    requires lanes { IsFitted (λ v x. (⟦<dyn Unit as Unit>⟧ v).kind_of x) racks.now.lanes }
+
+    // Status, text and what the meters show follow from the words and the bytes that were taken.
     ensures run { IsRun (command_of (map (λ word. string_bytes word) words.now))
+        (readings (λ v x. (⟦<dyn Meter as Meter>⟧ v).reading_of x) meters.old) (readings (λ v x. (⟦<dyn Meter as Meter>⟧ v).reading_of x) meters.new)
         (S.left source.old) (S.left source.new) (S.faults source.old) (S.faults source.new)
         (K.written sink.old) (K.written sink.new) (K.faults sink.old) (K.faults sink.new) result }
 
@@ -42,15 +60,25 @@ pub fn uac_main<S: Source, K: Sink>(
     ensures ok { result ≡ Status.Ok → IsAtEnd (S.left source.new) }
 {
     match Command::of(words) {
-        Some(command) => run(alloc, command, source, sink),
+        Some(Command::Check) => describe(alloc, Command::Check, source, sink),
+        Some(Command::Show) => describe(alloc, Command::Show, source, sink),
+        Some(Command::Run) => run_script(alloc, source, sink, &racks.plain, meters),
         None => close(sink, USAGE, Status::Usage),
     }
 }
 
 /// Reads a descriptor and prints what the command says of it.
-fn run<S: Source, K: Sink>(alloc: Global, command: Command, source: &mut S, sink: &mut K) -> Status
-    ensures { IsRun (Some command) (S.left source.old) (S.left source.new) (S.faults source.old) (S.faults source.new)
+fn describe<S: Source, K: Sink>(
+    alloc: Global,
+    command: Command,
+    source: &mut S,
+    sink: &mut K,
+) -> Status
+    ensures answered { IsAnswered command (S.left source.old) (S.left source.new) (S.faults source.old) (S.faults source.new)
         (K.written sink.old) (K.written sink.new) (K.faults sink.old) (K.faults sink.new) result }
+    ensures read_fault { result ≡ Status.ReadFault → Rose (S.faults source.old) (S.faults source.new) }
+    ensures write_fault { result ≡ Status.WriteFault → Rose (K.faults sink.old) (K.faults sink.new) }
+    ensures ok { result ≡ Status.Ok → IsAtEnd (S.left source.new) }
 {
     match read_descriptor(alloc, source) {
         Reading::Whole(blocks) => judge(alloc, command, &blocks, sink),
@@ -93,6 +121,7 @@ fn print<K: Sink>(
     match command {
         Command::Check => close(sink, sound_line(blocks, function).as_bytes(), Status::Ok),
         Command::Show => show(alloc, blocks, function, sink),
+        Command::Run => close(sink, b"", Status::Ok),
     }
 }
 

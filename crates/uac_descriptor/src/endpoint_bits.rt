@@ -1,10 +1,10 @@
-// The bits D0 to D5 of an endpoint's attributes, by name.
+// The bits 0 to 5 of an endpoint's attributes, by name.
 ghost use Rattle.std.specs.Prelude.{⊤, ◌≡◌, ◌==◌, [], ◌∷◌, codes};
 ghost use Rattle.uac_descriptor.specs.Endpoints.{transfer_type, synchronization_type, usage_type};
 
 use bitflags::{Flag, Flags, bitflag_items};
 
-/// The bits D0 to D5 of an endpoint's attributes (USB 2.0, 9.6.6): two for the kind of transfer, two for
+/// The bits 0 to 5 of an endpoint's attributes (USB 2.0, 9.6.6): two for the kind of transfer, two for
 /// the synchronization, two for the usage.
 #[derive(Clone, Copy, PartialEq, Eq, Debug)]
 pub struct EndpointBits(u8);
@@ -43,14 +43,14 @@ impl Flags for EndpointBits {
 }
 
 impl EndpointBits {
-    /// The bits of these attributes. Bits D6 and D7 are kept and belong to no name.
+    /// The bits of these attributes. Bits 6 and 7 are kept and belong to no name.
     pub fn of(attributes: u8) -> EndpointBits
         ensures { result.0 ≡ attributes }
     {
         EndpointBits(attributes)
     }
 
-    /// Whether the transfers are isochronous: D1..0 is 01.
+    /// Whether the transfers are isochronous: bits 1 and 0 are 01.
     #[tactic(auto, using(crate::proofs::EndpointLemmas::isochronous))]
     pub fn is_isochronous(self) -> bool
         ensures { result ≡ (transfer_type self.0 == 1) }
@@ -60,7 +60,7 @@ impl EndpointBits {
         isochronous & !bulk
     }
 
-    /// Whether the endpoint is asynchronous: D3..2 is 01.
+    /// Whether the endpoint is asynchronous: bits 3 and 2 are 01.
     #[tactic(auto, using(crate::proofs::EndpointLemmas::asynchronous))]
     pub fn is_asynchronous(self) -> bool
         ensures { result ≡ (synchronization_type self.0 == 1) }
@@ -70,7 +70,7 @@ impl EndpointBits {
         asynchronous & !adaptive
     }
 
-    /// Whether it carries data alone: D5..4 is 00.
+    /// Whether it carries data alone: bits 5 and 4 are 00.
     #[tactic(auto, using(crate::proofs::EndpointLemmas::data_alone))]
     pub fn is_data(self) -> bool
         ensures { result ≡ (usage_type self.0 == 0) }
@@ -80,7 +80,7 @@ impl EndpointBits {
         !feedback & !implicit
     }
 
-    /// Whether it carries feedback: D5..4 is 01.
+    /// Whether it carries feedback: bits 5 and 4 are 01.
     #[tactic(auto, using(crate::proofs::EndpointLemmas::feedback_alone))]
     pub fn is_feedback(self) -> bool
         ensures { result ≡ (usage_type self.0 == 1) }
@@ -90,7 +90,7 @@ impl EndpointBits {
         feedback & !implicit
     }
 
-    /// Whether it carries data that is feedback too: D5..4 is 10.
+    /// Whether it carries data that is feedback too: bits 5 and 4 are 10.
     #[tactic(auto, using(crate::proofs::EndpointLemmas::implicit_feedback))]
     pub fn is_implicit_feedback(self) -> bool
         ensures { result ≡ (usage_type self.0 == 2) }

@@ -72,14 +72,14 @@ impl Endpoint {
     ghost use Rattle.std.specs.Prelude.{◌≡◌};
     ghost use Rattle.uac_descriptor.specs.Endpoints.{packet_size, additional_transactions};
 
-    /// The bytes of one transaction: D10..0 of wMaxPacketSize.
+    /// The bytes of one transaction: bits 10 to 0 of wMaxPacketSize.
     pub fn packet_size(&self) -> u16
         ensures { result ≡ packet_size self.now.max_packet }
     {
         self.max_packet % 2048
     }
 
-    /// The transactions that a microframe has besides the first: D12..11 of wMaxPacketSize.
+    /// The transactions that a microframe has besides the first: bits 12 and 11 of wMaxPacketSize.
     pub fn additional_transactions(&self) -> u16
         ensures { result ≡ additional_transactions self.now.max_packet }
     {

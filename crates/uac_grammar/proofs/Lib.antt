@@ -3,3 +3,4 @@ pub mod RowsIn
 pub mod Verdicts
 pub mod Readings
 pub mod Worked
+pub mod Stops

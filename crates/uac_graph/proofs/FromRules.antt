@@ -5,8 +5,6 @@ use Rattle.std.specs.Option.{option_map, option_map_or, is_none}
 use Rattle.std.proofs.lemmas.Bool.{eqb-true, eq-eqb, or_parts, ltb-false}
 use Rattle.std.proofs.lemmas.List.{get_or_default, get_or-take, length-take-le}
 use Rattle.std.proofs.lemmas.List.Sums.{position_or_len_is}
-use Rattle.std.proofs.lemmas.Simd.{map-map}
-use Rattle.uac_descriptor.specs.declared.block.Block as block
 use Rattle.uac_walk.specs.Walk.{links, has_walk}
 use Rattle.uac_walk.proofs.Walks.{none_at}
 use Rattle.uac_entities.specs.Entities.{entities_of, no_cluster}
@@ -15,58 +13,23 @@ use Rattle.uac_entities.specs.declared.entity.Entity.{Entity}
 use Rattle.uac_entities.specs.declared.entity.EntityKind.{EntityKind}
 use Rattle.uac_entities.specs.declared.entity.EntityKind.TheVariants as kind
 use Rattle.uac_rules.specs.Clusters.{cluster_of, cluster_step, clustered, inputs, pins, takes_over}
-use Rattle.uac_rules.specs.Faults.{broken, broken_ends, broken_shapes, broken_walks}
 use Rattle.uac_rules.specs.Links.{is_clock, signal_links, signal_sources}
-use Rattle.uac_rules.specs.Rules.{breaks_u2, breaks_u3, breaks_u4, breaks_u6, breaks_u8, breaks_u10, breaks_u14, has_own_cluster, is_selector, is_silent, too_large}
+use Rattle.uac_rules.specs.Rules.{breaks_u2, breaks_u3, breaks_u4, breaks_u6, breaks_u8, breaks_u10, breaks_u14, has_own_cluster, is_output, is_selector, is_silent, too_large}
 use Rattle.uac_rules.specs.Table.{at, found, kind_of, nothing, place_of, with_cluster}
 use Rattle.uac_rules.proofs.Along.{cluster_is}
-use Rattle.uac_rules.proofs.FirstPlace.{breaks_none}
-use Rattle.uac_rules.proofs.Sound.{has_names, or_none}
 use Rattle.uac_rules.proofs.TableSteps.{found_is}
 use Rattle.uac_topology.specs.Function.{FunctionFields}
-use Rattle.uac_topology.specs.Topology.{first_broken, IsFunctionOf, IsSound}
-use Rattle.uac_store.proofs.Soundness.{clustered-at, length-clustered, same_place, seen_alike}
-use Rattle.uac_graph.specs.Fitness.{FitsPins, IsSignalGraph, pin_channels}
+use Rattle.uac_topology.specs.Topology.{IsSoundFunction}
+use Rattle.uac_store.specs.Controls.{pins_of}
+use Rattle.uac_topology.proofs.SoundRules.{KeepsRules, rules_hold}
+use Rattle.uac_store.proofs.Soundness.{clustered-at, length-clustered, same_pins, same_place, seen_alike}
+use Rattle.uac_graph.specs.Fitness.{FitsPins, IsSignalGraph}
 use Rattle.uac_graph.specs.Meaning.{entity}
-use Rattle.uac_rules.proofs.KnownSteps.{map_same}
 use Rattle.uac_graph.proofs.Links.{links_at}
 use Rattle.uac_graph.proofs.OneSource.{IsOne, one_source}
 
--- what is used of sound entities
-record Holds (es : List Entity) : Type 0 where
-  u2 : (k : ℕ) → k < length es → breaks_u2 es k ≡ false
-  u3 : (k : ℕ) → k < length es → breaks_u3 es k ≡ false
-  u4 : (k : ℕ) → k < length es → breaks_u4 es k ≡ false
-  u6 : (k : ℕ) → k < length es → breaks_u6 es k ≡ false
-  u8 : (k : ℕ) → k < length es → breaks_u8 es k ≡ false
-  u10 : (k : ℕ) → k < length es → breaks_u10 es k ≡ false
-  u14 : (k : ℕ) → k < length es → breaks_u14 es k ≡ false
-  one : (k : ℕ) → k < length es → IsOne (at es k).kind (at es k).sources
-
-rules_hold : (blocks : List block.Block) → IsSound blocks → Holds (entities_of blocks)
-unfolding first_broken broken broken_walks broken_shapes broken_ends at
-rules_hold blocks sound =
-    let es = entities_of blocks in
-    let names = or_none _ _ sound in
-    let walks = or_none _ _ names.1 in
-    let shapes = or_none _ _ walks.1 in
-    let ends = or_none _ _ shapes.1 in
-    let u8 = or_none _ _ shapes.0 in
-    let u9 = or_none _ _ u8.1 in
-    let u12 = or_none _ _ ends.0 in
-    let u13 = or_none _ _ u12.1 in
-    record {
-      u2 = breaks_none 2 es breaks_u2 (has_names es names.0).u2;
-      u3 = breaks_none 3 es breaks_u3 (has_names es names.0).u3;
-      u4 = breaks_none 4 es breaks_u4 (has_names es names.0).u4;
-      u6 = breaks_none 6 es breaks_u6 (or_none _ _ walks.0).0;
-      u8 = breaks_none 8 es breaks_u8 u8.0;
-      u10 = breaks_none 10 es breaks_u10 (or_none _ _ u9.1).0;
-      u14 = breaks_none 14 es breaks_u14 (or_none _ _ u13.1).0;
-      one = one_source blocks nothing;
-    }
-
-module _ (es : List Entity) (h : Holds es) where
+-- the entities keep the rules, and those whose blocks name one source have one
+module _ (es : List Entity) (h : KeepsRules es) (one : (k : ℕ) → k < length es → IsOne (at es k).kind (at es k).sources) where
   -- an id names the entity that has it
   first_place : (k : ℕ) → k < length es → place_of es (at es k).id ≡ k
   unfolding breaks_u2 at place_of
@@ -78,9 +41,11 @@ module _ (es : List Entity) (h : Holds es) where
       ∙ none_at (λ (e : Entity). eqb e.id (at es k).id) (take k es) j nothing early (h.u2 k below))
       (λ _. eq-eqb (at es k).id (at es k).id refl)
 
-  -- a source is an entity that puts out a signal
+  -- a source is an entity that puts out a signal: no clock entity and no output terminal
   source_there : (k i : ℕ) → k < length es → i < length (signal_sources (at es k))
-      → (place_of es (get_or (signal_sources (at es k)) i 0) < length es) × (is_clock (at es (place_of es (get_or (signal_sources (at es k)) i 0))).kind ≡ false)
+      → (place_of es (get_or (signal_sources (at es k)) i 0) < length es)
+      × (is_clock (at es (place_of es (get_or (signal_sources (at es k)) i 0))).kind ≡ false)
+      × (is_output (at es (place_of es (get_or (signal_sources (at es k)) i 0))).kind ≡ false)
   unfolding breaks_u3 breaks_u4 kind_of
   source_there k i below inside =
       let s = get_or (signal_sources (at es k)) i 0 in
@@ -90,26 +55,21 @@ module _ (es : List Entity) (h : Holds es) where
     where
       by : (s : ℕ) (o : Option ℕ) → found es s ≡ o → is_none (option_map (λ p. (at es p).kind) (found es s)) ≡ false
           → is_silent (option_map (λ p. (at es p).kind) (found es s)) ≡ false
-          → (place_of es s < length es) × (is_clock (at es (place_of es s)).kind ≡ false)
+          → (place_of es s < length es) × (is_clock (at es (place_of es s)).kind ≡ false) × (is_output (at es (place_of es s)).kind ≡ false)
       by s None e some loud =
           let no : true ≡ false = ap (λ o. is_none (option_map (λ (p : ℕ). (at es p).kind) o)) (sym e) ∙ some in absurd (cc)
       by s (Some p) e some loud =
-          let is = found_is es s p (sym e) in (
+          let is = found_is es s p (sym e) in
+          let silent = or_parts _ _ (ap (λ o. is_silent (option_map (λ (q : ℕ). (at es q).kind) o)) (sym e) ∙ loud) in (
             omega (arith, is.0, is.1),
-            ap (λ (q : ℕ). is_clock (at es q).kind) is.1
-                ∙ (or_parts _ _ (ap (λ o. is_silent (option_map (λ (q : ℕ). (at es q).kind) o)) (sym e) ∙ loud)).0,
+            ap (λ (q : ℕ). is_clock (at es q).kind) is.1 ∙ silent.0,
+            ap (λ (q : ℕ). is_output (at es q).kind) is.1 ∙ silent.1,
           )
 
   -- the links of an entity, by its sources
   sources_at : (k : ℕ) → is_clock (at es k).kind ≡ false → links (signal_links es) k ≡ map (place_of es) (at es k).sources
   unfolding signal_sources
   sources_at k signal = links_at es k ∙ ap (λ (b : Bool). map (place_of es) (if b then [] else (at es k).sources)) signal
-
-  -- the channels of its pins
-  pins_at : (k : ℕ) → is_clock (at es k).kind ≡ false → pins es k ≡ map (λ s. (cluster_of es (place_of es s)).channels) (at es k).sources
-  unfolding pins
-  pins_at k signal =
-      ap (map (λ p. (cluster_of es p).channels)) (sources_at k signal) ∙ map-map (λ p. (cluster_of es p).channels) (place_of es) (at es k).sources
 
   -- an entity that takes over a cluster has that of its first source
   taken_over : (k : ℕ) → k < length es → takes_over (at es k).kind ≡ true
@@ -171,7 +131,7 @@ module _ (es : List Entity) (h : Holds es) where
       there =
           subst (λ (sources : List ℕ). (i : ℕ) → i < length sources
           → (place_of es (get_or sources i 0) < length es) × (is_clock (at es (place_of es (get_or sources i 0))).kind ≡ false))
-          (ap (λ (b : Bool). if b then [] else (at es k).sources) signal) (λ i inside. source_there k i below inside)
+          (ap (λ (b : Bool). if b then [] else (at es k).sources) signal) (λ i inside. let there = source_there k i below inside in (there.0, there.1))
 
       first : (sources : List ℕ) → list_any (has_walk (signal_links es) n) (map (place_of es) sources) ≡ false
           → ((i : ℕ) → i < length sources → (place_of es (get_or sources i 0) < length es) × (is_clock (at es (place_of es (get_or sources i 0))).kind ≡ false))
@@ -201,14 +161,9 @@ module _ (es : List Entity) (h : Holds es) where
   entity_clustered s below = ap (at (clustered es)) (same_place es s) ∙ at_clustered (place_of es s) below
 
   -- the pins of the entities with their clusters
-  pins_clustered : (k : ℕ) → k < length es → is_clock (at es k).kind ≡ false → pins es k ≡ pin_channels (clustered es) (at es k)
-  unfolding signal_sources
-  pins_clustered k below signal =
-      pins_at k signal
-      ∙ sym (
-      map_same (λ s. (entity (clustered es) s).cluster.channels) (λ s. (cluster_of es (place_of es s)).channels) (signal_sources (at es k))
-      (λ i inside. ap (λ (e : Entity). e.cluster.channels) (entity_clustered (get_or (signal_sources (at es k)) i 0) (source_there k i below inside).0))
-      ∙ ap (λ (b : Bool). map (λ s. (cluster_of es (place_of es s)).channels) (if b then [] else (at es k).sources)) signal)
+  pins_clustered : (k : ℕ) → is_clock (at es k).kind ≡ false → pins es k ≡ pins_of (clustered es) (at es k)
+  unfolding pins pins_of
+  pins_clustered k signal = ap (map (λ p. (cluster_of es p).channels)) (sources_at k signal) ∙ same_pins es (at es k).sources
 
   -- a selector that has channels has pins
   some_pins : (k : ℕ) → k < length es → takes_over (at es k).kind ≡ true → 0 < (cluster_of es k).channels → 0 < length (pins es k)
@@ -246,11 +201,11 @@ module _ (es : List Entity) (h : Holds es) where
         λ i d inside. same_number _ _ (none_at (λ n. not (n == (cluster_of es k).channels)) (pins es k) i d inside each),
       )
   fits_at k below kind.Feature is =
-      one_pin k below (ap is_clock is) (ap takes_over is) (subst (λ kd. IsOne kd (at es k).sources) is (h.one k below))
+      one_pin k below (ap is_clock is) (ap takes_over is) (subst (λ kd. IsOne kd (at es k).sources) is (one k below))
   fits_at k below kind.Effect is =
-      one_pin k below (ap is_clock is) (ap takes_over is) (subst (λ kd. IsOne kd (at es k).sources) is (h.one k below))
+      one_pin k below (ap is_clock is) (ap takes_over is) (subst (λ kd. IsOne kd (at es k).sources) is (one k below))
   fits_at k below kind.OutputTerminal is =
-      one_pin k below (ap is_clock is) (ap takes_over is) (subst (λ kd. IsOne kd (at es k).sources) is (h.one k below))
+      one_pin k below (ap is_clock is) (ap takes_over is) (subst (λ kd. IsOne kd (at es k).sources) is (one k below))
   fits_at k below kind.InputTerminal is = tt
   fits_at k below kind.ClockSource is = tt
   fits_at k below kind.ClockSelector is = tt
@@ -263,20 +218,27 @@ module _ (es : List Entity) (h : Holds es) where
       (λ j. map (λ e. map (λ id. same_place es id j) (signal_sources e)) (clustered es))
       ∙ seen_alike es [] (λ e. map (place_of es) (signal_sources e)) (λ e c. refl)
 
+  -- what holds of no source, seen with its cluster
+  sources_keep : (test : EntityKind → Bool)
+      → ((k i : ℕ) → k < length es → i < length (signal_sources (at es k)) → test (at es (place_of es (get_or (signal_sources (at es k)) i 0))).kind ≡ false)
+      → (k : ℕ) → k < length (clustered es) → All (λ s. test (entity (clustered es) s).kind ≡ false) (signal_sources (at (clustered es) k))
+  unfolding signal_sources
+  sources_keep test none k within =
+      let below : k < length es = omega (arith, within, length-clustered es) in
+      subst (λ (e : Entity). All (λ s. test (entity (clustered es) s).kind ≡ false) (signal_sources e)) (sym (at_clustered k below))
+      (λ i d inside.
+      let s = get_or (signal_sources (at es k)) i 0 in
+      subst (λ (n : ℕ). test (entity (clustered es) n).kind ≡ false) (get_or_default (signal_sources (at es k)) i 0 d inside)
+      (ap (λ (e : Entity). test e.kind) (entity_clustered s (source_there k i below inside).0) ∙ none k i below inside))
+
   graph : IsSignalGraph (clustered es)
-  unfolding breaks_u6 signal_sources
+  unfolding breaks_u6 signal_sources pins_of
   graph = record {
     distinct = λ k within.
         let below : k < length es = omega (arith, within, length-clustered es) in
         ap (λ (e : Entity). place_of (clustered es) e.id) (at_clustered k below) ∙ same_place es (at es k).id ∙ first_place k below;
-    heard = λ k within.
-        let below : k < length es = omega (arith, within, length-clustered es) in
-        subst (λ (e : Entity). All (λ s. is_clock (entity (clustered es) s).kind ≡ false) (signal_sources e)) (sym (at_clustered k below))
-        (λ i d inside.
-        let s = get_or (signal_sources (at es k)) i 0 in
-        let there = source_there k i below inside in
-        subst (λ (n : ℕ). is_clock (entity (clustered es) n).kind ≡ false) (get_or_default (signal_sources (at es k)) i 0 d inside)
-        (ap (λ (e : Entity). is_clock e.kind) (entity_clustered s there.0) ∙ there.1));
+    heard = sources_keep is_clock (λ k i below inside. (source_there k i below inside).1);
+    no_ends = sources_keep is_output (λ k i below inside. (source_there k i below inside).2);
     acyclic = λ k within.
         let below : k < length es = omega (arith, within, length-clustered es) in
         (λ j. has_walk (same_links j) (length-clustered es j) k) ∙ h.u6 k below;
@@ -286,7 +248,7 @@ module _ (es : List Entity) (h : Holds es) where
         (most_at (length es) k below (h.u6 k below) (ap (λ (e : Entity). is_clock e.kind) (sym (at_clustered k below)) ∙ signal));
     fits = λ k within.
         let below : k < length es = omega (arith, within, length-clustered es) in
-        subst (λ (e : Entity). FitsPins e.kind e.cluster.channels (pin_channels (clustered es) e)) (sym (at_clustered k below))
+        subst (λ (e : Entity). FitsPins e.kind e.cluster.channels (pins_of (clustered es) e)) (sym (at_clustered k below))
         (by_signal k below (is_clock (at es k).kind) refl);
   }
     where
@@ -297,10 +259,12 @@ module _ (es : List Entity) (h : Holds es) where
       clock_fits _ channels sizes e = absurd (cc)
 
       by_signal : (k : ℕ) → k < length es → (b : Bool) → is_clock (at es k).kind ≡ b
-          → FitsPins (at es k).kind (cluster_of es k).channels (pin_channels (clustered es) (at es k))
+          → FitsPins (at es k).kind (cluster_of es k).channels (pins_of (clustered es) (at es k))
       by_signal k below false signal =
-          subst (FitsPins (at es k).kind (cluster_of es k).channels) (pins_clustered k below signal) (fits_at k below (at es k).kind refl)
-      by_signal k below true clock = clock_fits (at es k).kind (cluster_of es k).channels (pin_channels (clustered es) (at es k)) clock
+          subst (FitsPins (at es k).kind (cluster_of es k).channels) (pins_clustered k signal) (fits_at k below (at es k).kind refl)
+      by_signal k below true clock = clock_fits (at es k).kind (cluster_of es k).channels (pins_of (clustered es) (at es k)) clock
 
-pub sound_graph : (function : FunctionFields) (blocks : List block.Block) → IsSound blocks → IsFunctionOf function blocks → IsSignalGraph function.entities
-sound_graph function blocks sound is = subst IsSignalGraph (sym is.entities) (graph (entities_of blocks) (rules_hold blocks sound))
+pub sound_graph : (function : FunctionFields) → IsSoundFunction function → IsSignalGraph function.entities
+unfolding at
+sound_graph function sound =
+    subst IsSignalGraph (sym sound.2.entities) (graph (entities_of sound.0) (rules_hold sound.0 sound.1) (one_source sound.0 nothing))

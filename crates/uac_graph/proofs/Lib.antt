@@ -5,6 +5,7 @@ pub mod FromRules
 pub mod Loudness
 pub mod Recursion
 pub mod Ticking
+pub mod Ends
 pub mod Walking
 pub mod Rows
 pub mod Needed

@@ -9,7 +9,7 @@ use Rattle.std.proofs.lemmas.Map.Made.{lookup-map_values}
 use Rattle.uac_entities.specs.declared.entity.Entity.{Entity}
 use Rattle.uac_rules.specs.Links.{is_clock}
 use Rattle.uac_rules.specs.Table.{at, place_of, nothing}
-use Rattle.uac_graph.specs.Fitness.{IsSignalGraph, channels_of}
+use Rattle.uac_graph.specs.Fitness.{IsSignalGraph, wire_channels}
 use Rattle.uac_graph.specs.Meaning.{entity}
 use Rattle.uac_graph.specs.Wiring.{AreSilent, AreWiresOf, Frames, frame_on, silence}
 use Rattle.uac_graph.proofs.Links.{entity_past, place_or_none}
@@ -35,7 +35,7 @@ written {X = X} read old new key value updates id =
 
 -- the wires of the entities below a place are silent, and there are no others
 pub record AreSilentBelow (entities : List Entity) (place : ℕ) (frames : Frames) : Type 0 where
-  pub wires : (id : ℕ) → frame_on frames id ≡ (if ltb (place_of entities id) place then option_map silence (channels_of entities id) else None)
+  pub wires : (id : ℕ) → frame_on frames id ≡ (if ltb (place_of entities id) place then option_map silence (wire_channels entities id) else None)
 
 -- the entity at a place is the first with its id
 pub id_at : (entities : List Entity) (id : ℕ) → place_of entities id < length entities → (at entities (place_of entities id)).id ≡ id
@@ -52,12 +52,12 @@ below_next p place other =
 
 -- one wire more, or none
 pub silent_more : (entities : List Entity) (place : ℕ) (old new : Frames)
-    → ((id : ℕ) → frame_on new id ≡ (if eqb (place_of entities id) place then option_map silence (channels_of entities id) else frame_on old id))
+    → ((id : ℕ) → frame_on new id ≡ (if eqb (place_of entities id) place then option_map silence (wire_channels entities id) else frame_on old id))
     → AreSilentBelow entities place old → AreSilentBelow entities (place + 1) new
 silent_more entities place old new e before = record {
   wires = λ id.
       let p = place_of entities id in
-      let silent = option_map silence (channels_of entities id) in
+      let silent = option_map silence (wire_channels entities id) in
       elim (cases_eq p place) [
         | inl same ↦
             e id ∙ ap (λ (b : Bool). if b then silent else frame_on old id) (eq-eqb p place same)
@@ -70,8 +70,8 @@ silent_more entities place old new e before = record {
 
 -- the channels of the entity at a place
 pub channels_at : (entities : List Entity) (id place : ℕ) → place_of entities id ≡ place
-    → channels_of entities id ≡ (if is_clock (at entities place).kind then None else Some (at entities place).cluster.channels)
-unfolding channels_of entity
+    → wire_channels entities id ≡ (if is_clock (at entities place).kind then None else Some (at entities place).cluster.channels)
+unfolding wire_channels entity
 channels_at entities id place here = ap (λ (p : ℕ). if is_clock (at entities p).kind then None else Some (at entities p).cluster.channels) here
 
 -- a clock entity has no wire
@@ -79,10 +79,10 @@ pub silent_clock : (entities : List Entity) (place : ℕ) (frames : Frames) → 
     → AreSilentBelow entities place frames → AreSilentBelow entities (place + 1) frames
 silent_clock entities place frames below clock before = silent_more entities place frames frames same before
   where
-    same : (id : ℕ) → frame_on frames id ≡ (if eqb (place_of entities id) place then option_map silence (channels_of entities id) else frame_on frames id)
+    same : (id : ℕ) → frame_on frames id ≡ (if eqb (place_of entities id) place then option_map silence (wire_channels entities id) else frame_on frames id)
     same id =
         let p = place_of entities id in
-        let silent = option_map silence (channels_of entities id) in
+        let silent = option_map silence (wire_channels entities id) in
         elim (cases_eq p place) [
           | inl here ↦
               before.wires id
@@ -104,10 +104,10 @@ silent_wire {X = X} read entities place old new value sound below signal silent 
     (λ id. written read old new (at entities place).id value updates id ∙ same id (frame_on (map (λ e. (e.0, read e.1)) old) id)) before
   where
     same : (id : ℕ) (other : Option (List ℤ)) → (if eqb (at entities place).id id then Some (read value) else other)
-        ≡ (if eqb (place_of entities id) place then option_map silence (channels_of entities id) else other)
+        ≡ (if eqb (place_of entities id) place then option_map silence (wire_channels entities id) else other)
     same id o =
         let p = place_of entities id in
-        let wire = option_map silence (channels_of entities id) in
+        let wire = option_map silence (wire_channels entities id) in
         elim (cases_eq p place) [
           | inl here ↦
               (let named : (at entities place).id ≡ id = ap (λ (q : ℕ). (at entities q).id) (sym here) ∙ id_at entities id (omega arith) in
@@ -125,21 +125,21 @@ silent_wire {X = X} read entities place old new value sound below signal silent 
 
 -- all wires are silent
 pub silent_all : (entities : List Entity) (frames : Frames) → AreSilentBelow entities (length entities) frames → AreSilent entities frames
-unfolding channels_of
+unfolding wire_channels
 silent_all entities frames all = record {
   wires = λ id. elim (place_or_none entities id) [
     | inl below ↦
-        all.wires id ∙ ap (λ (b : Bool). if b then option_map silence (channels_of entities id) else None) (lt-ltb (place_of entities id) (length entities) below)
+        all.wires id ∙ ap (λ (b : Bool). if b then option_map silence (wire_channels entities id) else None) (lt-ltb (place_of entities id) (length entities) below)
     | inr past ↦
         all.wires id
-        ∙ ap (λ (b : Bool). if b then option_map silence (channels_of entities id) else None) (le-ltb (place_of entities id) (length entities) (omega arith))
+        ∙ ap (λ (b : Bool). if b then option_map silence (wire_channels entities id) else None) (le-ltb (place_of entities id) (length entities) (omega arith))
         ∙ sym (ap (λ (e : Entity). option_map silence (if is_clock e.kind then None else Some e.cluster.channels)) (entity_past entities id past))
   ];
 }
 
 -- silent wires have a sample for each channel
 pub silent_fits : (entities : List Entity) (frames : Frames) → AreSilent entities frames → AreWiresOf entities frames
-silent_fits entities frames silent = record { channels = λ id. ap (option_map length) (silent.wires id) ∙ counted (channels_of entities id) }
+silent_fits entities frames silent = record { channels = λ id. ap (option_map length) (silent.wires id) ∙ counted (wire_channels entities id) }
   where
     counted : (o : Option ℕ) → option_map length (option_map silence o) ≡ o
     counted None = refl
@@ -163,7 +163,7 @@ set_fits entities old new terminal frame same set fitting = record {
   channels = λ id. elim (cases_eq terminal id) [
     | inl here ↦
         ap (option_map length) (set id ∙ ap (λ (b : Bool). if b then Some frame else frame_on old id) (eq-eqb terminal id here))
-        ∙ sym same ∙ fitting.channels terminal ∙ ap (channels_of entities) here
+        ∙ sym same ∙ fitting.channels terminal ∙ ap (wire_channels entities) here
     | inr other ↦
         ap (option_map length) (set id ∙ ap (λ (b : Bool). if b then Some frame else frame_on old id) (ne_eqb terminal id other)) ∙ fitting.channels id
   ];

@@ -15,14 +15,15 @@ use Rattle.uac_rules.specs.Clusters.{is_input}
 use Rattle.uac_rules.specs.Links.{is_clock, signal_links, signal_sources}
 use Rattle.uac_rules.specs.Table.{at, place_of}
 use Rattle.uac_graph.specs.Controls.{Controls}
-use Rattle.uac_graph.specs.Fitness.{FitsPins, IsSignalGraph, pin_channels}
+use Rattle.uac_store.specs.Controls.{channels_of, pins_of}
+use Rattle.uac_graph.specs.Fitness.{FitsPins, IsSignalGraph}
 use Rattle.uac_graph.specs.Jobs.{FitsFrames, takes_signal}
 use Rattle.uac_graph.specs.Meaning.{entity, frame_of, meaning, sample_of, samples_by}
 use Rattle.uac_graph.specs.Needs.{reaches}
 use Rattle.uac_graph.specs.Wiring.{AreGiven, AreRendered, AreWiresOf, Frames, frame_on, held}
 use Rattle.uac_graph.proofs.Equation.{equation}
 use Rattle.uac_rules.proofs.KnownSteps.{map_same}
-use Rattle.uac_graph.proofs.Links.{source_ends}
+use Rattle.uac_graph.proofs.Links.{channels_named, source_ends}
 use Rattle.uac_graph.proofs.Lookups.{id_at}
 use Rattle.uac_graph.proofs.Walking.{given_kept, meaning_given, rendered_by, rendered_more, signal_below, signal_channels, signal_sources_of}
 
@@ -138,7 +139,7 @@ unfolding entity
 most_channels entities id sound signal = sound.most (place_of entities id) (signal_below entities id signal) signal
 
 fit_pins : (entities : List Entity) (id : ℕ) → IsSignalGraph entities → is_clock (entity entities id).kind ≡ false
-    → FitsPins (entity entities id).kind (entity entities id).cluster.channels (pin_channels entities (entity entities id))
+    → FitsPins (entity entities id).kind (entity entities id).cluster.channels (pins_of entities (entity entities id))
 unfolding entity
 fit_pins entities id sound signal = sound.fits (place_of entities id) (signal_below entities id signal)
 
@@ -146,14 +147,15 @@ fit_pins entities id sound signal = sound.fits (place_of entities id) (signal_be
 pub fits_frames : (entities : List Entity) (frames : Frames) (id : ℕ) → IsSignalGraph entities → AreWiresOf entities frames
     → is_clock (entity entities id).kind ≡ false → is_input (entity entities id).kind ≡ false
     → FitsFrames (entity entities id).kind (entity entities id).cluster.channels (map (held frames) (entity entities id).sources)
+unfolding pins_of
 fits_frames entities frames id sound fitting signal unit =
     let e = entity entities id in
-    let each : map length (map (held frames) e.sources) ≡ map (λ s. (entity entities s).cluster.channels) e.sources =
+    let pins : map length (map (held frames) e.sources) ≡ pins_of entities e =
     map-map length (held frames) e.sources
-    ∙ map_same (λ s. length (held frames s)) (λ s. (entity entities s).cluster.channels) e.sources
-    (λ k below. held_channels entities frames (get_or e.sources k 0) fitting (source_signal entities id k sound signal below)) in
-    let pins : map length (map (held frames) e.sources) ≡ pin_channels entities e =
-    each ∙ ap (map (λ s. (entity entities s).cluster.channels)) (sym (signal_sources_of e signal)) in
+    ∙ map_same (λ s. length (held frames s)) (channels_of entities) e.sources
+    (λ k below.
+    held_channels entities frames (get_or e.sources k 0) fitting (source_signal entities id k sound signal below)
+    ∙ sym (channels_named entities (get_or e.sources k 0))) in
     record {
       signal = takes e.kind signal unit;
       most = most_channels entities id sound signal;

@@ -26,7 +26,7 @@ output_signal kind.OutputTerminal b e = refl
 output_signal _ b e = absurd (cc)
 
 -- the entity at a place is the one with its id
-entity_itself : (entities : List Entity) (place : ℕ) → IsSignalGraph entities → place < length entities → entity entities (at entities place).id ≡ at entities place
+pub entity_itself : (entities : List Entity) (place : ℕ) → IsSignalGraph entities → place < length entities → entity entities (at entities place).id ≡ at entities place
 unfolding entity
 entity_itself entities place sound below = ap (at entities) (sound.distinct place below)
 

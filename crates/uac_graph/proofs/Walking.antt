@@ -5,7 +5,7 @@ use Rattle.uac_rules.specs.Clusters.{is_input}
 use Rattle.uac_rules.specs.Links.{is_clock, signal_sources}
 use Rattle.uac_rules.specs.Table.{place_of}
 use Rattle.uac_graph.specs.Controls.{Controls}
-use Rattle.uac_graph.specs.Fitness.{IsSignalGraph, channels_of}
+use Rattle.uac_graph.specs.Fitness.{IsSignalGraph, wire_channels}
 use Rattle.uac_graph.specs.Meaning.{entity, frame_of, meaning, samples_by}
 use Rattle.uac_graph.specs.Wiring.{AreGiven, AreRendered, Frames, frame_on}
 use Rattle.uac_graph.proofs.Equation.{equation}
@@ -20,8 +20,8 @@ signal_below entities id signal =
     ]
 
 -- its channels
-pub signal_channels : (entities : List Entity) (id : ℕ) → is_clock (entity entities id).kind ≡ false → channels_of entities id ≡ Some (entity entities id).cluster.channels
-unfolding channels_of
+pub signal_channels : (entities : List Entity) (id : ℕ) → is_clock (entity entities id).kind ≡ false → wire_channels entities id ≡ Some (entity entities id).cluster.channels
+unfolding wire_channels
 signal_channels entities id signal = ap (λ (b : Bool). if b then None else Some (entity entities id).cluster.channels) signal
 
 -- its sources

@@ -1,21 +1,19 @@
 -- What the rules of an audio function's topology make sure of for its signal graph.
-use Rattle.std.specs.Prelude.{◌≡◌, ℕ, ◌*◌, ◌<◌, ◌≤◌, false, if◌then◌else◌, List, [], ◌∷◌, Option, Some, None, map, length, sum}
+use Rattle.std.specs.Prelude.{◌≡◌, ℕ, ◌*◌, ◌<◌, ◌≤◌, false, if◌then◌else◌, List, [], ◌∷◌, Option, Some, None, length, sum}
 use Rattle.std.specs.List.{All}
 use Rattle.uac_walk.specs.Walk.{has_walk}
 use Rattle.uac_entities.specs.declared.entity.Entity.{Entity}
 use Rattle.uac_entities.specs.declared.entity.EntityKind.{EntityKind}
 use Rattle.uac_entities.specs.declared.entity.EntityKind.TheVariants as kind
 use Rattle.uac_rules.specs.Links.{is_clock, signal_sources, signal_links}
+use Rattle.uac_rules.specs.Rules.{is_output}
 use Rattle.uac_rules.specs.Table.{at, place_of}
+use Rattle.uac_store.specs.Controls.{pins_of}
 use Rattle.uac_graph.specs.Meaning.{entity}
 
 -- the channels of the wire of the entity with this id; a clock entity has no wire
-unfoldable pub channels_of : List Entity → ℕ → Option ℕ
-channels_of entities id = if is_clock (entity entities id).kind then None else Some (entity entities id).cluster.channels
-
--- the channels of each pin
-abbrev pub pin_channels : List Entity → Entity → List ℕ
-pin_channels entities e = map (λ s. (entity entities s).cluster.channels) (signal_sources e)
+unfoldable pub wire_channels : List Entity → ℕ → Option ℕ
+wire_channels entities id = if is_clock (entity entities id).kind then None else Some (entity entities id).cluster.channels
 
 -- the pins of an entity of a kind fit its channels: a mixer has at most 256 inputs and 256 nodes, the pins of a selector have
 -- its channels and at most 256 together (one without pins has no channels), and the one source of any other has its channels
@@ -27,12 +25,13 @@ FitsPins kind.Effect channels pins = pins ≡ channels ∷ []
 FitsPins kind.OutputTerminal channels pins = pins ≡ channels ∷ []
 FitsPins _ channels pins = Unit {0}
 
--- a signal graph as the rules leave it: an id names one entity, each source has a wire, no walk goes on for ever, a wire has
--- at most 32 channels, and pins fit
+-- a signal graph as the rules leave it: an id names one entity, each source has a wire and is no output terminal, no walk goes
+-- on for ever, a wire has at most 32 channels, and pins fit
 pub record IsSignalGraph (entities : List Entity) : Type 0 where
   pub distinct : (place : ℕ) → place < length entities → place_of entities (at entities place).id ≡ place
   pub heard : (place : ℕ) → place < length entities → All (λ s. is_clock (entity entities s).kind ≡ false) (signal_sources (at entities place))
+  pub no_ends : (place : ℕ) → place < length entities → All (λ s. is_output (entity entities s).kind ≡ false) (signal_sources (at entities place))
   pub acyclic : (place : ℕ) → place < length entities → has_walk (signal_links entities) (length entities) place ≡ false
   pub most : (place : ℕ) → place < length entities → is_clock (at entities place).kind ≡ false → (at entities place).cluster.channels ≤ 32
   pub fits : (place : ℕ) → place < length entities
-      → FitsPins (at entities place).kind (at entities place).cluster.channels (pin_channels entities (at entities place))
+      → FitsPins (at entities place).kind (at entities place).cluster.channels (pins_of entities (at entities place))

@@ -5,7 +5,7 @@ use Rattle.std.specs.Option.{option_map}
 use Rattle.uac_entities.specs.declared.entity.Entity.{Entity}
 use Rattle.uac_rules.specs.Clusters.{is_input}
 use Rattle.uac_graph.specs.Controls.{Controls}
-use Rattle.uac_graph.specs.Fitness.{channels_of}
+use Rattle.uac_graph.specs.Fitness.{wire_channels}
 use Rattle.uac_graph.specs.Meaning.{entity, meaning}
 
 -- frames by id
@@ -22,7 +22,7 @@ held frames id = unwrap_or (frame_on frames id) []
 
 -- there is a wire for each entity that isn't a clock, with a sample for each of its channels
 pub record AreWiresOf (entities : List Entity) (frames : Frames) : Type 0 where
-  pub channels : (id : ℕ) → option_map length (frame_on frames id) ≡ channels_of entities id
+  pub channels : (id : ℕ) → option_map length (frame_on frames id) ≡ wire_channels entities id
 
 -- as many zeros
 abbrev pub silence : ℕ → List ℤ
@@ -30,7 +30,7 @@ silence channels = replicate channels (pos 0)
 
 -- each wire is silent
 pub record AreSilent (entities : List Entity) (frames : Frames) : Type 0 where
-  pub wires : (id : ℕ) → frame_on frames id ≡ option_map silence (channels_of entities id)
+  pub wires : (id : ℕ) → frame_on frames id ≡ option_map silence (wire_channels entities id)
 
 -- the input terminals are given these frames
 pub record AreGiven (entities : List Entity) (ins : ℕ → List ℤ) (frames : Frames) : Type 0 where

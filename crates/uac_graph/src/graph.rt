@@ -6,7 +6,6 @@ ghost use Rattle.uac_rules.specs.Links.{is_clock, signal_links};
 ghost use Rattle.uac_rules.specs.Table.{place_of};
 ghost use Rattle.uac_units.specs.Fitting.{IsFitted};
 ghost use Rattle.uac_graph.specs.Controls.{held_in};
-ghost use Rattle.uac_graph.specs.Fitness.{IsSignalGraph};
 ghost use Rattle.uac_graph.specs.Meaning as spec;
 ghost use Rattle.uac_graph.specs.Needs as needs;
 ghost use Rattle.uac_graph.specs.Needs.{depended, reaches};
@@ -22,6 +21,7 @@ use uac_entities::{Entity, EntityKind};
 use uac_rules::EntityTable;
 use uac_store::Store;
 use uac_topology::Function;
+use uac_topology::laws::functions_are_sound;
 use uac_units::{Rack, Steps, Unit};
 
 /// The signal graph of an audio function (Audio Class 2.0, 3.13).
@@ -43,11 +43,11 @@ impl Model for Graph {
 }
 
 impl Graph {
-    /// The graph of a function. The laws say that a sound one has a graph.
+    /// The graph of a function.
     pub fn build(alloc: Global, function: &Function) -> Result<Graph, NoMemory>
-        requires { IsSignalGraph function.now.entities }
         ensures { IfOk result (λ graph. graph ≡ function.now.entities) }
     {
+        functions_are_sound(function);
         let copies = copies_of(alloc, function.entities())?;
         let table = EntityTable::new(alloc, copies)?;
         Ok(Graph { table })

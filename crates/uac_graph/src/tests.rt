@@ -3,10 +3,7 @@
 ghost use Rattle.std.specs.Prelude.{◌≡◌, IfOk, IsTrue, List, Some, length};
 ghost use Rattle.std.specs.Option.{option_map};
 ghost use Rattle.uac_entities.specs.declared.entity.Entity.{Entity};
-ghost use Rattle.uac_store.specs.Controls.{IsKeyed};
-ghost use Rattle.uac_topology.specs.Topology.{IsFunctionOf, IsSound};
 ghost use Rattle.uac_units.specs.Fitting.{IsFitted};
-ghost use Rattle.uac_graph.specs.Fitness.{IsSignalGraph};
 ghost use Rattle.uac_graph.specs.Wiring.{AreWiresOf, frame_on};
 
 use crate::*;
@@ -179,14 +176,10 @@ fn hold(store: &mut Store, entity: u8, selector: u8, channel: u8, value: i32) {
 }
 
 /// The sound function of the two groups of blocks.
-fn function(alloc: Global) -> Result<Function, AllocError>
-    ensures graph { IfOk result (λ function. IsSignalGraph function.entities) }
-    ensures keyed { IfOk result (λ function. IsKeyed function.entities) }
-{
+fn function(alloc: Global) -> Result<Function, AllocError> {
     let mut blocks = Vec::new(alloc);
     ends(alloc, &mut blocks)?;
     chain(alloc, &mut blocks)?;
-    laws::sound_functions_have_a_graph();
     match check(alloc, blocks.as_slice()) {
         Ok(function) => Ok(function),
         Err(_) => Err(AllocError),

@@ -14,6 +14,7 @@ use uac_descriptor::NoMemory;
 use uac_entities::{Entity, EntityKind};
 use uac_pcm::Frame;
 use uac_topology::Function;
+use uac_topology::laws::functions_are_sound;
 
 /// A frame for each terminal and each unit of an audio function, by the entity's id.
 #[derive(Drop)]
@@ -34,10 +35,10 @@ impl Wires {
     /// Silence on the wire of each terminal and each unit of a function.
     #[tactic(auto, using(crate::proofs::Lookups::silent_fits))]
     pub fn new(alloc: Global, function: &Function) -> Result<Wires, NoMemory>
-        requires { IsSignalGraph function.now.entities }
         ensures silent { IfOk result (λ wires. AreSilent function.now.entities wires) }
         ensures fitting { IfOk result (λ wires. AreWiresOf function.now.entities wires) }
     {
+        functions_are_sound(function);
         let frames = silent_frames(alloc, function.entities())?;
         Ok(Wires { frames })
     }

@@ -16,7 +16,7 @@ split_at_some text i e =
     let h = slice_split_first (λ b. eqb b 32) text 0 (ltb-true _ _ parts.0) in
     rw (take_rest text (i + 1)) (rw (← parts.1) h)
 
-none_then_false : (b : Bool) (i : ℕ) → cond b (Some i) None ≡ None → b ≡ false
+pub none_then_false : (b : Bool) (i : ℕ) → cond b (Some i) None ≡ None → b ≡ false
 none_then_false true i e = cc
 none_then_false false i e = refl
 

@@ -1,6 +1,7 @@
 -- Texts that are written one after the other, and counts of faults over calls in a row.
-use Rattle.std.proofs.Common.{◌≡◌, ℕ, ◌≤◌, List, [], ◌++◌, Option, None, Some, Result, Ok, Err, refl, sym, ap, ◌∙◌, inl, inr, arith, append_assoc}
-use Rattle.std.proofs.lemmas.List.{append-nil}
+use Rattle.std.proofs.Common.{◌≡◌, ℕ, ◌+◌, ◌<◌, ◌≤◌, List, [], ◌∷◌, ◌++◌, length, take, drop, get_or, flat_map, Option, None, Some, Result, Ok, Err, refl, sym, ap, subst, ◌∙◌, inl, inr, arith, append_assoc}
+use Rattle.std.proofs.lemmas.List.{append-nil, drop_more, take-append-drop}
+use Rattle.std.proofs.lemmas.Grind.{flat_map-append}
 use Rattle.std.specs.Io.KnownBytes.{Appends, Keeps}
 use Rattle.uac_script.specs.Faults.{Rose, HasCause}
 use Rattle.uac_script.specs.Writing.{AppendsFront, Writes}
@@ -67,6 +68,22 @@ HasCause-earlier old mid new (Err e) le h = let m = h.never_falls in record {
   never_falls = omega (arith, m);
   failed = Rose-earlier old mid new le h.failed;
 }
+
+-- Items up to this one, this one and the rest.
+split_at : {X : Type 0} (xs : List X) (i : ℕ) (d : X) → i < length xs → xs ≡ take i xs ++ (get_or xs i d ∷ drop (i + 1) xs)
+split_at xs i d h = sym (ap (λ ys. take i xs ++ ys) (sym (drop_more xs i d h)) ∙ take-append-drop i xs)
+
+-- A front of the text of each: the texts up to an item, and a front of its text.
+pub front_of_each : {X : Type 0} (old mid new : Option (List ℕ)) (f : X → List ℕ) (xs : List X) (i : ℕ) (d : X) (text : List ℕ) → i < length xs
+    → Appends old mid (flat_map f (take i xs)) → AppendsFront mid new text → text ≡ f (get_or xs i d) → AppendsFront old new (flat_map f xs)
+front_of_each old mid new f xs i d text h before front is =
+    let rest : List ℕ = flat_map f (drop (i + 1) xs) in
+    let whole : (flat_map f (take i xs) ++ text) ++ rest ≡ flat_map f xs =
+    append_assoc (flat_map f (take i xs)) text rest
+    ∙ (ap (λ ys. flat_map f (take i xs) ++ (ys ++ rest)) is
+    ∙ (sym (flat_map-append f (take i xs) (get_or xs i d ∷ drop (i + 1) xs)) ∙ ap (flat_map f) (sym (split_at xs i d h)))) in
+    subst (λ (t : List ℕ). AppendsFront old new t) whole
+    (AppendsFront-longer old new (flat_map f (take i xs) ++ text) rest (AppendsFront-after old mid new (flat_map f (take i xs)) text before front))
 
 -- What joins two texts that are written one after the other.
 pub ruleset writings = (Writes-after, Writes-stopped, Appends-twice, AppendsFront-after, AppendsFront-longer, HasCause-earlier, Rose-earlier)

@@ -14,6 +14,8 @@ mod text;
 
 /// A line of the script.
 mod line;
+/// The lines of a script, from a source in pieces of any size.
+mod lines;
 /// The rows of the table of lines.
 mod rows;
 /// The rows that end in a list.
@@ -29,6 +31,7 @@ mod hex_bytes;
 
 pub use edges::{Failed, Sink, Source, give_all};
 pub use line::{Line, Mark, MarkKind, Name};
+pub use lines::{LineStop, Lines, Next};
 pub use sinks::MemorySink;
 pub use sources::{MemorySource, SteadySource};
 pub use text::TextLine;

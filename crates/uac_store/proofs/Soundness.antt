@@ -8,7 +8,6 @@ use Rattle.std.proofs.lemmas.List.FromFn.{length-map-range_with_len, get_or-map-
 use Rattle.std.proofs.lemmas.List.Folds.{find_at}
 use Rattle.std.proofs.lemmas.Map.Keys.{IsDistinct-from_apart}
 use Rattle.std.proofs.lemmas.Option.{slice_get-get_or, slice_get_past}
-use Rattle.uac_descriptor.specs.declared.block.Block as block
 use Rattle.uac_walk.specs.Walk.{links, has_walk}
 use Rattle.uac_entities.specs.Entities.{entities_of, no_cluster}
 use Rattle.uac_entities.specs.Streams.{named}
@@ -20,37 +19,13 @@ use Rattle.uac_rules.specs.Table.{at, nothing, place_of, with_cluster}
 use Rattle.uac_rules.specs.Links.{is_clock, signal_sources, clock_sources, signal_links, clock_links}
 use Rattle.uac_rules.specs.Clusters.{takes_over, cluster_step, cluster_within, cluster_of, clustered, pins, inputs}
 use Rattle.uac_rules.specs.Rules.{breaks_u2, breaks_u7, breaks_u14, too_large}
-use Rattle.uac_rules.specs.Faults.{broken, broken_walks, broken_ends}
-use Rattle.uac_rules.proofs.Sound.{or_none, has_names, signal_links-at}
-use Rattle.uac_rules.proofs.FirstPlace.{breaks_none}
+use Rattle.uac_rules.proofs.Sound.{signal_links-at}
 use Rattle.uac_topology.specs.Function.{FunctionFields}
-use Rattle.uac_topology.specs.Topology.{first_broken, IsSound, IsFunctionOf}
+use Rattle.uac_topology.specs.Topology.{IsSoundFunction}
 use Rattle.uac_store.specs.Controls.{channels_of, pins_of, IsSmall, IsKeyed}
 use Rattle.uac_store.specs.Rates.{IsClockTree}
+use Rattle.uac_topology.proofs.SoundRules.{KeepsRules, rules_hold}
 use Rattle.uac_store.proofs.Settling.{none_passes}
-
--- the rules that are used, of sound entities
-record Holds (es : List Entity) : Type 0 where
-  u2 : (k : ℕ) → k < length es → breaks_u2 es k ≡ false
-  u7 : (k : ℕ) → k < length es → breaks_u7 es k ≡ false
-  u14 : (k : ℕ) → k < length es → breaks_u14 es k ≡ false
-
-rules_hold : (blocks : List block.Block) → IsSound blocks → Holds (entities_of blocks)
-unfolding first_broken broken broken_walks broken_ends
-rules_hold blocks sound =
-    let es = entities_of blocks in
-    let names = or_none _ _ sound in
-    let walks = or_none _ _ names.1 in
-    let shapes = or_none _ _ walks.1 in
-    let ends = or_none _ _ shapes.1 in
-    let u6 = or_none _ _ walks.0 in
-    let u12 = or_none _ _ ends.0 in
-    let u13 = or_none _ _ u12.1 in
-    record {
-      u2 = breaks_none 2 es breaks_u2 (has_names es names.0).u2;
-      u7 = breaks_none 7 es breaks_u7 (or_none _ _ u6.1).0;
-      u14 = breaks_none 14 es breaks_u14 (or_none _ _ u13.1).0;
-    }
 
 -- the first place of an id, by the ids alone
 place_by_ids : (xs : List Entity) (id : ℕ) → place_of xs id ≡ position_or_len (λ i. i == id) (map (λ e. e.id) xs)
@@ -106,11 +81,11 @@ module _ (es : List Entity) where
         ap channels (slice_get_past (clustered es) (place_of es id) (omega (arith, past, length-clustered)))
         ∙ sym (ap (λ (c : Cluster). c.channels) (no_cluster_past (length es) es (place_of es id) past))
 
-  same_pins : (ids : List ℕ) → map (λ p. (cluster_of es p).channels) (map (place_of es) ids) ≡ map (channels_of (clustered es)) ids
+  pub same_pins : (ids : List ℕ) → map (λ p. (cluster_of es p).channels) (map (place_of es) ids) ≡ map (channels_of (clustered es)) ids
   same_pins [] = refl
   same_pins (id ∷ ids) = λ j. sym (same_channels id) j ∷ same_pins ids j
 
-  module _ (h : Holds es) where
+  module _ (h : KeepsRules es) where
     ids_apart : IsDistinct nat_eq (map (λ e. e.id) es)
     unfolding breaks_u2 at
     ids_apart = IsDistinct-from_apart nat_eq (map (λ e. e.id) es) (λ i j d before within.
@@ -167,8 +142,8 @@ module _ (es : List Entity) where
         let below : place < length es = omega (arith, within, length-clustered) in
         (λ j. has_walk (same_links j) (length-clustered j) place) ∙ h.u7 place below
 
-pub keyed : (function : FunctionFields) (blocks : List block.Block) → IsSound blocks → IsFunctionOf function blocks → IsKeyed function.entities
-keyed function blocks sound is = subst IsKeyed (sym is.entities) (keyed_entities (entities_of blocks) (rules_hold blocks sound))
+pub keyed : (function : FunctionFields) → IsSoundFunction function → IsKeyed function.entities
+keyed function sound = subst IsKeyed (sym sound.2.entities) (keyed_entities (entities_of sound.0) (rules_hold sound.0 sound.1))
 
-pub clock_tree : (function : FunctionFields) (blocks : List block.Block) → IsSound blocks → IsFunctionOf function blocks → IsClockTree function.entities
-clock_tree function blocks sound is = subst IsClockTree (sym is.entities) (clocks_end (entities_of blocks) (rules_hold blocks sound))
+pub clock_tree : (function : FunctionFields) → IsSoundFunction function → IsClockTree function.entities
+clock_tree function sound = subst IsClockTree (sym sound.2.entities) (clocks_end (entities_of sound.0) (rules_hold sound.0 sound.1))

@@ -5,9 +5,8 @@ ghost use Rattle.uac_entities.specs.declared.entity.Entity.{Entity};
 ghost use Rattle.uac_store.specs.declared.keys.Key.{Key};
 ghost use Rattle.uac_store.specs.Keyed.{value_of};
 ghost use Rattle.uac_store.specs.Controls.{initial_controls, start_at, IsKeyed};
-ghost use Rattle.uac_descriptor.specs.declared.block.Block as block;
 ghost use Rattle.uac_topology.specs.Function.{FunctionFields};
-ghost use Rattle.uac_topology.specs.Topology.{IsSound, IsFunctionOf};
+ghost use Rattle.uac_topology.specs.Topology.{IsSoundFunction};
 ghost use Rattle.uac_store.specs.Rates.{rate_step, rate_within, rate_of, EndsWithin, IsClockTree};
 
 /// Where ids differ, each control has at the start the one value that its kind gives it, and no other key has one.
@@ -31,6 +30,6 @@ pub fn each_rate_follows_its_sources()
 /// The controls of a sound function have a key each, and none of its clocks feeds itself.
 #[tactic(auto, using(crate::proofs::Soundness::keyed, crate::proofs::Soundness::clock_tree))]
 pub fn sound_functions_have_keys_and_rates()
-    ensures keys { (function : FunctionFields) (blocks : List block.Block) → IsSound blocks → IsFunctionOf function blocks → IsKeyed function.entities }
-    ensures rates { (function : FunctionFields) (blocks : List block.Block) → IsSound blocks → IsFunctionOf function blocks → IsClockTree function.entities }
+    ensures keys { (function : FunctionFields) → IsSoundFunction function → IsKeyed function.entities }
+    ensures rates { (function : FunctionFields) → IsSoundFunction function → IsClockTree function.entities }
 {}

@@ -60,7 +60,6 @@ fn input(id: u8, channels: u8) -> Block {
 }
 
 // The store of the function that the blocks describe.
-#[tactic(auto, using(crate::proofs::Soundness::keyed))]
 fn store_of(alloc: Global, blocks: &[Block]) -> Result<(Function, Store), Fail> {
     match check(alloc, blocks) {
         Ok(function) => match Store::new(alloc, &function) {

@@ -1,2 +1,4 @@
 pub mod Broken
+pub mod SoundRules
 pub mod Cycles
+pub mod Small

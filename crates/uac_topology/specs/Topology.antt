@@ -52,6 +52,10 @@ pub record IsFunctionOf (function : FunctionFields) (blocks : List block.Block) 
   pub control_interface : function.control_interface ≡ first_given control_number blocks
   pub total : function.total ≡ first_given total_length blocks
 
+-- the function is that of blocks that break no rule
+abbrev pub IsSoundFunction : FunctionFields → Type 0
+IsSoundFunction function = (blocks : List block.Block) × IsSound blocks × IsFunctionOf function blocks
+
 -- a stop tells the fault, where it isn't want of memory
 abbrev pub Tells : CheckStop → Option TopologyFault → Type 0
 Tells (stop.Fault fault) first = first ≡ Some fault

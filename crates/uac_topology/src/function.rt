@@ -18,10 +18,13 @@ pub struct Function {
 
 impl Model for Function {
     ghost use Rattle.uac_topology.specs.Function.{FunctionFields};
+    ghost use Rattle.uac_topology.specs.Topology.{IsSoundFunction};
 
     ghost Value = { FunctionFields };
 
     ghost view = { λ f. record { entities = f.table; domains = f.domains.items; streams = f.streams.items; control_interface = f.control_interface; total = f.total } };
+
+    ghost invariant = { λ f. IsSoundFunction (record { entities = f.table; domains = f.domains.items; streams = f.streams.items; control_interface = f.control_interface; total = f.total }) };
 }
 
 impl Function {

@@ -1,7 +1,23 @@
 // Laws of sound functions, each the contract of a function that does nothing.
-ghost use Rattle.uac_topology.specs.Topology.{SoundHasNoCycle};
+ghost use Rattle.std.specs.Prelude.{◌≤◌, length};
+ghost use Rattle.uac_topology.specs.Function.{FunctionFields};
+ghost use Rattle.uac_topology.specs.Topology.{IsSoundFunction, SoundHasNoCycle};
+
+use crate::function::Function;
 
 /// No entity of a sound function has a walk of source links back to itself.
 pub fn no_cycle()
     ensures { SoundHasNoCycle }
+{}
+
+/// Every function that there is breaks no rule.
+pub fn functions_are_sound(function: &Function)
+    ensures { IsSoundFunction function.now }
+{
+    let _fields = &function.total;
+}
+
+/// A sound function has at most eight clock domains and at most eight streaming interfaces.
+pub fn sound_functions_are_small()
+    ensures { (function : FunctionFields) → IsSoundFunction function → (length function.domains ≤ 8) × (length function.streams ≤ 8) }
 {}

@@ -1,9 +1,9 @@
-use Rattle.std.proofs.Common.{ℕ, List, ◌<◌, ◌≤◌, length, take, arith, subst, sym, ap, ◌∙◌}
+use Rattle.std.proofs.Common.{ℕ, List, ◌<◌, ◌≤◌, length, take, arith, subst, sym}
 use Rattle.std.proofs.lemmas.List.{length-take}
 use Rattle.std.specs.Io.KnownBytes.{Consumes}
 use Rattle.uac_cli.specs.Reading.{piece_size}
-use Rattle.uac_grammar.specs.Stop.{shown_fault}
-use Rattle.uac_cli.proofs.Composing.{Consumes-Consumes, stopped_at, went_on, ended_by}
+use Rattle.uac_script.proofs.Consuming.{Consumes-Consumes}
+use Rattle.uac_cli.proofs.Composing.{stopped_at, went_on, ended_by}
 use Rattle.uac_cli.proofs.reading.read_descriptor.Goals as goal
 
 pub returns-in-Err-feed-clause-reads : goal.returns-in-Err-feed-clause-reads

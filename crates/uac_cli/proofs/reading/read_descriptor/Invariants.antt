@@ -1,4 +1,4 @@
-use Rattle.std.proofs.Common.{◌≡◌, ◌≤◌, None, ℕ, ◌-◌, length}
+use Rattle.std.proofs.Common.{◌≡◌, ◌≤◌, None, ◌-◌, length}
 use Rattle.std.specs.Io.KnownBytes.{Consumes}
 use Rattle.uac_grammar.specs.Reading.{most_taken}
 use Rattle.uac_grammar.specs.Stop.{shown_fault}

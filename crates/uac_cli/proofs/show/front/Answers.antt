@@ -1,5 +1,4 @@
-use Rattle.std.proofs.Common.{◌≡◌, ◌≤◌, ℕ, List, length, take, get_or, arith, ap, ◌∙◌, sym}
-use Rattle.std.proofs.lemmas.List.{length-take}
+use Rattle.std.proofs.Common.{◌≡◌, ℕ, length, take, ap, ◌∙◌, sym}
 use Rattle.uac_descriptor.specs.Spelling.{spelling}
 use Rattle.uac_cli.proofs.Showing.{in_front}
 use Rattle.uac_cli.proofs.show.front.Goals as goal

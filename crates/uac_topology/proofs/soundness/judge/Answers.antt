@@ -7,9 +7,10 @@ use Rattle.uac_entities.specs.declared.alternate.Alternate.{Alternate}
 use Rattle.uac_rules.specs.Clusters.{clustered}
 use Rattle.uac_rules.specs.Domains.{domains_of}
 use Rattle.uac_rules.specs.Faults.{broken_names, broken_walks}
-use Rattle.uac_topology.specs.Topology.{streams_in}
+use Rattle.uac_topology.specs.Topology.{IsFunctionOf, IsSound, streams_in}
 use Rattle.uac_topology.proofs.Broken.{by_names, by_walks, by_shapes, by_ends}
 use Rattle.uac_topology.proofs.soundness.judge.Goals as goal
+use Rattle.uac_topology.proofs.soundness.judge.Goals.{After-total_of}
 
 pub returns-in-Some : goal.returns-in-Some
 returns-in-Some c =
@@ -46,8 +47,15 @@ returns-in-Some-ends_fault c =
     by_ends c.args.blocks.now c.in_ok-known.known k c.deref-2.result.now c.deref-3.result.now (Some c.in-Some-ends_fault.fault)
     (c.deref-2.ensures.value ∙ all) (c.deref-3.ensures.value ∙ streams) names walks c.in_default-shapes_fault.ensures c.in-Some-ends_fault.ensures
 
-pub returns : goal.returns
-returns c =
+-- what is made at the end is the function of sound blocks
+made : (c : After-total_of) → IsSound c.args.blocks.now × IsFunctionOf (record {
+  entities = c.into_table.result;
+  domains = c.into_clocks.result.items;
+  streams = c.in_ok-streams.streams.items;
+  control_interface = c.control_interface_of.result;
+  total = c.total_of.result;
+}) c.args.blocks.now
+made c =
     let e : c.in_ok-table.table ≡ entities_of c.args.blocks.now = c.in_ok-table.ensures ∙ c.in_ok-entities_of.ensures in
     let k : c.in_ok-known.known ≡ entities_of c.args.blocks.now = c.in_ok-known.ensures ∙ e in
     let names : None ≡ broken_names c.in_ok-known.known = c.in_default.ensures ∙ ap broken_names (sym c.in_ok-known.ensures) in
@@ -69,3 +77,9 @@ returns c =
         total = c.total_of.ensures;
       },
     )
+
+pub invariant_of-result : goal.invariant_of-result
+invariant_of-result c = let sound = made (goal.at.invariant_of-result c).After-total_of in (c.args.blocks.now, sound.0, sound.1)
+
+pub returns : goal.returns
+returns c = made (goal.at.returns c).After-total_of

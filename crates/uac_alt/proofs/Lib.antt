@@ -1,0 +1,1 @@
+-- The settings of interfaces need no lemma.

@@ -1,0 +1,9 @@
+use Rattle.std.proofs.Common.{◌≡◌, ◌∷◌, ◌+◌, length, map, take}
+use Rattle.uac_alt.specs.Settings.{in_first}
+use Rattle.uac_alt.proofs.settings.Settings.new.Given as goal
+
+abbrev pub invariant-loop-stream : goal.invariant-loop-stream
+invariant-loop-stream l = record {
+  held : l.held.items ≡ map in_first (l.function.control_interface ∷ map (λ s. s.number) (take l.stream-index l.function.streams));
+  count : length l.held.items ≡ l.stream-index + 1;
+}

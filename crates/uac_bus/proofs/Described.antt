@@ -1,0 +1,146 @@
+-- The blocks and the function that a descriptor's bytes describe.
+use Rattle.std.proofs.Common.{◌≡◌, ◌≢◌, ℕ, List, [], ◌∷◌, ◌++◌, refl, sym, ap, subst, ◌∙◌, true, Option, None, Some, Ok, Err}
+use Rattle.std.proofs.KnownBytes.{Appends-nil}
+use Rattle.uac_descriptor.specs.declared.context.Context.{Context}
+use Rattle.uac_descriptor.specs.declared.context.Context.TheVariants as context
+use Rattle.uac_descriptor.specs.declared.block.Block.{Block}
+use Rattle.uac_descriptor.specs.Spelling.{spelling}
+use Rattle.uac_descriptor.proofs.ReadBack.{block_of-Spells}
+use Rattle.uac_sentence.specs.Cutting.{Cut, IsPiece, with_piece, chop}
+use Rattle.uac_sentence.specs.Grammar.{first_fault}
+use Rattle.uac_sentence.specs.Letter.{context_after}
+use Rattle.uac_sentence.specs.Sentence.{EachIn, Stands, spellings, IsSentence}
+use Rattle.uac_sentence.specs.declared.faults.GrammarFault.{GrammarFault}
+use Rattle.uac_sentence.proofs.CuttingLaw.{chop_piece, chop_rest}
+use Rattle.uac_sentence.proofs.SentenceLaw.{piece_of}
+use Rattle.uac_grammar.specs.Reading as reader
+use Rattle.uac_grammar.specs.Stop.{first_stop, shown_fault, shown_stop}
+use Rattle.uac_grammar.specs.declared.fault.ReadStop.{ReadStop}
+use Rattle.uac_grammar.specs.declared.fault.ReadStop.TheVariants as reads
+use Rattle.uac_grammar.proofs.Readings.{no_stop_no_fault}
+use Rattle.uac_grammar.proofs.Stops.{stop_at-Fault}
+use Rattle.uac_entities.specs.declared.entity.Entity.{Entity}
+use Rattle.uac_entities.specs.declared.stream.StreamInterface.{StreamInterface}
+use Rattle.uac_rules.specs.declared.fault.TopologyFault.{TopologyFault}
+use Rattle.uac_topology.specs.Function.{FunctionFields}
+use Rattle.uac_topology.specs.Topology.{first_broken, IsSound, IsFunctionOf}
+use Rattle.uac_units.specs.Hearing.{Reading}
+use Rattle.uac_play.specs.Text.{ready_line}
+use Rattle.uac_play.specs.World.{at_start}
+use Rattle.uac_bus.specs.declared.fault.BusFault.{BusFault}
+use Rattle.uac_bus.specs.declared.fault.BusFault.TheVariants as faults
+use Rattle.uac_bus.specs.declared.bus.Stage.TheVariants as stages
+use Rattle.uac_bus.specs.Description.{first_then, blocks_from, blocks_of, function_of}
+use Rattle.uac_bus.specs.World.{Step, done, describing, playing, if_no_fault, if_sound, silently, fed, gone}
+use Rattle.uac_bus.specs.Rows.{Describes, Prevents, Reaches, fault_of}
+
+abbrev the_fields : List Entity → List ℕ → List StreamInterface → ℕ → ℕ → FunctionFields
+the_fields es ds ss k t = record { entities = es; domains = ds; streams = ss; control_interface = k; total = t }
+
+-- the blocks of the spellings of blocks that stand are these
+pub blocks_from_spellings : (place : Context) (blocks : List Block) → EachIn Stands place blocks
+    → blocks_from place (chop (spellings blocks)).pieces ≡ blocks
+unfolding blocks_from
+blocks_from_spellings place [] each = ap (λ (cut : Cut). blocks_from place cut.pieces) (chop_rest [] refl)
+blocks_from_spellings place (b ∷ blocks) (stands, each) =
+    let piece : IsPiece (spelling b) = piece_of place b stands in
+    let cut : chop (spelling b ++ spellings blocks) ≡ with_piece (spelling b) (chop (spellings blocks)) = chop_piece (spelling b) (spellings blocks) piece in
+    let behind : Block → List Block = λ x. blocks_from (context_after place x) (chop (spellings blocks)).pieces in
+    ap (λ (c : Cut). blocks_from place c.pieces) cut
+    ∙ ap (λ (o : Option Block). first_then o behind) (block_of-Spells place b (spelling b) stands)
+    ∙ ap (λ (rest : List Block). b ∷ rest) (blocks_from_spellings (context_after place b) blocks each)
+
+-- a sentence's bytes describe its blocks
+pub blocks_of_sentence : (bytes : List ℕ) (blocks : List Block) → IsSentence bytes blocks → blocks_of bytes ≡ blocks
+unfolding blocks_of
+blocks_of_sentence bytes blocks sentence =
+    ap (λ (bs : List ℕ). blocks_from context.DeviceFront (chop bs).pieces) sentence.spelt
+    ∙ blocks_from_spellings context.DeviceFront blocks sentence.stand
+
+-- a function of blocks is the one that they describe
+pub function_is : (function : FunctionFields) (blocks : List Block) → IsFunctionOf function blocks → function ≡ function_of blocks
+unfolding function_of
+function_is function blocks is =
+    same_fields function.entities (function_of blocks).entities function.domains (function_of blocks).domains function.streams (function_of blocks).streams
+    function.control_interface (function_of blocks).control_interface function.total (function_of blocks).total
+    is.entities is.domains is.streams is.control_interface is.total
+  where
+    same_fields : (es es' : List Entity) (ds ds' : List ℕ) (ss ss' : List StreamInterface) (k k' t t' : ℕ) → es ≡ es' → ds ≡ ds' → ss ≡ ss' → k ≡ k' → t ≡ t'
+        → the_fields es ds ss k t ≡ the_fields es' ds' ss' k' t'
+    same_fields es es' ds ds' ss ss' k k' t t' e d s c l = cc
+
+-- the descriptor's bytes were read, and their function is sound
+pub described_well : (bytes : List ℕ) (blocks lent : List Block) (function : FunctionFields) → IsSentence bytes blocks → first_fault bytes ≡ None → lent ≡ blocks
+    → IsSound lent × IsFunctionOf function lent → Describes bytes (Ok function)
+described_well bytes blocks lent function sentence none same sound =
+    let all : blocks_of bytes ≡ lent = blocks_of_sentence bytes blocks sentence ∙ sym same in
+    (none, ap first_broken all ∙ sound.0, function_is function lent sound.1 ∙ ap function_of (sym all))
+
+-- or it breaks a rule
+pub described_broken : (bytes : List ℕ) (blocks lent : List Block) (fault : TopologyFault) → IsSentence bytes blocks → first_fault bytes ≡ None → lent ≡ blocks
+    → first_broken lent ≡ Some fault → Describes bytes (Err (faults.Topology fault))
+described_broken bytes blocks lent fault sentence none same broken =
+    (none, ap first_broken (blocks_of_sentence bytes blocks sentence ∙ sym same) ∙ broken)
+
+-- or the bytes are refused
+stopped_there : (bytes : List ℕ) (stop : ReadStop) → (stop ≢ reads.NoMemory → first_stop bytes ≡ Some stop) → Describes bytes (Err (fault_of stop))
+stopped_there bytes (reads.Fault f) told = stop_at-Fault (first_fault bytes) f (told (λ n. cc))
+stopped_there bytes reads.NoMemory told = tt
+
+pub described_refused : (bytes : List ℕ) (stop : ReadStop) (fault : BusFault) → (stop ≢ reads.NoMemory → first_stop bytes ≡ Some stop) → fault ≡ fault_of stop → Describes bytes (Err fault)
+described_refused bytes stop fault told is = subst (λ (f : BusFault). Describes bytes (Err f)) (sym is) (stopped_there bytes stop told)
+
+-- the end of such a descriptor
+pub gone_well : (bytes : List ℕ) (function : FunctionFields) (shown : List Reading) → Describes bytes (Ok function)
+    → gone bytes shown ≡ done (playing (at_start function shown)) (ready_line function)
+unfolding gone
+gone_well bytes function shown d =
+    let began : FunctionFields → Step = λ f. done (playing (at_start f shown)) (ready_line f) in
+    let whole : Step = began (function_of (blocks_of bytes)) in
+    ap (λ (o : Option GrammarFault). if_no_fault o (if_sound (first_broken (blocks_of bytes)) whole)) d.0
+    ∙ ap (λ (o : Option TopologyFault). if_sound o whole) d.1
+    ∙ ap began (sym d.2)
+
+pub gone_ill : (bytes : List ℕ) (fault : BusFault) (shown : List Reading) (written : Option (List ℕ)) → Describes bytes (Err fault)
+    → Prevents fault true (gone bytes shown) written written
+unfolding gone
+gone_ill bytes (faults.Grammar f) shown written d =
+    let function = function_of (blocks_of bytes) in
+    ap (λ (o : Option GrammarFault). if_no_fault o (if_sound (first_broken (blocks_of bytes)) (done (playing (at_start function shown)) (ready_line function)))) d
+gone_ill bytes (faults.Topology f) shown written d =
+    let function = function_of (blocks_of bytes) in
+    let whole : Step = done (playing (at_start function shown)) (ready_line function) in
+    ap (λ (o : Option GrammarFault). if_no_fault o (if_sound (first_broken (blocks_of bytes)) whole)) d.0
+    ∙ ap (λ (o : Option TopologyFault). if_sound o whole) d.1
+gone_ill bytes faults.NoMemory shown written d = refl
+gone_ill bytes faults.WriteFault shown written d = absurd d
+gone_ill bytes (faults.Script rule) shown written d = absurd d
+
+-- more bytes show no fault
+pub fed_well : (taken piece : List ℕ) (r : reader.Reading) (shown : List Reading) (written : Option (List ℕ)) → r.stop ≡ None → r.taken ≡ taken ++ piece
+    → (r.stop ≢ Some reads.NoMemory → r.stop ≡ shown_stop (taken ++ piece))
+    → Reaches (fed (taken ++ piece) shown) (stages.Describing r) shown written written
+unfolding fed
+fed_well taken piece r shown written none all told =
+    let quiet : shown_fault (taken ++ piece) ≡ None = no_stop_no_fault (shown_fault (taken ++ piece)) (sym (told (λ n. cc)) ∙ none) in
+    let P : Option GrammarFault → Type 0 =
+    λ o. Reaches (if_no_fault o (silently (describing (taken ++ piece) shown))) (stages.Describing r) shown written written
+    in
+    subst P (sym quiet) ((all, none, refl), Appends-nil written)
+
+-- or they show one, or there was no memory
+fed_stopped : (taken piece : List ℕ) (stop : ReadStop) (told : Option ReadStop) (shown : List Reading) (written : Option (List ℕ))
+    → told ≡ Some stop → (told ≢ Some reads.NoMemory → told ≡ shown_stop (taken ++ piece))
+    → Prevents (fault_of stop) true (fed (taken ++ piece) shown) written written
+unfolding fed
+fed_stopped taken piece (reads.Fault f) told shown written at shows =
+    let found : shown_fault (taken ++ piece) ≡ Some f = stop_at-Fault (shown_fault (taken ++ piece)) f (sym (shows (λ n. cc)) ∙ at) in
+    ap (λ (o : Option GrammarFault). if_no_fault o (silently (describing (taken ++ piece) shown))) found
+fed_stopped taken piece reads.NoMemory told shown written at shows = refl
+
+pub fed_ill : (taken piece : List ℕ) (stop : ReadStop) (told : Option ReadStop) (fault : BusFault) (shown : List Reading) (written : Option (List ℕ))
+    → told ≡ Some stop → (told ≢ Some reads.NoMemory → told ≡ shown_stop (taken ++ piece)) → fault ≡ fault_of stop
+    → Prevents fault true (fed (taken ++ piece) shown) written written
+fed_ill taken piece stop told fault shown written at shows is =
+    subst (λ (f : BusFault). Prevents f true (fed (taken ++ piece) shown) written written) (sym is)
+    (fed_stopped taken piece stop told shown written at shows)

@@ -1,0 +1,4 @@
+-- What the lines' proofs share.
+pub mod Described
+pub mod Stepping
+pub mod Rowing

@@ -1,0 +1,149 @@
+-- Steps of the world, and what the bus answers them.
+use Rattle.std.proofs.Common.{◌≡◌, ℕ, ◌+◌, ◌*◌, ◌≤◌, Bool, true, false, List, [], ◌++◌, refl, sym, ap, subst, ◌∙◌, arith, Option, None, Some, Result, Ok, Err}
+use Rattle.std.specs.Prelude.{OnOk}
+use Rattle.std.proofs.KnownBytes.{Appends-nil}
+use Rattle.std.proofs.lemmas.List.Elements.{All-weaker}
+use Rattle.uac_grammar.specs.Reading as reader
+use Rattle.uac_script.specs.declared.line.Line.{Line}
+use Rattle.uac_script.specs.declared.line.Line.TheVariants as lines
+use Rattle.uac_play.specs.Kept as play
+use Rattle.uac_play.specs.Kept.{PlayingFields}
+use Rattle.uac_play.specs.World.{Running}
+use Rattle.uac_bus.specs.declared.bus.Stage.TheVariants as stages
+use Rattle.uac_pcm.specs.declared.tones.Tone.{Tone}
+use Rattle.uac_pcm.specs.declared.tones.Tone.TheVariants.{Silent, Ramp, Noise}
+use Rattle.uac_units.specs.Hearing.{Reading}
+use Rattle.uac_script.specs.Line.{voice_of_tone, phrase_of}
+use Rattle.uac_script.specs.Phrase.{Phrase, idle, feeds, goes}
+use Rattle.uac_bus.specs.declared.fault.BusFault.{BusFault}
+use Rattle.uac_bus.specs.declared.fault.BusFault.TheVariants as faults
+use Rattle.uac_bus.specs.declared.bus.Stage.{Stage}
+use Rattle.uac_bus.specs.World.{World, describing, playing, Step, done, refused, unless, breaks_rule, tone_of, fed, gone, step, step_playing}
+use Rattle.uac_bus.specs.Kept.{BusFields, Stands, StandsFor, IsDone, IsWhy, Answers}
+use Rattle.uac_bus.specs.Rows.{Reaches, Prevents, Does, may_want}
+
+-- a tone is what its words spell
+pub tone_back : (tone : Tone) → tone_of (voice_of_tone tone) ≡ tone
+tone_back Silent = refl
+tone_back (Ramp first rise) = refl
+tone_back (Noise seed) = refl
+
+-- the rule holds, and the step is made; or it is broken
+pub unless_holds : (b : Bool) (rule : ℕ) (s : Step) → b ≡ true → unless b rule s ≡ s
+unless_holds true rule s e = refl
+unless_holds false rule s e = absurd (cc)
+
+pub unless_fails : (b : Bool) (rule : ℕ) (s : Step) → b ≡ false → unless b rule s ≡ breaks_rule rule
+unless_fails true rule s e = absurd (cc)
+unless_fails false rule s e = refl
+
+-- a step that was done leaves a bus that stands for the next world, where it keeps no fault
+reached : (s : Step) (bus : BusFields) (shown : List Reading) (written written' : Option (List ℕ)) → bus.fault ≡ None
+    → Reaches s bus.stage shown written written' → IsDone s bus shown written written'
+reached (done next text) bus shown written written' none r = (record { going = none; stage = r.0 }, r.1)
+reached (refused fault) bus shown written written' none r = absurd r
+
+-- why a line wasn't done
+pub prevented : (fault : BusFault) (phrase : Phrase) (w : World) (written written' : Option (List ℕ))
+    → Prevents fault (may_want phrase w) (step phrase w) written written' → IsWhy fault phrase w written written'
+prevented (faults.Script rule) phrase w written written' p = p
+prevented (faults.Grammar f) phrase w written written' p = p
+prevented (faults.Topology f) phrase w written written' p = p
+prevented faults.WriteFault phrase w written written' p = p
+prevented faults.NoMemory phrase (describing bytes shown) written written' p = (p, tt)
+prevented faults.NoMemory phrase (playing r) written written' p = absurd (cc)
+
+-- the line's answer
+pub answered : (phrase : Phrase) (w : World) (bus : BusFields) (shown : List Reading) (written written' : Option (List ℕ)) (result : Result (Unit {0}) BusFault)
+    → OnOk result (bus.fault ≡ None) → Does (step phrase w) (may_want phrase w) bus.stage shown written written' result
+    → Answers phrase w bus shown written written' result
+answered phrase w bus shown written written' (Ok _) none does = reached (step phrase w) bus shown written written' none does
+answered phrase w bus shown written written' (Err fault) none does = prevented fault phrase w written written' does
+
+-- ---- a line in each stage
+
+-- a line that does nothing
+pub idle_in : (r : reader.Reading) (shown : List Reading) (w : World) (written : Option (List ℕ)) → StandsFor (stages.Describing r) shown w
+    → Reaches (step idle w) (stages.Describing r) shown written written
+unfolding step
+idle_in r shown (describing bytes heard) written s = (s, Appends-nil written)
+idle_in r shown (playing world) written s = absurd s
+
+-- more bytes
+fed_here : (r r' : reader.Reading) (more : List ℕ) (shown : List Reading) (w : World) (written : Option (List ℕ)) (result : Result (Unit {0}) BusFault)
+    → StandsFor (stages.Describing r) shown w
+    → (r.stop ≡ None → (heard : List Reading) (old : Option (List ℕ)) → Does (fed (r.taken ++ more) heard) true (stages.Describing r') heard old old result)
+    → Does (step (feeds more) w) (may_want (feeds more) w) (stages.Describing r') shown written written result
+unfolding step
+fed_here r r' more shown (describing bytes heard) written result s does =
+    let before : Does (fed (r.taken ++ more) shown) true (stages.Describing r') shown written written result = does s.1 shown written in
+    subst (λ (bs : List ℕ). Does (fed (bs ++ more) heard) true (stages.Describing r') shown written written result) s.0
+    (subst (λ (xs : List Reading). Does (fed (r.taken ++ more) xs) true (stages.Describing r') shown written written result) s.2 before)
+fed_here r r' more shown (playing world) written result s does = absurd s
+
+pub fed_in : (r r' : reader.Reading) (more bytes : List ℕ) (shown : List Reading) (w : World) (written : Option (List ℕ)) (result : Result (Unit {0}) BusFault)
+    → more ≡ bytes → StandsFor (stages.Describing r) shown w
+    → (r.stop ≡ None → (heard : List Reading) (old : Option (List ℕ)) → Does (fed (r.taken ++ more) heard) true (stages.Describing r') heard old old result)
+    → Does (step (feeds bytes) w) (may_want (feeds bytes) w) (stages.Describing r') shown written written result
+fed_in r r' more bytes shown w written result same s does =
+    subst (λ (bs : List ℕ). Does (step (feeds bs) w) (may_want (feeds bs) w) (stages.Describing r') shown written written result) same
+    (fed_here r r' more shown w written result s does)
+
+-- the descriptor's end, of a reader that was taken out
+pub begun_in : (r whole : reader.Reading) (p : PlayingFields) (shown : List Reading) (w : World) (written written' : Option (List ℕ))
+    → whole ≡ r → StandsFor (stages.Describing r) shown w → ((heard : List Reading) → Reaches (gone whole.taken heard) (stages.Playing p) heard written written')
+    → Reaches (step goes w) (stages.Playing p) shown written written'
+unfolding step
+begun_in r whole p shown (describing bytes heard) written written' same s begins =
+    subst (λ (bs : List ℕ). Reaches (gone bs heard) (stages.Playing p) shown written written') (ap (λ (x : reader.Reading). x.taken) same ∙ s.0)
+    (subst (λ (xs : List Reading). Reaches (gone whole.taken xs) (stages.Playing p) shown written written') s.2 (begins shown))
+begun_in r whole p shown (playing world) written written' same s begins = absurd s
+
+pub unbegun_in : (r whole : reader.Reading) (fault : BusFault) (shown : List Reading) (w : World) (written written' : Option (List ℕ))
+    → whole ≡ r → StandsFor (stages.Describing r) shown w → ((heard : List Reading) → Prevents fault true (gone whole.taken heard) written written')
+    → Prevents fault (may_want goes w) (step goes w) written written'
+unfolding step
+unbegun_in r whole fault shown (describing bytes heard) written written' same s prevents =
+    subst (λ (bs : List ℕ). Prevents fault true (gone bs heard) written written') (ap (λ (x : reader.Reading). x.taken) same ∙ s.0)
+    (subst (λ (xs : List Reading). Prevents fault true (gone whole.taken xs) written written') s.2 (prevents shown))
+unbegun_in r whole fault shown (playing world) written written' same s prevents = absurd s
+
+-- any other line
+pub early_in : (r : reader.Reading) (line : Line) (shown : List Reading) (w : World) → StandsFor (stages.Describing r) shown w
+    → (line ≡ lines.Nothing → ⊥) → ((bytes : _) → line ≡ lines.Bytes bytes → ⊥) → (line ≡ lines.Go → ⊥)
+    → step (phrase_of line) w ≡ breaks_rule 5
+unfolding step
+early_in r line shown (playing world) s nothing bytes go = absurd s
+early_in r lines.Nothing shown (describing bs heard) s nothing bytes go = absurd (nothing refl)
+early_in r (lines.Bytes b) shown (describing bs heard) s nothing bytes go = absurd (bytes b refl)
+early_in r lines.Go shown (describing bs heard) s nothing bytes go = absurd (go refl)
+early_in r (lines.Control a b) shown (describing bs heard) s nothing bytes go = refl
+early_in r (lines.Get a) shown (describing bs heard) s nothing bytes go = refl
+early_in r (lines.Set a b) shown (describing bs heard) s nothing bytes go = refl
+early_in r (lines.Show a) shown (describing bs heard) s nothing bytes go = refl
+early_in r (lines.Break a) shown (describing bs heard) s nothing bytes go = refl
+early_in r (lines.Append a b) shown (describing bs heard) s nothing bytes go = refl
+early_in r (lines.Track a b) shown (describing bs heard) s nothing bytes go = refl
+early_in r (lines.Jack a b) shown (describing bs heard) s nothing bytes go = refl
+early_in r (lines.Deviate a b) shown (describing bs heard) s nothing bytes go = refl
+early_in r (lines.Run a b) shown (describing bs heard) s nothing bytes go = refl
+early_in r (lines.Detail a) shown (describing bs heard) s nothing bytes go = refl
+early_in r lines.Report shown (describing bs heard) s nothing bytes go = refl
+
+-- a line of the running device
+pub played_in : (p p' : PlayingFields) (phrase : Phrase) (shown shown' : List Reading) (w : World) (written written' : Option (List ℕ)) (result : Result (Unit {0}) BusFault)
+    → StandsFor (stages.Playing p) shown w
+    → ((r : Running) → play.Stands p shown r → Does (step_playing r phrase) false (stages.Playing p') shown' written written' result)
+    → Does (step phrase w) (may_want phrase w) (stages.Playing p') shown' written written' result
+unfolding step
+played_in p p' phrase shown shown' (describing bytes heard) written written' result s does = absurd s
+played_in p p' phrase shown shown' (playing r) written written' result s does = does r s
+
+-- ---- the counts
+
+pub Counts_more : (most more : ℕ) (p : PlayingFields) → most ≤ more → play.Counts most p → play.Counts more p
+Counts_more most more p le counts = record {
+  places = All-weaker (λ j. j.place ≤ most) (λ j. j.place ≤ more) (λ j h. omega arith) p.jacks counts.places;
+  ticks = All-weaker (λ c. c.ticks ≤ most) (λ c. c.ticks ≤ more) (λ c h. omega arith) p.counts counts.ticks;
+  time = (let h = counts.time in omega arith);
+}

@@ -1,0 +1,28 @@
+use Rattle.std.proofs.Common.{List, ℕ, sym, subst}
+use Rattle.std.specs.Io.KnownBytes.{Appends}
+use Rattle.uac_topology.specs.Function.{FunctionFields}
+use Rattle.uac_script.specs.Writing.{AppendsFront}
+use Rattle.uac_play.specs.Text.{ready_line}
+use Rattle.uac_bus.specs.declared.bus.Stage.TheVariants as stages
+use Rattle.uac_bus.specs.World.{Step}
+use Rattle.uac_bus.specs.Kept.{IsCut}
+use Rattle.uac_bus.specs.Rows.{Reaches}
+use Rattle.uac_bus.proofs.Described.{gone_well, gone_ill}
+use Rattle.uac_bus.proofs.describing.begin.Goals as goal
+
+pub returns-in-Err-clause-begins : goal.returns-in-Err-clause-begins
+returns-in-Err-clause-begins g c = λ shown. gone_ill _ _ shown _ c.in-Err.ensures
+
+pub returns-in-Ok-ready-clause-begins : goal.returns-in-Ok-ready-clause-begins
+returns-in-Ok-ready-clause-begins g c = λ shown.
+    subst (λ (s : Step). Reaches s (stages.Playing c.in-Ok-new.playing) shown (g.K.Sink.written c.args.sink.now) (g.K.Sink.written c.ready.new.sink))
+    (sym (gone_well c.args.reader.taken c.in-Ok.function shown c.in-Ok.ensures)) (
+      c.in-Ok-new.ensures.stands shown,
+      subst (λ (f : FunctionFields). Appends (g.K.Sink.written c.args.sink.now) (g.K.Sink.written c.ready.new.sink) (ready_line f)) c.in-Ok-new.ensures.function c.in-Ok-ready.ensures.written,
+    )
+
+pub returns-in-Err-ready-clause-begins : goal.returns-in-Err-ready-clause-begins
+returns-in-Err-ready-clause-begins g c = λ shown.
+    subst (λ (s : Step). IsCut s (g.K.Sink.written c.args.sink.now) (g.K.Sink.written c.ready.new.sink))
+    (sym (gone_well c.args.reader.taken c.in-Ok.function shown c.in-Ok.ensures))
+    (subst (λ (f : FunctionFields). AppendsFront (g.K.Sink.written c.args.sink.now) (g.K.Sink.written c.ready.new.sink) (ready_line f)) c.in-Ok-new.ensures.function c.in-Err-ready.ensures.written)

@@ -1,0 +1,10 @@
+use Rattle.uac_bus.proofs.Described.{described_well, described_broken}
+use Rattle.uac_bus.proofs.describing.described.Goals as goal
+
+pub returns-in-Ok-check : goal.returns-in-Ok-check
+returns-in-Ok-check c =
+    described_well _ _ _ _ c.in-Ok.ensures.sentence c.in-Ok.ensures.no_fault c.as_slice.ensures.value c.in-Ok-check.ensures.sound
+
+pub returns-in-Err-Fault : goal.returns-in-Err-Fault
+returns-in-Err-Fault c =
+    described_broken _ _ _ _ c.in-Ok.ensures.sentence c.in-Ok.ensures.no_fault c.as_slice.ensures.value (rw c.in-Err-Fault.field-0-is at c.in-Err-Fault.ensures.broken)

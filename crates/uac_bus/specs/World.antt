@@ -1,0 +1,163 @@
+-- The world under a script, and what each line makes of it (profile).
+use Rattle.std.specs.Prelude.{ℕ, ◌%◌, ◌==◌, ◌&&◌, not, Bool, true, false, if◌then◌else◌, ℤ, pos, negsuc, List, [], ◌∷◌, ◌++◌, length, Option, None, Some, Result, Ok, Err}
+use Rattle.std.specs.List.{list_any, list_all, find}
+use Rattle.std.specs.Option.{option_map_or}
+use Rattle.uac_pcm.specs.declared.tones.Tone.{Tone}
+use Rattle.uac_pcm.specs.declared.tones.Tone.TheVariants.{Silent, Ramp, Noise}
+use Rattle.uac_entities.specs.declared.stream.StreamInterface.{StreamInterface}
+use Rattle.uac_sentence.specs.declared.faults.GrammarFault.{GrammarFault}
+use Rattle.uac_sentence.specs.Grammar.{first_fault}
+use Rattle.uac_grammar.specs.Stop.{shown_fault}
+use Rattle.uac_rules.specs.declared.fault.TopologyFault.{TopologyFault}
+use Rattle.uac_topology.specs.Topology.{first_broken}
+use Rattle.uac_graph.specs.Meaning.{entity}
+use Rattle.uac_units.specs.Hearing.{Reading}
+use Rattle.uac_script.specs.declared.line.MarkKind.{MarkKind}
+use Rattle.uac_script.specs.declared.line.MarkKind.TheVariants.{Out, In, Feedback}
+use Rattle.uac_script.specs.Phrase.{Voice, silent, ramps, hisses, Loss, Phrase, idle, feeds, goes, controls, gets, sets, shows, breaks, appends, tracks, jacks, deviates, runs, details, reports}
+use Rattle.uac_play.specs.World.{Running, at_start, has_jack, has_domain, with_tone, with_deviation, with_detail}
+use Rattle.uac_play.specs.Events.{Told, micros}
+use Rattle.uac_play.specs.Text.{ready_line, report_text}
+use Rattle.uac_bus.specs.declared.fault.BusFault.{BusFault}
+use Rattle.uac_bus.specs.declared.fault.BusFault.TheVariants as faults
+use Rattle.uac_bus.specs.Description.{blocks_of, function_of}
+
+-- before the descriptor's end: its bytes so far, and what the meters show; and from there on the running device
+pub data World : Type 0 where
+  describing : List ℕ → List Reading → World
+  playing : Running → World
+
+-- what a line makes of a world: the next world and the text, or the fault with which it is refused
+pub data Step : Type 0 where
+  done : World → List ℕ → Step
+  refused : BusFault → Step
+
+-- no line was done yet
+abbrev pub start : List Reading → World
+start meters = describing [] meters
+
+-- the number, which a range keeps from being negative
+abbrev pub size_of : ℤ → ℕ
+size_of (pos n) = n
+size_of (negsuc n) = 0
+
+abbrev pub tone_of : Voice → Tone
+tone_of silent = Silent
+tone_of (ramps first rise) = Ramp first rise
+tone_of (hisses seed) = Noise (size_of seed)
+
+-- a line that breaks this rule of the script
+abbrev pub breaks_rule : ℕ → Step
+breaks_rule rule = refused (faults.Script rule)
+
+-- it breaks the rule unless this holds
+abbrev pub unless : Bool → ℕ → Step → Step
+unless true rule step = step
+unless false rule step = breaks_rule rule
+
+-- a line that prints nothing
+abbrev pub silently : World → Step
+silently w = done w []
+
+abbrev pub if_no_fault : Option GrammarFault → Step → Step
+if_no_fault None step = step
+if_no_fault (Some fault) step = refused (faults.Grammar fault)
+
+abbrev pub if_sound : Option TopologyFault → Step → Step
+if_sound None step = step
+if_sound (Some fault) step = refused (faults.Topology fault)
+
+-- ---- before the descriptor's end
+
+-- more bytes: the first fault that the bytes show is refused
+unfoldable pub fed : List ℕ → List Reading → Step
+fed bytes meters = if_no_fault (shown_fault bytes) (silently (describing bytes meters))
+
+-- the descriptor's end: its bytes are to be a descriptor, and its function sound
+unfoldable pub gone : List ℕ → List Reading → Step
+gone bytes meters =
+    let function = function_of (blocks_of bytes) in
+    if_no_fault (first_fault bytes) (if_sound (first_broken (blocks_of bytes)) (done (playing (at_start function meters)) (ready_line function)))
+
+abbrev pub step_describing : List ℕ → List Reading → Phrase → Step
+step_describing bytes meters idle = silently (describing bytes meters)
+step_describing bytes meters (feeds more) = fed (bytes ++ more) meters
+step_describing bytes meters goes = gone bytes meters
+step_describing bytes meters _ = breaks_rule 5
+
+-- ---- from there on
+
+-- the interface carries a stream to the device, or one from it, and links to a terminal
+abbrev pub is_out : ℕ → StreamInterface → Bool
+is_out number s = s.number == number && (s.out && not (s.terminal == 0))
+
+abbrev pub is_in : ℕ → StreamInterface → Bool
+is_in number s = s.number == number && (not s.out && not (s.terminal == 0))
+
+abbrev pub has_out : Running → ℕ → Bool
+has_out r number = list_any (is_out number) r.device.function.streams
+
+abbrev pub has_in : Running → ℕ → Bool
+has_in r number = list_any (is_in number) r.device.function.streams
+
+-- an interface has such packets or reports: to the device and feedback where it carries a stream to the device
+abbrev pub has_marked : Running → MarkKind → ℕ → Bool
+has_marked r Out number = has_out r number
+has_marked r In number = has_in r number
+has_marked r Feedback number = has_out r number
+
+-- a mark names an interface that has such packets or reports
+abbrev pub is_placed : Running → Loss → Bool
+is_placed r loss = has_marked r loss.letter (size_of loss.place)
+
+-- the samples are whole frames of the channels of the terminal to which the interface links
+unfoldable pub are_frames : Running → ℕ → ℕ → Bool
+are_frames r number count =
+    option_map_or (λ s. count % (entity r.device.function.entities s.terminal).cluster.channels == 0) (find (is_out number) r.device.function.streams) false
+
+-- a line that isn't built yet
+abbrev pub unbuilt : Step
+unbuilt = breaks_rule 9
+
+abbrev pub told : Told → Step
+told t = done (playing t.world) t.text
+
+abbrev pub is_empty : List Loss → Bool
+is_empty [] = true
+is_empty (loss ∷ losses) = false
+
+abbrev pub step_playing : Running → Phrase → Step
+step_playing r idle = silently (playing r)
+step_playing r (feeds more) = breaks_rule 5
+step_playing r goes = breaks_rule 5
+step_playing r (controls setup sent) = unbuilt
+step_playing r (gets name) = unbuilt
+step_playing r (sets name value) = unbuilt
+step_playing r (shows name) = unbuilt
+step_playing r (breaks after) = unbuilt
+step_playing r (appends number samples) =
+    unless (has_out r (size_of number)) 6 (unless (are_frames r (size_of number) (length samples)) 7 unbuilt)
+step_playing r (tracks number voice) = unless (has_out r (size_of number)) 6 unbuilt
+step_playing r (jacks terminal voice) =
+    unless (has_jack r (size_of terminal)) 6 (silently (playing (with_tone (size_of terminal) (tone_of voice) r)))
+step_playing r (deviates clock millionths) =
+    unless (has_domain r (size_of clock)) 6 (silently (playing (with_deviation (size_of clock) millionths r)))
+step_playing r (runs count losses) =
+    unless (list_all (is_placed r) losses) 6 (unless (is_empty losses) 9 (told (micros (size_of count) r)))
+step_playing r (details level) = silently (playing (with_detail (size_of level) r))
+step_playing r reports = done (playing r) (report_text r)
+
+-- what a line makes of a world
+unfoldable pub step : Phrase → World → Step
+step phrase (describing bytes meters) = step_describing bytes meters phrase
+step phrase (playing r) = step_playing r phrase
+
+-- the script's end: a descriptor's end is to have come
+abbrev pub finish_of : World → Result (Unit {0}) BusFault
+finish_of (describing bytes meters) = Err (faults.Script 8)
+finish_of (playing r) = Ok tt
+
+-- what the meters show in a world
+abbrev pub meters_in : World → List Reading
+meters_in (describing bytes meters) = meters
+meters_in (playing r) = r.meters

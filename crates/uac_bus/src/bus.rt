@@ -1,0 +1,192 @@
+// The bus and its lines.
+ghost use Rattle.std.specs.Prelude.{◌≡◌, ◌≢◌, ◌+◌, ◌<◌, ◌≤◌, ◌⊎◌, ℕ, List, true, false, IfErr, OnOk};
+ghost use Rattle.uac_units.specs.Fitting.{IsFitted};
+ghost use Rattle.uac_units.specs.Hearing.{Reading};
+ghost use Rattle.uac_units.specs.Panel.{readings};
+ghost use Rattle.uac_script.specs.Faults.{Rose};
+ghost use Rattle.uac_script.specs.Line.{phrase_of, Keeps};
+ghost use Rattle.uac_bus.specs.World.{World, start, step, finish_of};
+ghost use Rattle.uac_bus.specs.Kept.{Stands, StandsFor, StageCounts, Answers, is_final, most_lines};
+ghost use Rattle.uac_bus.specs.Rows.{Does, HasRoom, may_want};
+
+use crate::describing::{begin, feed};
+use crate::fault::BusFault;
+use crate::rows::play;
+use std::alloc::Global;
+use std::marker::Model;
+use std::mem;
+use uac_grammar::Reader;
+use uac_play::Playing;
+use uac_script::{Line, Sink};
+use uac_units::{Meter, Meters, Rack, Unit};
+
+/// How far a script is.
+#[derive(Drop)]
+pub enum Stage {
+    /// The descriptor's bytes are read.
+    Describing(Reader),
+    /// The device runs.
+    Playing(Playing),
+}
+
+/// A device under a script.
+#[derive(Drop)]
+pub struct Bus {
+    alloc: Global,
+    stage: Stage,
+    fault: Option<BusFault>,
+    lines: u32,
+}
+
+impl Model for Bus {
+    ghost use Rattle.uac_bus.specs.Kept.{BusFields, IsBus};
+
+    ghost Value = { BusFields };
+
+    ghost view = { λ b. record { stage = b.stage; fault = b.fault; lines = b.lines } };
+
+    ghost invariant = { λ b. IsBus (record { stage = b.stage; fault = b.fault; lines = b.lines }) };
+}
+
+impl Bus {
+    /// A bus to which no line was given. It takes no memory.
+    pub fn new(alloc: Global) -> Bus
+        ensures stands { (meters : List Reading) → Stands result meters (start meters) }
+        ensures none { result.lines ≡ 0 }
+    {
+        Bus {
+            alloc,
+            stage: Stage::Describing(Reader::new(alloc)),
+            fault: None,
+            lines: 0,
+        }
+    }
+
+    /// Does one line and prints its text. The lines `d` and `g` alone take memory.
+    ///
+    /// # Errors
+    ///
+    /// A rule of the script that the line breaks; nothing is changed. Any other fault is answered to each further line, too, and
+    /// nothing more is printed: the descriptor's first fault, a write that failed, want of memory.
+    pub fn line<K: Sink>(
+        &mut self,
+        line: &Line,
+        rack: &Rack,
+        meters: &mut Meters,
+        sink: &mut K,
+    ) -> Result<(), BusFault>
+        requires rack { IsFitted (λ v x. (⟦<dyn Unit as Unit>⟧ v).kind_of x) rack.now }
+        requires keeps { Keeps line.now }
+        requires few { self.old.lines < most_lines }
+
+        // What it does, in every world for which the bus and the meters stand.
+        ensures answers { (w : World) → Stands self.old (readings (λ v x. (⟦<dyn Meter as Meter>⟧ v).reading_of x) meters.old) w
+            → Answers (phrase_of line.now) w self.new (readings (λ v x. (⟦<dyn Meter as Meter>⟧ v).reading_of x) meters.new)
+            (K.written sink.old) (K.written sink.new) result }
+
+        // A fault that was answered before is answered again.
+        ensures again { (fault : BusFault) → self.old.fault ≡ Some fault → (result ≡ Err fault) × (self.new ≡ self.old) × (sink.new ≡ sink.old) }
+        ensures unheard_again { (fault : BusFault) → self.old.fault ≡ Some fault
+            → readings (λ v x. (⟦<dyn Meter as Meter>⟧ v).reading_of x) meters.new ≡ readings (λ v x. (⟦<dyn Meter as Meter>⟧ v).reading_of x) meters.old }
+        ensures kept { IfErr result (λ fault. is_final fault ≡ true → self.new.fault ≡ Some fault) }
+
+        // What stays.
+        ensures script { IfErr result (λ fault. is_final fault ≡ false → self.new ≡ self.old) }
+        ensures unwritten { IfErr result (λ fault. fault ≢ BusFault.WriteFault → sink.new ≡ sink.old) }
+        ensures unheard { IfErr result (λ fault. fault ≢ BusFault.WriteFault
+            → readings (λ v x. (⟦<dyn Meter as Meter>⟧ v).reading_of x) meters.new ≡ readings (λ v x. (⟦<dyn Meter as Meter>⟧ v).reading_of x) meters.old) }
+
+        // A failed write has its cause in this call, where it wasn't kept.
+        ensures cause { IfErr result (λ fault. fault ≡ BusFault.WriteFault → (self.old.fault ≡ Some BusFault.WriteFault) ⊎ Rose (K.faults sink.old) (K.faults sink.new)) }
+        ensures never_falls { K.faults sink.old ≤ K.faults sink.new }
+
+        // The lines done are counted.
+        ensures lines { OnOk result (self.new.lines ≡ self.old.lines + 1) }
+        ensures at_most { self.new.lines ≤ self.old.lines + 1 }
+    {
+        if let Some(fault) = self.fault {
+            return Err(fault);
+        }
+        match advance(self.alloc, &mut self.stage, line, rack, meters, sink) {
+            Ok(()) => {
+                self.lines += 1;
+                return Ok(());
+            }
+            Err(fault) => {
+                if !is_kept(fault) {
+                    return Err(fault);
+                }
+                self.fault = Some(fault);
+                // A line that a failed write cut off may have done all but its text.
+                self.lines += 1;
+                return Err(fault);
+            }
+        }
+    }
+
+    /// The script's end: rule 8 where no descriptor's end came, and a fault that was answered before.
+    pub fn finish(&self) -> Result<(), BusFault>
+        ensures again { (fault : BusFault) → self.now.fault ≡ Some fault → result ≡ Err fault }
+        ensures finishes { (meters : List Reading) (w : World) → Stands self.now meters w → result ≡ finish_of w }
+    {
+        if let Some(fault) = self.fault {
+            return Err(fault);
+        }
+        match self.stage {
+            Stage::Describing(_) => Err(BusFault::Script(8)),
+            Stage::Playing(_) => Ok(()),
+        }
+    }
+}
+
+/// Whether a fault is answered to each further line, too.
+fn is_kept(fault: BusFault) -> bool
+    ensures { result ≡ is_final fault }
+{
+    match fault {
+        BusFault::Script(_) => false,
+        _ => true,
+    }
+}
+
+/// Does a line, however far the script is.
+fn advance<K: Sink>(
+    alloc: Global,
+    stage: &mut Stage,
+    line: &Line,
+    rack: &Rack,
+    meters: &mut Meters,
+    sink: &mut K,
+) -> Result<(), BusFault>
+    requires rack { IsFitted (λ v x. (⟦<dyn Unit as Unit>⟧ v).kind_of x) rack.now }
+    requires keeps { Keeps line.now }
+    requires room { HasRoom stage.old }
+    ensures does { (w : World) → StandsFor stage.old (readings (λ v x. (⟦<dyn Meter as Meter>⟧ v).reading_of x) meters.old) w
+        → Does (step (phrase_of line.now) w) (may_want (phrase_of line.now) w) stage.new
+        (readings (λ v x. (⟦<dyn Meter as Meter>⟧ v).reading_of x) meters.new) (K.written sink.old) (K.written sink.new) result }
+    ensures script { IfErr result (λ fault. is_final fault ≡ false → stage.new ≡ stage.old) }
+    ensures unwritten { IfErr result (λ fault. fault ≢ BusFault.WriteFault → sink.new ≡ sink.old) }
+    ensures unheard { IfErr result (λ fault. fault ≢ BusFault.WriteFault → meters.new ≡ meters.old) }
+    ensures cause { IfErr result (λ fault. fault ≡ BusFault.WriteFault → Rose (K.faults sink.old) (K.faults sink.new)) }
+    ensures never_falls { K.faults sink.old ≤ K.faults sink.new }
+    ensures counts { (lines : ℕ) → StageCounts stage.old lines → StageCounts stage.new (lines + 1) }
+{
+    match stage {
+        Stage::Describing(reader) => match line {
+            Line::Nothing => Ok(()),
+            Line::Bytes(bytes) => feed(reader, bytes.as_slice()),
+            Line::Go => {
+                let whole = mem::replace(reader, Reader::new(alloc));
+                match begin(alloc, whole, sink) {
+                    Ok(playing) => {
+                        *stage = Stage::Playing(playing);
+                        Ok(())
+                    }
+                    Err(fault) => Err(fault),
+                }
+            }
+            _ => Err(BusFault::Script(5)),
+        },
+        Stage::Playing(playing) => play(playing, line, rack, meters, sink),
+    }
+}

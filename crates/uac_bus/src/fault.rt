@@ -1,0 +1,24 @@
+// Why a line isn't done.
+use thiserror::Error;
+use uac_grammar::GrammarFault;
+use uac_topology::TopologyFault;
+
+/// Why a line of a script isn't done.
+#[derive(Clone, Copy, Debug, PartialEq, Eq, Error)]
+pub enum BusFault {
+    /// The line breaks a rule of the script: 5, 6 or 7, or 9 where it isn't built yet; at the end rule 8.
+    #[error("the line breaks rule S{0}")]
+    Script(u8),
+    /// The descriptor has this first fault.
+    #[error("the descriptor breaks a rule of the grammar")]
+    Grammar(GrammarFault),
+    /// The function breaks this rule.
+    #[error("the function breaks a rule of the topology")]
+    Topology(TopologyFault),
+    /// The sink failed.
+    #[error("a write failed")]
+    WriteFault,
+    /// There was no memory.
+    #[error("no memory")]
+    NoMemory,
+}

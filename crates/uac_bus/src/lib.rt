@@ -1,0 +1,16 @@
+//! A script's lines, one after the other: the descriptor, and then the device that runs under them.
+#![tactic(auto)]
+
+/// The bus and its lines.
+mod bus;
+/// The lines of the descriptor.
+mod describing;
+/// Why a line isn't done.
+mod fault;
+/// The marks of a line, and the streams that it names.
+mod naming;
+/// The lines of the running device.
+mod rows;
+
+pub use bus::Bus;
+pub use fault::BusFault;

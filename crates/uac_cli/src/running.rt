@@ -1,0 +1,134 @@
+// Running a script, line by line.
+ghost use Rattle.std.specs.Prelude.{◌≡◌, ◌≢◌, ◌+◌, ◌<◌, ◌≤◌, length, List, Some};
+ghost use Rattle.std.specs.Io.KnownBytes.{IsAtEnd};
+ghost use Rattle.uac_script.specs.Faults.{Rose};
+ghost use Rattle.uac_script.specs.Reading.{answer};
+ghost use Rattle.uac_units.specs.Fitting.{IsFitted};
+ghost use Rattle.uac_units.specs.Hearing.{Reading};
+ghost use Rattle.uac_units.specs.Panel.{readings};
+ghost use Rattle.uac_bus.specs.World.{World};
+ghost use Rattle.uac_bus.specs.Kept.{Stands, most_lines};
+ghost use Rattle.uac_cli.specs.declared.command.Command.TheVariants.{Run};
+ghost use Rattle.uac_cli.specs.Run.{IsRun, Closes};
+ghost use Rattle.uac_cli.specs.Running.{Does, stop_outcome};
+ghost use Rattle.uac_cli.specs.Transcript.{said_step, last_line, finished};
+
+use crate::lines::{NO_MEMORY, READ_FAULT, TOO_LONG, misread_line, refusal_line, unsound_line};
+use crate::status::Status;
+use crate::top::close;
+use std::alloc::Global;
+use uac_bus::{Bus, BusFault};
+use uac_script::{Line, LineStop, Lines, Next, Sink, Source};
+use uac_units::{Meter, Meters, Rack, Unit};
+
+/// Does the lines of a script in order, up to the first that is refused, and prints what each prints, and the last line of a
+/// refusal.
+pub fn run_script<S: Source, K: Sink>(
+    alloc: Global,
+    source: &mut S,
+    sink: &mut K,
+    rack: &Rack,
+    meters: &mut Meters,
+) -> Status
+    requires { IsFitted (λ v x. (⟦<dyn Unit as Unit>⟧ v).kind_of x) rack.now }
+    ensures run { IsRun (Some Run)
+        (readings (λ v x. (⟦<dyn Meter as Meter>⟧ v).reading_of x) meters.old) (readings (λ v x. (⟦<dyn Meter as Meter>⟧ v).reading_of x) meters.new)
+        (S.left source.old) (S.left source.new) (S.faults source.old) (S.faults source.new)
+        (K.written sink.old) (K.written sink.new) (K.faults sink.old) (K.faults sink.new) result }
+    ensures read_fault { result ≡ Status.ReadFault → Rose (S.faults source.old) (S.faults source.new) }
+    ensures write_fault { result ≡ Status.WriteFault → Rose (K.faults sink.old) (K.faults sink.new) }
+    ensures ok { result ≡ Status.Ok → IsAtEnd (S.left source.new) }
+{
+    let mut bus = Bus::new(alloc);
+    let mut lines = Lines::new();
+    loop {
+        match lines.next(source) {
+            Ok(Next::Line) => match do_line(&mut bus, lines.text(), rack, meters, sink) {
+                Ok(()) => {}
+                Err(fault) => return refuse_line(fault, lines.number(), sink),
+            },
+            Ok(Next::End) => return finish(&bus, lines.number() + 1, sink),
+            Err(stop) => return stop_lines(stop, lines.number(), sink),
+        }
+    }
+}
+
+/// Does the line that a text spells.
+fn do_line<K: Sink>(
+    bus: &mut Bus,
+    text: &[u8],
+    rack: &Rack,
+    meters: &mut Meters,
+    sink: &mut K,
+) -> Result<(), BusFault>
+    requires rack { IsFitted (λ v x. (⟦<dyn Unit as Unit>⟧ v).kind_of x) rack.now }
+    requires short { length text.now ≤ 4096 }
+    requires few { bus.old.lines < most_lines }
+    ensures does { (w : World) → Stands bus.old (readings (λ v x. (⟦<dyn Meter as Meter>⟧ v).reading_of x) meters.old) w
+        → Does (said_step (answer text.now) w) w bus.new
+        (readings (λ v x. (⟦<dyn Meter as Meter>⟧ v).reading_of x) meters.old) (readings (λ v x. (⟦<dyn Meter as Meter>⟧ v).reading_of x) meters.new)
+        (K.written sink.old) (K.written sink.new) (K.faults sink.old) (K.faults sink.new) result }
+    ensures never_falls { K.faults sink.old ≤ K.faults sink.new }
+    ensures at_most { bus.new.lines ≤ bus.old.lines + 1 }
+{
+    match Line::read(text) {
+        Ok(line) => bus.line(&line, rack, meters, sink),
+        Err(rule) => Err(BusFault::Script(rule)),
+    }
+}
+
+/// Prints why the line with this number was refused. Behind a write that failed nothing is printed.
+fn refuse_line<K: Sink>(fault: BusFault, number: u64, sink: &mut K) -> Status
+    ensures closed { Closes (last_line fault number) (K.written sink.old) (K.written sink.new) (K.faults sink.old) (K.faults sink.new) result }
+    ensures never_ok { result ≢ Status.Ok }
+    ensures never_read { result ≢ Status.ReadFault }
+    ensures cause { result ≡ Status.WriteFault → fault ≢ BusFault.WriteFault → Rose (K.faults sink.old) (K.faults sink.new) }
+    ensures silent { fault ≡ BusFault.WriteFault → (result ≡ Status.WriteFault) × (sink.new ≡ sink.old) }
+{
+    match fault {
+        BusFault::Script(rule) => close(
+            sink,
+            misread_line(rule, number).as_bytes(),
+            Status::Script,
+        ),
+        BusFault::Grammar(fault) => close(
+            sink,
+            refusal_line(&fault).as_bytes(),
+            Status::Descriptor,
+        ),
+        BusFault::Topology(fault) => close(
+            sink,
+            unsound_line(&fault).as_bytes(),
+            Status::Descriptor,
+        ),
+        BusFault::WriteFault => Status::WriteFault,
+        BusFault::NoMemory => close(sink, NO_MEMORY, Status::NoMemory),
+    }
+}
+
+/// Prints why there is no next line; `number` is that of a line that is too long.
+fn stop_lines<K: Sink>(stop: LineStop, number: u64, sink: &mut K) -> Status
+    ensures closed { Closes (stop_outcome stop number) (K.written sink.old) (K.written sink.new) (K.faults sink.old) (K.faults sink.new) result }
+    ensures never_ok { result ≢ Status.Ok }
+    ensures read { result ≡ Status.ReadFault → stop ≡ LineStop.Failed }
+    ensures cause { result ≡ Status.WriteFault → Rose (K.faults sink.old) (K.faults sink.new) }
+{
+    match stop {
+        LineStop::Long => close(sink, misread_line(1, number).as_bytes(), Status::Script),
+        LineStop::TooLong => close(sink, TOO_LONG, Status::TooLong),
+        LineStop::Failed => close(sink, READ_FAULT, Status::ReadFault),
+    }
+}
+
+/// The script's end, where the next line would have this number.
+fn finish<K: Sink>(bus: &Bus, number: u64, sink: &mut K) -> Status
+    ensures closed { (meters : List Reading) (w : World) → Stands bus.now meters w
+        → Closes (finished number w).outcome (K.written sink.old) (K.written sink.new) (K.faults sink.old) (K.faults sink.new) result }
+    ensures never_read { result ≢ Status.ReadFault }
+    ensures cause { (meters : List Reading) (w : World) → Stands bus.now meters w → result ≡ Status.WriteFault → Rose (K.faults sink.old) (K.faults sink.new) }
+{
+    match bus.finish() {
+        Ok(()) => Status::Ok,
+        Err(fault) => refuse_line(fault, number, sink),
+    }
+}

@@ -1,0 +1,5 @@
+pub mod Turning
+pub mod Heard
+pub mod Kept
+pub mod Fastest
+pub mod Played

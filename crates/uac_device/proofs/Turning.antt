@@ -1,0 +1,41 @@
+-- A list changed place by place.
+use Rattle.std.proofs.Common.{◌≡◌, ◌∙◌, sym, refl, ap, arith, ℕ, ◌+◌, ◌<◌, ◌≤◌, List, [], ◌∷◌, ◌++◌, length, get_or, set, take, drop, map}
+use Rattle.std.proofs.lemmas.Grind.{common_steps}
+use Rattle.std.proofs.lemmas.List.{get_or-drop, take_all, take_more, take_more_set, map-append}
+
+-- the places below one are changed, and the others are as they were
+pub record IsTurnedBelow {X : Type 0} (turn : X → X) (now old : List X) (at : ℕ) : Type 0 where
+  pub below : take at now ≡ map turn (take at old)
+  pub rest : drop at now ≡ drop at old
+  pub same : length now ≡ length old
+
+-- what stands at a place that isn't changed yet
+pub untouched : {X : Type 0} (turn : X → X) (now old : List X) (at : ℕ) (d : X) → IsTurnedBelow turn now old at → get_or now at d ≡ get_or old at d
+untouched {X = X} turn now old at d turned = sym (first now) ∙ ap (λ xs. get_or xs 0 d) turned.rest ∙ first old
+  where
+    first : (xs : List X) → get_or (drop at xs) 0 d ≡ get_or xs at d
+    first xs = get_or-drop at xs 0 d ∙ ap (λ i. get_or xs i d) (omega arith)
+
+-- one place more
+pub turned_more : {X : Type 0} (turn : X → X) (now old : List X) (at : ℕ) (x d : X) → at < length now → IsTurnedBelow turn now old at
+    → x ≡ turn (get_or now at d) → IsTurnedBelow turn (set now at x) old (at + 1)
+turned_more turn now old at x d h turned e =
+    let longer : map turn (take (at + 1) old) ≡ map turn (take at old) ++ turn (get_or old at d) ∷ [] =
+    ap (map turn) (take_more old at d (omega (arith, turned.same))) ∙ map-append turn (take at old) (get_or old at d ∷ []) in
+    record {
+      below =
+          take_more_set now at x h ∙ ap (λ xs. xs ++ x ∷ []) turned.below
+          ∙ ap (λ y. map turn (take at old) ++ y ∷ []) (e ∙ ap turn (untouched turn now old at d turned))
+          ∙ sym longer;
+      rest = grind (arith, common_steps);
+      same = grind (arith, common_steps);
+    }
+
+-- at the start no place is changed
+pub turned_none : {X : Type 0} (turn : X → X) (xs : List X) → IsTurnedBelow turn xs xs 0
+turned_none turn xs = record { below = refl; rest = refl; same = refl }
+
+-- at the end each is
+pub turned_all : {X : Type 0} (turn : X → X) (now old : List X) (at : ℕ) → length now ≤ at → IsTurnedBelow turn now old at → now ≡ map turn old
+turned_all turn now old at past turned =
+    sym (take_all at now past) ∙ turned.below ∙ ap (map turn) (take_all at old (omega (arith, turned.same)))

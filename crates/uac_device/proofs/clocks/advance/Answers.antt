@@ -1,0 +1,31 @@
+use Rattle.std.proofs.Common.{◌∙◌, ap, arith, subst, sym}
+use Rattle.uac_device.specs.Kept.{IsInRange}
+use Rattle.uac_device.specs.Turns.{advanced_clock, ticks_where}
+use Rattle.uac_device.specs.declared.clocks.Clock.{Clock}
+use Rattle.uac_device.proofs.Kept.{first_more, first_read}
+use Rattle.uac_device.proofs.Turning.{turned_all, turned_more, untouched}
+use Rattle.uac_device.proofs.clocks.advance.Goals as goal
+
+pub advance_one-requires-clause-range : goal.advance_one-requires-clause-range
+advance_one-requires-clause-range c =
+    let here = untouched _ c.loop-clock.clocks c.args.clocks.now c.loop-clock.clock-index c.clock-item.result c.loop-clock.invariant.turned in
+    subst (λ (k : Clock). IsInRange k.ppm) (sym here) (c.requires.range c.loop-clock.clock-index c.clock-item.result (omega arith))
+
+pub loop-clock-preserved : goal.loop-clock-preserved
+loop-clock-preserved c =
+    let here = untouched _ c.loop-clock.clocks c.args.clocks.now c.loop-clock.clock-index c.clock-item.result c.loop-clock.invariant.turned in
+    record {
+      turned =
+          turned_more _ c.loop-clock.clocks c.args.clocks.now c.loop-clock.clock-index c.advance_one.new.clock c.clock-item.result (omega arith)
+          c.loop-clock.invariant.turned c.advance_one.ensures.clock;
+      first =
+          first_more c.args.domain c.args.values c.args.clocks.now c.loop-clock.clock-index c.clock-item.result c.loop-clock.first c.or-first.result c.advance_one.result
+          (omega arith) (c.advance_one.ensures.ticks ∙ ap (ticks_where c.args.domain c.args.values) here) c.loop-clock.invariant.first c.or-first.ensures;
+    }
+
+pub returns-clause-clocks : goal.returns-clause-clocks
+returns-clause-clocks c =
+    turned_all (advanced_clock c.args.domain c.args.values) c.loop-clock.clocks c.args.clocks.now c.loop-clock.clock-index (omega arith) c.loop-clock.invariant.turned
+
+pub returns-clause-ticks : goal.returns-clause-ticks
+returns-clause-ticks c = c.unwrap_or.ensures ∙ first_read c.args.domain c.args.values c.args.clocks.now c.loop-clock.clock-index c.loop-clock.first (omega arith) c.loop-clock.invariant.first

@@ -1,0 +1,12 @@
+use Rattle.std.proofs.Common.{◌≡◌, ◌==◌, take}
+use Rattle.std.specs.List.{find}
+use Rattle.std.specs.Option.{option_and_then}
+use Rattle.uac_device.specs.Turns.{advanced_clock, ticks_where}
+use Rattle.uac_device.proofs.Turning.{IsTurnedBelow}
+use Rattle.uac_device.proofs.clocks.advance.Given as goal
+
+abbrev pub invariant-loop-clock : goal.invariant-loop-clock
+invariant-loop-clock l = record {
+  turned : IsTurnedBelow (advanced_clock l.domain l.values) l.clocks l.initial.clocks l.clock-index;
+  first : l.first ≡ option_and_then (ticks_where l.domain l.values) (find (λ c. c.clock == l.domain) (take l.clock-index l.initial.clocks));
+}

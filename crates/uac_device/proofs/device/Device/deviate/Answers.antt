@@ -1,0 +1,38 @@
+use Rattle.std.proofs.Common.{◌≡◌, ◌∙◌, ◌++◌, ◌<◌, ap, arith, drop, length, map, subst, sym, take, w32, ℤ, List}
+use Rattle.std.proofs.lemmas.Int.{to_z-of_z}
+use Rattle.std.specs.List.{All}
+use Rattle.uac_device.specs.declared.clocks.Clock.{Clock}
+use Rattle.uac_device.specs.Kept.{DeviceFields, IsInRange, Stands}
+use Rattle.uac_device.specs.Turns.{deviated_clock}
+use Rattle.uac_device.specs.contracts.device.Device.{the_view}
+use Rattle.uac_device.proofs.Kept.{deviated_phases, deviated_range, deviated_stands, put_back}
+use Rattle.uac_device.proofs.device.Device.deviate.Goals as goal
+
+pub invariant_of-self : goal.invariant_of-self
+invariant_of-self c =
+    let turned : take c.self.inside.clocks.len (c.deviate.new.clocks ++ drop (length c.deviate.new.clocks) c.self.inside.clocks.items)
+    ≡ map (deviated_clock c.args.domain c.args.ppm) c.self.inside.clocks.items =
+    put_back c.self.inside.clocks.len c.deviate.new.clocks c.self.inside.clocks.items (omega arith)
+    ∙ c.deviate.ensures
+    ∙ ap (λ (millionths : ℤ). map (deviated_clock c.args.domain millionths) c.deref_mut.result.now) (to_z-of_z w32 c.args.ppm c.ranges.ppm)
+    ∙ ap (map (deviated_clock c.args.domain c.args.ppm)) c.deref_mut.ensures.value in (
+      record {
+        wires = c.self.invariant.0.wires;
+        clocks =
+            subst (λ (clocks : List Clock). All (λ k. IsInRange k.ppm) clocks) (sym turned)
+            (deviated_range c.args.domain c.args.ppm c.self.inside.clocks.items (c.requires.low, c.requires.high) c.self.invariant.0.clocks);
+        phases =
+            subst (λ (clocks : List Clock). All (λ k. k.phase < 65536) clocks) (sym turned)
+            (deviated_phases c.args.domain c.args.ppm c.self.inside.clocks.items c.self.invariant.0.phases);
+      },
+      c.self.invariant.1,
+    )
+
+pub returns-clause-stands : goal.returns-clause-stands
+returns-clause-stands c w stands =
+    deviated_stands (the_view c.self.inside) _ c.args.domain c.args.ppm w
+    (put_back c.self.inside.clocks.len c.deviate.new.clocks c.self.inside.clocks.items (omega arith)
+    ∙ c.deviate.ensures
+    ∙ ap (λ (millionths : ℤ). map (deviated_clock c.args.domain millionths) c.deref_mut.result.now) (to_z-of_z w32 c.args.ppm c.ranges.ppm)
+    ∙ ap (map (deviated_clock c.args.domain c.args.ppm)) c.deref_mut.ensures.value)
+    (subst (λ (device : DeviceFields). Stands device w) (sym c.self.view_is) stands)

@@ -1,0 +1,37 @@
+use Rattle.std.proofs.Common.{◌∙◌, ap, subst, sym, List}
+use Rattle.uac_entities.specs.declared.entity.Entity.{Entity}
+use Rattle.uac_graph.specs.Controls.{held_in}
+use Rattle.uac_graph.specs.Needs.{depended}
+use Rattle.uac_graph.specs.Wiring.{AreRendered, held}
+use Rattle.uac_graph.proofs.Ends.{output_terminals}
+use Rattle.uac_graph.proofs.FromRules.{sound_graph}
+use Rattle.uac_units.specs.Panel.{readings}
+use Rattle.uac_device.specs.World.{after_frames, ticked}
+use Rattle.uac_device.specs.Kept.{DeviceFields, Stands}
+use Rattle.uac_device.specs.Turns.{frames_heard}
+use Rattle.uac_device.specs.contracts.device.Device.{the_view}
+use Rattle.uac_device.proofs.Played.{heard_in, tick_stands}
+use Rattle.uac_device.proofs.device.Device.tick.Goals as goal
+
+pub returns-clause-stands : goal.returns-clause-stands
+returns-clause-stands g c w stands =
+    let entities = c.self.inside.function.entities in
+    let sound = c.functions_are_sound.ensures in
+    tick_stands (the_view c.self.inside) c.tick.new.wires c.args.domain w (sound_graph c.self.inside.function sound)
+    (output_terminals c.self.inside.function sound c.args.domain)
+    (subst (λ (graph : List Entity). AreRendered graph (held_in c.self.inside.store) (held c.self.inside.wires) (depended graph c.args.domain) c.self.inside.wires c.tick.new.wires)
+    c.self.invariant.1 c.tick.ensures.rendered)
+    (subst (λ (device : DeviceFields). Stands device w) (sym c.self.view_is) stands)
+
+pub returns-clause-heard : goal.returns-clause-heard
+returns-clause-heard g c w stands =
+    let sound = c.functions_are_sound.ensures in
+    let after = tick_stands (the_view c.self.inside) c.tick.new.wires c.args.domain w (sound_graph c.self.inside.function sound)
+    (output_terminals c.self.inside.function sound c.args.domain)
+    (subst (λ (graph : List Entity). AreRendered graph (held_in c.self.inside.store) (held c.self.inside.wires) (depended graph c.args.domain) c.self.inside.wires c.tick.new.wires)
+    c.self.invariant.1 c.tick.ensures.rendered)
+    (subst (λ (device : DeviceFields). Stands device w) (sym c.self.view_is) stands) in
+    c.hear.ensures
+    ∙ ap (λ entities. after_frames (frames_heard c.tick.new.wires c.args.domain entities) (readings (λ v x. (goal.Meter-dyn g (v, x)).reading_of x) c.args.meters.now)) c.entities.ensures
+    ∙ ap (λ frames. after_frames frames (readings (λ v x. (goal.Meter-dyn g (v, x)).reading_of x) c.args.meters.now))
+    (heard_in (record (the_view c.self.inside) { wires = c.tick.new.wires }) c.args.domain (ticked c.args.domain w) (sound_graph c.self.inside.function sound) after)

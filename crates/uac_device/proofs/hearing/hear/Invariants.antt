@@ -1,0 +1,10 @@
+use Rattle.std.proofs.Common.{◌≡◌, take}
+use Rattle.uac_units.specs.Panel.{readings}
+use Rattle.uac_device.specs.World.{after_frames}
+use Rattle.uac_device.specs.Turns.{frames_heard}
+use Rattle.uac_device.proofs.hearing.hear.Given as goal
+
+abbrev pub invariant-loop-entity : goal.invariant-loop-entity
+invariant-loop-entity g l =
+    readings (λ v x. (goal.Meter-dyn g (v, x)).reading_of x) l.meters
+    ≡ after_frames (frames_heard l.wires l.domain (take l.entity-index l.entities)) (readings (λ v x. (goal.Meter-dyn g (v, x)).reading_of x) l.fn.meters)

@@ -1,0 +1,102 @@
+// The clocks of the domains.
+ghost use Rattle.std.specs.Prelude.{◌≡◌, ◌≤◌, ◌≤ℤ◌, negsuc, pos, map, Some, IfOk};
+ghost use Rattle.std.specs.List.{All};
+ghost use Rattle.uac_clock.specs.declared.values.Nominal.{Nominal};
+ghost use Rattle.uac_clock.specs.Nominal.{IsNominal};
+ghost use Rattle.uac_device.specs.Kept.{IsInRange};
+ghost use Rattle.uac_device.specs.Turns as spec;
+
+use std::alloc::Global;
+use uac_clock::{Nominal, Phase, step};
+use uac_descriptor::NoMemory;
+
+/// A clock domain's clock: its id, what it is off by in millionths, and how far it is past its last tick.
+#[derive(Clone, Copy, Debug, PartialEq, Eq)]
+pub struct Clock {
+    pub clock: u8,
+    pub ppm: i32,
+    pub phase: Phase,
+}
+
+/// A clock for each domain, none of them off, each at a tick.
+pub(crate) fn resting_clocks(alloc: Global, domains: &[u8]) -> Result<Vec<Clock>, NoMemory>
+    ensures { IfOk result (λ clocks. clocks.items ≡ map spec.resting_clock domains.now) }
+{
+    let mut clocks = Vec::new(alloc);
+    for domain in domains {
+        match clocks.push(resting_clock(*domain)) {
+            Ok(()) => {}
+            Err(_) => return Err(NoMemory),
+        }
+    }
+    Ok(clocks)
+}
+
+fn resting_clock(domain: u8) -> Clock
+    ensures { result ≡ spec.resting_clock domain }
+{
+    Clock {
+        clock: domain,
+        ppm: 0,
+        phase: Phase::new(),
+    }
+}
+
+/// The clocks of a domain are off by `ppm` millionths from now on.
+pub(crate) fn deviate(clocks: &mut [Clock], domain: u8, ppm: i32)
+    ensures { clocks.new ≡ map (spec.deviated_clock domain ppm) clocks.old }
+{
+    for clock in clocks.iter_mut() {
+        deviate_one(clock, domain, ppm);
+    }
+}
+
+fn deviate_one(clock: &mut Clock, domain: u8, ppm: i32)
+    ensures { clock.new ≡ spec.deviated_clock domain ppm clock.old }
+{
+    if clock.clock == domain {
+        clock.ppm = ppm;
+    }
+}
+
+/// The clocks of a domain go on by one microframe, by the nominal values of its rate; without a rate they stand still.
+/// Answers the ticks of the first of them.
+pub(crate) fn advance(clocks: &mut [Clock], domain: u8, values: Option<Nominal>) -> u32
+    requires range { All (λ c. IsInRange c.ppm) clocks.old }
+    requires of_a_rate { (nominal : Nominal) → values ≡ Some nominal → IsNominal nominal }
+    ensures clocks { clocks.new ≡ map (spec.advanced_clock domain values) clocks.old }
+    ensures ticks { result ≡ spec.first_ticks domain values clocks.old }
+{
+    let mut first = None;
+    for clock in clocks.iter_mut() {
+        first = first.or(advance_one(clock, domain, values));
+    }
+    first.unwrap_or(0)
+}
+
+// The ticks of a clock that goes on, None where it is another domain's.
+fn advance_one(clock: &mut Clock, domain: u8, values: Option<Nominal>) -> Option<u32>
+    requires range { IsInRange clock.old.ppm }
+    requires of_a_rate { (nominal : Nominal) → values ≡ Some nominal → IsNominal nominal }
+    ensures clock { clock.new ≡ spec.advanced_clock domain values clock.old }
+    ensures ticks { result ≡ spec.ticks_where domain values clock.old }
+{
+    if clock.clock != domain {
+        return None;
+    }
+    let gives = step_by(values, clock.ppm);
+    Some(clock.phase.advance(gives))
+}
+
+// What a clock that is off by `ppm` millionths gives in a microframe, in 65,536ths of a frame.
+fn step_by(values: Option<Nominal>, ppm: i32) -> u32
+    requires low { negsuc 99999 ≤ℤ ppm }
+    requires high { ppm ≤ℤ pos 100000 }
+    requires of_a_rate { (nominal : Nominal) → values ≡ Some nominal → IsNominal nominal }
+    ensures { result ≡ spec.step_by values ppm }
+{
+    match values {
+        Some(values) => step(&values, ppm),
+        None => 0,
+    }
+}

@@ -1,0 +1,8 @@
+pub mod SoFar
+pub mod Changing
+pub mod JackSteps
+pub mod Counting
+pub mod Start
+pub mod Steps
+pub mod Reporting
+pub mod Printed

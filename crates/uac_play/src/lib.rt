@@ -1,0 +1,17 @@
+//! A running device under the tones of its jacks: microframes, what they print, and the report.
+#![tactic(auto)]
+
+/// The ticks of each domain, counted.
+mod counts;
+/// The jacks' tones.
+mod jacks;
+/// A running device.
+mod playing;
+/// Printing what output jacks play.
+mod printing;
+/// Printing the report.
+mod report;
+
+pub use counts::TickCount;
+pub use jacks::Jack;
+pub use playing::Playing;

@@ -1,0 +1,43 @@
+use Rattle.std.proofs.Common.{◌≡◌, ◌<◌, ◌++◌, length, ap, ◌∙◌, arith, length-append}
+use Rattle.uac_script.proofs.Consuming.{Consumes-Consumes}
+use Rattle.uac_script.proofs.HeadLemmas.{line_end_more}
+use Rattle.uac_script.proofs.SplittingLemmas.{same_more, others_kept, last_line}
+use Rattle.uac_script.proofs.lines.Lines.next.Goals as goal
+
+pub returns-in-Ok-eq0-2-clause-splits : goal.returns-in-Ok-eq0-2-clause-splits
+returns-in-Ok-eq0-2-clause-splits g c =
+    let i = c.loop-size.invariant in
+    let told = c.in-Ok-eq0.ensures in
+    let shown = c.in-Open.ensures in
+    let some : 0 < c.in-Open.size = (let not = c.if-searched-eq0.false in omega arith) in
+    λ going before_end. rw c.go-in-Ok-eq0-2.ensures.answer
+    (last_line c.args.self.now c.loop-size.self c.fill.new.self c.go-in-Ok-eq0-2.new.self i.taken _ _ _ _ _ c.in-Open.size _ c.in-Ok-eq0.field-0
+    i.same i.consumed shown.0 shown.1 some told.ok c.in-Ok-eq0.field-0-test told.others c.go-in-Ok-eq0-2.ensures.goes)
+
+pub loop-size-preserved : goal.loop-size-preserved
+loop-size-preserved g c =
+    let i = c.loop-size.invariant in
+    let told = c.in-Ok.ensures in
+    let grows = told.ok in
+    let shown = c.in-Open.ensures in
+    let kept = others_kept c.loop-size.self c.fill.new.self told.others in
+    let number = kept.0 in
+    let spare = kept.1 in
+    let grown : length c.fill.new.self.unread ≡ length (c.loop-size.self.unread ++ grows.taken) = ap length grows.grown in
+    let few = grows.few in
+    let count = grows.size in
+    let falls = told.cause.never_falls in
+    let fell = i.never_falls in
+    let bounded = i.bounded in
+    let counted = shown.2 in
+    record {
+      taken = i.taken ++ grows.taken;
+      consumed = Consumes-Consumes _ _ _ i.taken grows.taken i.consumed grows.consumed;
+      same = same_more c.args.self.now c.loop-size.self c.fill.new.self i.taken grows.taken i.same told.others grows.grown;
+      going = kept.2 ∙ i.going;
+      bounded = omega arith;
+      within = omega (arith, length-append c.loop-size.self.unread grows.taken);
+      known = rw grows.grown (let more = line_end_more c.loop-size.self.unread grows.taken in let all = shown.4 in omega arith);
+      counted = omega arith;
+      never_falls = omega arith;
+    }

@@ -1,0 +1,22 @@
+use Rattle.std.proofs.Common.{◌≡◌, ◌+◌, ◌-◌, ◌≤◌, ◌++◌, ℕ, List, length, None}
+use Rattle.std.specs.Io.KnownBytes.{Consumes}
+use Rattle.uac_script.specs.Lines.{most_of_input}
+use Rattle.uac_script.specs.Looking.{line_end}
+use Rattle.uac_script.proofs.lines.Lines.next.Given as goal
+
+-- Nothing changed but that bytes were taken, of which the first have no newline.
+abbrev pub invariant-loop-size : goal.invariant-loop-size
+invariant-loop-size g l = record {
+  taken : List ℕ;
+  consumed : Consumes (g.S.Source.left l.fn.source) (g.S.Source.left l.source) taken;
+  same : l.self ≡ record l.fn.self { unread = l.fn.self.unread ++ taken };
+  going : l.self.stop ≡ None;
+  bounded : l.self.number + l.self.spare ≤ most_of_input;
+  within : length l.self.unread ≤ l.self.spare + 1;
+  known : l.searched ≤ line_end l.self.unread;
+  counted : l.searched ≤ l.self.spare;
+  never_falls : g.S.Source.faults l.fn.source ≤ g.S.Source.faults l.source;
+}
+
+abbrev pub decreases-loop-size : goal.decreases-loop-size
+decreases-loop-size g l = l.self.spare + 1 - length l.self.unread
