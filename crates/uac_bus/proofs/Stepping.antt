@@ -1,5 +1,5 @@
 -- Steps of the world, and what the bus answers them.
-use Rattle.std.proofs.Common.{◌≡◌, ℕ, ◌+◌, ◌*◌, ◌≤◌, Bool, true, false, List, [], ◌++◌, refl, sym, ap, subst, ◌∙◌, arith, Option, None, Some, Result, Ok, Err}
+use Rattle.std.proofs.Common.{◌≡◌, ℕ, ◌≤◌, Bool, true, false, List, ◌++◌, refl, ap, subst, ◌∙◌, arith, Option, None, Result, Ok, Err}
 use Rattle.std.specs.Prelude.{OnOk}
 use Rattle.std.proofs.KnownBytes.{Appends-nil}
 use Rattle.std.proofs.lemmas.List.Elements.{All-weaker}
@@ -17,9 +17,8 @@ use Rattle.uac_script.specs.Line.{voice_of_tone, phrase_of}
 use Rattle.uac_script.specs.Phrase.{Phrase, idle, feeds, goes}
 use Rattle.uac_bus.specs.declared.fault.BusFault.{BusFault}
 use Rattle.uac_bus.specs.declared.fault.BusFault.TheVariants as faults
-use Rattle.uac_bus.specs.declared.bus.Stage.{Stage}
 use Rattle.uac_bus.specs.World.{World, describing, playing, Step, done, refused, unless, breaks_rule, tone_of, fed, gone, step, step_playing}
-use Rattle.uac_bus.specs.Kept.{BusFields, Stands, StandsFor, IsDone, IsWhy, Answers}
+use Rattle.uac_bus.specs.Kept.{BusFields, StandsFor, IsDone, IsWhy, Answers}
 use Rattle.uac_bus.specs.Rows.{Reaches, Prevents, Does, may_want}
 
 -- a tone is what its words spell

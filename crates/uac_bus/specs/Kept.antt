@@ -1,5 +1,5 @@
 -- What the bus keeps, for which worlds it stands, and what a line is answered.
-use Rattle.std.specs.Prelude.{◌≡◌, ℕ, ◌*◌, ◌≤◌, Bool, true, false, List, Option, None, Some, Result, Ok, Err}
+use Rattle.std.specs.Prelude.{◌≡◌, ℕ, ◌*◌, ◌≤◌, Bool, true, false, List, Option, None, Result, Ok, Err}
 use Rattle.std.specs.Io.KnownBytes.{Appends}
 use Rattle.uac_script.specs.Writing.{AppendsFront}
 use Rattle.uac_script.specs.Phrase.{Phrase, feeds, goes}

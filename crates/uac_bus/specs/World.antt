@@ -1,5 +1,5 @@
 -- The world under a script, and what each line makes of it (profile).
-use Rattle.std.specs.Prelude.{ℕ, ◌%◌, ◌==◌, ◌&&◌, not, Bool, true, false, if◌then◌else◌, ℤ, pos, negsuc, List, [], ◌∷◌, ◌++◌, length, Option, None, Some, Result, Ok, Err}
+use Rattle.std.specs.Prelude.{ℕ, ◌%◌, ◌==◌, ◌&&◌, not, Bool, true, false, ℤ, pos, negsuc, List, [], ◌∷◌, ◌++◌, length, Option, None, Some, Result, Ok, Err}
 use Rattle.std.specs.List.{list_any, list_all, find}
 use Rattle.std.specs.Option.{option_map_or}
 use Rattle.uac_pcm.specs.declared.tones.Tone.{Tone}
@@ -16,7 +16,7 @@ use Rattle.uac_script.specs.declared.line.MarkKind.{MarkKind}
 use Rattle.uac_script.specs.declared.line.MarkKind.TheVariants.{Out, In, Feedback}
 use Rattle.uac_script.specs.Phrase.{Voice, silent, ramps, hisses, Loss, Phrase, idle, feeds, goes, controls, gets, sets, shows, breaks, appends, tracks, jacks, deviates, runs, details, reports}
 use Rattle.uac_play.specs.World.{Running, at_start, has_jack, has_domain, with_tone, with_deviation, with_detail}
-use Rattle.uac_play.specs.Events.{Told, micros}
+use Rattle.uac_play.specs.Events.{Told, microframes}
 use Rattle.uac_play.specs.Text.{ready_line, report_text}
 use Rattle.uac_bus.specs.declared.fault.BusFault.{BusFault}
 use Rattle.uac_bus.specs.declared.fault.BusFault.TheVariants as faults
@@ -143,7 +143,7 @@ step_playing r (jacks terminal voice) =
 step_playing r (deviates clock millionths) =
     unless (has_domain r (size_of clock)) 6 (silently (playing (with_deviation (size_of clock) millionths r)))
 step_playing r (runs count losses) =
-    unless (list_all (is_placed r) losses) 6 (unless (is_empty losses) 9 (told (micros (size_of count) r)))
+    unless (list_all (is_placed r) losses) 6 (unless (is_empty losses) 9 (told (microframes (size_of count) r)))
 step_playing r (details level) = silently (playing (with_detail (size_of level) r))
 step_playing r reports = done (playing r) (report_text r)
 

@@ -108,7 +108,7 @@ fn run<K: Sink>(
     if !marks.is_empty() {
         return Err(BusFault::Script(9));
     }
-    match playing.micros(count, rack, meters, sink) {
+    match playing.microframes(count, rack, meters, sink) {
         Ok(()) => Ok(()),
         Err(_) => Err(BusFault::WriteFault),
     }

@@ -10,7 +10,8 @@ use Rattle.uac_topology.specs.declared.soundness.CheckStop.TheVariants as stops
 use Rattle.uac_topology.specs.Function.{FunctionFields}
 use Rattle.uac_topology.specs.Topology.{first_broken, IsSound, IsFunctionOf, Tells}
 use Rattle.uac_cli.specs.declared.command.Command.{Command}
-use Rattle.uac_cli.specs.declared.command.Command.TheVariants.{Check, Show}
+use Rattle.uac_cli.specs.declared.command.Command.TheVariants.{Describe}
+use Rattle.uac_cli.specs.declared.command.Description.{Description}
 use Rattle.uac_cli.specs.declared.reading.Reading.TheVariants.{Whole, Stopped, Failed}
 use Rattle.uac_cli.specs.declared.status.Status.{Status}
 use Rattle.uac_cli.specs.declared.status.Status.TheVariants as statuses
@@ -24,9 +25,9 @@ use Rattle.uac_cli.proofs.Composing.{nothing_shown, quiet_so_far}
 
 module _ (a b : Option (List ℕ)) (r r' : ℕ) (w w' : Option (List ℕ)) (f f' : ℕ) (status : Status) where
   -- the verdict on the blocks that were read was written
-  pub judged_run : (command : Command) (blocks : _) (lent : List Block) → Reads a b r r' (Whole blocks) → lent ≡ blocks.items
-      → Judges command lent w w' f f' status → IsAnswered command a b r r' w w' f f' status
-  judged_run command blocks lent reads same judges = elim judges.meant as (λ _. IsAnswered command a b r r' w w' f f' status) [
+  pub judged_run : (description : Description) (blocks : _) (lent : List Block) → Reads a b r r' (Whole blocks) → lent ≡ blocks.items
+      → Judges description lent w w' f f' status → IsAnswered description a b r r' w w' f f' status
+  judged_run description blocks lent reads same judges = elim judges.meant as (λ _. IsAnswered description a b r r' w w' f f' status) [
     | inl verdict ↦ record {
       taken = reads.taken;
       end = at_end;
@@ -50,8 +51,8 @@ module _ (a b : Option (List ℕ)) (r r' : ℕ) (w w' : Option (List ℕ)) (f f'
   ]
 
   -- a read failed
-  pub failed_run : (command : Command) → Reads a b r r' Failed → Closes read_fault w w' f f' status → IsAnswered command a b r r' w w' f f' status
-  failed_run command reads closed = record {
+  pub failed_run : (description : Description) → Reads a b r r' Failed → Closes read_fault w w' f f' status → IsAnswered description a b r r' w w' f f' status
+  failed_run description reads closed = record {
     taken = reads.taken;
     end = read_failed;
     outcome = read_fault;
@@ -63,8 +64,8 @@ module _ (a b : Option (List ℕ)) (r r' : ℕ) (w w' : Option (List ℕ)) (f f'
   }
 
   -- a descriptor was refused
-  pub refused_run : (command : Command) (stop : ReadStop) → Reads a b r r' (Stopped stop) → Refuses stop w w' f f' status → IsAnswered command a b r r' w w' f f' status
-  refused_run command NoMemory reads closed = record {
+  pub refused_run : (description : Description) (stop : ReadStop) → Reads a b r r' (Stopped stop) → Refuses stop w w' f f' status → IsAnswered description a b r r' w w' f f' status
+  refused_run description NoMemory reads closed = record {
     taken = reads.taken;
     end = stopped;
     outcome = no_memory;
@@ -74,7 +75,7 @@ module _ (a b : Option (List ℕ)) (r r' : ℕ) (w w' : Option (List ℕ)) (f f'
     meant = inr refl;
     closed = closed;
   }
-  refused_run command (Fault fault) reads closed = elim reads.comes as (λ _. IsAnswered command a b r r' w w' f f' status) [
+  refused_run description (Fault fault) reads closed = elim reads.comes as (λ _. IsAnswered description a b r r' w w' f f' status) [
     | inl shown ↦ record {
       taken = reads.taken;
       end = stopped;
@@ -97,56 +98,35 @@ module _ (a b : Option (List ℕ)) (r r' : ℕ) (w w' : Option (List ℕ)) (f f'
     }
   ]
 
--- the same of a command that reads a descriptor, in the words of a run: the meters hear nothing
+-- the same in the words of a run: the meters hear nothing
 module _ (shown : List Reading) (a b : Option (List ℕ)) (r r' : ℕ) (w w' : Option (List ℕ)) (f f' : ℕ) (status : Status) where
   -- an outcome with the meters as they were
   abbrev ended_in : Outcome → Ending
   ended_in outcome = record { outcome = outcome; meters = shown }
 
-  check_run : IsAnswered Check a b r r' w w' f f' status → IsRun (Some Check) shown shown a b r r' w w' f f' status
-  check_run answered = record {
+  described_run : (description : Description) → IsAnswered description a b r r' w w' f f' status → IsRun (Some (Describe description)) shown shown a b r r' w w' f f' status
+  described_run description answered = record {
     taken = answered.taken;
     end = answered.end;
     ending = ended_in answered.outcome;
     consumed = answered.consumed;
     ended = answered.ended;
     prompt = answered.prompt;
-    meant = elim answered.meant as (λ _. IsEnding (Some Check) shown answered.taken answered.end (ended_in answered.outcome) ⊎ (IsSome (Some Check) × (ended_in answered.outcome ≡ ended_in no_memory))) [
+    meant = elim answered.meant as (λ _. IsEnding (Some (Describe description)) shown answered.taken answered.end (ended_in answered.outcome) ⊎ (IsSome (Some (Describe description)) × (ended_in answered.outcome ≡ ended_in no_memory))) [
       | inl answers ↦ inl (answers, refl)
       | inr none ↦ inr (refl, ap ended_in none)
     ];
     closed = answered.closed;
     heard = (λ _. refl);
+    unheard = (λ _. refl);
   }
 
-  show_run : IsAnswered Show a b r r' w w' f f' status → IsRun (Some Show) shown shown a b r r' w w' f f' status
-  show_run answered = record {
-    taken = answered.taken;
-    end = answered.end;
-    ending = ended_in answered.outcome;
-    consumed = answered.consumed;
-    ended = answered.ended;
-    prompt = answered.prompt;
-    meant = elim answered.meant as (λ _. IsEnding (Some Show) shown answered.taken answered.end (ended_in answered.outcome) ⊎ (IsSome (Some Show) × (ended_in answered.outcome ≡ ended_in no_memory))) [
-      | inl answers ↦ inl (answers, refl)
-      | inr none ↦ inr (refl, ap ended_in none)
-    ];
-    closed = answered.closed;
-    heard = (λ _. refl);
-  }
-
--- the words are this command
-pub check_words : (command : Option Command) (got : Command) (shown : List Reading) (a b : Option (List ℕ)) (r r' : ℕ) (w w' : Option (List ℕ)) (f f' : ℕ) (status : Status)
-    → Some got ≡ command → got ≡ Check → IsAnswered Check a b r r' w w' f f' status → IsRun command shown shown a b r r' w w' f f' status
-check_words command got shown a b r r' w w' f f' status is got-is answered =
+-- the words ask for this description
+pub described_words : (command : Option Command) (got : Command) (description : Description) (shown : List Reading) (a b : Option (List ℕ)) (r r' : ℕ) (w w' : Option (List ℕ)) (f f' : ℕ) (status : Status)
+    → Some got ≡ command → got ≡ Describe description → IsAnswered description a b r r' w w' f f' status → IsRun command shown shown a b r r' w w' f f' status
+described_words command got description shown a b r r' w w' f f' status is got-is answered =
     subst (λ (c : Option Command). IsRun c shown shown a b r r' w w' f f' status) (ap (λ (c : Command). Some c) (sym got-is) ∙ is)
-    (check_run shown a b r r' w w' f f' status answered)
-
-pub show_words : (command : Option Command) (got : Command) (shown : List Reading) (a b : Option (List ℕ)) (r r' : ℕ) (w w' : Option (List ℕ)) (f f' : ℕ) (status : Status)
-    → Some got ≡ command → got ≡ Show → IsAnswered Show a b r r' w w' f f' status → IsRun command shown shown a b r r' w w' f f' status
-show_words command got shown a b r r' w w' f f' status is got-is answered =
-    subst (λ (c : Option Command). IsRun c shown shown a b r r' w w' f f' status) (ap (λ (c : Command). Some c) (sym got-is) ∙ is)
-    (show_run shown a b r r' w w' f f' status answered)
+    (described_run shown a b r r' w w' f f' status description answered)
 
 -- the words are no command
 pub usage_run : (command : Option Command) (shown : List Reading) (a : Option (List ℕ)) (r : ℕ) (w w' : Option (List ℕ)) (f f' : ℕ) (status : Status)
@@ -161,6 +141,7 @@ usage_run command shown a r w w' f f' status none closed = subst (λ (c : Option
   meant = inl ((refl, refl), refl);
   closed = closed;
   heard = (λ _. refl);
+  unheard = (λ _. refl);
 })
 
 -- the line of an outcome was written
@@ -188,15 +169,15 @@ pub refuses_function_memory : (stop : CheckStop) (w w' : Option (List ℕ)) (f f
 refuses_function_memory stop w w' f f' status is closed = subst (λ (s : CheckStop). RefusesFunction s w w' f f' status) (sym is) closed
 
 -- a sound function was printed
-pub judges_sound : (command : Command) (blocks : List Block) (function : FunctionFields) (w w' : Option (List ℕ)) (f f' : ℕ) (status : Status)
+pub judges_sound : (description : Description) (blocks : List Block) (function : FunctionFields) (w w' : Option (List ℕ)) (f f' : ℕ) (status : Status)
     → IsSound blocks × IsFunctionOf function blocks
-    → Closes (sound command blocks function) w w' f f' status ⊎ Closes no_memory w w' f f' status → Judges command blocks w w' f f' status
-judges_sound command blocks function w w' f f' status holds (inl closed) =
-    record { outcome = sound command blocks function; meant = inl (is_sound function holds.0 holds.1); closed = closed }
-judges_sound command blocks function w w' f f' status holds (inr closed) = record { outcome = no_memory; meant = inr refl; closed = closed }
+    → Closes (sound description blocks function) w w' f f' status ⊎ Closes no_memory w w' f f' status → Judges description blocks w w' f f' status
+judges_sound description blocks function w w' f f' status holds (inl closed) =
+    record { outcome = sound description blocks function; meant = inl (is_sound function holds.0 holds.1); closed = closed }
+judges_sound description blocks function w w' f f' status holds (inr closed) = record { outcome = no_memory; meant = inr refl; closed = closed }
 
 -- it was refused
-pub judges_broken : (command : Command) (blocks : List Block) (stop : CheckStop) (w w' : Option (List ℕ)) (f f' : ℕ) (status : Status)
-    → Tells stop (first_broken blocks) → RefusesFunction stop w w' f f' status → Judges command blocks w w' f f' status
-judges_broken command blocks (stops.Fault fault) w w' f f' status tells closed = record { outcome = unsound fault; meant = inl (is_broken fault tells); closed = closed }
-judges_broken command blocks stops.NoMemory w w' f f' status tells closed = record { outcome = no_memory; meant = inr refl; closed = closed }
+pub judges_broken : (description : Description) (blocks : List Block) (stop : CheckStop) (w w' : Option (List ℕ)) (f f' : ℕ) (status : Status)
+    → Tells stop (first_broken blocks) → RefusesFunction stop w w' f f' status → Judges description blocks w w' f f' status
+judges_broken description blocks (stops.Fault fault) w w' f f' status tells closed = record { outcome = unsound fault; meant = inl (is_broken fault tells); closed = closed }
+judges_broken description blocks stops.NoMemory w w' f f' status tells closed = record { outcome = no_memory; meant = inr refl; closed = closed }

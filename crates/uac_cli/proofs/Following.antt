@@ -273,6 +273,7 @@ module _ (shown shown' : List Reading) (left left' : Option (List ℕ)) (reads r
     meant = inl (sym law);
     closed = closes_after ending.outcome text written mid written' writes writes' writes'' status front le closed;
     heard = heard;
+    unheard = (λ other. absurd (other refl));
   }
 
   -- there was no memory, before anything was printed
@@ -289,6 +290,7 @@ module _ (shown shown' : List Reading) (left left' : Option (List ℕ)) (reads r
     meant = inr (refl, refl);
     closed = closes_after no_memory [] written mid written' writes writes' writes'' status (subst (λ (t : List ℕ). Appends written mid t) none front) le closed;
     heard = (λ _. heard);
+    unheard = (λ other. absurd (other refl));
   }
 
 -- ---- a line that wasn't done

@@ -9,7 +9,9 @@ use Rattle.uac_rules.specs.declared.fault.TopologyFault.{TopologyFault}
 use Rattle.uac_topology.specs.Function.{FunctionFields}
 use Rattle.uac_topology.specs.Topology.{first_broken, IsSound, IsFunctionOf}
 use Rattle.uac_cli.specs.declared.command.Command.{Command}
-use Rattle.uac_cli.specs.declared.command.Command.TheVariants.{Check, Show, Run}
+use Rattle.uac_cli.specs.declared.command.Command.TheVariants.{Describe, Run}
+use Rattle.uac_cli.specs.declared.command.Description.{Description}
+use Rattle.uac_cli.specs.declared.command.Description.TheVariants.{Check, Show}
 use Rattle.uac_cli.specs.declared.status.Status.{Status}
 use Rattle.uac_cli.specs.declared.status.Status.TheVariants as statuses
 use Rattle.uac_cli.specs.Entities.{entity_line}
@@ -56,37 +58,37 @@ unsound fault = record {
   status = statuses.Descriptor;
 }
 
--- what a command prints of a sound descriptor, its blocks and its function; `run` reads none whole and prints lines of its own
-abbrev pub text_of : Command → List Block → FunctionFields → List ℕ
+-- what is printed of a sound descriptor, its blocks and its function
+abbrev pub text_of : Description → List Block → FunctionFields → List ℕ
 text_of Check blocks function =
     codes "ok blocks " ++ decimal (length blocks) ++ codes " entities " ++ decimal (length function.entities)
     ++ codes " streams " ++ decimal (length function.streams) ++ codes " domains " ++ decimal (length function.domains) ++ codes "\n"
 text_of Show blocks function = block_lines 0 blocks ++ flat_map entity_line function.entities
-text_of Run blocks function = []
 
 -- a descriptor is sound
-abbrev pub sound : Command → List Block → FunctionFields → Outcome
-sound command blocks function = record { text = text_of command blocks function; status = statuses.Ok }
+abbrev pub sound : Description → List Block → FunctionFields → Outcome
+sound description blocks function = record { text = text_of description blocks function; status = statuses.Ok }
 
 -- what the topology says of blocks
-pub data IsVerdict (command : Command) (blocks : List Block) : Outcome → Type 0 where
+pub data IsVerdict (description : Description) (blocks : List Block) : Outcome → Type 0 where
   -- their function is sound
-  is_sound : (function : FunctionFields) → IsSound blocks → IsFunctionOf function blocks → IsVerdict command blocks (sound command blocks function)
+  is_sound : (function : FunctionFields) → IsSound blocks → IsFunctionOf function blocks → IsVerdict description blocks (sound description blocks function)
   -- it breaks a rule first
-  is_broken : (fault : TopologyFault) → first_broken blocks ≡ Some fault → IsVerdict command blocks (unsound fault)
+  is_broken : (fault : TopologyFault) → first_broken blocks ≡ Some fault → IsVerdict description blocks (unsound fault)
 
--- What a command comes to, by what was taken and why no more was.
-pub data Answers (command : Command) (taken : List ℕ) : End → Outcome → Type 0 where
+-- What is said of a descriptor, by what was taken and why no more was.
+pub data Answers (description : Description) (taken : List ℕ) : End → Outcome → Type 0 where
   -- the bytes show a fault, whatever would follow
-  shows_fault : (end : End) (fault : GrammarFault) → shown_fault taken ≡ Some fault → Answers command taken end (refusal fault)
+  shows_fault : (end : End) (fault : GrammarFault) → shown_fault taken ≡ Some fault → Answers description taken end (refusal fault)
   -- no fault is shown, and a read failed
-  fails : shown_fault taken ≡ None → Answers command taken read_failed read_fault
+  fails : shown_fault taken ≡ None → Answers description taken read_failed read_fault
   -- the bytes are all, and have a fault
-  ends_in_fault : (fault : GrammarFault) → first_fault taken ≡ Some fault → Answers command taken at_end (refusal fault)
+  ends_in_fault : (fault : GrammarFault) → first_fault taken ≡ Some fault → Answers description taken at_end (refusal fault)
   -- the bytes are all, and are these blocks
-  is_read : (blocks : List Block) (outcome : Outcome) → IsSentence taken blocks → IsVerdict command blocks outcome → Answers command taken at_end outcome
+  is_read : (blocks : List Block) (outcome : Outcome) → IsSentence taken blocks → IsVerdict description blocks outcome → Answers description taken at_end outcome
 
--- The same of any words: those that are no command take nothing and give the usage line.
+-- The same of any words: those that are no command take nothing and give the usage line. `run` has no such outcome: it prints lines of its own.
 abbrev pub IsOutcome : Option Command → List ℕ → End → Outcome → Type 0
 IsOutcome None taken end outcome = (taken ≡ []) × (outcome ≡ usage)
-IsOutcome (Some command) taken end outcome = Answers command taken end outcome
+IsOutcome (Some (Describe description)) taken end outcome = Answers description taken end outcome
+IsOutcome (Some Run) taken end outcome = ⊥

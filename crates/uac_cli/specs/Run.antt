@@ -9,6 +9,7 @@ use Rattle.uac_topology.specs.declared.soundness.CheckStop.{CheckStop}
 use Rattle.uac_topology.specs.declared.soundness.CheckStop.TheVariants as check
 use Rattle.uac_cli.specs.declared.command.Command.{Command}
 use Rattle.uac_cli.specs.declared.command.Command.TheVariants.{Run}
+use Rattle.uac_cli.specs.declared.command.Description.{Description}
 use Rattle.uac_cli.specs.declared.status.Status.{Status}
 use Rattle.uac_cli.specs.declared.status.Status.TheVariants as statuses
 use Rattle.uac_grammar.specs.declared.fault.ReadStop.TheVariants.{Fault, NoMemory}
@@ -42,7 +43,7 @@ IsEnding (Some Run) shown taken end ending = ending ≡ transcript shown taken e
 IsEnding command shown taken end ending = IsOutcome command taken end ending.outcome × (ending.meters ≡ shown)
 
 -- The bytes that were taken, why no more were, and what they come to; or there was no memory, and then `no memory` is the whole text. Unless
--- a write failed, the meters show at the end what they show in the world after the lines done.
+-- a write failed, the meters show at the end what they show in the world after the lines done; where no script runs they hear nothing.
 pub record IsRun (command : Option Command) (shown shown' : List Reading) (left left' : Option (List ℕ)) (reads reads' : ℕ) (written written' : Option (List ℕ)) (writes writes' : ℕ) (status : Status) : Type 0 where
   pub taken : List ℕ
   pub end : End
@@ -53,16 +54,17 @@ pub record IsRun (command : Option Command) (shown shown' : List Reading) (left 
   pub meant : IsEnding command shown taken end ending ⊎ (IsSome command × (ending ≡ record { outcome = no_memory; meters = shown }))
   pub closed : Closes ending.outcome written written' writes writes' status
   pub heard : status ≢ statuses.WriteFault → shown' ≡ ending.meters
+  pub unheard : command ≢ Some Run → shown' ≡ shown
 
--- The same of a command that reads one descriptor, and of its outcome alone.
-pub record IsAnswered (command : Command) (left left' : Option (List ℕ)) (reads reads' : ℕ) (written written' : Option (List ℕ)) (writes writes' : ℕ) (status : Status) : Type 0 where
+-- The same of what is said of one descriptor, and of its outcome alone.
+pub record IsAnswered (description : Description) (left left' : Option (List ℕ)) (reads reads' : ℕ) (written written' : Option (List ℕ)) (writes writes' : ℕ) (status : Status) : Type 0 where
   pub taken : List ℕ
   pub end : End
   pub outcome : Outcome
   pub consumed : Consumes left left' taken
   pub ended : HasEnded end left' reads reads'
   pub prompt : StopsThere taken
-  pub meant : Answers command taken end outcome ⊎ (outcome ≡ no_memory)
+  pub meant : Answers description taken end outcome ⊎ (outcome ≡ no_memory)
   pub closed : Closes outcome written written' writes writes' status
 
 -- what is printed of a descriptor that is refused, or for which there was no memory
@@ -76,7 +78,7 @@ RefusesFunction (check.Fault fault) old new before after status = Closes (unsoun
 RefusesFunction check.NoMemory old new before after status = Closes no_memory old new before after status
 
 -- The text of a verdict on these blocks was written; or there was no memory for it.
-pub record Judges (command : Command) (blocks : List Block) (old new : Option (List ℕ)) (before after : ℕ) (status : Status) : Type 0 where
+pub record Judges (description : Description) (blocks : List Block) (old new : Option (List ℕ)) (before after : ℕ) (status : Status) : Type 0 where
   pub outcome : Outcome
-  pub meant : IsVerdict command blocks outcome ⊎ (outcome ≡ no_memory)
+  pub meant : IsVerdict description blocks outcome ⊎ (outcome ≡ no_memory)
   pub closed : Closes outcome old new before after status

@@ -1,13 +1,20 @@
 // The words of the command line.
 ghost use Rattle.std.specs.Prelude.{◌≡◌, map, string_bytes};
 
+/// What is said of a descriptor.
+#[derive(Clone, Copy, Debug, PartialEq, Eq)]
+pub enum Description {
+    /// Whether it is sound, and if not, which rule it breaks first.
+    Check,
+    /// The blocks and the entities of a sound one.
+    Show,
+}
+
 /// A command of the program.
 #[derive(Clone, Copy, Debug, PartialEq, Eq)]
 pub enum Command {
-    /// Says whether a descriptor is sound, and if not, which rule it breaks first.
-    Check,
-    /// Lists a sound descriptor's blocks and entities.
-    Show,
+    /// Reads a descriptor and says this of it.
+    Describe(Description),
     /// Runs a script.
     Run,
 }
@@ -30,9 +37,9 @@ impl Command {
         ensures { result ≡ named word.now }
     {
         if word == "check" {
-            Some(Command::Check)
+            Some(Command::Describe(Description::Check))
         } else if word == "show" {
-            Some(Command::Show)
+            Some(Command::Describe(Description::Show))
         } else if word == "run" {
             Some(Command::Run)
         } else {

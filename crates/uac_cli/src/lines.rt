@@ -1,6 +1,6 @@
 // The lines that are printed, each from a buffer of fixed size.
 ghost use Rattle.std.specs.Prelude.{◌≡◌, ◌≤◌, length};
-ghost use Rattle.uac_cli.specs.declared.command.Command.TheVariants.{Check};
+ghost use Rattle.uac_cli.specs.declared.command.Description.TheVariants.{Check};
 ghost use Rattle.uac_cli.specs.Outcome.{offender, refusal, text_of, unsound};
 ghost use Rattle.uac_cli.specs.Show.{kind_of, line_of};
 ghost use Rattle.uac_cli.specs.Transcript.{misread};

@@ -12,6 +12,10 @@ const MINIMAL: [u8; 35] = [
     0x24, 1, 0, 2, 4, 9, 0, 0,
 ];
 
+/// What `show` prints of it.
+const LISTING: &[u8] =
+    b"0 configuration 090223000101008032\n9 association 080b000101002000\n17 interface 090400000001012000\n26 header 092401000204090000\n";
+
 fn bytes(alloc: Global, items: &[u8]) -> Result<ByteList, Fail> {
     Ok(ByteList::from_vec(Vec::from_slice(alloc, items)?))
 }
@@ -92,36 +96,6 @@ fn read_fault_at_the_second_call(rt: HostRuntime) -> Result<(), Fail> {
     let status = run_in_boxes(alloc, &words(alloc, "show")?, &mut source, &mut sink)?;
     assert_eq!(rt; status, Status::ReadFault);
     assert_eq!(rt; sink.written(), b"read fault\n".as_slice());
-    Ok(())
-}
-
-#[test]
-fn write_fault_at_each_call(rt: HostRuntime) -> Result<(), Fail> {
-    let alloc = rt.alloc();
-    for (call, status, written) in [
-        (1, Status::WriteFault, ""),
-        (
-            2,
-            Status::WriteFault,
-            "0 configuration 090223000101008032\n",
-        ),
-        (
-            3,
-            Status::WriteFault,
-            "0 configuration 090223000101008032\n9 association 080b000101002000\n",
-        ),
-        (
-            9,
-            Status::Ok,
-            "0 configuration 090223000101008032\n9 association 080b000101002000\n17 interface 090400000001012000\n26 header 092401000204090000\n",
-        ),
-    ] {
-        let mut source = SteadySource::new(bytes(alloc, &MINIMAL)?);
-        let mut sink = sink_in_memory(alloc, 64, &[call])?;
-        let got = run_in_boxes(alloc, &words(alloc, "show")?, &mut source, &mut sink)?;
-        assert_eq!(rt; got, status);
-        assert_eq!(rt; sink.written(), written.as_bytes());
-    }
     Ok(())
 }
 
@@ -220,5 +194,94 @@ fn two_words_are_no_command(rt: HostRuntime) -> Result<(), Fail> {
         sink.written(),
         b"usage: uac_cli check|show|run\n".as_slice()
     );
+    Ok(())
+}
+
+/// The least descriptor, two microframes, and a report. The descriptor is accepted in the second line, which 75 bytes end.
+const SCRIPT: &[u8] =
+    b"d 090223000101008032080b000101002000090400000001012000092401000204090000\ng\nm 2\nq\n";
+
+/// What it prints: 37 bytes at the second line, and the others at the last.
+const TRANSCRIPT: &[u8] =
+    b"ready entities 0 streams 0 domains 0\ntime 2\nsteady yes\nmeter peak 0\nmeter clipped 0\nmeter sum 0\n";
+
+/// `run` of that script, byte by byte, whose source fails at this call.
+fn followed(alloc: Global, call: u32) -> Result<(Status, MemorySink), Fail> {
+    let mut source = MemorySource::new(bytes(alloc, SCRIPT)?, 1, numbers(alloc, &[call])?);
+    let mut sink = sink_in_memory(alloc, 1, &[])?;
+    let status = run_in_boxes(alloc, &words(alloc, "run")?, &mut source, &mut sink)?;
+    Ok((status, sink))
+}
+
+/// A command over all of an input, whose sink takes one byte a call, so many of its 224, and fails at the next call.
+fn cut_off(
+    alloc: Global,
+    command: &str,
+    input: &[u8],
+    taken: usize,
+) -> Result<(Status, MemorySink), Fail> {
+    let mut source = SteadySource::new(bytes(alloc, input)?);
+    let mut sink = sink_in_memory(alloc, 1, &[taken.min(224) as u32 + 1])?;
+    let status = run_in_boxes(alloc, &words(alloc, command)?, &mut source, &mut sink)?;
+    Ok((status, sink))
+}
+
+#[test]
+fn sink_fails_at_each_call(rt: HostRuntime) -> Result<(), Fail> {
+    let alloc = rt.alloc();
+    for (command, input, text) in [
+        (
+            "check",
+            MINIMAL.as_slice(),
+            b"ok blocks 4 entities 0 streams 0 domains 0\n".as_slice(),
+        ),
+        ("show", MINIMAL.as_slice(), LISTING),
+        ("run", SCRIPT, TRANSCRIPT),
+    ] {
+        for taken in 0..text.len() {
+            let (status, sink) = cut_off(alloc, command, input, taken)?;
+            assert_eq!(rt;
+                status,
+                Status::WriteFault,
+                "{command} behind {taken} bytes"
+            );
+            assert_eq!(rt;
+                sink.written(),
+                &text[..taken],
+                "{command} behind {taken} bytes"
+            );
+        }
+        let (status, sink) = cut_off(alloc, command, input, text.len())?;
+        assert_eq!(rt; status, Status::Ok, "{command}");
+        assert_eq!(rt; sink.written(), text, "{command}");
+    }
+    Ok(())
+}
+
+/// How many bytes stand behind a script of which so many were taken.
+fn printed(taken: usize) -> usize {
+    if taken < 75 {
+        0
+    } else if taken < SCRIPT.len() {
+        37
+    } else {
+        TRANSCRIPT.len()
+    }
+}
+
+#[test]
+fn source_of_a_script_fails_at_each_call(rt: HostRuntime) -> Result<(), Fail> {
+    let alloc = rt.alloc();
+    for taken in 0..SCRIPT.len() + 1 {
+        let (status, sink) = followed(alloc, taken as u32 + 1)?;
+        let front = TRANSCRIPT.get(..printed(taken)).unwrap_or(TRANSCRIPT);
+        let mut text = Vec::from_slice(alloc, front)?;
+        text.extend_from_slice(b"read fault\n")?;
+        assert_eq!(rt; status, Status::ReadFault, "behind {taken} bytes");
+        assert_eq!(rt; sink.written(), text.as_slice(), "behind {taken} bytes");
+    }
+    let (status, sink) = followed(alloc, SCRIPT.len() as u32 + 2)?;
+    assert_eq!(rt; status, Status::Ok);
+    assert_eq!(rt; sink.written(), TRANSCRIPT);
     Ok(())
 }

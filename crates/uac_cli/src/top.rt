@@ -10,7 +10,7 @@ ghost use Rattle.uac_cli.specs.Command.{command_of};
 ghost use Rattle.uac_cli.specs.Outcome.{no_memory, sound, text_of};
 ghost use Rattle.uac_cli.specs.Run.{IsRun, IsAnswered, Closes, Judges, Refuses, RefusesFunction};
 
-use crate::command::Command;
+use crate::command::{Command, Description};
 use crate::entities::write_entities;
 use crate::lines::{NO_MEMORY, READ_FAULT, USAGE, refusal_line, sound_line, unsound_line};
 use crate::reading::{Reading, read_descriptor};
@@ -60,39 +60,38 @@ pub fn uac_main<S: Source, K: Sink>(
     ensures ok { result ≡ Status.Ok → IsAtEnd (S.left source.new) }
 {
     match Command::of(words) {
-        Some(Command::Check) => describe(alloc, Command::Check, source, sink),
-        Some(Command::Show) => describe(alloc, Command::Show, source, sink),
+        Some(Command::Describe(description)) => describe(alloc, description, source, sink),
         Some(Command::Run) => run_script(alloc, source, sink, &racks.plain, meters),
         None => close(sink, USAGE, Status::Usage),
     }
 }
 
-/// Reads a descriptor and prints what the command says of it.
+/// Reads a descriptor and prints what is said of it.
 fn describe<S: Source, K: Sink>(
     alloc: Global,
-    command: Command,
+    description: Description,
     source: &mut S,
     sink: &mut K,
 ) -> Status
-    ensures answered { IsAnswered command (S.left source.old) (S.left source.new) (S.faults source.old) (S.faults source.new)
+    ensures answered { IsAnswered description (S.left source.old) (S.left source.new) (S.faults source.old) (S.faults source.new)
         (K.written sink.old) (K.written sink.new) (K.faults sink.old) (K.faults sink.new) result }
     ensures read_fault { result ≡ Status.ReadFault → Rose (S.faults source.old) (S.faults source.new) }
     ensures write_fault { result ≡ Status.WriteFault → Rose (K.faults sink.old) (K.faults sink.new) }
     ensures ok { result ≡ Status.Ok → IsAtEnd (S.left source.new) }
 {
     match read_descriptor(alloc, source) {
-        Reading::Whole(blocks) => judge(alloc, command, &blocks, sink),
+        Reading::Whole(blocks) => judge(alloc, description, &blocks, sink),
         Reading::Stopped(stop) => refuse(stop, sink),
         Reading::Failed => close(sink, READ_FAULT, Status::ReadFault),
     }
 }
 
-/// Judges the function of the blocks, and prints what the command says of it.
-fn judge<K: Sink>(alloc: Global, command: Command, blocks: &[Block], sink: &mut K) -> Status
-    ensures { Judges command blocks.now (K.written sink.old) (K.written sink.new) (K.faults sink.old) (K.faults sink.new) result }
+/// Judges the function of the blocks, and prints what is said of it.
+fn judge<K: Sink>(alloc: Global, description: Description, blocks: &[Block], sink: &mut K) -> Status
+    ensures { Judges description blocks.now (K.written sink.old) (K.written sink.new) (K.faults sink.old) (K.faults sink.new) result }
 {
     match check(alloc, blocks) {
-        Ok(function) => print(alloc, command, blocks, &function, sink),
+        Ok(function) => print(alloc, description, blocks, &function, sink),
         Err(stop) => refuse_function(stop, sink),
     }
 }
@@ -107,21 +106,20 @@ fn refuse_function<K: Sink>(stop: CheckStop, sink: &mut K) -> Status
     }
 }
 
-/// Prints what the command says of a sound descriptor.
+/// Prints what is said of a sound descriptor.
 fn print<K: Sink>(
     alloc: Global,
-    command: Command,
+    description: Description,
     blocks: &[Block],
     function: &Function,
     sink: &mut K,
 ) -> Status
-    ensures { Closes (sound command blocks.now function.now) (K.written sink.old) (K.written sink.new) (K.faults sink.old) (K.faults sink.new) result
+    ensures { Closes (sound description blocks.now function.now) (K.written sink.old) (K.written sink.new) (K.faults sink.old) (K.faults sink.new) result
         ⊎ Closes no_memory (K.written sink.old) (K.written sink.new) (K.faults sink.old) (K.faults sink.new) result }
 {
-    match command {
-        Command::Check => close(sink, sound_line(blocks, function).as_bytes(), Status::Ok),
-        Command::Show => show(alloc, blocks, function, sink),
-        Command::Run => close(sink, b"", Status::Ok),
+    match description {
+        Description::Check => close(sink, sound_line(blocks, function).as_bytes(), Status::Ok),
+        Description::Show => show(alloc, blocks, function, sink),
     }
 }
 
@@ -137,7 +135,7 @@ fn refuse<K: Sink>(stop: ReadStop, sink: &mut K) -> Status
 
 /// Prints the blocks and the entities, once all the memory for it is there.
 fn show<K: Sink>(alloc: Global, blocks: &[Block], function: &Function, sink: &mut K) -> Status
-    ensures { Closes (sound Command.Show blocks.now function.now) (K.written sink.old) (K.written sink.new) (K.faults sink.old) (K.faults sink.new) result
+    ensures { Closes (sound Description.Show blocks.now function.now) (K.written sink.old) (K.written sink.new) (K.faults sink.old) (K.faults sink.new) result
         ⊎ Closes no_memory (K.written sink.old) (K.written sink.new) (K.faults sink.old) (K.faults sink.new) result }
 {
     match bytes_of(alloc, blocks) {
@@ -158,7 +156,7 @@ fn write_all<K: Sink>(
     function: &Function,
 ) -> Result<(), Failed>
     requires { bytes.now ≡ flat_map spelling blocks.now }
-    ensures written { Writes (K.written sink.old) (K.written sink.new) result (text_of Command.Show blocks.now function.now) }
+    ensures written { Writes (K.written sink.old) (K.written sink.new) result (text_of Description.Show blocks.now function.now) }
     ensures cause { HasCause (K.faults sink.old) (K.faults sink.new) result }
 {
     match write_blocks(sink, blocks, bytes) {

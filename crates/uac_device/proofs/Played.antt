@@ -23,6 +23,7 @@ use Rattle.uac_graph.specs.Needs.{depended, is_end}
 use Rattle.uac_graph.specs.Wiring.{AreGiven, AreRendered, AreSilent, Frames, frame_on, held, silence}
 use Rattle.uac_graph.proofs.Equation.{samples_by-same}
 use Rattle.uac_graph.proofs.Links.{entity_past, place_or_none}
+use Rattle.uac_graph.proofs.Ticking.{input_signal, output_signal}
 use Rattle.uac_graph.proofs.Walking.{given_kept, signal_channels}
 use Rattle.uac_alt.specs.Settings.{initial_settings}
 use Rattle.uac_alt.specs.declared.settings.InterfaceSetting.{InterfaceSetting}
@@ -32,15 +33,7 @@ use Rattle.uac_device.specs.Kept.{DeviceFields, IsDevice, Stands, kept}
 use Rattle.uac_device.specs.Turns.{frames_heard, resting_clock}
 use Rattle.uac_device.proofs.Heard.{heard_told}
 
--- a terminal is no clock
-input_signal : (k : EntityKind) → is_input k ≡ true → is_clock k ≡ false
-input_signal kind.InputTerminal e = refl
-input_signal _ e = absurd (cc)
-
-output_signal : (k : EntityKind) → is_output k ≡ true → is_clock k ≡ false
-output_signal kind.OutputTerminal e = refl
-output_signal _ e = absurd (cc)
-
+-- no entity is both
 apart : (k : EntityKind) → is_input k ≡ true → is_output k ≡ true → ⊥
 apart kind.OutputTerminal input output = cc
 apart _ input output = cc

@@ -1,13 +1,12 @@
 -- What the events make of what a device keeps: clock by clock, and the frames that are heard on the wires.
-use Rattle.std.specs.Prelude.{ℕ, ◌+◌, ◌/◌, ◌%◌, ◌==◌, ◌&&◌, if◌then◌else◌, ℤ, pos, List, Option, None, Some}
+use Rattle.std.specs.Prelude.{ℕ, ◌+◌, ◌/◌, ◌%◌, ◌==◌, if◌then◌else◌, ℤ, pos, List, Option, None, Some}
 use Rattle.std.specs.List.{find, filter_map}
 use Rattle.std.specs.Option.{option_map_or}
 use Rattle.uac_clock.specs.Nominal.{step_of}
 use Rattle.uac_clock.specs.declared.values.Nominal.{Nominal}
 use Rattle.uac_entities.specs.declared.entity.Entity.{Entity}
-use Rattle.uac_graph.specs.Needs.{is_end}
 use Rattle.uac_graph.specs.Wiring.{Frames, frame_on}
-use Rattle.uac_device.specs.World.{is_jack}
+use Rattle.uac_device.specs.World.{is_output_jack_of}
 use Rattle.uac_device.specs.declared.clocks.Clock.{Clock}
 
 -- a clock that is not off, at a tick
@@ -37,7 +36,7 @@ first_ticks domain values clocks =
 
 -- the frame that meters hear of an entity after a tick of a domain: that of an output jack
 abbrev pub heard_on : Frames → ℕ → Entity → Option (List ℤ)
-heard_on wires domain e = if is_end domain e && is_jack e then frame_on wires e.id else None
+heard_on wires domain e = if is_output_jack_of domain e then frame_on wires e.id else None
 
 -- the frames that meters hear, in block order
 abbrev pub frames_heard : Frames → ℕ → List Entity → List (List ℤ)

@@ -20,6 +20,7 @@ use Rattle.uac_graph.specs.Wiring.{silence}
 use Rattle.uac_units.specs.Hearing.{Reading, after_hearing}
 use Rattle.uac_alt.specs.declared.settings.InterfaceSetting.{InterfaceSetting}
 use Rattle.uac_alt.specs.Settings.{initial_settings}
+use Rattle.uac_device.specs.declared.device.Ticked.{Ticked}
 
 -- a clock domain: the clock that its terminals name, what that is off by in millionths, and its steps since the start, one
 -- for each microframe, in 65,536ths of a frame
@@ -51,6 +52,10 @@ is_input_jack e = is_input e.kind && is_jack e
 
 abbrev pub is_output_jack : Entity → Bool
 is_output_jack e = is_output e.kind && is_jack e
+
+-- an output jack of a clock domain
+abbrev pub is_output_jack_of : ℕ → Entity → Bool
+is_output_jack_of clock e = is_end clock e && is_jack e
 
 -- ---- the start
 
@@ -115,7 +120,7 @@ ticked clock w =
 
 -- the frames that the meters hear after a tick of a domain: those of its output jacks, in block order
 unfoldable pub heard_of : ℕ → DeviceWorld → List (List ℤ)
-heard_of clock w = map (λ e. w.played e.id) (filter (λ e. is_end clock e && is_jack e) w.function.entities)
+heard_of clock w = map (λ e. w.played e.id) (filter (is_output_jack_of clock) w.function.entities)
 
 -- what meters show after they heard these frames, one after the other
 unfoldable pub after_frames : List (List ℤ) → List Reading → List Reading
@@ -124,3 +129,17 @@ after_frames frames readings = fold (λ shown frame. map (after_hearing frame) s
 -- the frame that an output jack last played; another id has none
 unfoldable pub played_at : DeviceWorld → ℕ → Option (List ℤ)
 played_at w id = if is_output_jack (entity_in w id) then Some (w.played id) else None
+
+-- ---- streams: none runs yet
+
+-- how many frames lie in the ring of an interface's stream
+unfoldable pub level_of : DeviceWorld → ℕ → ℕ
+level_of w interface = 0
+
+-- the level at which it was primed; none where no stream runs, or while it is priming
+unfoldable pub target_of : DeviceWorld → ℕ → Option ℕ
+target_of w interface = None
+
+-- the interfaces whose ring is found empty, or full, in the next tick of a domain, with a bit for each in block order
+unfoldable pub met_of : ℕ → DeviceWorld → Ticked
+met_of clock w = record { under = 0; over = 0 }

@@ -1,14 +1,15 @@
 // The device and its events.
-ghost use Rattle.std.specs.Prelude.{◌≡◌, ◌≤◌, ◌≤ℤ◌, ℕ, true, None, pos, negsuc, IfOk, length};
+ghost use Rattle.std.specs.Prelude.{◌≡◌, ◌≤◌, ◌≤ℤ◌, ℕ, true, pos, negsuc, IfOk, length};
 ghost use Rattle.std.specs.Option.{option_map};
 ghost use Rattle.uac_graph.specs.Meaning.{entity};
 ghost use Rattle.uac_units.specs.Fitting.{IsFitted};
 ghost use Rattle.uac_units.specs.Panel.{readings};
-ghost use Rattle.uac_device.specs.World.{DeviceWorld, advanced, after_frames, deviated, fresh, heard_of, is_input_jack, is_output_jack, next_ticks, played_at, set_jack, ticked};
+ghost use Rattle.uac_device.specs.World.{DeviceWorld, advanced, after_frames, deviated, fresh, heard_of, is_input_jack, is_output_jack, level_of, met_of, next_ticks, played_at, set_jack, target_of, ticked};
 ghost use Rattle.uac_device.specs.Kept.{Stands};
 
 use crate::clocks::{Clock, advance, deviate, resting_clocks};
-use crate::hearing::{hear, is_output_jack};
+use crate::hearing::hear;
+use crate::terminals::is_output_jack;
 use std::alloc::Global;
 use std::marker::Model;
 use uac_alt::Settings;
@@ -93,15 +94,17 @@ impl Device {
     }
 
     /// The level of an interface's ring in frames. No stream runs yet: it is 0.
+    #[tactic(auto, unfolding(crate::specs::World::level_of))]
     pub fn level(&self, _interface: u8) -> u32
-        ensures { result ≡ 0 }
+        ensures { (w : DeviceWorld) → Stands self.now w → result ≡ level_of w _interface }
     {
         0
     }
 
     /// The level at which an interface's stream was primed; None where none runs or it is priming. No stream runs yet.
+    #[tactic(auto, unfolding(crate::specs::World::target_of))]
     pub fn target(&self, _interface: u8) -> Option<u32>
-        ensures { result ≡ None }
+        ensures { (w : DeviceWorld) → Stands self.now w → result ≡ target_of w _interface }
     {
         None
     }
@@ -154,7 +157,7 @@ impl Device {
         ensures heard { (w : DeviceWorld) → Stands self.old w
             → readings (λ v x. (⟦<dyn Meter as Meter>⟧ v).reading_of x) meters.new
             ≡ after_frames (heard_of domain (ticked domain w)) (readings (λ v x. (⟦<dyn Meter as Meter>⟧ v).reading_of x) meters.old) }
-        ensures quiet { result ≡ record { under = 0; over = 0 } }
+        ensures met { (w : DeviceWorld) → Stands self.old w → result ≡ met_of domain w }
         ensures function { self.new.function ≡ self.old.function }
     {
         functions_are_sound(&self.function);

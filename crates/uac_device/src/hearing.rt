@@ -1,15 +1,13 @@
 // What the meters hear of a tick.
 ghost use Rattle.std.specs.Prelude.{◌≡◌};
 ghost use Rattle.std.specs.Option.{option_map};
-ghost use Rattle.uac_graph.specs.Needs as needs;
 ghost use Rattle.uac_graph.specs.Wiring.{AreWiresOf};
-ghost use Rattle.uac_rules.specs.Rules as rules;
 ghost use Rattle.uac_units.specs.Panel.{readings};
-ghost use Rattle.uac_device.specs.World as spec;
 ghost use Rattle.uac_device.specs.World.{after_frames};
 ghost use Rattle.uac_device.specs.Turns.{frames_heard, heard_on};
 
-use uac_entities::{Entity, EntityKind, USB_STREAMING};
+use crate::terminals::is_output_jack_of;
+use uac_entities::Entity;
 use uac_graph::Wires;
 use uac_pcm::Frame;
 use uac_units::{Meter, Meters};
@@ -31,38 +29,9 @@ pub(crate) fn hear(entities: &[Entity], wires: &Wires, domain: u8, meters: &mut 
 fn heard_frame<'a>(entity: &Entity, wires: &'a Wires, domain: u8) -> Option<&'a Frame>
     ensures { option_map (λ frame. frame.now.items) result ≡ heard_on wires.now domain entity.now }
 {
-    if is_end(domain, entity) && is_jack(entity) {
+    if is_output_jack_of(domain, entity) {
         wires.get(entity.id)
     } else {
         None
     }
-}
-
-// An output terminal of the domain.
-fn is_end(domain: u8, entity: &Entity) -> bool
-    ensures { result ≡ needs.is_end domain entity.now }
-{
-    is_output(entity.kind) && entity.clock == domain
-}
-
-/// Whether the entity is an output terminal that carries no stream of the bus.
-pub(crate) fn is_output_jack(entity: &Entity) -> bool
-    ensures { result ≡ spec.is_output_jack entity.now }
-{
-    is_output(entity.kind) && is_jack(entity)
-}
-
-fn is_output(kind: EntityKind) -> bool
-    ensures { result ≡ rules.is_output kind }
-{
-    match kind {
-        EntityKind::OutputTerminal => true,
-        _ => false,
-    }
-}
-
-fn is_jack(entity: &Entity) -> bool
-    ensures { result ≡ spec.is_jack entity.now }
-{
-    entity.terminal_type != USB_STREAMING
 }

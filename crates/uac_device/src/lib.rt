@@ -7,9 +7,12 @@ mod clocks;
 mod device;
 /// What the meters hear of a tick.
 mod hearing;
+/// Which terminals carry no stream of the bus.
+mod terminals;
 
 pub use clocks::Clock;
 pub use device::{Device, Ticked};
+pub use terminals::{is_input_jack, is_output_jack, is_output_jack_of};
 
 #[cfg(test)]
 mod tests;

@@ -3,7 +3,7 @@ pub mod Equation
 pub mod Lookups
 pub mod FromRules
 pub mod Loudness
-pub mod Recursion
+pub mod Reaching
 pub mod Ticking
 pub mod Ends
 pub mod Walking
@@ -11,3 +11,7 @@ pub mod Rows
 pub mod Needed
 pub mod OneSource
 pub mod Rendered
+pub mod InOrder
+pub mod Worked
+pub mod Apart
+pub mod Ordering

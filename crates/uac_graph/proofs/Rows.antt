@@ -27,6 +27,14 @@ use Rattle.std.proofs.Common.{
   Result,
   Ok,
   Err,
+  Option,
+  Some,
+  None,
+  Bool,
+  eqb,
+  if◌then◌else◌,
+  inl,
+  inr,
   length-append,
 }
 use Rattle.std.specs.List.{All, sum_by}
@@ -34,7 +42,10 @@ use Rattle.std.proofs.lemmas.List.{map_more, map-append}
 use Rattle.std.proofs.lemmas.List.{take-append-drop, append-nil}
 use Rattle.std.proofs.lemmas.List.Sums.{sum_by-cons, sum-map}
 use Rattle.std.specs.Result.{IsOk, OnOk}
+use Rattle.std.specs.Option.{option_map}
+use Rattle.std.proofs.lemmas.Bool.{cases_eq, eq-eqb, ne_eqb}
 use Rattle.uac_units.specs.Rendering.{in_a_row}
+use Rattle.uac_graph.specs.Wiring.{Frames, frame_on}
 
 -- a list of one
 pub all_one : {X : Type 0} (P : X → Type 0) (x : X) → P x → All P (x ∷ [])
@@ -87,3 +98,21 @@ row_more f xs i row more frame below here small so_far extends =
 pub when_ok : {T E : Type 0} (r : Result T E) (P : Type 0) → IsOk r → OnOk r P → P
 when_ok (Ok x) P ok p = p
 when_ok (Err e) P ok p = absurd (cc)
+
+-- a frame of no samples
+pub no_samples : (o : Option (List ℤ)) (n : ℕ) → option_map length o ≡ Some n → n ≡ 0 → o ≡ Some []
+no_samples None n e none = absurd (cc)
+no_samples (Some []) n e none = refl
+no_samples (Some (z ∷ zs)) n e none = absurd (omega (arith, some_is (length (z ∷ zs)) n e))
+  where
+    some_is : (a b : ℕ) → Some a ≡ Some b → a ≡ b
+    some_is a b s = cc
+
+-- a wire that gets what it has
+pub same_wire : (frames : Frames) (own id : ℕ) (frame : List ℤ) → frame_on frames own ≡ Some frame
+    → frame_on frames id ≡ (if eqb own id then Some frame else frame_on frames id)
+same_wire frames own id frame e =
+    elim (cases_eq own id) [
+      | inl same ↦ sym (ap (λ (b : Bool). if b then Some frame else frame_on frames id) (eq-eqb own id same) ∙ sym e ∙ ap (frame_on frames) same)
+      | inr other ↦ sym (ap (λ (b : Bool). if b then Some frame else frame_on frames id) (ne_eqb own id other))
+    ]

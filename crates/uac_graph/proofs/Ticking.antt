@@ -1,8 +1,7 @@
--- The output terminals of a domain, one after the other.
-use Rattle.std.proofs.Common.{◌≡◌, ◌∙◌, sym, ap, subst, refl, ℕ, ◌+◌, ◌<◌, ◌≤◌, Bool, true, false, ◌||◌, ◌&&◌, ℤ, List, [], Option, Some, None, length, get_or, take, unwrap_or}
+-- The output terminals of a domain, and what input terminals are given.
+use Rattle.std.proofs.Common.{◌≡◌, ◌∙◌, sym, ap, subst, refl, ℕ, ◌+◌, ◌<◌, Bool, true, false, ◌||◌, ◌&&◌, ℤ, List, [], Option, Some, None, length, get_or, take, unwrap_or}
 use Rattle.std.specs.List.{list_any}
 use Rattle.std.specs.Option.{option_map}
-use Rattle.std.proofs.lemmas.List.{take_all}
 use Rattle.std.proofs.lemmas.List.Folds.{list_any_more}
 use Rattle.uac_walk.specs.Walk.{has_walk}
 use Rattle.uac_entities.specs.declared.entity.Entity.{Entity}
@@ -12,18 +11,22 @@ use Rattle.uac_rules.specs.Clusters.{is_input}
 use Rattle.uac_rules.specs.Links.{is_clock, signal_links}
 use Rattle.uac_rules.specs.Rules.{is_output}
 use Rattle.uac_rules.specs.Table.{at, place_of}
-use Rattle.uac_graph.specs.Controls.{Controls}
 use Rattle.uac_graph.specs.Fitness.{IsSignalGraph}
 use Rattle.uac_graph.specs.Meaning.{entity}
-use Rattle.uac_graph.specs.Needs.{depended, is_end, reaches}
-use Rattle.uac_graph.specs.Wiring.{AreGiven, AreRendered, AreWiresOf, Frames, frame_on, held}
+use Rattle.uac_graph.specs.Needs.{is_end, reaches}
+use Rattle.uac_graph.specs.Wiring.{AreGiven, AreWiresOf, Frames, frame_on, held}
 use Rattle.uac_rules.proofs.TableSteps.{at_read}
-use Rattle.uac_graph.proofs.Walking.{rendered_by, rendered_more, signal_channels}
+use Rattle.uac_graph.proofs.Walking.{signal_channels}
 
 -- an output terminal is no clock
-output_signal : (k : EntityKind) (b : Bool) → (is_output k && b) ≡ true → is_clock k ≡ false
-output_signal kind.OutputTerminal b e = refl
-output_signal _ b e = absurd (cc)
+pub output_signal : (k : EntityKind) → is_output k ≡ true → is_clock k ≡ false
+output_signal kind.OutputTerminal e = refl
+output_signal _ e = absurd (cc)
+
+-- what holds of both holds of the first
+both_first : (a b : Bool) → (a && b) ≡ true → a ≡ true
+both_first true b e = refl
+both_first false b e = absurd (cc)
 
 -- the entity at a place is the one with its id
 pub entity_itself : (entities : List Entity) (place : ℕ) → IsSignalGraph entities → place < length entities → entity entities (at entities place).id ≡ at entities place
@@ -37,7 +40,7 @@ end_signal entities slice domain place e sound same below item end =
     let inside : place < length entities = subst (λ (xs : List Entity). place < length xs) same below in
     let here : at entities place ≡ e = sym (at_read entities place e inside (subst (λ (xs : List Entity). e ≡ get_or xs place e) same item)) in
     subst (λ (f : Entity). is_clock (entity entities f.id).kind ≡ false) here
-    (ap (λ (f : Entity). is_clock f.kind) (entity_itself entities place sound inside ∙ here) ∙ output_signal e.kind _ end)
+    (ap (λ (f : Entity). is_clock f.kind) (entity_itself entities place sound inside ∙ here) ∙ output_signal e.kind (both_first (is_output e.kind) _ end))
 
 -- no walk from it goes on for ever
 pub end_stops : (entities slice : List Entity) (place : ℕ) (e : Entity) → IsSignalGraph entities → slice ≡ entities → place < length slice → e ≡ get_or slice place e
@@ -50,7 +53,7 @@ end_stops entities slice place e sound same below item =
     ∙ sound.acyclic place inside
 
 -- the test of one entity more
-tested_more : (entities slice : List Entity) (domain place id : ℕ) (e : Entity) → slice ≡ entities → place < length slice → e ≡ get_or slice place e
+pub tested_more : (entities slice : List Entity) (domain place id : ℕ) (e : Entity) → slice ≡ entities → place < length slice → e ≡ get_or slice place e
     → list_any (λ f. is_end domain f && reaches entities (length entities) f.id id) (take (place + 1) slice)
     ≡ (list_any (λ f. is_end domain f && reaches entities (length entities) f.id id) (take place slice) || (is_end domain e && reaches entities (length slice) e.id id))
 tested_more entities slice domain place id e same below item =
@@ -59,52 +62,8 @@ tested_more entities slice domain place id e same below item =
     ∙ ap (λ (f : Entity). list_any test (take place slice) || test f) (sym item)
     ∙ ap (λ (xs : List Entity). list_any test (take place slice) || (is_end domain e && reaches entities (length xs) e.id id)) (sym same)
 
--- one output terminal more
-pub end_more : (entities slice : List Entity) (controls : Controls) (ins : ℕ → List ℤ) (domain place : ℕ) (e : Entity) (old mid new : Frames) → slice ≡ entities
-    → place < length slice → e ≡ get_or slice place e → is_end domain e ≡ true
-    → AreRendered entities controls ins (λ k. list_any (λ f. is_end domain f && reaches entities (length entities) f.id k) (take place slice)) old mid
-    → AreRendered entities controls ins (reaches entities (length slice) e.id) mid new
-    → AreRendered entities controls ins (λ k. list_any (λ f. is_end domain f && reaches entities (length entities) f.id k) (take (place + 1) slice)) old new
-end_more entities slice controls ins domain place e old mid new same below item end before after =
-    rendered_by entities controls ins
-    (λ k. list_any (λ f. is_end domain f && reaches entities (length entities) f.id k) (take place slice) || reaches entities (length slice) e.id k)
-    (λ k. list_any (λ f. is_end domain f && reaches entities (length entities) f.id k) (take (place + 1) slice)) old new
-    (λ k.
-    ap (λ (b : Bool). list_any (λ f. is_end domain f && reaches entities (length entities) f.id k) (take place slice) || (b && reaches entities (length slice) e.id k)) (sym end)
-    ∙ sym (tested_more entities slice domain place k e same below item))
-    (rendered_more entities controls ins (λ k. list_any (λ f. is_end domain f && reaches entities (length entities) f.id k) (take place slice))
-    (reaches entities (length slice) e.id) old mid new before after)
-
--- another entity
-pub end_none : (entities slice : List Entity) (controls : Controls) (ins : ℕ → List ℤ) (domain place : ℕ) (e : Entity) (old new : Frames) → slice ≡ entities
-    → place < length slice → e ≡ get_or slice place e → is_end domain e ≡ false
-    → AreRendered entities controls ins (λ k. list_any (λ f. is_end domain f && reaches entities (length entities) f.id k) (take place slice)) old new
-    → AreRendered entities controls ins (λ k. list_any (λ f. is_end domain f && reaches entities (length entities) f.id k) (take (place + 1) slice)) old new
-end_none entities slice controls ins domain place e old new same below item other before =
-    rendered_by entities controls ins
-    (λ k. list_any (λ f. is_end domain f && reaches entities (length entities) f.id k) (take place slice))
-    (λ k. list_any (λ f. is_end domain f && reaches entities (length entities) f.id k) (take (place + 1) slice)) old new
-    (λ k.
-    sym (or_false (list_any (λ f. is_end domain f && reaches entities (length entities) f.id k) (take place slice)))
-    ∙ ap (λ (b : Bool). list_any (λ f. is_end domain f && reaches entities (length entities) f.id k) (take place slice) || (b && reaches entities (length slice) e.id k)) (sym other)
-    ∙ sym (tested_more entities slice domain place k e same below item))
-    before
-  where
-    or_false : (b : Bool) → (b || false) ≡ b
-    or_false true = refl
-    or_false false = refl
-
--- all output terminals
-pub ends_done : (entities slice : List Entity) (controls : Controls) (ins : ℕ → List ℤ) (domain place : ℕ) (old new : Frames) → slice ≡ entities → length slice ≤ place
-    → AreRendered entities controls ins (λ k. list_any (λ f. is_end domain f && reaches entities (length entities) f.id k) (take place slice)) old new
-    → AreRendered entities controls ins (depended entities domain) old new
-unfolding depended
-ends_done entities slice controls ins domain place old new same past rendered =
-    subst (λ (xs : List Entity). AreRendered entities controls ins (λ k. list_any (λ f. is_end domain f && reaches entities (length entities) f.id k) xs) old new)
-    (take_all place slice past ∙ same) rendered
-
 -- an input terminal is no clock
-input_signal : (k : EntityKind) → is_input k ≡ true → is_clock k ≡ false
+pub input_signal : (k : EntityKind) → is_input k ≡ true → is_clock k ≡ false
 input_signal kind.InputTerminal e = refl
 input_signal _ e = absurd (cc)
 

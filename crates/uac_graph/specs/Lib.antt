@@ -5,3 +5,4 @@ pub mod Needs
 pub mod Fitness
 pub mod Wiring
 pub mod Jobs
+pub mod Orders

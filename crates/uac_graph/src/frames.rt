@@ -1,4 +1,4 @@
-// Frames, made and copied.
+// Silent frames.
 ghost use Rattle.std.specs.Prelude.{◌≡◌, ◌≤◌};
 ghost use Rattle.uac_graph.specs.Wiring.{silence};
 
@@ -15,13 +15,4 @@ pub(crate) fn silent(channels: u8) -> Frame
         frame.push(0);
     }
     frame
-}
-
-/// The same frame once more.
-pub(crate) fn copy_of(frame: &Frame) -> Frame
-    ensures { result.items ≡ frame.now.items }
-{
-    let mut copy = ArrayVec::new();
-    let _ = copy.try_extend_from_slice(frame.as_slice());
-    copy
 }

@@ -1,45 +1,44 @@
 // The signal graph: which unit takes which signals, rendered tick by tick.
-ghost use Rattle.std.specs.Prelude.{◌≡◌, ◌<◌, ℕ, ℤ, List, false, IfOk, length};
-ghost use Rattle.uac_walk.specs.Walk.{has_walk};
-ghost use Rattle.uac_rules.specs.Clusters as clusters;
-ghost use Rattle.uac_rules.specs.Links.{is_clock, signal_links};
-ghost use Rattle.uac_rules.specs.Table.{place_of};
+ghost use Rattle.std.specs.Prelude.{◌≡◌, ◌<◌, ℕ, List, false, IfOk, length};
+ghost use Rattle.uac_rules.specs.Links.{is_clock};
+ghost use Rattle.uac_rules.specs.Table.{at};
 ghost use Rattle.uac_units.specs.Fitting.{IsFitted};
 ghost use Rattle.uac_graph.specs.Controls.{held_in};
-ghost use Rattle.uac_graph.specs.Meaning as spec;
-ghost use Rattle.uac_graph.specs.Needs as needs;
-ghost use Rattle.uac_graph.specs.Needs.{depended, reaches};
-ghost use Rattle.uac_graph.specs.Wiring.{AreGiven, AreRendered, AreWiresOf, held};
+ghost use Rattle.uac_graph.specs.Needs.{depended};
+ghost use Rattle.uac_graph.specs.Orders.{frame_after};
+ghost use Rattle.uac_graph.specs.Wiring.{AreRendered, AreWiresOf, frame_on, held};
 
 use crate::copies::copies_of;
-use crate::render::frame_of;
+use crate::orders::{Order, orders_of, places_for};
 use crate::wires::Wires;
 use std::alloc::Global;
 use std::marker::Model;
 use uac_descriptor::NoMemory;
-use uac_entities::{Entity, EntityKind};
-use uac_rules::EntityTable;
+use uac_rules::{EntityTable, is_input};
 use uac_store::Store;
 use uac_topology::Function;
 use uac_topology::laws::functions_are_sound;
 use uac_units::{Rack, Steps, Unit};
 
-/// The signal graph of an audio function (Audio Class 2.0, 3.13).
+/// The signal graph of an audio function (Audio Class 2.0, 3.13), with an order for each clock domain in which its entities are
+/// rendered.
 #[derive(Drop)]
 pub struct Graph {
     table: EntityTable,
+    orders: Vec<Order>,
 }
 
 impl Model for Graph {
     ghost use Rattle.std.specs.Prelude.{List};
     ghost use Rattle.uac_entities.specs.declared.entity.Entity.{Entity};
     ghost use Rattle.uac_graph.specs.Fitness.{IsSignalGraph};
+    ghost use Rattle.uac_graph.specs.Orders.{AreOrders};
 
     ghost Value = { List Entity };
 
     ghost view = { λ g. g.table };
 
-    ghost invariant = { λ g. IsSignalGraph g.table };
+    ghost invariant = { λ g. IsSignalGraph g.table × AreOrders g.table g.orders.items };
 }
 
 impl Graph {
@@ -50,7 +49,8 @@ impl Graph {
         functions_are_sound(function);
         let copies = copies_of(alloc, function.entities())?;
         let table = EntityTable::new(alloc, copies)?;
-        Ok(Graph { table })
+        let orders = orders_of(alloc, &table)?;
+        Ok(Graph { table, orders })
     }
 
     /// One tick of a clock domain: every output terminal of the domain, and every unit on which one depends, gets the samples
@@ -68,50 +68,23 @@ impl Graph {
         ensures rendered { AreRendered self.now (held_in store.now) (held wires.old) (depended self.now domain) wires.old wires.new }
         ensures fitting { AreWiresOf self.now wires.new }
     {
-        let entities = self.table.as_slice();
-        for entity in entities {
-            if is_end(domain, entity) {
-                self.render_from(entity.id, entities.len(), store, rack, wires);
-            }
+        for place in places_for(&self.orders, domain) {
+            self.render(*place, store, rack, wires);
         }
     }
 
-    // Renders an entity after all that it depends on. No walk of so many links leads on from it.
-    fn render_from(&self, id: u8, links: usize, store: &Store, rack: &Rack, wires: &mut Wires)
-        requires signal { is_clock (spec.entity self.now id).kind ≡ false }
-        requires ends { has_walk (signal_links self.now) links (place_of self.now id) ≡ false }
+    // Renders the entity at a place, where its sources are rendered. An input terminal has its frame.
+    fn render(&self, place: usize, store: &Store, rack: &Rack, wires: &mut Wires)
         requires rack { IsFitted (λ v x. (⟦<dyn Unit as Unit>⟧ v).kind_of x) rack.now }
+        requires inside { place < length self.now }
+        requires signal { is_clock (at self.now place).kind ≡ false }
         requires wires { AreWiresOf self.now wires.old }
-        ensures rendered { (ins : ℕ → List ℤ) → AreGiven self.now ins wires.old
-            → AreRendered self.now (held_in store.now) ins (reaches self.now links id) wires.old wires.new }
+        ensures rendered { (id : ℕ) → frame_on wires.new id ≡ frame_after self.now (held_in store.now) place wires.old id }
         ensures fitting { AreWiresOf self.now wires.new }
     {
-        let entity = self.table.at(self.table.place_of(id));
-        for source in entity.sources.as_slice() {
-            self.render_from(*source, links - 1, store, rack, wires);
-        }
+        let entity = self.table.at(place);
         if !is_input(entity.kind) {
-            let frame = frame_of(entity, store, rack, wires);
-            wires.set(id, &frame);
+            wires.render(entity, store, rack);
         }
-    }
-}
-
-// An output terminal of the domain.
-fn is_end(domain: u8, entity: &Entity) -> bool
-    ensures { result ≡ needs.is_end domain entity.now }
-{
-    match entity.kind {
-        EntityKind::OutputTerminal => entity.clock == domain,
-        _ => false,
-    }
-}
-
-fn is_input(kind: EntityKind) -> bool
-    ensures { result ≡ clusters.is_input kind }
-{
-    match kind {
-        EntityKind::InputTerminal => true,
-        _ => false,
     }
 }

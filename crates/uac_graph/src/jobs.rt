@@ -1,6 +1,6 @@
 // What a unit is asked to render, and over which inputs.
 ghost use Rattle.std.specs.Prelude.{◌≡◌, ◌≤◌, ◌<◌, ◌^◌, ◌*◌, map, length};
-ghost use Rattle.std.specs.List.{All};
+ghost use Rattle.std.specs.List.{All, range_with_len};
 ghost use Rattle.uac_units.specs.Rendering.{in_a_row};
 ghost use Rattle.uac_units.specs.declared.jobs.UnitKind.TheVariants.{Selector};
 ghost use Rattle.uac_graph.specs.Controls.{held_in};
@@ -9,7 +9,7 @@ ghost use Rattle.uac_graph.specs.Jobs.{IsJob};
 ghost use Rattle.uac_graph.specs.Wiring.{held};
 
 use crate::controls::{chosen_pin, feature_gain, node_gain};
-use crate::wires::Wires;
+use crate::frame_table::FrameTable;
 use arrayvec::ArrayVec;
 use uac_entities::{Entity, EntityKind};
 use uac_store::Store;
@@ -28,22 +28,37 @@ pub(crate) fn unit_of(kind: EntityKind) -> Option<UnitKind>
     }
 }
 
-/// The job of an entity's unit over so many input channels, under the controls held.
-pub(crate) fn job_of(store: &Store, entity: &Entity, kind: UnitKind, inputs: usize) -> Job
+/// No job yet.
+pub(crate) fn no_job() -> Job {
+    Job {
+        outputs: 0,
+        pin: 0,
+        gains: ArrayVec::new(),
+    }
+}
+
+/// Makes it the job of an entity's unit over so many input channels, under the controls held.
+pub(crate) fn set_job(job: &mut Job, store: &Store, entity: &Entity, kind: UnitKind, inputs: usize)
     requires pins { kind ≡ Selector → length entity.now.sources ≤ 256 }
     requires gains { spec.gain_count kind entity.now.cluster.channels inputs ≤ 256 }
-    ensures job { IsJob (held_in store.now) entity.now.id kind entity.now.cluster.channels (length entity.now.sources) inputs result }
-    ensures bound { All (λ gain. gain ≤ 2 ^ 30) result.gains.items }
+    ensures job { IsJob (held_in store.now) entity.now.id kind entity.now.cluster.channels (length entity.now.sources) inputs job.new }
+    ensures bound { All (λ gain. gain ≤ 2 ^ 30) job.new.gains.items }
 {
-    let outputs = entity.cluster.channels;
-    let mut gains = ArrayVec::new();
-    for number in 0..gain_count(kind, outputs as usize, inputs) {
-        gains.push(gain_at(store, entity.id, kind, number));
-    }
-    Job {
-        outputs,
-        pin: pin_at(store, entity, kind),
-        gains,
+    job.outputs = entity.cluster.channels;
+    job.pin = pin_at(store, entity, kind);
+    let count = gain_count(kind, entity.cluster.channels as usize, inputs);
+    set_gains(&mut job.gains, store, entity.id, kind, count);
+}
+
+// Makes them the first gains of a unit, so many.
+fn set_gains(gains: &mut ArrayVec<u32, 256>, store: &Store, id: u8, kind: UnitKind, count: usize)
+    requires { count ≤ 256 }
+    ensures made { gains.new.items ≡ map (spec.gain_at (held_in store.now) id kind) (range_with_len 0 count) }
+    ensures bound { All (λ gain. gain ≤ 2 ^ 30) gains.new.items }
+{
+    gains.clear();
+    for number in 0..count {
+        gains.push(gain_at(store, id, kind, number));
     }
 }
 
@@ -81,16 +96,15 @@ fn pin_at(store: &Store, entity: &Entity, kind: UnitKind) -> u16
     }
 }
 
-/// The channels on the wires of these entities, one after the other.
-pub(crate) fn pins_of(wires: &Wires, sources: &[u8]) -> Pins
-    requires { length (in_a_row (map (held wires.now) sources.now)) ≤ 256 }
-    ensures { result.items ≡ in_a_row (map (held wires.now) sources.now) }
+/// Makes `pins` the channels of these entities' frames, one after the other.
+pub(crate) fn gather(pins: &mut Pins, frames: &FrameTable, sources: &[u8])
+    requires { length (in_a_row (map (held frames.now) sources.now)) ≤ 256 }
+    ensures { pins.new.items ≡ in_a_row (map (held frames.now) sources.now) }
 {
-    let mut pins = ArrayVec::new();
+    pins.clear();
     for source in sources {
-        if let Some(frame) = wires.get(*source) {
+        if let Some(frame) = frames.get(*source) {
             let _ = pins.try_extend_from_slice(frame.as_slice());
         }
     }
-    pins
 }

@@ -5,19 +5,24 @@
 mod controls;
 /// Entities, copied.
 mod copies;
-/// Frames, made and copied.
+/// Frames by the ids of their entities.
+mod frame_table;
+/// Silent frames.
 mod frames;
 /// The graph and its ticks.
 mod graph;
 /// What a unit is asked to render.
 mod jobs;
 pub mod laws;
-/// The frame of one entity.
-mod render;
+/// The order in which a domain's entities are rendered.
+mod orders;
+/// The output terminals of a clock domain.
+mod terminals;
 /// The frames on the wires.
 mod wires;
 
 pub use graph::Graph;
+pub use terminals::is_end;
 pub use wires::Wires;
 
 #[cfg(test)]

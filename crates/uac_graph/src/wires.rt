@@ -2,33 +2,40 @@
 ghost use Rattle.std.specs.Prelude.{◌≡◌, ◌==◌, ℕ, if◌then◌else◌, Some, IfOk, List, length, map};
 ghost use Rattle.uac_entities.specs.declared.entity.Entity.{Entity};
 ghost use Rattle.std.specs.Option.{option_map};
-ghost use Rattle.uac_rules.specs.Links as spec;
-ghost use Rattle.uac_graph.specs.Fitness.{IsSignalGraph};
-ghost use Rattle.uac_graph.specs.Wiring.{AreSilent, AreWiresOf, frame_on};
+ghost use Rattle.uac_units.specs.Fitting.{IsFitted};
+ghost use Rattle.uac_graph.specs.Controls.{held_in};
+ghost use Rattle.uac_graph.specs.Jobs.{FitsFrames};
+ghost use Rattle.uac_graph.specs.Meaning as spec;
+ghost use Rattle.uac_graph.specs.Wiring.{AreSilent, AreWiresOf, frame_on, held};
 
-use crate::frames::{copy_of, silent};
-use indexmap::IndexMap;
+use crate::frame_table::FrameTable;
+use crate::jobs::{gather, no_job, set_job, unit_of};
+use arrayvec::ArrayVec;
 use std::alloc::Global;
 use std::marker::Model;
 use uac_descriptor::NoMemory;
-use uac_entities::{Entity, EntityKind};
+use uac_entities::Entity;
 use uac_pcm::Frame;
+use uac_store::Store;
 use uac_topology::Function;
 use uac_topology::laws::functions_are_sound;
+use uac_units::{Job, Pins, Rack, Unit};
 
-/// A frame for each terminal and each unit of an audio function, by the entity's id.
+/// A frame for each terminal and each unit of an audio function, by the entity's id. Beside them lie the job and the inputs of the
+/// entity that was rendered last, so that no room is made for them anew.
 #[derive(Drop)]
 pub struct Wires {
-    frames: IndexMap<u8, Frame>,
+    frames: FrameTable,
+    job: Job,
+    pins: Pins,
 }
 
 impl Model for Wires {
-    ghost use Rattle.std.specs.Prelude.{map};
     ghost use Rattle.uac_graph.specs.Wiring.{Frames};
 
     ghost Value = { Frames };
 
-    ghost view = { λ w. map (λ e. (e.0, e.1.items)) w.frames.entries };
+    ghost view = { λ w. w.frames };
 }
 
 impl Wires {
@@ -39,8 +46,12 @@ impl Wires {
         ensures fitting { IfOk result (λ wires. AreWiresOf function.now.entities wires) }
     {
         functions_are_sound(function);
-        let frames = silent_frames(alloc, function.entities())?;
-        Ok(Wires { frames })
+        let frames = FrameTable::silent(alloc, function.entities())?;
+        Ok(Wires {
+            frames,
+            job: no_job(),
+            pins: ArrayVec::new(),
+        })
     }
 
     /// Puts a frame on the wire of an input terminal.
@@ -49,42 +60,37 @@ impl Wires {
         ensures wires { (id : ℕ) → frame_on self.new id ≡ (if terminal == id then Some frame.now.items else frame_on self.old id) }
         ensures fitting { (entities : List Entity) → AreWiresOf entities self.old → AreWiresOf entities self.new }
     {
-        if let Some(held) = self.frames.get_mut(&terminal) {
-            *held = copy_of(frame);
-        }
+        self.frames.set(terminal, frame);
     }
 
     /// The frame on an entity's wire, None exactly where it has none.
     pub fn get(&self, entity: u8) -> Option<&Frame>
         ensures { option_map (λ frame. frame.now.items) result ≡ frame_on self.now entity }
     {
-        self.frames.get(&entity)
+        self.frames.get(entity)
     }
-}
 
-// Silence for each of these entities that isn't a clock.
-fn silent_frames(alloc: Global, entities: &[Entity]) -> Result<IndexMap<u8, Frame>, NoMemory>
-    requires { IsSignalGraph entities.now }
-    ensures { IfOk result (λ frames. AreSilent entities.now (map (λ e. (e.0, e.1.items)) frames.entries)) }
-{
-    let mut frames = IndexMap::new(alloc);
-    for entity in entities {
-        if is_clock(entity.kind) {
-            continue;
+    /// Renders an entity: its wire gets the frame that it makes of those on the wires of its sources, under the controls held. Only
+    /// a selector without pins, and what it feeds, has no channels.
+    pub(crate) fn render(&mut self, entity: &Entity, store: &Store, rack: &Rack)
+        requires rack { IsFitted (λ v x. (⟦<dyn Unit as Unit>⟧ v).kind_of x) rack.now }
+        requires fits { FitsFrames entity.now.kind entity.now.cluster.channels (map (held self.old) entity.now.sources) }
+        requires there { option_map length (frame_on self.old entity.now.id) ≡ Some entity.now.cluster.channels }
+        ensures { (id : ℕ) → frame_on self.new id ≡ (if entity.now.id == id
+            then Some (spec.frame_of (held_in store.now) entity.now.id entity.now.kind entity.now.cluster.channels (map (held self.old) entity.now.sources))
+            else frame_on self.old id) }
+    {
+        if entity.cluster.channels == 0 {
+            return;
         }
-        match frames.insert(entity.id, silent(entity.cluster.channels)) {
-            Ok(_) => {}
-            Err(_) => return Err(NoMemory),
+        gather(&mut self.pins, &self.frames, entity.sources.as_slice());
+        match unit_of(entity.kind) {
+            Some(kind) => {
+                set_job(&mut self.job, store, entity, kind, self.pins.len());
+                self.frames
+                    .render(entity.id, rack, kind, &self.job, &self.pins);
+            }
+            None => self.frames.pass_on(entity.id, &self.pins),
         }
-    }
-    Ok(frames)
-}
-
-fn is_clock(kind: EntityKind) -> bool
-    ensures { result ≡ spec.is_clock kind }
-{
-    match kind {
-        EntityKind::ClockSource | EntityKind::ClockSelector | EntityKind::ClockMultiplier => true,
-        _ => false,
     }
 }

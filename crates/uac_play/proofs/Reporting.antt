@@ -1,5 +1,5 @@
 -- The report of a running device.
-use Rattle.std.proofs.Common.{◌≡◌, ◌∙◌, sym, ap, subst, ℕ, Bool, List, ◌++◌, flat_map, map, codes, decimal, Option, Result}
+use Rattle.std.proofs.Common.{◌≡◌, ◌∙◌, ap, subst, ℕ, Bool, List, ◌++◌, flat_map, codes, decimal, Option, Result}
 use Rattle.std.specs.Io.KnownBytes.{Appends}
 use Rattle.uac_units.specs.Hearing.{Reading}
 use Rattle.uac_script.specs.Writing.{AppendsFront, Writes}

@@ -1,9 +1,9 @@
 -- Texts and worlds that are told one after the other, step by step.
-use Rattle.std.proofs.Common.{◌≡◌, ◌∙◌, sym, ap, subst, refl, ℕ, List, [], ◌++◌, Option, None, Some, Result, Ok, Err, OnOk, append_assoc}
+use Rattle.std.proofs.Common.{◌≡◌, ◌∙◌, sym, ap, subst, ℕ, List, [], ◌++◌, Option, None, Some, Result, Ok, Err, OnOk, append_assoc}
 use Rattle.std.proofs.lemmas.List.{append-nil}
 use Rattle.std.specs.Io.KnownBytes.{Appends}
 use Rattle.uac_units.specs.Hearing.{Reading}
-use Rattle.uac_script.specs.Writing.{AppendsFront, Writes}
+use Rattle.uac_script.specs.Writing.{AppendsFront}
 use Rattle.uac_script.proofs.WritingLemmas.{Appends-twice, AppendsFront-after, AppendsFront-longer, Writes-after}
 use Rattle.uac_play.specs.World.{Running}
 use Rattle.uac_play.specs.Events.{Told, behind}

@@ -1,7 +1,7 @@
 -- A device just after the descriptor's end.
-use Rattle.std.proofs.Common.{◌≡◌, ◌∙◌, sym, ap, subst, refl, arith, ℕ, ◌<◌, ◌≤◌, ◌==◌, ◌&&◌, eqb, not, Bool, true, false, List, [], ◌∷◌, length, map, get_or, inl, inr}
+use Rattle.std.proofs.Common.{◌≡◌, ◌∙◌, sym, ap, subst, refl, arith, ℕ, ◌≤◌, ◌==◌, ◌&&◌, eqb, not, Bool, true, false, List, [], ◌∷◌, length, map, get_or, inl, inr}
 use Rattle.std.specs.List.{All, AllByRecursion, IsDistinct, filter, filter_map}
-use Rattle.std.proofs.lemmas.Bool.{cases_Bool, eqb-true, eqb-false, ne_eqb}
+use Rattle.std.proofs.lemmas.Bool.{cases_Bool, eqb-false, ne_eqb}
 use Rattle.std.proofs.lemmas.List.{get_or_default}
 use Rattle.std.proofs.lemmas.List.Elements.{All-filter, All-map, filter_passes}
 use Rattle.std.proofs.lemmas.Map.Keys.{IsDistinct-head, IsDistinct-tail, IsDistinct-cons}
@@ -11,7 +11,7 @@ use Rattle.uac_entities.specs.declared.entity.EntityKind.TheVariants as kind
 use Rattle.uac_rules.specs.Clusters.{is_input}
 use Rattle.uac_rules.specs.Domains.{clock_named, domains_of, each_once}
 use Rattle.uac_rules.specs.Links.{is_clock}
-use Rattle.uac_rules.specs.Table.{at, nothing, place_of}
+use Rattle.uac_rules.specs.Table.{at, nothing}
 use Rattle.uac_entities.specs.Entities.{entities_of}
 use Rattle.uac_topology.specs.Function.{FunctionFields}
 use Rattle.uac_topology.specs.Topology.{IsSoundFunction}

@@ -1,23 +1,22 @@
 -- Each event of a running device, from what its parts are seen to do.
-use Rattle.std.proofs.Common.{◌≡◌, ◌∙◌, sym, ap, subst, refl, arith, ℕ, suc, ◌+◌, ◌-◌, ◌*◌, ◌<◌, ◌≤◌, ◌==◌, nat_le, eqb, Bool, true, false, ◌&&◌, if◌then◌else◌, ℤ, List, [], ◌∷◌, ◌++◌, length, map, take, drop, get_or, Option, Result, Ok, Err, OnOk, inl, inr, drop-cons, add-one}
-use Rattle.std.specs.List.{All, IsDistinct, filter, fold, list_all}
-use Rattle.std.specs.Io.KnownBytes.{Appends}
+use Rattle.std.proofs.Common.{◌≡◌, ◌∙◌, sym, ap, subst, refl, arith, ℕ, suc, ◌+◌, ◌-◌, ◌<◌, ◌≤◌, ◌==◌, nat_le, eqb, ◌&&◌, if◌then◌else◌, ℤ, List, [], ◌∷◌, length, map, drop, get_or, Option, Result, inl, inr, drop-cons, add-one}
+use Rattle.std.specs.List.{IsDistinct}
 use Rattle.std.proofs.lemmas.Bool.{cases_Bool}
 use Rattle.std.proofs.lemmas.List.{drop_all}
 use Rattle.uac_pcm.specs.declared.tones.Tone.{Tone}
 use Rattle.uac_units.specs.Hearing.{Reading}
 use Rattle.uac_device.specs.Kept as device
-use Rattle.uac_device.specs.World.{DeviceWorld, Domain, advanced, after_frames, deviated, heard_of, next_ticks, set_jack, step_in, ticked}
-use Rattle.uac_script.specs.Writing.{AppendsFront, Writes}
+use Rattle.uac_device.specs.World.{DeviceWorld, advanced, after_frames, deviated, heard_of, next_ticks, set_jack, step_in, ticked}
+use Rattle.uac_script.specs.Writing.{Writes}
 use Rattle.uac_play.specs.declared.counts.TickCount.{TickCount}
 use Rattle.uac_play.specs.declared.jacks.Jack.{Jack}
 use Rattle.uac_play.specs.World.{Running, is_slight, is_steady, toned, with_detail, with_deviation, with_tone}
 use Rattle.uac_play.specs.Text.{played_lines, time_line}
-use Rattle.uac_play.specs.Events.{Told, all_given, behind, domain_micro, domain_micros, given, gone_on, micro, micros, next_frame, tick, tick_times}
+use Rattle.uac_play.specs.Events.{all_given, behind, domain_microframe, domain_microframes, given, gone_on, microframe, microframes, next_frame, tick, tick_times}
 use Rattle.uac_play.specs.Kept.{Counts, PlayingFields, Stands, Tells, TicksWithin, counted, more_counted}
-use Rattle.uac_play.proofs.Counting.{clocks_of, counted-off, counted-stepped, counts-bound, off_by, slight-push, stepped, ticks_wider}
+use Rattle.uac_play.proofs.Counting.{clocks_of, counted-off, counted-stepped, slight-push, ticks_wider}
 use Rattle.uac_play.proofs.JackSteps.{places_wider}
-use Rattle.uac_play.proofs.SoFar.{at_ok, still, tells_behind}
+use Rattle.uac_play.proofs.SoFar.{at_ok, still}
 
 -- ---- events one after the other
 
@@ -29,22 +28,22 @@ pub ticks_end : (count i clock : ℕ) (w : Running) → count ≤ i → tick_tim
 unfolding tick_times
 ticks_end count i clock w past = let left : count - i ≡ 0 = omega arith in ap (λ n. tick_times n clock w) left
 
-pub micros_split : (count i : ℕ) (w : Running) → i < count → micros (count - i) w ≡ behind (micro w).text (micros (count - (i + 1)) (micro w).world)
-unfolding micros
-micros_split count i w below = let left : count - i ≡ suc (count - (i + 1)) = omega arith in ap (λ n. micros n w) left
+pub microframes_split : (count i : ℕ) (w : Running) → i < count → microframes (count - i) w ≡ behind (microframe w).text (microframes (count - (i + 1)) (microframe w).world)
+unfolding microframes
+microframes_split count i w below = let left : count - i ≡ suc (count - (i + 1)) = omega arith in ap (λ n. microframes n w) left
 
-pub micros_end : (count i : ℕ) (w : Running) → count ≤ i → micros (count - i) w ≡ still w
-unfolding micros
-micros_end count i w past = let left : count - i ≡ 0 = omega arith in ap (λ n. micros n w) left
+pub microframes_end : (count i : ℕ) (w : Running) → count ≤ i → microframes (count - i) w ≡ still w
+unfolding microframes
+microframes_end count i w past = let left : count - i ≡ 0 = omega arith in ap (λ n. microframes n w) left
 
 pub domains_split : (clocks : List ℕ) (i : ℕ) (w : Running) → i < length clocks
-    → domain_micros (drop i clocks) w ≡ behind (domain_micro (get_or clocks i 0) w).text (domain_micros (drop (i + 1) clocks) (domain_micro (get_or clocks i 0) w).world)
-unfolding domain_micros
-domains_split clocks i w below = ap (λ (cs : List ℕ). domain_micros cs w) (drop-cons clocks i 0 below) ∙ rw add-one refl
+    → domain_microframes (drop i clocks) w ≡ behind (domain_microframe (get_or clocks i 0) w).text (domain_microframes (drop (i + 1) clocks) (domain_microframe (get_or clocks i 0) w).world)
+unfolding domain_microframes
+domains_split clocks i w below = ap (λ (cs : List ℕ). domain_microframes cs w) (drop-cons clocks i 0 below) ∙ rw add-one refl
 
-pub domains_end : (clocks : List ℕ) (i : ℕ) (w : Running) → length clocks ≤ i → domain_micros (drop i clocks) w ≡ still w
-unfolding domain_micros
-domains_end clocks i w past = ap (λ (cs : List ℕ). domain_micros cs w) (drop_all i clocks past)
+pub domains_end : (clocks : List ℕ) (i : ℕ) (w : Running) → length clocks ≤ i → domain_microframes (drop i clocks) w ≡ still w
+unfolding domain_microframes
+domains_end clocks i w past = ap (λ (cs : List ℕ). domain_microframes cs w) (drop_all i clocks past)
 
 -- ---- how far counts go
 
@@ -187,8 +186,8 @@ tick_told {E = E} clock meters r p old new result stands shows = (
   at_ok (Stands p meters (tick clock r).world) result stands,
 )
 
-pub domain_told : (clock n : ℕ) (r : Running) → n ≡ next_ticks clock r.device → tick_times n clock (record r { device = advanced clock r.device }) ≡ domain_micro clock r
-unfolding domain_micro
+pub domain_told : (clock n : ℕ) (r : Running) → n ≡ next_ticks clock r.device → tick_times n clock (record r { device = advanced clock r.device }) ≡ domain_microframe clock r
+unfolding domain_microframe
 domain_told clock n r is = ap (λ k. tick_times k clock (record r { device = advanced clock r.device })) is
 
 -- the text of a microframe's number
@@ -197,6 +196,6 @@ pub number_text : (r : Running) (p : PlayingFields) (meters : List Reading) → 
 number_text r p meters stands =
     ap (λ n. if nat_le 2 n then time_line p.time else []) stands.detail ∙ ap (λ t. if nat_le 2 r.detail then time_line t else []) stands.time
 
-pub micro_is : (r : Running) → behind (if nat_le 2 r.detail then time_line (r.time + 1) else []) (domain_micros r.device.function.domains (record r { time = r.time + 1 })) ≡ micro r
-unfolding micro
-micro_is r = refl
+pub microframe_is : (r : Running) → behind (if nat_le 2 r.detail then time_line (r.time + 1) else []) (domain_microframes r.device.function.domains (record r { time = r.time + 1 })) ≡ microframe r
+unfolding microframe
+microframe_is r = refl

@@ -56,21 +56,21 @@ tick_times zero clock r = record { text = []; world = r }
 tick_times (suc n) clock r = behind (tick clock r).text (tick_times n clock (tick clock r).world)
 
 -- a domain's part of a microframe: its clock goes on, and it ticks as often as that gives
-unfoldable pub domain_micro : ℕ → Running → Told
-domain_micro clock r = tick_times (next_ticks clock r.device) clock (record r { device = advanced clock r.device })
+unfoldable pub domain_microframe : ℕ → Running → Told
+domain_microframe clock r = tick_times (next_ticks clock r.device) clock (record r { device = advanced clock r.device })
 
 -- the same of these domains, one after the other
-unfoldable pub domain_micros : List ℕ → Running → Told
-domain_micros [] r = record { text = []; world = r }
-domain_micros (clock ∷ clocks) r = behind (domain_micro clock r).text (domain_micros clocks (domain_micro clock r).world)
+unfoldable pub domain_microframes : List ℕ → Running → Told
+domain_microframes [] r = record { text = []; world = r }
+domain_microframes (clock ∷ clocks) r = behind (domain_microframe clock r).text (domain_microframes clocks (domain_microframe clock r).world)
 
 -- one microframe: from detail 2 on its number is printed, and each domain has its part in it, in order
-unfoldable pub micro : Running → Told
-micro r =
+unfoldable pub microframe : Running → Told
+microframe r =
     behind (if nat_le 2 r.detail then time_line (r.time + 1) else [])
-    (domain_micros r.device.function.domains (record r { time = r.time + 1 }))
+    (domain_microframes r.device.function.domains (record r { time = r.time + 1 }))
 
 -- so many microframes
-unfoldable pub micros : ℕ → Running → Told
-micros zero r = record { text = []; world = r }
-micros (suc n) r = behind (micro r).text (micros n (micro r).world)
+unfoldable pub microframes : ℕ → Running → Told
+microframes zero r = record { text = []; world = r }
+microframes (suc n) r = behind (microframe r).text (microframes n (microframe r).world)

@@ -1,5 +1,5 @@
 -- The lines that are printed of a running device (profile).
-use Rattle.std.specs.Prelude.{ℕ, ◌+◌, ◌/◌, ◌==◌, ◌&&◌, Bool, true, false, if◌then◌else◌, ℤ, List, [], ◌∷◌, ◌++◌, flat_map, filter, sum, length, Option, None, Some, unwrap_or, codes, decimal}
+use Rattle.std.specs.Prelude.{ℕ, ◌/◌, Bool, true, false, ℤ, List, ◌++◌, flat_map, filter, sum, length, Option, None, Some, unwrap_or, codes, decimal}
 use Rattle.uac_entities.specs.declared.entity.Entity.{Entity}
 use Rattle.uac_entities.specs.declared.stream.StreamInterface.{StreamInterface}
 use Rattle.uac_topology.specs.Function.{FunctionFields}
@@ -8,9 +8,8 @@ use Rattle.uac_alt.specs.Settings.{setting_of}
 use Rattle.uac_units.specs.Hearing.{Reading}
 use Rattle.uac_units.specs.declared.hearing.MeterKind.{MeterKind}
 use Rattle.uac_units.specs.declared.hearing.MeterKind.TheVariants.{Peak, Clipped, Sum}
-use Rattle.uac_graph.specs.Needs.{is_end}
 use Rattle.uac_script.specs.Numerals.{numeral}
-use Rattle.uac_device.specs.World.{Domain, DeviceWorld, is_jack}
+use Rattle.uac_device.specs.World.{Domain, DeviceWorld, is_output_jack_of}
 use Rattle.uac_play.specs.World.{Running, is_steady}
 
 -- the line of the descriptor's end
@@ -33,7 +32,7 @@ played_line terminal samples = codes "p " ++ decimal terminal ++ (samples_text s
 
 -- the output jacks of a domain, in block order
 abbrev pub output_jacks : ℕ → DeviceWorld → List Entity
-output_jacks clock w = filter (λ e. is_end clock e && is_jack e) w.function.entities
+output_jacks clock w = filter (is_output_jack_of clock) w.function.entities
 
 -- the lines of what a domain's output jacks played
 unfoldable pub played_lines : ℕ → DeviceWorld → List ℕ

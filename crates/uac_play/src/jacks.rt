@@ -5,15 +5,14 @@ ghost use Rattle.uac_graph.specs.Meaning.{entity};
 ghost use Rattle.uac_device.specs.Kept.{Stands};
 ghost use Rattle.uac_device.specs.World.{DeviceWorld};
 ghost use Rattle.uac_device.specs.World as world;
-ghost use Rattle.uac_rules.specs.Clusters as clusters;
 ghost use Rattle.uac_play.specs.Events.{after_one, given, given_one, gone_on, next_frame};
 ghost use Rattle.uac_play.specs.World as spec;
 
 use arrayvec::ArrayVec;
 use std::alloc::Global;
 use uac_descriptor::NoMemory;
-use uac_device::Device;
-use uac_entities::{Entity, EntityKind, USB_STREAMING};
+use uac_device::{Device, is_input_jack};
+use uac_entities::Entity;
 use uac_pcm::{Frame, Tone};
 
 /// An input jack: its terminal's id, its clock domain and its channels, and the tone that it gives, of which so many frames were
@@ -42,21 +41,6 @@ pub(crate) fn silent_jacks(alloc: Global, entities: &[Entity]) -> Result<Vec<Jac
         }
     }
     Ok(jacks)
-}
-
-fn is_input_jack(entity: &Entity) -> bool
-    ensures { result ≡ world.is_input_jack entity.now }
-{
-    is_input(entity.kind) && entity.terminal_type != USB_STREAMING
-}
-
-fn is_input(kind: EntityKind) -> bool
-    ensures { result ≡ clusters.is_input kind }
-{
-    match kind {
-        EntityKind::InputTerminal => true,
-        _ => false,
-    }
 }
 
 fn silent_jack(entity: &Entity) -> Jack

@@ -11,7 +11,7 @@ ghost use Rattle.uac_device.specs.World.{DeviceWorld, advanced, next_ticks};
 ghost use Rattle.uac_play.specs.World.{Running, at_start, is_slight, with_detail, with_deviation, with_tone};
 ghost use Rattle.uac_play.specs.World as spec;
 ghost use Rattle.uac_play.specs.Text.{played_lines, ready_line, report_text, time_line};
-ghost use Rattle.uac_play.specs.Events.{domain_micro, domain_micros, gone_on, micro, micros, tick, tick_times};
+ghost use Rattle.uac_play.specs.Events.{domain_microframe, domain_microframes, gone_on, microframe, microframes, tick, tick_times};
 ghost use Rattle.uac_play.specs.Kept.{Counts, Stands, Tells, TicksWithin, more_counted};
 
 use crate::counts::{TickCount, count_ticks, no_ticks};
@@ -121,7 +121,7 @@ impl Playing {
     }
 
     /// So many microframes (1 to 8,000), printed as they come. It takes no memory.
-    pub fn micros<K: Sink>(
+    pub fn microframes<K: Sink>(
         &mut self,
         count: u32,
         rack: &Rack,
@@ -132,12 +132,12 @@ impl Playing {
         requires few { count ≤ 8000 }
         requires room { Counts (2 ^ 62) self.old }
         ensures tells { (r : Running) → Stands self.old (readings (λ v x. (⟦<dyn Meter as Meter>⟧ v).reading_of x) meters.old) r
-            → Tells (micros count r) self.new (readings (λ v x. (⟦<dyn Meter as Meter>⟧ v).reading_of x) meters.new) (K.written sink.old) (K.written sink.new) result }
+            → Tells (microframes count r) self.new (readings (λ v x. (⟦<dyn Meter as Meter>⟧ v).reading_of x) meters.new) (K.written sink.old) (K.written sink.new) result }
         ensures cause { HasCause (K.faults sink.old) (K.faults sink.new) result }
         ensures counts { (most : ℕ) → Counts most self.old → Counts (most + 216 * count) self.new }
     {
         for _passed in 0..count {
-            match self.micro(rack, meters, sink) {
+            match self.microframe(rack, meters, sink) {
                 Ok(()) => {}
                 Err(failed) => return Err(failed),
             }
@@ -146,7 +146,7 @@ impl Playing {
     }
 
     /// One microframe.
-    fn micro<K: Sink>(
+    fn microframe<K: Sink>(
         &mut self,
         rack: &Rack,
         meters: &mut Meters,
@@ -155,7 +155,7 @@ impl Playing {
         requires rack { IsFitted (λ v x. (⟦<dyn Unit as Unit>⟧ v).kind_of x) rack.now }
         requires room { Counts (2 ^ 62 + 216 * 8000) self.old }
         ensures tells { (r : Running) → Stands self.old (readings (λ v x. (⟦<dyn Meter as Meter>⟧ v).reading_of x) meters.old) r
-            → Tells (micro r) self.new (readings (λ v x. (⟦<dyn Meter as Meter>⟧ v).reading_of x) meters.new) (K.written sink.old) (K.written sink.new) result }
+            → Tells (microframe r) self.new (readings (λ v x. (⟦<dyn Meter as Meter>⟧ v).reading_of x) meters.new) (K.written sink.old) (K.written sink.new) result }
         ensures cause { HasCause (K.faults sink.old) (K.faults sink.new) result }
         ensures counts { (most : ℕ) → Counts most self.old → Counts (most + 216) self.new }
     {
@@ -164,7 +164,7 @@ impl Playing {
             Ok(()) => {}
             Err(failed) => return Err(failed),
         }
-        self.domain_micros(rack, meters, sink)
+        self.domain_microframes(rack, meters, sink)
     }
 
     /// One microframe more has come.
@@ -187,7 +187,7 @@ impl Playing {
     }
 
     /// Each domain's part of a microframe, in order.
-    fn domain_micros<K: Sink>(
+    fn domain_microframes<K: Sink>(
         &mut self,
         rack: &Rack,
         meters: &mut Meters,
@@ -196,14 +196,14 @@ impl Playing {
         requires rack { IsFitted (λ v x. (⟦<dyn Unit as Unit>⟧ v).kind_of x) rack.now }
         requires room { TicksWithin (2 ^ 62 + 216 * 8001) self.old }
         ensures tells { (r : Running) → Stands self.old (readings (λ v x. (⟦<dyn Meter as Meter>⟧ v).reading_of x) meters.old) r
-            → Tells (domain_micros r.device.function.domains r) self.new (readings (λ v x. (⟦<dyn Meter as Meter>⟧ v).reading_of x) meters.new)
+            → Tells (domain_microframes r.device.function.domains r) self.new (readings (λ v x. (⟦<dyn Meter as Meter>⟧ v).reading_of x) meters.new)
             (K.written sink.old) (K.written sink.new) result }
         ensures cause { HasCause (K.faults sink.old) (K.faults sink.new) result }
         ensures counts { (most : ℕ) → TicksWithin most self.old → TicksWithin (most + 216) self.new }
         ensures time { self.new.time ≡ self.old.time }
     {
         for place in 0..self.domain_count() {
-            match self.domain_micro(self.clock_at(place), rack, meters, sink) {
+            match self.domain_microframe(self.clock_at(place), rack, meters, sink) {
                 Ok(()) => {}
                 Err(failed) => return Err(failed),
             }
@@ -228,7 +228,7 @@ impl Playing {
     }
 
     /// A domain's part of a microframe.
-    fn domain_micro<K: Sink>(
+    fn domain_microframe<K: Sink>(
         &mut self,
         clock: u8,
         rack: &Rack,
@@ -238,7 +238,7 @@ impl Playing {
         requires rack { IsFitted (λ v x. (⟦<dyn Unit as Unit>⟧ v).kind_of x) rack.now }
         requires room { TicksWithin (2 ^ 62 + 216 * 8002) self.old }
         ensures tells { (r : Running) → Stands self.old (readings (λ v x. (⟦<dyn Meter as Meter>⟧ v).reading_of x) meters.old) r
-            → Tells (domain_micro clock r) self.new (readings (λ v x. (⟦<dyn Meter as Meter>⟧ v).reading_of x) meters.new)
+            → Tells (domain_microframe clock r) self.new (readings (λ v x. (⟦<dyn Meter as Meter>⟧ v).reading_of x) meters.new)
             (K.written sink.old) (K.written sink.new) result }
         ensures cause { HasCause (K.faults sink.old) (K.faults sink.new) result }
         ensures counts { (most : ℕ) → TicksWithin most self.old → TicksWithin (most + 27) self.new }

@@ -4,13 +4,12 @@ ghost use Rattle.uac_script.specs.Faults.{HasCause};
 ghost use Rattle.uac_script.specs.Numerals.{numeral};
 ghost use Rattle.uac_script.specs.Writing.{Writes};
 ghost use Rattle.uac_graph.specs.Meaning as meaning;
-ghost use Rattle.uac_graph.specs.Needs.{is_end};
 ghost use Rattle.uac_device.specs.Kept.{Stands};
-ghost use Rattle.uac_device.specs.World.{DeviceWorld, is_jack};
+ghost use Rattle.uac_device.specs.World.{DeviceWorld, is_output_jack_of};
 ghost use Rattle.uac_play.specs.Text.{played_line, played_lines, samples_text, time_line};
 
-use uac_device::Device;
-use uac_entities::{Entity, EntityKind, USB_STREAMING};
+use uac_device::{Device, is_output_jack_of};
+use uac_entities::Entity;
 use uac_pcm::Frame;
 use uac_script::{Failed, Sink, TextLine, give_all};
 use uac_topology::laws::functions_are_sound;
@@ -59,7 +58,7 @@ fn write_entity<K: Sink>(
 ) -> Result<(), Failed>
     requires { meaning.entity device.now.function.entities entity.now.id ≡ entity.now }
     ensures written { (w : DeviceWorld) → Stands device.now w → Writes (K.written sink.old) (K.written sink.new) result
-        (if is_end clock entity.now && is_jack entity.now then played_line entity.now.id (w.played entity.now.id) else []) }
+        (if is_output_jack_of clock entity.now then played_line entity.now.id (w.played entity.now.id) else []) }
     ensures cause { HasCause (K.faults sink.old) (K.faults sink.new) result }
 {
     if !is_output_jack_of(clock, entity) {
@@ -68,18 +67,6 @@ fn write_entity<K: Sink>(
     match device.played(entity.id) {
         Some(frame) => give_all(sink, played_text(entity.id, frame).as_bytes()),
         None => Ok(()),
-    }
-}
-
-/// An output jack of the domain.
-fn is_output_jack_of(clock: u8, entity: &Entity) -> bool
-    ensures { result ≡ (is_end clock entity.now && is_jack entity.now) }
-{
-    match entity.kind {
-        EntityKind::OutputTerminal => {
-            entity.clock == clock && entity.terminal_type != USB_STREAMING
-        }
-        _ => false,
     }
 }
 

@@ -4,7 +4,7 @@ ghost use Rattle.std.specs.List.{list_any};
 ghost use Rattle.uac_rules.specs.Domains as spec;
 ghost use Rattle.uac_rules.specs.Domains.{IsDomains};
 
-use crate::names::is_terminal;
+use crate::kinds::is_terminal;
 use std::alloc::Global;
 use uac_descriptor::NoMemory;
 use uac_entities::Entity;

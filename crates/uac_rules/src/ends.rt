@@ -12,8 +12,8 @@ ghost use Rattle.uac_rules.specs.Ending as ending;
 
 use crate::domains::Domains;
 use crate::fault::TopologyFault;
+use crate::kinds::is_terminal;
 use crate::known::Known;
-use crate::names::is_terminal;
 use crate::shapes::entity_limit;
 use crate::table::EntityTable;
 use uac_descriptor::{Endpoint, EndpointBits};

@@ -6,6 +6,9 @@ mod fault;
 /// The entities by their place and by their id.
 mod table;
 
+/// What kind an entity is of.
+mod kinds;
+
 /// The rules on what ids name, U1 to U5.
 mod names;
 
@@ -30,6 +33,7 @@ pub mod laws;
 pub use domains::{Domains, domains_of};
 pub use ends::ends_fault;
 pub use fault::TopologyFault;
+pub use kinds::{is_clock, is_input, is_output};
 pub use known::Known;
 pub use names::names_fault;
 pub use shapes::{entity_limit, shapes_fault};

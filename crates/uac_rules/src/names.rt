@@ -8,6 +8,7 @@ ghost use Rattle.uac_rules.specs.Faults.{of_entity, broken_names};
 ghost use Rattle.uac_rules.specs.Naming as naming;
 
 use crate::fault::TopologyFault;
+use crate::kinds::{is_clock, is_terminal};
 use crate::table::EntityTable;
 use uac_entities::{Entity, EntityKind};
 
@@ -156,26 +157,6 @@ fn is_some_clock(kind: Option<EntityKind>) -> bool
     match kind {
         Some(kind) => is_clock(kind),
         None => false,
-    }
-}
-
-/// Whether an entity is of the clock domain.
-pub(crate) fn is_clock(kind: EntityKind) -> bool
-    ensures { result ≡ links.is_clock kind }
-{
-    match kind {
-        EntityKind::ClockSource | EntityKind::ClockSelector | EntityKind::ClockMultiplier => true,
-        _ => false,
-    }
-}
-
-/// Whether an entity is a terminal.
-pub(crate) fn is_terminal(kind: EntityKind) -> bool
-    ensures { result ≡ links.is_terminal kind }
-{
-    match kind {
-        EntityKind::InputTerminal | EntityKind::OutputTerminal => true,
-        _ => false,
     }
 }
 

@@ -8,8 +8,8 @@ ghost use Rattle.uac_rules.specs.Domains.{IsDomains};
 
 use crate::domains::Domains;
 use crate::fault::TopologyFault;
+use crate::kinds::{is_output, is_terminal};
 use crate::known::Known;
-use crate::names::is_terminal;
 use uac_entities::EntityKind;
 
 /// The most channels of a cluster, input channels and nodes of a unit, and clocks of a function (profile).
@@ -208,15 +208,6 @@ fn is_selector(kind: EntityKind) -> bool
 {
     match kind {
         EntityKind::Selector => true,
-        _ => false,
-    }
-}
-
-fn is_output(kind: EntityKind) -> bool
-    ensures { result ≡ rules.is_output kind }
-{
-    match kind {
-        EntityKind::OutputTerminal => true,
         _ => false,
     }
 }

@@ -1,4 +1,4 @@
-use Rattle.std.proofs.Common.{List, ℕ, sym, subst}
+use Rattle.std.proofs.Common.{sym, subst}
 use Rattle.std.specs.Io.KnownBytes.{Appends}
 use Rattle.uac_topology.specs.Function.{FunctionFields}
 use Rattle.uac_script.specs.Writing.{AppendsFront}

@@ -1,5 +1,5 @@
 use Rattle.std.proofs.Common.{◌∙◌}
-use Rattle.uac_play.specs.Events.{after_one, given}
+use Rattle.uac_play.specs.Events.{after_one}
 use Rattle.uac_play.proofs.Changing.{changed_more}
 use Rattle.uac_play.proofs.JackSteps.{gives_next}
 use Rattle.uac_play.proofs.jacks.give_jacks.Goals as goal

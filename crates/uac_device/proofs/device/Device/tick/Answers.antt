@@ -1,4 +1,4 @@
-use Rattle.std.proofs.Common.{◌∙◌, ap, subst, sym, List}
+use Rattle.std.proofs.Common.{refl, ◌∙◌, ap, subst, sym, List}
 use Rattle.uac_entities.specs.declared.entity.Entity.{Entity}
 use Rattle.uac_graph.specs.Controls.{held_in}
 use Rattle.uac_graph.specs.Needs.{depended}
@@ -11,6 +11,7 @@ use Rattle.uac_device.specs.Kept.{DeviceFields, Stands}
 use Rattle.uac_device.specs.Turns.{frames_heard}
 use Rattle.uac_device.specs.contracts.device.Device.{the_view}
 use Rattle.uac_device.proofs.Played.{heard_in, tick_stands}
+use Rattle.uac_device.specs.World.{met_of}
 use Rattle.uac_device.proofs.device.Device.tick.Goals as goal
 
 pub returns-clause-stands : goal.returns-clause-stands
@@ -35,3 +36,7 @@ returns-clause-heard g c w stands =
     ∙ ap (λ entities. after_frames (frames_heard c.tick.new.wires c.args.domain entities) (readings (λ v x. (goal.Meter-dyn g (v, x)).reading_of x) c.args.meters.now)) c.entities.ensures
     ∙ ap (λ frames. after_frames frames (readings (λ v x. (goal.Meter-dyn g (v, x)).reading_of x) c.args.meters.now))
     (heard_in (record (the_view c.self.inside) { wires = c.tick.new.wires }) c.args.domain (ticked c.args.domain w) (sound_graph c.self.inside.function sound) after)
+
+pub returns-clause-met : goal.returns-clause-met
+unfolding met_of
+returns-clause-met g c w stands = refl

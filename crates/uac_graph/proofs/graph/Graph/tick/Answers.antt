@@ -1,63 +1,46 @@
-use Rattle.std.proofs.Common.{◌∙◌, sym, subst, ◌&&◌, length, take}
-use Rattle.std.specs.List.{list_any}
+use Rattle.std.proofs.Common.{subst}
 use Rattle.uac_graph.specs.Controls.{held_in}
 use Rattle.uac_graph.specs.Fitness.{IsSignalGraph}
-use Rattle.uac_graph.specs.Needs.{is_end, reaches}
-use Rattle.uac_graph.specs.Wiring.{AreRendered, AreWiresOf, Frames, held}
-use Rattle.uac_graph.proofs.Ticking.{end_more, end_none, end_signal, end_stops, ends_done, given_held}
-use Rattle.uac_graph.proofs.Walking.{given_kept}
+use Rattle.uac_graph.specs.Wiring.{held}
+use Rattle.uac_graph.proofs.InOrder.{all_rendered, none_rendered, order_for, step_rendered}
+use Rattle.uac_graph.proofs.Ticking.{given_held}
 use Rattle.uac_graph.proofs.graph.Graph.tick.Goals as goal
-use Rattle.uac_graph.proofs.graph.Graph.tick.Goals.{then-is_end, else-is_end}
 
-pub render_from-requires-clause-signal : goal.render_from-requires-clause-signal
-render_from-requires-clause-signal g c =
-    let sound = subst IsSignalGraph c.self.view_is c.self.invariant in
-    end_signal c.args.self.now c.as_slice-entities.result.now c.args.domain c.loop-entity.entity-index c.entity-item.result sound
-    (c.as_slice-entities.ensures ∙ c.self.view_is) c.loop-entity-test.true c.entity-item.is (sym c.is_end.ensures ∙ c.if-is_end.true)
+pub loop-place-init : goal.loop-place-init
+loop-place-init g c = record {
+  rendered = none_rendered c.args.self.now (held_in c.args.store.now) (held c.args.wires.now) c.places_for-place-items.result.now c.args.wires.now;
+  fitting = c.requires.wires;
+}
 
-pub render_from-requires-clause-ends : goal.render_from-requires-clause-ends
-render_from-requires-clause-ends g c =
-    let sound = subst IsSignalGraph c.self.view_is c.self.invariant in
-    end_stops c.args.self.now c.as_slice-entities.result.now c.loop-entity.entity-index c.entity-item.result sound
-    (c.as_slice-entities.ensures ∙ c.self.view_is) c.loop-entity-test.true c.entity-item.is
+pub render-requires-clause-inside : goal.render-requires-clause-inside
+render-requires-clause-inside g c =
+    let order = c.places_for-place-items.ensures c.args.self.now (order_for c.args.self.now c.self.inside.table c.self.inside.orders.items c.deref.result.now c.self.view_is c.deref.ensures.value c.self.invariant.1) in
+    order.order.inside c.loop-place.place-index 0 c.loop-place-test.true
 
-pub loop-entity-preserved : goal.loop-entity-preserved
-loop-entity-preserved g c =
-    let entities = c.args.self.now in
-    let slice = c.as_slice-entities.result.now in
-    let controls = held_in c.args.store.now in
-    let ins = held c.args.wires.now in
-    let domain = c.args.domain in
-    let i = c.loop-entity.entity-index in
-    let old = c.args.wires.now in
-    let mid = c.loop-entity.wires in
-    let new = c.if-is_end.wires in
-    let sound = subst IsSignalGraph c.self.view_is c.self.invariant in
-    let own = c.as_slice-entities.ensures ∙ c.self.view_is in
-    let before = c.loop-entity.invariant.rendered in
-    elim c.if-is_end.branch [
-      | then-is_end w ↦
-          (let given = given_kept entities controls ins _ old mid sound (given_held entities old c.requires.wires) before in
-          record {
-            rendered =
-                end_more entities slice controls ins domain i c.entity-item.result old mid new own c.loop-entity-test.true c.entity-item.is
-                (sym c.is_end.ensures ∙ w.if-is_end.true) before
-                (subst (λ (frames : Frames). AreRendered entities controls ins (reaches entities (length slice) c.entity-item.result.id) mid frames) (sym w.wires-is)
-                (w.render_from.ensures.rendered ins given));
-            fitting = subst (AreWiresOf entities) (sym w.wires-is) w.render_from.ensures.fitting;
-          })
-      | else-is_end w ↦
-          record {
-            rendered =
-                end_none entities slice controls ins domain i c.entity-item.result old new own c.loop-entity-test.true c.entity-item.is
-                (sym c.is_end.ensures ∙ w.if-is_end.false)
-                (subst (λ (frames : Frames). AreRendered entities controls ins (λ k. list_any (λ f. is_end domain f && reaches entities (length entities) f.id k) (take i slice)) old frames)
-                (sym w.wires-is) before);
-            fitting = subst (AreWiresOf entities) (sym w.wires-is) c.loop-entity.invariant.fitting;
-          }
-    ]
+pub render-requires-clause-signal : goal.render-requires-clause-signal
+render-requires-clause-signal g c =
+    let order = c.places_for-place-items.ensures c.args.self.now (order_for c.args.self.now c.self.inside.table c.self.inside.orders.items c.deref.result.now c.self.view_is c.deref.ensures.value c.self.invariant.1) in
+    order.order.signal c.loop-place.place-index 0 c.loop-place-test.true
+
+pub render-requires-clause-wires : goal.render-requires-clause-wires
+render-requires-clause-wires g c = c.loop-place.invariant.fitting
+
+pub loop-place-preserved : goal.loop-place-preserved
+loop-place-preserved g c =
+    let order = c.places_for-place-items.ensures c.args.self.now (order_for c.args.self.now c.self.inside.table c.self.inside.orders.items c.deref.result.now c.self.view_is c.deref.ensures.value c.self.invariant.1) in
+    record {
+      rendered =
+          step_rendered c.args.self.now (held_in c.args.store.now) (held c.args.wires.now) c.places_for-place-items.result.now c.loop-place.place-index
+          c.args.wires.now c.loop-place.wires c.render.new.wires (subst IsSignalGraph c.self.view_is c.self.invariant.0) order.order c.loop-place-test.true
+          (given_held c.args.self.now c.args.wires.now c.requires.wires) c.loop-place.invariant.rendered c.render.ensures.rendered;
+      fitting = c.render.ensures.fitting;
+    }
 
 pub returns-clause-rendered : goal.returns-clause-rendered
 returns-clause-rendered g c =
-    ends_done c.args.self.now c.as_slice-entities.result.now (held_in c.args.store.now) (held c.args.wires.now) c.args.domain c.loop-entity.entity-index c.args.wires.now c.loop-entity.wires
-    (c.as_slice-entities.ensures ∙ c.self.view_is) c.loop-entity-test.false c.loop-entity.invariant.rendered
+    let order = c.places_for-place-items.ensures c.args.self.now (order_for c.args.self.now c.self.inside.table c.self.inside.orders.items c.deref.result.now c.self.view_is c.deref.ensures.value c.self.invariant.1) in
+    all_rendered c.args.self.now (held_in c.args.store.now) (held c.args.wires.now) c.args.domain c.loop-place.place-index c.places_for-place-items.result.now
+    c.args.wires.now c.loop-place.wires order c.loop-place-test.false c.loop-place.invariant.rendered
+
+pub returns-clause-fitting : goal.returns-clause-fitting
+returns-clause-fitting g c = c.loop-place.invariant.fitting

@@ -1,5 +1,4 @@
-use Rattle.std.proofs.Common.{◌≡◌, ◌∙◌, ap, sym, subst, refl, map, length}
-use Rattle.uac_play.specs.declared.counts.TickCount.{TickCount}
+use Rattle.std.proofs.Common.{◌∙◌, ap, sym, subst, refl}
 use Rattle.uac_play.specs.Kept.{PlayingFields, Stands, more_counted}
 use Rattle.uac_play.proofs.Changing.{changed_back}
 use Rattle.uac_play.proofs.Counting.{clocks_of, clocks-more, domains_kept}

@@ -1,4 +1,4 @@
-use Rattle.std.proofs.Common.{◌≡◌, ◌∙◌, ap, refl, List, map}
+use Rattle.std.proofs.Common.{◌∙◌, ap, refl, List, map}
 use Rattle.std.specs.List.{filter}
 use Rattle.uac_entities.specs.declared.entity.Entity.{Entity}
 use Rattle.uac_device.specs.World.{is_input_jack}

@@ -1,4 +1,4 @@
-use Rattle.std.proofs.Common.{◌∙◌, ap, sym, subst, refl, map, length, List, ◌≤◌}
+use Rattle.std.proofs.Common.{sym, subst, refl, ◌≤◌}
 use Rattle.std.specs.List.{All}
 use Rattle.uac_play.specs.declared.jacks.Jack.{Jack}
 use Rattle.uac_play.specs.World.{toned}

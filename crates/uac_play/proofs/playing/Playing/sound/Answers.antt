@@ -1,4 +1,4 @@
-use Rattle.std.proofs.Common.{◌∙◌, ap, sym, subst, refl, map, length}
+use Rattle.std.proofs.Common.{◌∙◌, ap, sym, subst, refl}
 use Rattle.uac_units.specs.Panel.{readings}
 use Rattle.uac_play.specs.Events.{after_one, gone_on}
 use Rattle.uac_play.specs.Kept.{PlayingFields, Stands}

@@ -1,4 +1,4 @@
-use Rattle.std.proofs.Common.{◌≡◌, ◌∙◌, ap, sym, subst, arith, rules, ◌+◌, ◌-◌, ◌*◌, ◌^◌, ◌≤◌, List}
+use Rattle.std.proofs.Common.{◌∙◌, ap, sym, subst, arith, rules, ◌+◌, ◌-◌, ◌*◌, ◌^◌, ◌≤◌}
 use Rattle.std.specs.List.{All}
 use Rattle.uac_units.specs.Panel.{readings}
 use Rattle.uac_play.specs.declared.jacks.Jack.{Jack}

@@ -1,0 +1,202 @@
+-- Entities rendered in an order, each behind its sources.
+use Rattle.std.proofs.Common.{◌≡◌, ◌∙◌, sym, ap, subst, refl, ℕ, ◌+◌, ◌<◌, ◌≤◌, Bool, true, false, ◌||◌, ◌&&◌, not, eqb, if◌then◌else◌, ℤ, List, [], Option, Some, length, get_or, take, map, unwrap_or, ◌⊎◌, inl, inr}
+use Rattle.std.specs.List.{All}
+use Rattle.std.specs.Option.{option_map}
+use Rattle.std.proofs.lemmas.Bool.{cases_eq, eq-eqb, ne_eqb}
+use Rattle.std.proofs.lemmas.List.{take_all}
+use Rattle.std.proofs.lemmas.List.Folds.{list_any_more}
+use Rattle.uac_entities.specs.declared.entity.Entity.{Entity}
+use Rattle.uac_rules.specs.Clusters.{is_input}
+use Rattle.uac_rules.specs.Links.{is_clock, signal_sources}
+use Rattle.uac_rules.specs.Table.{at}
+use Rattle.uac_rules.proofs.KnownSteps.{map_same}
+use Rattle.uac_graph.specs.Controls.{Controls}
+use Rattle.uac_graph.specs.Fitness.{IsSignalGraph}
+use Rattle.uac_graph.specs.Jobs.{FitsFrames}
+use Rattle.uac_graph.specs.Meaning.{entity, frame_of, meaning, samples_by}
+use Rattle.uac_graph.specs.Needs.{depended}
+use Rattle.uac_graph.specs.Orders.{AreOrders, IsOrder, IsOrderOf, frame_after, holds}
+use Rattle.uac_graph.specs.declared.orders.Order.{Order}
+use Rattle.uac_graph.specs.Wiring.{AreGiven, AreRendered, AreWiresOf, Frames, frame_on, held}
+use Rattle.uac_graph.proofs.Equation.{equation}
+use Rattle.uac_graph.proofs.Lookups.{set_fits}
+use Rattle.uac_graph.proofs.Reaching.{fits_frames, length-frame_of}
+use Rattle.uac_graph.proofs.Ticking.{entity_itself}
+use Rattle.uac_graph.proofs.Walking.{meaning_given, rendered_by, rendered_none, signal_channels, signal_sources_of}
+
+-- the frames of sources that are rendered are their meanings
+held_sources : (entities : List Entity) (controls : Controls) (ins : ℕ → List ℤ) (done : ℕ → Bool) (sources : List ℕ) (old new : Frames)
+    → AreRendered entities controls ins done old new → All (λ s. done s ≡ true) sources
+    → map (held new) sources ≡ map (meaning entities controls ins) sources
+held_sources entities controls ins done sources old new rendered each =
+    map_same (held new) (meaning entities controls ins) sources
+    (λ k below.
+    let s = get_or sources k 0 in
+    ap (λ o. unwrap_or o []) (rendered.wires s ∙ ap (λ (b : Bool). if b then Some (meaning entities controls ins s) else frame_on old s) (each k 0 below)))
+
+-- so the frame of the entity at a place is its meaning
+frame_meant : (entities : List Entity) (controls : Controls) (ins : ℕ → List ℤ) (done : ℕ → Bool) (place : ℕ) (old new : Frames) → IsSignalGraph entities
+    → place < length entities → is_clock (at entities place).kind ≡ false → is_input (at entities place).kind ≡ false
+    → AreRendered entities controls ins done old new → All (λ s. done s ≡ true) (signal_sources (at entities place))
+    → frame_of controls (at entities place).id (at entities place).kind (at entities place).cluster.channels (map (held new) (at entities place).sources)
+    ≡ meaning entities controls ins (at entities place).id
+unfolding samples_by
+frame_meant entities controls ins done place old new sound inside signal unit rendered each =
+    let e = at entities place in
+    let m = meaning entities controls ins in
+    let own = signal_sources_of e signal in
+    ap (frame_of controls e.id e.kind e.cluster.channels)
+    (held_sources entities controls ins done e.sources old new rendered (subst (All (λ s. done s ≡ true)) own each))
+    ∙ ap (λ sources. frame_of controls e.id e.kind e.cluster.channels (map m sources)) (sym own)
+    ∙ sym (
+    equation entities controls ins e.id sound
+    ∙ ap (λ (f : Entity). if is_input f.kind then ins e.id else frame_of controls e.id f.kind f.cluster.channels (map m (signal_sources f))) (entity_itself entities place sound inside)
+    ∙ ap (λ (b : Bool). if b then ins e.id else frame_of controls e.id e.kind e.cluster.channels (map m (signal_sources e))) unit)
+
+-- the entity at the next place is rendered
+pub step_rendered : (entities : List Entity) (controls : Controls) (ins : ℕ → List ℤ) (places : List ℕ) (i : ℕ) (old mid new : Frames)
+    → IsSignalGraph entities → IsOrder entities places → i < length places → AreGiven entities ins old
+    → AreRendered entities controls ins (holds entities (take i places)) old mid
+    → ((id : ℕ) → frame_on new id ≡ frame_after entities controls (get_or places i 0) mid id)
+    → AreRendered entities controls ins (holds entities (take (i + 1) places)) old new
+unfolding frame_after
+step_rendered entities controls ins places i old mid new sound order below given before step = record {
+  wires = λ id.
+      step id ∙ by_id id (cases_eq e.id id)
+      ∙ ap (λ (b : Bool). if b then Some (m id) else frame_on old id) (sym (list_any_more (λ place. eqb (at entities place).id id) places i 0 below));
+}
+  where
+    p : ℕ
+    p = get_or places i 0
+
+    e : Entity
+    e = at entities p
+
+    m : ℕ → List ℤ
+    m = meaning entities controls ins
+
+    done : ℕ → Bool
+    done = holds entities (take i places)
+
+    made : List ℤ
+    made = frame_of controls e.id e.kind e.cluster.channels (map (held mid) e.sources)
+
+    inside : p < length entities
+    inside = order.inside i 0 below
+
+    or_true : (b : Bool) → (b || true) ≡ true
+    or_true true = refl
+    or_true false = refl
+
+    or_false : (b : Bool) → (b || false) ≡ b
+    or_false true = refl
+    or_false false = refl
+
+    and_false : (b : Bool) → (b && false) ≡ false
+    and_false true = refl
+    and_false false = refl
+
+    both : (b : Bool) (o : Option (List ℤ)) → (if b then o else o) ≡ o
+    both true o = refl
+    both false o = refl
+
+    input_here : (id : ℕ) → e.id ≡ id → is_input e.kind ≡ true → is_input (entity entities id).kind ≡ true
+    input_here id same input =
+        ap (λ (n : ℕ). is_input (entity entities n).kind) (sym same) ∙ ap (λ (f : Entity). is_input f.kind) (entity_itself entities p sound inside) ∙ input
+
+    rendered_here : (id : ℕ) → e.id ≡ id → (b : Bool) → is_input e.kind ≡ b
+        → (if not (is_input e.kind) && eqb e.id id then Some made else frame_on mid id) ≡ Some (m id)
+    rendered_here id same true input =
+        let input_terminal = input_here id same input in
+        let meant = meaning_given entities controls ins id sound input_terminal in
+        ap (λ (b : Bool). if not b && eqb e.id id then Some made else frame_on mid id) input
+        ∙ before.wires id
+        ∙ ap (λ o. if done id then Some (m id) else o) (given.inputs id input_terminal ∙ ap Some (sym meant))
+        ∙ both (done id) (Some (m id))
+    rendered_here id same false unit =
+        ap (λ (b : Bool). if not b && eqb e.id id then Some made else frame_on mid id) unit
+        ∙ ap (λ (b : Bool). if b then Some made else frame_on mid id) (eq-eqb e.id id same)
+        ∙ ap Some (frame_meant entities controls ins done p old mid sound inside (order.signal i 0 below) unit before (order.behind i below))
+        ∙ ap (λ (n : ℕ). Some (m n)) same
+
+    by_id : (id : ℕ) → (e.id ≡ id) ⊎ (e.id ≡ id → ⊥)
+        → (if not (is_input e.kind) && eqb e.id id then Some made else frame_on mid id) ≡ (if done id || eqb e.id id then Some (m id) else frame_on old id)
+    by_id id (inl same) =
+        rendered_here id same (is_input e.kind) refl
+        ∙ sym (
+        ap (λ (b : Bool). if done id || b then Some (m id) else frame_on old id) (eq-eqb e.id id same)
+        ∙ ap (λ (b : Bool). if b then Some (m id) else frame_on old id) (or_true (done id)))
+    by_id id (inr other) =
+        ap (λ (b : Bool). if not (is_input e.kind) && b then Some made else frame_on mid id) (ne_eqb e.id id other)
+        ∙ ap (λ (b : Bool). if b then Some made else frame_on mid id) (and_false (not (is_input e.kind)))
+        ∙ before.wires id
+        ∙ ap (λ (b : Bool). if b then Some (m id) else frame_on old id) (sym (or_false (done id)))
+        ∙ ap (λ (b : Bool). if done id || b then Some (m id) else frame_on old id) (sym (ne_eqb e.id id other))
+
+-- nothing was rendered yet
+pub none_rendered : (entities : List Entity) (controls : Controls) (ins : ℕ → List ℤ) (places : List ℕ) (frames : Frames)
+    → AreRendered entities controls ins (holds entities (take 0 places)) frames frames
+none_rendered entities controls ins places frames = rendered_none entities controls ins frames
+
+-- all were
+pub all_rendered : (entities : List Entity) (controls : Controls) (ins : ℕ → List ℤ) (domain i : ℕ) (places : List ℕ) (old new : Frames)
+    → IsOrderOf entities domain places → length places ≤ i
+    → AreRendered entities controls ins (holds entities (take i places)) old new
+    → AreRendered entities controls ins (depended entities domain) old new
+all_rendered entities controls ins domain i places old new order past rendered =
+    rendered_by entities controls ins (holds entities (take i places)) (depended entities domain) old new
+    (λ id. ap (λ (ps : List ℕ). holds entities ps id) (take_all i places past) ∙ order.all id) rendered
+
+-- an entity at a place as its id names it
+signal_at : (entities : List Entity) (place : ℕ) → IsSignalGraph entities → place < length entities → is_clock (at entities place).kind ≡ false
+    → is_clock (entity entities (at entities place).id).kind ≡ false
+signal_at entities place sound inside signal = ap (λ (f : Entity). is_clock f.kind) (entity_itself entities place sound inside) ∙ signal
+
+-- what it takes from its sources fits it
+pub fits_at : (entities : List Entity) (frames : Frames) (place : ℕ) (e : Entity) → IsSignalGraph entities → AreWiresOf entities frames → place < length entities
+    → is_clock (at entities place).kind ≡ false → e ≡ at entities place → is_input e.kind ≡ false
+    → FitsFrames e.kind e.cluster.channels (map (held frames) e.sources)
+fits_at entities frames place e sound fitting inside signal here unit =
+    let own = entity_itself entities place sound inside ∙ sym here in
+    subst (λ (f : Entity). FitsFrames f.kind f.cluster.channels (map (held frames) f.sources)) own
+    (fits_frames entities frames (at entities place).id sound fitting (signal_at entities place sound inside signal) (ap (λ (f : Entity). is_input f.kind) own ∙ unit))
+
+-- its wire has its channels
+pub wire_at : (entities : List Entity) (frames : Frames) (place : ℕ) (e : Entity) → IsSignalGraph entities → AreWiresOf entities frames → place < length entities
+    → is_clock (at entities place).kind ≡ false → e ≡ at entities place
+    → option_map length (frame_on frames e.id) ≡ Some e.cluster.channels
+wire_at entities frames place e sound fitting inside signal here =
+    subst (λ (f : Entity). option_map length (frame_on frames f.id) ≡ Some f.cluster.channels) (sym here)
+    (fitting.channels (at entities place).id ∙ signal_channels entities (at entities place).id (signal_at entities place sound inside signal)
+    ∙ ap (λ (f : Entity). Some f.cluster.channels) (entity_itself entities place sound inside))
+
+-- the wires once it was rendered
+pub rendered_at : (entities : List Entity) (controls : Controls) (place : ℕ) (e : Entity) (old new : Frames) → e ≡ at entities place → is_input e.kind ≡ false
+    → ((id : ℕ) → frame_on new id ≡ (if eqb e.id id then Some (frame_of controls e.id e.kind e.cluster.channels (map (held old) e.sources)) else frame_on old id))
+    → (id : ℕ) → frame_on new id ≡ frame_after entities controls place old id
+unfolding frame_after
+rendered_at entities controls place e old new here unit set id =
+    set id
+    ∙ ap (λ (b : Bool). if not b && eqb e.id id then Some (frame_of controls e.id e.kind e.cluster.channels (map (held old) e.sources)) else frame_on old id) (sym unit)
+    ∙ ap (λ (f : Entity). if not (is_input f.kind) && eqb f.id id then Some (frame_of controls f.id f.kind f.cluster.channels (map (held old) f.sources)) else frame_on old id) here
+
+-- an input terminal has its frame
+pub kept_at : (entities : List Entity) (controls : Controls) (place : ℕ) (e : Entity) (frames : Frames) → e ≡ at entities place → is_input e.kind ≡ true
+    → (id : ℕ) → frame_on frames id ≡ frame_after entities controls place frames id
+unfolding frame_after
+kept_at entities controls place e frames here input id =
+    ap (λ (b : Bool). if not b && eqb e.id id then Some (frame_of controls e.id e.kind e.cluster.channels (map (held frames) e.sources)) else frame_on frames id) (sym input)
+    ∙ ap (λ (f : Entity). if not (is_input f.kind) && eqb f.id id then Some (frame_of controls f.id f.kind f.cluster.channels (map (held frames) f.sources)) else frame_on frames id) here
+
+-- they fit still
+pub fitting_at : (entities : List Entity) (controls : Controls) (e : Entity) (old new : Frames) → AreWiresOf entities old
+    → option_map length (frame_on old e.id) ≡ Some e.cluster.channels
+    → ((id : ℕ) → frame_on new id ≡ (if eqb e.id id then Some (frame_of controls e.id e.kind e.cluster.channels (map (held old) e.sources)) else frame_on old id))
+    → AreWiresOf entities new
+fitting_at entities controls e old new fitting there set =
+    set_fits entities old new e.id (frame_of controls e.id e.kind e.cluster.channels (map (held old) e.sources))
+    (there ∙ ap Some (sym (length-frame_of controls e.id e.kind e.cluster.channels (map (held old) e.sources)))) set fitting
+
+-- the orders that the graph keeps are those of its entities
+pub order_for : (entities table : List Entity) (kept lent : List Order) → table ≡ entities → lent ≡ kept → AreOrders table kept → AreOrders entities lent
+order_for entities table kept lent same own orders = subst (λ (es : List Entity). AreOrders es lent) same (subst (AreOrders table) (sym own) orders)

@@ -1,0 +1,321 @@
+-- Entities in the order in which they are rendered, each after its sources.
+use Rattle.std.proofs.Common.{◌≡◌, ◌∙◌, sym, ap, subst, refl, arith, ℕ, zero, suc, ◌+◌, ◌-◌, ◌<◌, ◌≤◌, ◌==◌, Bool, true, false, ◌||◌, ◌&&◌, eqb, List, [], ◌∷◌, ◌++◌, length, get_or, take, drop, inl, inr, below_more}
+use Rattle.std.specs.List.{All, list_any}
+use Rattle.std.proofs.lemmas.Bool.{cases_eq, cases_lt, eq-eqb, ne_eqb, eqb-true}
+use Rattle.std.proofs.lemmas.Grind.{get_or_default_zero}
+use Rattle.std.proofs.lemmas.List.{take_all, take-append-drop, take-append-le}
+use Rattle.std.proofs.lemmas.List.Elements.{All-append, All-nil}
+use Rattle.std.proofs.lemmas.List.Folds.{list_any-append, list_any_at, list_any_more, list_any_none}
+use Rattle.std.proofs.Math.ListN.{get_or-append, length-append}
+use Rattle.std.proofs.Math.Seq.{get_or-append_seam, take-append_seam}
+use Rattle.uac_entities.specs.declared.entity.Entity.{Entity}
+use Rattle.uac_rules.specs.Links.{is_clock, signal_sources}
+use Rattle.uac_rules.specs.Rules.{is_output}
+use Rattle.uac_rules.specs.Table.{at, place_of}
+use Rattle.uac_rules.proofs.TableSteps.{at_read}
+use Rattle.uac_graph.specs.Fitness.{IsSignalGraph}
+use Rattle.uac_graph.specs.Meaning.{entity}
+use Rattle.uac_graph.specs.Needs.{depended, is_end, reaches}
+use Rattle.uac_graph.specs.Orders.{AreOrders, IsOrder, IsOrderOf, holds}
+use Rattle.uac_graph.specs.declared.orders.Order.{Order}
+use Rattle.uac_graph.proofs.Apart.{any_at, apart_more}
+use Rattle.uac_graph.proofs.Lookups.{id_at}
+use Rattle.uac_graph.proofs.Reaching.{reaches_self, reaches_step}
+use Rattle.uac_graph.proofs.Ticking.{entity_itself, tested_more}
+use Rattle.uac_graph.proofs.Walking.{signal_below, signal_sources_of}
+
+-- what passes in a front passes in the whole
+any_front : (p : ℕ → Bool) (xs : List ℕ) (j : ℕ) → list_any p (take j xs) ≡ true → list_any p xs ≡ true
+any_front p xs j e =
+    ap (list_any p) (sym (take-append-drop j xs)) ∙ list_any-append p (take j xs) (drop j xs) ∙ ap (λ (b : Bool). b || list_any p (drop j xs)) e
+
+or_assoc : (a b c : Bool) → ((a || b) || c) ≡ (a || (b || c))
+or_assoc true b c = refl
+or_assoc false b c = refl
+
+or_within : (a b : Bool) → (b ≡ true → a ≡ true) → a ≡ (a || b)
+or_within true b f = refl
+or_within false true f = f refl
+or_within false false f = refl
+
+or_last : (a b c : Bool) → ((a || b) || (c || false)) ≡ (a || (c || b))
+or_last true b c = refl
+or_last false true true = refl
+or_last false true false = refl
+or_last false false true = refl
+or_last false false false = refl
+
+pub or_none : (a : Bool) → a ≡ (a || false)
+or_none true = refl
+or_none false = refl
+
+or_right : (a b : Bool) → b ≡ true → (a || b) ≡ true
+or_right true b e = refl
+or_right false b e = e
+
+-- the sources of an entity that is held are held
+sources_held : (entities : List Entity) (places : List ℕ) (id k : ℕ) → IsSignalGraph entities → IsOrder entities places → holds entities places id ≡ true
+    → k < length (signal_sources (entity entities id)) → holds entities places (get_or (signal_sources (entity entities id)) k 0) ≡ true
+sources_held entities places id k sound order held below =
+    let found = any_at (λ place. eqb (at entities place).id id) places held in
+    let j = found.0 in
+    let place = get_or places j 0 in
+    let named : (at entities place).id ≡ id = eqb-true (at entities place).id id found.2 in
+    let itself : entity entities id ≡ at entities place = ap (entity entities) (sym named) ∙ entity_itself entities place sound (order.inside j 0 found.1) in
+    any_front (λ p. eqb (at entities p).id (get_or (signal_sources (entity entities id)) k 0)) places j
+    (subst (λ (e : Entity). (i : ℕ) → i < length (signal_sources e) → holds entities (take j places) (get_or (signal_sources e) i 0) ≡ true) (sym itself)
+    (λ i inside. order.behind j found.1 i 0 inside) k below)
+
+-- and so is all that it reaches
+closed : (entities : List Entity) (places : List ℕ) (n id k : ℕ) → IsSignalGraph entities → IsOrder entities places → holds entities places id ≡ true
+    → reaches entities n id k ≡ true → holds entities places k ≡ true
+unfolding reaches
+closed entities places zero id k sound order held reached = subst (λ (i : ℕ). holds entities places i ≡ true) (eqb-true id k reached) held
+closed entities places (suc n) id k sound order held reached =
+    elim (cases_eq id k) [
+      | inl same ↦ subst (λ (i : ℕ). holds entities places i ≡ true) same held
+      | inr other ↦
+          (let sources = signal_sources (entity entities id) in
+          let later : list_any (λ s. reaches entities n s k) sources ≡ true =
+          ap (λ (b : Bool). b || list_any (λ s. reaches entities n s k) sources) (sym (ne_eqb id k other)) ∙ reached in
+          let found = any_at (λ s. reaches entities n s k) sources later in
+          closed entities places n (get_or sources found.0 0) k sound order (sources_held entities places id found.0 sound order held found.1) found.2)
+    ]
+
+-- where the entity's place is there, so is all that it reaches
+pub held_already : (entities : List Entity) (places slice : List ℕ) (links id place : ℕ) → IsSignalGraph entities → is_clock (entity entities id).kind ≡ false
+    → IsOrder entities places → place ≡ place_of entities id → slice ≡ places → list_any (λ p. p == place) slice ≡ true
+    → (k : ℕ) → holds entities places k ≡ (holds entities places k || reaches entities links id k)
+held_already entities places slice links id place sound signal order where_it_is same there k =
+    let found = any_at (λ p. eqb p place) places (subst (λ (xs : List ℕ). list_any (λ p. eqb p place) xs ≡ true) same there) in
+    let here : get_or places found.0 0 ≡ place_of entities id = eqb-true (get_or places found.0 0) place found.2 ∙ where_it_is in
+    let named : (at entities (get_or places found.0 0)).id ≡ id = ap (λ (p : ℕ). (at entities p).id) here ∙ id_at entities id (signal_below entities id signal) in
+    let held : holds entities places id ≡ true = list_any_at (λ p. eqb (at entities p).id id) places found.0 0 found.1 (eq-eqb (at entities (get_or places found.0 0)).id id named) in
+    or_within (holds entities places k) (reaches entities links id k) (closed entities places links id k sound order held)
+
+-- one source more
+pub held_more : (entities : List Entity) (links i : ℕ) (sources old mid new : List ℕ) → i < length sources
+    → ((k : ℕ) → holds entities mid k ≡ (holds entities old k || list_any (λ s. reaches entities links s k) (take i sources)))
+    → ((k : ℕ) → holds entities new k ≡ (holds entities mid k || reaches entities links (get_or sources i 0) k))
+    → (k : ℕ) → holds entities new k ≡ (holds entities old k || list_any (λ s. reaches entities links s k) (take (i + 1) sources))
+held_more entities links i sources old mid new below before after k =
+    after k
+    ∙ ap (λ (b : Bool). b || reaches entities links (get_or sources i 0) k) (before k)
+    ∙ or_assoc (holds entities old k) (list_any (λ s. reaches entities links s k) (take i sources)) (reaches entities links (get_or sources i 0) k)
+    ∙ ap (λ (b : Bool). holds entities old k || b) (sym (list_any_more (λ s. reaches entities links s k) sources i 0 below))
+
+-- all sources
+pub held_done : (entities : List Entity) (links i id : ℕ) (e : Entity) (sources old new : List ℕ) → is_clock (entity entities id).kind ≡ false
+    → e ≡ entity entities id → sources ≡ e.sources → length sources ≤ i
+    → ((k : ℕ) → holds entities new k ≡ (holds entities old k || list_any (λ s. reaches entities links s k) (take i sources)))
+    → (k : ℕ) → holds entities new k ≡ (holds entities old k || list_any (λ s. reaches entities links s k) (signal_sources (entity entities id)))
+held_done entities links i id e sources old new signal here own past before k =
+    before k
+    ∙ ap (λ (xs : List ℕ). holds entities old k || list_any (λ s. reaches entities links s k) xs)
+    (take_all i sources past ∙ own ∙ ap (λ (f : Entity). f.sources) here ∙ sym (signal_sources_of (entity entities id) signal))
+
+-- the entity itself, behind its sources
+pub held_itself : (entities : List Entity) (links id place : ℕ) (old mid new : List ℕ) → is_clock (entity entities id).kind ≡ false → 0 < links
+    → place ≡ place_of entities id → new ≡ mid ++ place ∷ []
+    → ((k : ℕ) → holds entities mid k ≡ (holds entities old k || list_any (λ s. reaches entities (links - 1) s k) (signal_sources (entity entities id))))
+    → (k : ℕ) → holds entities new k ≡ (holds entities old k || reaches entities links id k)
+held_itself entities links id place old mid new signal some where_it_is pushed before k =
+    let later = list_any (λ s. reaches entities (links - 1) s k) (signal_sources (entity entities id)) in
+    let named : (at entities place).id ≡ id = ap (λ (p : ℕ). (at entities p).id) where_it_is ∙ id_at entities id (signal_below entities id signal) in
+    ap (λ (ps : List ℕ). holds entities ps k) pushed
+    ∙ list_any-append (λ p. eqb (at entities p).id k) mid (place ∷ [])
+    ∙ ap (λ (b : Bool). b || (eqb (at entities place).id k || false)) (before k)
+    ∙ or_last (holds entities old k) later (eqb (at entities place).id k)
+    ∙ ap (λ (n : ℕ). holds entities old k || (eqb n k || later)) named
+    ∙ ap (λ (b : Bool). holds entities old k || b) (sym (reaches_step entities links id k some))
+
+-- places and one more
+all_more : (P : ℕ → Type 0) (xs : List ℕ) (x : ℕ) → All P xs → P x → (k : ℕ) → k < length (xs ++ x ∷ []) → P (get_or (xs ++ x ∷ []) k 0)
+all_more P xs x all here k below =
+    elim (cases_lt k (length xs)) [
+      | inl inside ↦ subst P (sym (get_or-append xs (x ∷ []) 0 k inside)) (all k 0 inside)
+      | inr past ↦
+          (let last : k ≡ length xs = omega (arith, length-append xs (x ∷ [])) in
+          subst P (sym (ap (λ (j : ℕ). get_or (xs ++ x ∷ []) j 0) last ∙ get_or-append_seam xs x [] 0)) here)
+    ]
+
+-- the entity stands behind its sources
+pub order_more : (entities : List Entity) (links id place : ℕ) (old mid new : List ℕ) → IsSignalGraph entities → is_clock (entity entities id).kind ≡ false
+    → place ≡ place_of entities id → new ≡ mid ++ place ∷ [] → holds entities mid id ≡ false → IsOrder entities mid
+    → ((k : ℕ) → holds entities mid k ≡ (holds entities old k || list_any (λ s. reaches entities links s k) (signal_sources (entity entities id))))
+    → IsOrder entities new
+unfolding entity
+order_more entities links id place old mid new sound signal where_it_is pushed absent order before =
+    subst (IsOrder entities) (sym pushed)
+    (record {
+      inside = λ k d below.
+          subst (λ (p : ℕ). p < length entities) (sym (get_or_default_zero (mid ++ place ∷ []) k d below))
+          (all_more (λ p. p < length entities) mid place order.inside (subst (λ (p : ℕ). p < length entities) (sym where_it_is) (signal_below entities id signal)) k below);
+      signal = λ k d below.
+          subst (λ (p : ℕ). is_clock (at entities p).kind ≡ false) (sym (get_or_default_zero (mid ++ place ∷ []) k d below))
+          (all_more (λ p. is_clock (at entities p).kind ≡ false) mid place order.signal
+          (subst (λ (p : ℕ). is_clock (at entities p).kind ≡ false) (sym where_it_is) signal) k below);
+      apart = apart_more entities id place mid signal where_it_is absent order;
+      behind = λ k below. elim (cases_lt k (length mid)) [
+        | inl inside ↦
+            subst (λ (p : ℕ). All (λ s. holds entities (take k (mid ++ place ∷ [])) s ≡ true) (signal_sources (at entities p)))
+            (sym (get_or-append mid (place ∷ []) 0 k inside))
+            (subst (λ (ps : List ℕ). All (λ s. holds entities ps s ≡ true) (signal_sources (at entities (get_or mid k 0))))
+            (sym (take-append-le k mid (place ∷ []) (omega arith))) (order.behind k inside))
+        | inr past ↦
+            (let last : k ≡ length mid = omega (arith, length-append mid (place ∷ [])) in
+            subst (λ (j : ℕ). All (λ s. holds entities (take j (mid ++ place ∷ [])) s ≡ true) (signal_sources (at entities (get_or (mid ++ place ∷ []) j 0)))) (sym last)
+            (subst (λ (p : ℕ). All (λ s. holds entities (take (length mid) (mid ++ place ∷ [])) s ≡ true) (signal_sources (at entities p)))
+            (sym (get_or-append_seam mid place [] 0 ∙ where_it_is))
+            (subst (λ (ps : List ℕ). All (λ s. holds entities ps s ≡ true) (signal_sources (at entities (place_of entities id))))
+            (sym (take-append_seam mid (place ∷ []))) sources_there)))
+      ];
+    })
+  where
+    sources_there : All (λ s. holds entities mid s ≡ true) (signal_sources (at entities (place_of entities id)))
+    sources_there k d below =
+        let sources = signal_sources (at entities (place_of entities id)) in
+        let s = get_or sources k d in
+        before s ∙ or_right (holds entities old s) (list_any (λ t. reaches entities links t s) sources)
+        (list_any_at (λ t. reaches entities links t s) sources k d below (reaches_self entities links s))
+
+-- no places
+pub order_none : (entities : List Entity) (places : List ℕ) → places ≡ [] → IsOrder entities places
+order_none entities places none =
+    subst (IsOrder entities) (sym none)
+    (record {
+      inside = λ k d below. absurd (omega arith);
+      signal = λ k d below. absurd (omega arith);
+      apart = λ j k less below. absurd (omega arith);
+      behind = λ k below. absurd (omega arith);
+    })
+
+pub held_none : (entities : List Entity) (places : List ℕ) (k : ℕ) → places ≡ [] → holds entities places k ≡ false
+held_none entities places k none = ap (λ (ps : List ℕ). holds entities ps k) none
+
+-- one output terminal more
+pub ends_more : (entities slice : List Entity) (domain i : ℕ) (e : Entity) (mid new : List ℕ) → slice ≡ entities → i < length slice → e ≡ get_or slice i e
+    → is_end domain e ≡ true
+    → ((k : ℕ) → holds entities mid k ≡ list_any (λ f. is_end domain f && reaches entities (length entities) f.id k) (take i slice))
+    → ((k : ℕ) → holds entities new k ≡ (holds entities mid k || reaches entities (length slice) e.id k))
+    → (k : ℕ) → holds entities new k ≡ list_any (λ f. is_end domain f && reaches entities (length entities) f.id k) (take (i + 1) slice)
+ends_more entities slice domain i e mid new same below item end before after k =
+    after k
+    ∙ ap (λ (b : Bool). b || reaches entities (length slice) e.id k) (before k)
+    ∙ ap (λ (b : Bool). list_any (λ f. is_end domain f && reaches entities (length entities) f.id k) (take i slice) || (b && reaches entities (length slice) e.id k)) (sym end)
+    ∙ sym (tested_more entities slice domain i k e same below item)
+
+-- another entity
+pub ends_same : (entities slice : List Entity) (domain i : ℕ) (e : Entity) (places : List ℕ) → slice ≡ entities → i < length slice → e ≡ get_or slice i e
+    → is_end domain e ≡ false
+    → ((k : ℕ) → holds entities places k ≡ list_any (λ f. is_end domain f && reaches entities (length entities) f.id k) (take i slice))
+    → (k : ℕ) → holds entities places k ≡ list_any (λ f. is_end domain f && reaches entities (length entities) f.id k) (take (i + 1) slice)
+ends_same entities slice domain i e places same below item other before k =
+    before k
+    ∙ or_none (list_any (λ f. is_end domain f && reaches entities (length entities) f.id k) (take i slice))
+    ∙ ap (λ (b : Bool). list_any (λ f. is_end domain f && reaches entities (length entities) f.id k) (take i slice) || (b && reaches entities (length slice) e.id k)) (sym other)
+    ∙ sym (tested_more entities slice domain i k e same below item)
+
+-- all output terminals
+pub ends_all : (entities slice : List Entity) (domain i : ℕ) (places : List ℕ) → slice ≡ entities → length slice ≤ i → IsOrder entities places
+    → ((k : ℕ) → holds entities places k ≡ list_any (λ f. is_end domain f && reaches entities (length entities) f.id k) (take i slice))
+    → IsOrderOf entities domain places
+unfolding depended
+ends_all entities slice domain i places same past order all = record {
+  order = order;
+  all = λ k.
+      all k ∙ ap (λ (xs : List Entity). list_any (λ f. is_end domain f && reaches entities (length entities) f.id k) xs) (take_all i slice past ∙ same);
+}
+
+-- one entity more whose domain has an order, if it is an output terminal
+pub passed_more : (slice : List Entity) (orders : List Order) (i : ℕ) (e : Entity) → i < length slice → e ≡ get_or slice i e
+    → (is_output e.kind ≡ true → list_any (λ o. o.domain == e.clock) orders ≡ true)
+    → ((k : ℕ) → k < i → is_output (at slice k).kind ≡ true → list_any (λ o. o.domain == (at slice k).clock) orders ≡ true)
+    → (k : ℕ) → k < i + 1 → is_output (at slice k).kind ≡ true → list_any (λ o. o.domain == (at slice k).clock) orders ≡ true
+passed_more slice orders i e below item here before =
+    below_more (λ k. is_output (at slice k).kind ≡ true → list_any (λ o. o.domain == (at slice k).clock) orders ≡ true) i before
+    (subst (λ (f : Entity). is_output f.kind ≡ true → list_any (λ o. o.domain == f.clock) orders ≡ true) (at_read slice i e below item) here)
+
+-- no orders
+pub each_none : (entities : List Entity) (orders : List Order) → orders ≡ [] → All (λ o. IsOrderOf entities o.domain o.places.items) orders
+each_none entities orders none =
+    subst (All (λ (o : Order). IsOrderOf entities o.domain o.places.items)) (sym none) (All-nil (λ (o : Order). IsOrderOf entities o.domain o.places.items))
+
+-- with one order more
+pub each_more : (entities : List Entity) (old new : List Order) (o : Order) → new ≡ old ++ o ∷ []
+    → All (λ p. IsOrderOf entities p.domain p.places.items) old → IsOrderOf entities o.domain o.places.items
+    → All (λ p. IsOrderOf entities p.domain p.places.items) new
+each_more entities old new o pushed before here =
+    subst (All (λ (p : Order). IsOrderOf entities p.domain p.places.items)) (sym pushed)
+    (All-append (λ (p : Order). IsOrderOf entities p.domain p.places.items) old (o ∷ []) before (single o here))
+  where
+    single : (p : Order) → IsOrderOf entities p.domain p.places.items → All (λ (q : Order). IsOrderOf entities q.domain q.places.items) (p ∷ [])
+    single p is zero d below = is
+    single p is (suc k) d below = absurd (omega arith)
+
+pub known_more : (slice : List Entity) (old new : List Order) (o : Order) (i : ℕ) → new ≡ old ++ o ∷ []
+    → ((k : ℕ) → k < i → is_output (at slice k).kind ≡ true → list_any (λ p. p.domain == (at slice k).clock) old ≡ true)
+    → (k : ℕ) → k < i → is_output (at slice k).kind ≡ true → list_any (λ p. p.domain == (at slice k).clock) new ≡ true
+known_more slice old new o i pushed before k below output =
+    let test : Order → Bool = λ p. eqb p.domain (at slice k).clock in
+    ap (list_any test) pushed ∙ list_any-append test old (o ∷ []) ∙ ap (λ (b : Bool). b || (test o || false)) (before k below output)
+
+pub known_last : (old new : List Order) (o : Order) (domain : ℕ) → new ≡ old ++ o ∷ [] → o.domain ≡ domain → list_any (λ p. p.domain == domain) new ≡ true
+known_last old new o domain pushed same =
+    let test : Order → Bool = λ p. eqb p.domain domain in
+    ap (list_any test) pushed ∙ list_any-append test old (o ∷ [])
+    ∙ or_right (list_any test old) (test o || false) (ap (λ (b : Bool). b || false) (eq-eqb o.domain domain same))
+
+-- all entities
+pub orders_all : (entities slice : List Entity) (orders : List Order) (i : ℕ) → slice ≡ entities → length slice ≤ i
+    → All (λ o. IsOrderOf entities o.domain o.places.items) orders
+    → ((k : ℕ) → k < i → is_output (at slice k).kind ≡ true → list_any (λ o. o.domain == (at slice k).clock) orders ≡ true)
+    → AreOrders entities orders
+unfolding depended at
+orders_all entities slice orders i same past each passed = record {
+  each = each;
+  others = λ domain none id.
+      ap (λ (xs : List Entity). list_any (λ e. is_end domain e && reaches entities (length entities) e.id id) xs) (sym same)
+      ∙ list_any_none (λ e. is_end domain e && reaches entities (length entities) e.id id) slice
+      (λ k d below.
+      subst (λ (e : Entity). (is_end domain e && reaches entities (length entities) e.id id) ≡ false) (get_or_default slice k d below)
+      (no_end domain (at slice k) orders (reaches entities (length entities) (at slice k).id id) none (passed k (omega arith))));
+}
+  where
+    get_or_default : (es : List Entity) (k : ℕ) (d : Entity) → k < length es → at es k ≡ get_or es k d
+    get_or_default [] k d below = absurd (omega arith)
+    get_or_default (e ∷ es) zero d below = refl
+    get_or_default (e ∷ es) (suc k) d below = get_or_default es k d (omega arith)
+
+    no_end : (domain : ℕ) (e : Entity) (os : List Order) (b : Bool) → list_any (λ o. o.domain == domain) os ≡ false
+        → (is_output e.kind ≡ true → list_any (λ o. o.domain == e.clock) os ≡ true) → (is_end domain e && b) ≡ false
+    no_end domain e os b none known = by_kind (is_output e.kind) (eqb e.clock domain) refl refl
+      where
+        by_kind : (output same : Bool) → is_output e.kind ≡ output → eqb e.clock domain ≡ same → ((output && same) && b) ≡ false
+        by_kind false same o s = refl
+        by_kind true false o s = refl
+        by_kind true true o s =
+            absurd (let clash : true ≡ false = sym (known o) ∙ ap (λ (d : ℕ). list_any (λ p. p.domain == d) os) (eqb-true e.clock domain s) ∙ none in cc)
+
+-- the order of a domain that has one
+pub order_at : (entities : List Entity) (orders : List Order) (i domain : ℕ) (o : Order) (places : List ℕ) → i < length orders → o ≡ get_or orders i o
+    → o.domain ≡ domain → places ≡ o.places.items → AreOrders entities orders → IsOrderOf entities domain places
+order_at entities orders i domain o places below item same own are =
+    subst (λ (d : ℕ). IsOrderOf entities d places) same
+    (subst (IsOrderOf entities o.domain) (sym own)
+    (subst (λ (p : Order). IsOrderOf entities p.domain p.places.items) (sym item) (are.each i o below)))
+
+-- the order of a domain that has none
+pub order_of_none : (entities : List Entity) (orders : List Order) (domain i : ℕ) (places : List ℕ) → length orders ≤ i → list_any (λ o. o.domain == domain) (take i orders) ≡ false
+    → places ≡ [] → AreOrders entities orders → IsOrderOf entities domain places
+order_of_none entities orders domain i places past none empty are = record {
+  order = order_none entities places empty;
+  all = λ id. held_none entities places id empty ∙ sym (are.others domain (ap (list_any (λ (o : Order). eqb o.domain domain)) (sym (take_all i orders past)) ∙ none) id);
+}
+
+-- one order more that is of another domain
+pub none_more : (orders : List Order) (domain i : ℕ) (o : Order) → i < length orders → o ≡ get_or orders i o → eqb o.domain domain ≡ false
+    → list_any (λ p. p.domain == domain) (take i orders) ≡ false → list_any (λ p. p.domain == domain) (take (i + 1) orders) ≡ false
+none_more orders domain i o below item other before =
+    let test : Order → Bool = λ p. eqb p.domain domain in
+    list_any_more test orders i o below ∙ ap (λ (b : Bool). b || test (get_or orders i o)) before ∙ ap test (sym item) ∙ other

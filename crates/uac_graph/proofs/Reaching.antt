@@ -1,0 +1,125 @@
+-- An entity, its sources, and what it reaches.
+use Rattle.std.proofs.Common.{◌≡◌, ◌∙◌, sym, ap, subst, refl, arith, ℕ, zero, suc, ◌-◌, ◌<◌, ◌≤◌, Bool, true, false, ◌||◌, eqb, ℤ, List, [], Option, Some, None, length, get_or, map, unwrap_or}
+use Rattle.std.specs.List.{list_any}
+use Rattle.std.specs.Option.{option_map}
+use Rattle.std.proofs.lemmas.Bool.{eq-eqb}
+use Rattle.std.proofs.lemmas.Simd.{map-map}
+use Rattle.std.proofs.lemmas.List.FromFn.{length-map-range_with_len}
+use Rattle.uac_walk.specs.Walk.{has_walk}
+use Rattle.uac_entities.specs.declared.entity.Entity.{Entity}
+use Rattle.uac_entities.specs.declared.entity.EntityKind.{EntityKind}
+use Rattle.uac_entities.specs.declared.entity.EntityKind.TheVariants as kind
+use Rattle.uac_rules.specs.Clusters.{is_input}
+use Rattle.uac_rules.specs.Links.{is_clock, signal_links, signal_sources}
+use Rattle.uac_rules.specs.Table.{at, place_of}
+use Rattle.uac_graph.specs.Controls.{Controls}
+use Rattle.uac_store.specs.Controls.{channels_of, pins_of}
+use Rattle.uac_graph.specs.Fitness.{FitsPins, IsSignalGraph}
+use Rattle.uac_graph.specs.Jobs.{FitsFrames, takes_signal}
+use Rattle.uac_graph.specs.Meaning.{entity, frame_of, sample_of}
+use Rattle.uac_graph.specs.Needs.{reaches}
+use Rattle.uac_graph.specs.Wiring.{AreWiresOf, Frames, frame_on, held}
+use Rattle.uac_rules.proofs.KnownSteps.{map_same}
+use Rattle.uac_graph.proofs.Links.{channels_named, source_ends}
+use Rattle.uac_graph.proofs.Walking.{signal_below, signal_channels, signal_sources_of}
+
+-- a walk of no links always leads on
+pub links_some : (graph : List (List ℕ)) (links place : ℕ) → has_walk graph links place ≡ false → 0 < links
+unfolding has_walk
+links_some graph zero place ends = absurd (cc)
+links_some graph (suc n) place ends = omega arith
+
+-- an entity reaches itself
+pub reaches_self : (entities : List Entity) (n id : ℕ) → reaches entities n id id ≡ true
+unfolding reaches
+reaches_self entities zero id = eq-eqb id id refl
+reaches_self entities (suc n) id = ap (λ (b : Bool). b || list_any (λ s. reaches entities n s id) (signal_sources (entity entities id))) (eq-eqb id id refl)
+
+-- what an entity reaches: itself, and what its sources reach
+pub reaches_step : (entities : List Entity) (links id other : ℕ) → 0 < links
+    → reaches entities links id other ≡ (eqb id other || list_any (λ s. reaches entities (links - 1) s other) (signal_sources (entity entities id)))
+unfolding reaches
+reaches_step entities zero id other some = absurd (omega arith)
+reaches_step entities (suc n) id other some =
+    let e : suc n - 1 ≡ n = omega arith in
+    ap (λ (m : ℕ). eqb id other || list_any (λ s. reaches entities m s other) (signal_sources (entity entities id))) (sym e)
+
+-- a source is no clock
+pub source_signal : (entities : List Entity) (id k : ℕ) → IsSignalGraph entities → is_clock (entity entities id).kind ≡ false → k < length (entity entities id).sources
+    → is_clock (entity entities (get_or (entity entities id).sources k 0)).kind ≡ false
+unfolding entity
+source_signal entities id k sound signal below =
+    let own = signal_sources_of (entity entities id) signal in
+    subst (λ (sources : List ℕ). (j : ℕ) → j < length sources → is_clock (entity entities (get_or sources j 0)).kind ≡ false) own
+    (λ j inside. sound.heard (place_of entities id) (signal_below entities id signal) j 0 inside) k below
+
+-- from a source no walk of one link less leads on
+pub source_stops : (entities : List Entity) (links id k : ℕ) → is_clock (entity entities id).kind ≡ false → k < length (entity entities id).sources
+    → has_walk (signal_links entities) links (place_of entities id) ≡ false
+    → has_walk (signal_links entities) (links - 1) (place_of entities (get_or (entity entities id).sources k 0)) ≡ false
+unfolding has_walk
+source_stops entities zero id k signal below ends = absurd (cc)
+source_stops entities (suc n) id k signal below ends =
+    let e : suc n - 1 ≡ n = omega arith in
+    let own = signal_sources_of (entity entities id) signal in
+    subst (λ (m : ℕ). has_walk (signal_links entities) m (place_of entities (get_or (entity entities id).sources k 0)) ≡ false) (sym e)
+    (subst (λ (sources : List ℕ). (j : ℕ) → j < length sources → has_walk (signal_links entities) n (place_of entities (get_or sources j 0)) ≡ false) own
+    (λ j inside. source_ends entities n id j ends inside) k below)
+
+-- a wire's frame has its channels
+held_channels : (entities : List Entity) (frames : Frames) (id : ℕ) → AreWiresOf entities frames → is_clock (entity entities id).kind ≡ false
+    → length (held frames id) ≡ (entity entities id).cluster.channels
+held_channels entities frames id fitting signal =
+    by_wire (frame_on frames id) (entity entities id).cluster.channels (fitting.channels id ∙ signal_channels entities id signal)
+  where
+    by_wire : (o : Option (List ℤ)) (n : ℕ) → option_map length o ≡ Some n → length (unwrap_or o []) ≡ n
+    by_wire None n e = absurd (cc)
+    by_wire (Some frame) n e = cc
+
+-- neither a clock nor an input terminal: a unit or an output terminal
+takes : (k : EntityKind) → is_clock k ≡ false → is_input k ≡ false → takes_signal k ≡ true
+takes kind.ClockSource c i = absurd (cc)
+takes kind.ClockSelector c i = absurd (cc)
+takes kind.ClockMultiplier c i = absurd (cc)
+takes kind.InputTerminal c i = absurd (cc)
+takes _ c i = refl
+
+-- its channels and its pins are as the graph's soundness says
+most_channels : (entities : List Entity) (id : ℕ) → IsSignalGraph entities → is_clock (entity entities id).kind ≡ false → (entity entities id).cluster.channels ≤ 32
+unfolding entity
+most_channels entities id sound signal = sound.most (place_of entities id) (signal_below entities id signal) signal
+
+fit_pins : (entities : List Entity) (id : ℕ) → IsSignalGraph entities → is_clock (entity entities id).kind ≡ false
+    → FitsPins (entity entities id).kind (entity entities id).cluster.channels (pins_of entities (entity entities id))
+unfolding entity
+fit_pins entities id sound signal = sound.fits (place_of entities id) (signal_below entities id signal)
+
+-- what an entity takes from its sources fits it
+pub fits_frames : (entities : List Entity) (frames : Frames) (id : ℕ) → IsSignalGraph entities → AreWiresOf entities frames
+    → is_clock (entity entities id).kind ≡ false → is_input (entity entities id).kind ≡ false
+    → FitsFrames (entity entities id).kind (entity entities id).cluster.channels (map (held frames) (entity entities id).sources)
+unfolding pins_of
+fits_frames entities frames id sound fitting signal unit =
+    let e = entity entities id in
+    let pins : map length (map (held frames) e.sources) ≡ pins_of entities e =
+    map-map length (held frames) e.sources
+    ∙ map_same (λ s. length (held frames s)) (channels_of entities) e.sources
+    (λ k below.
+    held_channels entities frames (get_or e.sources k 0) fitting (source_signal entities id k sound signal below)
+    ∙ sym (channels_named entities (get_or e.sources k 0))) in
+    record {
+      signal = takes e.kind signal unit;
+      most = most_channels entities id sound signal;
+      pins = subst (FitsPins e.kind e.cluster.channels) (sym pins) (fit_pins entities id sound signal);
+    }
+
+-- a frame has a sample for each channel
+pub length-frame_of : (controls : Controls) (id : ℕ) (k : EntityKind) (channels : ℕ) (frames : List (List ℤ)) → length (frame_of controls id k channels frames) ≡ channels
+unfolding frame_of
+length-frame_of controls id k channels frames = length-map-range_with_len (sample_of controls id k channels frames) 0 channels
+
+-- the entity that the table gives
+pub entity_read : (entities table : List Entity) (id place : ℕ) (e : Entity) → table ≡ entities → place ≡ place_of table id → e ≡ at table place → e ≡ entity entities id
+unfolding entity
+entity_read entities table id place e same where_it_is is =
+    is ∙ ap (at table) where_it_is ∙ ap (λ (t : List Entity). at t (place_of t id)) same

@@ -1,0 +1,40 @@
+-- The order in which a clock domain's entities are rendered: each after its sources.
+use Rattle.std.specs.Prelude.{◌≡◌, ◌==◌, ◌<◌, ◌&&◌, not, ℕ, Bool, true, false, if◌then◌else◌, ℤ, List, Option, Some, length, map, take, slice_index_or}
+use Rattle.std.specs.List.{All, list_any}
+use Rattle.uac_entities.specs.declared.entity.Entity.{Entity}
+use Rattle.uac_rules.specs.Clusters.{is_input}
+use Rattle.uac_rules.specs.Links.{is_clock, signal_sources}
+use Rattle.uac_rules.specs.Table.{at}
+use Rattle.uac_graph.specs.Controls.{Controls}
+use Rattle.uac_graph.specs.Meaning.{frame_of}
+use Rattle.uac_graph.specs.Needs.{depended}
+use Rattle.uac_graph.specs.Wiring.{Frames, frame_on, held}
+use Rattle.uac_graph.specs.declared.orders.Order.{Order}
+
+-- the entity with an id stands at one of these places
+abbrev pub holds : List Entity → List ℕ → ℕ → Bool
+holds entities places id = list_any (λ place. (at entities place).id == id) places
+
+-- places of entities that carry a signal, each once and behind all of its sources
+pub record IsOrder (entities : List Entity) (places : List ℕ) : Type 0 where
+  pub inside : All (λ place. place < length entities) places
+  pub signal : All (λ place. is_clock (at entities place).kind ≡ false) places
+  pub apart : (j k : ℕ) → j < k → k < length places → slice_index_or places j 0 ≡ slice_index_or places k 0 → ⊥
+  pub behind : (k : ℕ) → k < length places
+      → All (λ s. holds entities (take k places) s ≡ true) (signal_sources (at entities (slice_index_or places k 0)))
+
+-- such an order of exactly the entities on which the domain's output terminals depend, and these terminals
+pub record IsOrderOf (entities : List Entity) (domain : ℕ) (places : List ℕ) : Type 0 where
+  pub order : IsOrder entities places
+  pub all : (id : ℕ) → holds entities places id ≡ depended entities domain id
+
+-- an order for each domain that has an output terminal
+pub record AreOrders (entities : List Entity) (orders : List Order) : Type 0 where
+  pub each : All (λ o. IsOrderOf entities o.domain o.places.items) orders
+  pub others : (domain : ℕ) → list_any (λ o. o.domain == domain) orders ≡ false → (id : ℕ) → depended entities domain id ≡ false
+
+-- the frame on a wire once the entity at a place was rendered, from those on the wires of its sources. An input terminal has its frame
+unfoldable pub frame_after : List Entity → Controls → ℕ → Frames → ℕ → Option (List ℤ)
+frame_after entities controls place frames id =
+    let e = at entities place in
+    if not (is_input e.kind) && e.id == id then Some (frame_of controls e.id e.kind e.cluster.channels (map (held frames) e.sources)) else frame_on frames id
