@@ -3,7 +3,8 @@ use Rattle.std.proofs.Common.{◌≡◌, ◌≤◌, ◌<◌, ℕ, true, false, L
 use Rattle.std.specs.Prelude.{slice_index}
 use Rattle.uac_descriptor.specs.Layout.{IsWhole}
 use Rattle.uac_descriptor.specs.Reading.{is_whole, block_of, has_length}
-use Rattle.uac_descriptor.proofs.SpeltAsRead.{IsWhole-is_whole}
+-- under a name without a hyphen, as `using(..)` wants it
+pub use Rattle.uac_descriptor.proofs.SpeltAsRead.{IsWhole-is_whole as whole_is}
 use Rattle.uac_descriptor.specs.Rows as rows
 use Rattle.uac_grammar.specs.Row.{read_row}
 use Rattle.uac_descriptor.specs.Rows.{Row, row_beside, rows_of, row_in, row_of, control_row, streaming_row, class_endpoint_row, parting_rows}
@@ -13,9 +14,6 @@ use Rattle.uac_descriptor.specs.declared.context.Context.{Context}
 pub block_none : (context : Context) (bytes : List ℕ) → is_whole bytes ≡ false → block_of context bytes ≡ None
 unfolding block_of
 block_none context bytes e = rw e refl
-
-pub whole_is : (bytes : List ℕ) → is_whole bytes ≡ true → IsWhole bytes
-whole_is bytes e = IsWhole-is_whole bytes e
 
 -- one block is read by its row
 pub block_row : (context : Context) (bytes : List ℕ) → is_whole bytes ≡ true → block_of context bytes ≡ read_row (row_in context bytes) bytes

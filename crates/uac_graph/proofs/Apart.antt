@@ -2,8 +2,7 @@
 use Rattle.std.proofs.Common.{◌≡◌, ◌∙◌, sym, ap, subst, arith, ℕ, zero, suc, ◌<◌, Bool, true, false, ◌||◌, eqb, List, [], ◌∷◌, ◌++◌, length, get_or, map, inl, inr}
 use Rattle.std.specs.List.{list_any}
 use Rattle.std.proofs.lemmas.Bool.{both_ways, cases_Bool, cases_eq, cases_lt, eq-eqb, ne_eqb, eqb-true}
-use Rattle.std.proofs.lemmas.Grind.{get_or_default_zero}
-use Rattle.std.proofs.lemmas.List.Folds.{Any-from_list_any, list_any_at, list_any_none}
+use Rattle.std.proofs.lemmas.List.Folds.{list_any_at, list_any_none}
 use Rattle.std.proofs.Math.ListN as listn
 use Rattle.std.proofs.Math.ListN.{get_or-append, length-append, length-map}
 use Rattle.std.proofs.Math.Seq.{get_or-append_seam}
@@ -12,6 +11,7 @@ use Rattle.uac_walk.proofs.Walks.{no_way_back_lem, none_at}
 use Rattle.uac_entities.specs.declared.entity.Entity.{Entity}
 use Rattle.uac_rules.specs.Links.{is_clock, signal_links, signal_sources}
 use Rattle.uac_rules.specs.Table.{at, place_of}
+use Rattle.uac_rules.proofs.Found.{any_at}
 use Rattle.uac_graph.specs.Fitness.{IsSignalGraph}
 use Rattle.uac_graph.specs.Meaning.{entity}
 use Rattle.uac_graph.specs.Needs.{reaches}
@@ -19,13 +19,6 @@ use Rattle.uac_graph.specs.Orders.{IsOrder, holds}
 use Rattle.uac_graph.proofs.Links.{links_at}
 use Rattle.uac_graph.proofs.Lookups.{id_at}
 use Rattle.uac_graph.proofs.Walking.{signal_below}
-
--- where a test passes
-pub any_at : (p : ℕ → Bool) (xs : List ℕ) → list_any p xs ≡ true → (k : ℕ) × (k < length xs) × (p (get_or xs k 0) ≡ true)
-any_at p xs e =
-    let any = Any-from_list_any p xs e in
-    let value : get_or xs any.0 0 ≡ any.1 = sym (get_or_default_zero xs any.0 any.1 any.2) ∙ any.3 in
-    (any.0, any.2, ap p value ∙ any.4)
 
 -- one link and then a walk on from the source that it names
 source_leads : (entities : List Entity) (m id k w : ℕ) → k < length (signal_sources (entity entities id))

@@ -1,6 +1,7 @@
 -- Nothing hears an output terminal, so a domain renders it only as an end of its own.
 use Rattle.std.proofs.Common.{◌≡◌, ◌∙◌, sym, ap, subst, refl, arith, ℕ, zero, suc, ◌<◌, ◌==◌, ◌&&◌, ◌||◌, Bool, true, false, List, length, inl, inr}
 use Rattle.std.specs.List.{All}
+use Rattle.std.proofs.Math.Bool.{and-false, or-false}
 use Rattle.std.proofs.lemmas.Bool.{cases_Bool, eqb-true, eq-eqb, ne_eqb}
 use Rattle.std.proofs.lemmas.List.{get_or_default}
 use Rattle.std.proofs.lemmas.List.Folds.{list_any_at, list_any_none}
@@ -29,14 +30,6 @@ sources_go_on entities from sound =
           (λ i d inside. absurd (omega arith))
     ]
 
-or_false : (b : Bool) → (b || false) ≡ b
-or_false true = refl
-or_false false = refl
-
-and_false : (b : Bool) → (b && false) ≡ false
-and_false true = refl
-and_false false = refl
-
 -- so only itself reaches it
 only_itself : (entities : List Entity) (n from id : ℕ) → IsSignalGraph entities → is_output (entity entities id).kind ≡ true → reaches entities n from id ≡ (from == id)
 unfolding reaches
@@ -45,7 +38,7 @@ only_itself entities (suc n) from id sound output =
     ap (λ (b : Bool). from == id || b)
     (list_any_none (λ s. reaches entities n s id) (signal_sources (entity entities from))
     (λ i d inside. only_itself entities n _ id sound output ∙ ne_eqb _ id (λ same. clash _ same (sources_go_on entities from sound i d inside))))
-    ∙ or_false (from == id)
+    ∙ or-false (from == id)
   where
     clash : (s : ℕ) → s ≡ id → is_output (entity entities s).kind ≡ false → ⊥
     clash s same other =
@@ -81,7 +74,7 @@ module _ (entities : List Entity) (domain id : ℕ) (sound : IsSignalGraph entit
             (ap (is_end domain) (sym (entity_itself entities k sound below) ∙ ap (entity entities) (eqb-true (at entities k).id id same)) ∙ none)
         | inr differs ↦
             ap (λ (b : Bool). is_end domain (at entities k) && b) (only_itself entities (length entities) (at entities k).id id sound output ∙ differs)
-            ∙ and_false (is_end domain (at entities k))
+            ∙ and-false (is_end domain (at entities k))
       ]
 
   ends_alone : depended entities domain id ≡ is_end domain (entity entities id)

@@ -1,7 +1,8 @@
 -- Entities rendered in an order, each behind its sources.
-use Rattle.std.proofs.Common.{◌≡◌, ◌∙◌, sym, ap, subst, refl, ℕ, ◌+◌, ◌<◌, ◌≤◌, Bool, true, false, ◌||◌, ◌&&◌, not, eqb, if◌then◌else◌, ℤ, List, [], Option, Some, length, get_or, take, map, unwrap_or, ◌⊎◌, inl, inr}
+use Rattle.std.proofs.Common.{◌≡◌, ◌∙◌, sym, ap, subst, refl, ℕ, ◌+◌, ◌<◌, ◌≤◌, Bool, true, false, ◌||◌, ◌&&◌, not, eqb, if◌then◌else◌, ℤ, List, [], Some, length, get_or, take, map, unwrap_or, ◌⊎◌, inl, inr}
 use Rattle.std.specs.List.{All}
 use Rattle.std.specs.Option.{option_map}
+use Rattle.std.proofs.Math.Bool.{and-false, or-false, or-true}
 use Rattle.std.proofs.lemmas.Bool.{cases_eq, eq-eqb, ne_eqb}
 use Rattle.std.proofs.lemmas.List.{take_all}
 use Rattle.std.proofs.lemmas.List.Folds.{list_any_more}
@@ -22,7 +23,7 @@ use Rattle.uac_graph.proofs.Equation.{equation}
 use Rattle.uac_graph.proofs.Lookups.{set_fits}
 use Rattle.uac_graph.proofs.Reaching.{fits_frames, length-frame_of}
 use Rattle.uac_graph.proofs.Ticking.{entity_itself}
-use Rattle.uac_graph.proofs.Walking.{meaning_given, rendered_by, rendered_none, signal_channels, signal_sources_of}
+use Rattle.uac_graph.proofs.Walking.{either_way, meaning_given, rendered_by, rendered_none, signal_channels, signal_sources_of}
 
 -- the frames of sources that are rendered are their meanings
 held_sources : (entities : List Entity) (controls : Controls) (ins : ℕ → List ℤ) (done : ℕ → Bool) (sources : List ℕ) (old new : Frames)
@@ -84,22 +85,6 @@ step_rendered entities controls ins places i old mid new sound order below given
     inside : p < length entities
     inside = order.inside i 0 below
 
-    or_true : (b : Bool) → (b || true) ≡ true
-    or_true true = refl
-    or_true false = refl
-
-    or_false : (b : Bool) → (b || false) ≡ b
-    or_false true = refl
-    or_false false = refl
-
-    and_false : (b : Bool) → (b && false) ≡ false
-    and_false true = refl
-    and_false false = refl
-
-    both : (b : Bool) (o : Option (List ℤ)) → (if b then o else o) ≡ o
-    both true o = refl
-    both false o = refl
-
     input_here : (id : ℕ) → e.id ≡ id → is_input e.kind ≡ true → is_input (entity entities id).kind ≡ true
     input_here id same input =
         ap (λ (n : ℕ). is_input (entity entities n).kind) (sym same) ∙ ap (λ (f : Entity). is_input f.kind) (entity_itself entities p sound inside) ∙ input
@@ -112,7 +97,7 @@ step_rendered entities controls ins places i old mid new sound order below given
         ap (λ (b : Bool). if not b && eqb e.id id then Some made else frame_on mid id) input
         ∙ before.wires id
         ∙ ap (λ o. if done id then Some (m id) else o) (given.inputs id input_terminal ∙ ap Some (sym meant))
-        ∙ both (done id) (Some (m id))
+        ∙ either_way (done id) (Some (m id))
     rendered_here id same false unit =
         ap (λ (b : Bool). if not b && eqb e.id id then Some made else frame_on mid id) unit
         ∙ ap (λ (b : Bool). if b then Some made else frame_on mid id) (eq-eqb e.id id same)
@@ -125,12 +110,12 @@ step_rendered entities controls ins places i old mid new sound order below given
         rendered_here id same (is_input e.kind) refl
         ∙ sym (
         ap (λ (b : Bool). if done id || b then Some (m id) else frame_on old id) (eq-eqb e.id id same)
-        ∙ ap (λ (b : Bool). if b then Some (m id) else frame_on old id) (or_true (done id)))
+        ∙ ap (λ (b : Bool). if b then Some (m id) else frame_on old id) (or-true (done id)))
     by_id id (inr other) =
         ap (λ (b : Bool). if not (is_input e.kind) && b then Some made else frame_on mid id) (ne_eqb e.id id other)
-        ∙ ap (λ (b : Bool). if b then Some made else frame_on mid id) (and_false (not (is_input e.kind)))
+        ∙ ap (λ (b : Bool). if b then Some made else frame_on mid id) (and-false (not (is_input e.kind)))
         ∙ before.wires id
-        ∙ ap (λ (b : Bool). if b then Some (m id) else frame_on old id) (sym (or_false (done id)))
+        ∙ ap (λ (b : Bool). if b then Some (m id) else frame_on old id) (sym (or-false (done id)))
         ∙ ap (λ (b : Bool). if done id || b then Some (m id) else frame_on old id) (sym (ne_eqb e.id id other))
 
 -- nothing was rendered yet

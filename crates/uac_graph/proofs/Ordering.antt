@@ -1,24 +1,25 @@
 -- Entities in the order in which they are rendered, each after its sources.
 use Rattle.std.proofs.Common.{◌≡◌, ◌∙◌, sym, ap, subst, refl, arith, ℕ, zero, suc, ◌+◌, ◌-◌, ◌<◌, ◌≤◌, ◌==◌, Bool, true, false, ◌||◌, ◌&&◌, eqb, List, [], ◌∷◌, ◌++◌, length, get_or, take, drop, inl, inr, below_more}
 use Rattle.std.specs.List.{All, list_any}
-use Rattle.std.proofs.lemmas.Bool.{cases_eq, cases_lt, eq-eqb, ne_eqb, eqb-true}
-use Rattle.std.proofs.lemmas.Grind.{get_or_default_zero}
-use Rattle.std.proofs.lemmas.List.{take_all, take-append-drop, take-append-le}
-use Rattle.std.proofs.lemmas.List.Elements.{All-append, All-nil}
+use Rattle.std.proofs.Math.Bool.{or_assoc, or-false}
+use Rattle.std.proofs.lemmas.Bool.{cases_eq, cases_lt, eq-eqb, ne_eqb, eqb-true, or_right}
+use Rattle.std.proofs.lemmas.List.{get_or_default, take_all, take-append-drop, take-append-le}
+use Rattle.std.proofs.lemmas.List.Elements.{All-nil, All-push}
 use Rattle.std.proofs.lemmas.List.Folds.{list_any-append, list_any_at, list_any_more, list_any_none}
 use Rattle.std.proofs.Math.ListN.{get_or-append, length-append}
 use Rattle.std.proofs.Math.Seq.{get_or-append_seam, take-append_seam}
 use Rattle.uac_entities.specs.declared.entity.Entity.{Entity}
 use Rattle.uac_rules.specs.Links.{is_clock, signal_sources}
 use Rattle.uac_rules.specs.Rules.{is_output}
-use Rattle.uac_rules.specs.Table.{at, place_of}
+use Rattle.uac_rules.specs.Table.{at, nothing, place_of}
+use Rattle.uac_rules.proofs.Found.{any_at}
 use Rattle.uac_rules.proofs.TableSteps.{at_read}
 use Rattle.uac_graph.specs.Fitness.{IsSignalGraph}
 use Rattle.uac_graph.specs.Meaning.{entity}
 use Rattle.uac_graph.specs.Needs.{depended, is_end, reaches}
 use Rattle.uac_graph.specs.Orders.{AreOrders, IsOrder, IsOrderOf, holds}
 use Rattle.uac_graph.specs.declared.orders.Order.{Order}
-use Rattle.uac_graph.proofs.Apart.{any_at, apart_more}
+use Rattle.uac_graph.proofs.Apart.{apart_more}
 use Rattle.uac_graph.proofs.Lookups.{id_at}
 use Rattle.uac_graph.proofs.Reaching.{reaches_self, reaches_step}
 use Rattle.uac_graph.proofs.Ticking.{entity_itself, tested_more}
@@ -28,10 +29,6 @@ use Rattle.uac_graph.proofs.Walking.{signal_below, signal_sources_of}
 any_front : (p : ℕ → Bool) (xs : List ℕ) (j : ℕ) → list_any p (take j xs) ≡ true → list_any p xs ≡ true
 any_front p xs j e =
     ap (list_any p) (sym (take-append-drop j xs)) ∙ list_any-append p (take j xs) (drop j xs) ∙ ap (λ (b : Bool). b || list_any p (drop j xs)) e
-
-or_assoc : (a b c : Bool) → ((a || b) || c) ≡ (a || (b || c))
-or_assoc true b c = refl
-or_assoc false b c = refl
 
 or_within : (a b : Bool) → (b ≡ true → a ≡ true) → a ≡ (a || b)
 or_within true b f = refl
@@ -44,14 +41,6 @@ or_last false true true = refl
 or_last false true false = refl
 or_last false false true = refl
 or_last false false false = refl
-
-pub or_none : (a : Bool) → a ≡ (a || false)
-or_none true = refl
-or_none false = refl
-
-or_right : (a b : Bool) → b ≡ true → (a || b) ≡ true
-or_right true b e = refl
-or_right false b e = e
 
 -- the sources of an entity that is held are held
 sources_held : (entities : List Entity) (places : List ℕ) (id k : ℕ) → IsSignalGraph entities → IsOrder entities places → holds entities places id ≡ true
@@ -129,16 +118,6 @@ held_itself entities links id place old mid new signal some where_it_is pushed b
     ∙ ap (λ (n : ℕ). holds entities old k || (eqb n k || later)) named
     ∙ ap (λ (b : Bool). holds entities old k || b) (sym (reaches_step entities links id k some))
 
--- places and one more
-all_more : (P : ℕ → Type 0) (xs : List ℕ) (x : ℕ) → All P xs → P x → (k : ℕ) → k < length (xs ++ x ∷ []) → P (get_or (xs ++ x ∷ []) k 0)
-all_more P xs x all here k below =
-    elim (cases_lt k (length xs)) [
-      | inl inside ↦ subst P (sym (get_or-append xs (x ∷ []) 0 k inside)) (all k 0 inside)
-      | inr past ↦
-          (let last : k ≡ length xs = omega (arith, length-append xs (x ∷ [])) in
-          subst P (sym (ap (λ (j : ℕ). get_or (xs ++ x ∷ []) j 0) last ∙ get_or-append_seam xs x [] 0)) here)
-    ]
-
 -- the entity stands behind its sources
 pub order_more : (entities : List Entity) (links id place : ℕ) (old mid new : List ℕ) → IsSignalGraph entities → is_clock (entity entities id).kind ≡ false
     → place ≡ place_of entities id → new ≡ mid ++ place ∷ [] → holds entities mid id ≡ false → IsOrder entities mid
@@ -148,13 +127,10 @@ unfolding entity
 order_more entities links id place old mid new sound signal where_it_is pushed absent order before =
     subst (IsOrder entities) (sym pushed)
     (record {
-      inside = λ k d below.
-          subst (λ (p : ℕ). p < length entities) (sym (get_or_default_zero (mid ++ place ∷ []) k d below))
-          (all_more (λ p. p < length entities) mid place order.inside (subst (λ (p : ℕ). p < length entities) (sym where_it_is) (signal_below entities id signal)) k below);
-      signal = λ k d below.
-          subst (λ (p : ℕ). is_clock (at entities p).kind ≡ false) (sym (get_or_default_zero (mid ++ place ∷ []) k d below))
-          (all_more (λ p. is_clock (at entities p).kind ≡ false) mid place order.signal
-          (subst (λ (p : ℕ). is_clock (at entities p).kind ≡ false) (sym where_it_is) signal) k below);
+      inside = All-push (λ p. p < length entities) mid place order.inside (subst (λ (p : ℕ). p < length entities) (sym where_it_is) (signal_below entities id signal));
+      signal =
+          All-push (λ p. is_clock (at entities p).kind ≡ false) mid place order.signal
+          (subst (λ (p : ℕ). is_clock (at entities p).kind ≡ false) (sym where_it_is) signal);
       apart = apart_more entities id place mid signal where_it_is absent order;
       behind = λ k below. elim (cases_lt k (length mid)) [
         | inl inside ↦
@@ -212,7 +188,7 @@ pub ends_same : (entities slice : List Entity) (domain i : ℕ) (e : Entity) (pl
     → (k : ℕ) → holds entities places k ≡ list_any (λ f. is_end domain f && reaches entities (length entities) f.id k) (take (i + 1) slice)
 ends_same entities slice domain i e places same below item other before k =
     before k
-    ∙ or_none (list_any (λ f. is_end domain f && reaches entities (length entities) f.id k) (take i slice))
+    ∙ sym (or-false (list_any (λ f. is_end domain f && reaches entities (length entities) f.id k) (take i slice)))
     ∙ ap (λ (b : Bool). list_any (λ f. is_end domain f && reaches entities (length entities) f.id k) (take i slice) || (b && reaches entities (length slice) e.id k)) (sym other)
     ∙ sym (tested_more entities slice domain i k e same below item)
 
@@ -247,11 +223,7 @@ pub each_more : (entities : List Entity) (old new : List Order) (o : Order) → 
     → All (λ p. IsOrderOf entities p.domain p.places.items) new
 each_more entities old new o pushed before here =
     subst (All (λ (p : Order). IsOrderOf entities p.domain p.places.items)) (sym pushed)
-    (All-append (λ (p : Order). IsOrderOf entities p.domain p.places.items) old (o ∷ []) before (single o here))
-  where
-    single : (p : Order) → IsOrderOf entities p.domain p.places.items → All (λ (q : Order). IsOrderOf entities q.domain q.places.items) (p ∷ [])
-    single p is zero d below = is
-    single p is (suc k) d below = absurd (omega arith)
+    (All-push (λ (p : Order). IsOrderOf entities p.domain p.places.items) old o before here)
 
 pub known_more : (slice : List Entity) (old new : List Order) (o : Order) (i : ℕ) → new ≡ old ++ o ∷ []
     → ((k : ℕ) → k < i → is_output (at slice k).kind ≡ true → list_any (λ p. p.domain == (at slice k).clock) old ≡ true)
@@ -278,15 +250,10 @@ orders_all entities slice orders i same past each passed = record {
       ap (λ (xs : List Entity). list_any (λ e. is_end domain e && reaches entities (length entities) e.id id) xs) (sym same)
       ∙ list_any_none (λ e. is_end domain e && reaches entities (length entities) e.id id) slice
       (λ k d below.
-      subst (λ (e : Entity). (is_end domain e && reaches entities (length entities) e.id id) ≡ false) (get_or_default slice k d below)
+      subst (λ (e : Entity). (is_end domain e && reaches entities (length entities) e.id id) ≡ false) (get_or_default slice k nothing d below)
       (no_end domain (at slice k) orders (reaches entities (length entities) (at slice k).id id) none (passed k (omega arith))));
 }
   where
-    get_or_default : (es : List Entity) (k : ℕ) (d : Entity) → k < length es → at es k ≡ get_or es k d
-    get_or_default [] k d below = absurd (omega arith)
-    get_or_default (e ∷ es) zero d below = refl
-    get_or_default (e ∷ es) (suc k) d below = get_or_default es k d (omega arith)
-
     no_end : (domain : ℕ) (e : Entity) (os : List Order) (b : Bool) → list_any (λ o. o.domain == domain) os ≡ false
         → (is_output e.kind ≡ true → list_any (λ o. o.domain == e.clock) os ≡ true) → (is_end domain e && b) ≡ false
     no_end domain e os b none known = by_kind (is_output e.kind) (eqb e.clock domain) refl refl

@@ -7,8 +7,6 @@ use Rattle.std.proofs.Common.{
   refl,
   arith,
   ℕ,
-  zero,
-  suc,
   ◌+◌,
   ◌<◌,
   ◌≤◌,
@@ -37,20 +35,16 @@ use Rattle.std.proofs.Common.{
   inr,
   length-append,
 }
-use Rattle.std.specs.List.{All, sum_by}
+use Rattle.std.specs.List.{sum_by}
 use Rattle.std.proofs.lemmas.List.{map_more, map-append}
 use Rattle.std.proofs.lemmas.List.{take-append-drop, append-nil}
 use Rattle.std.proofs.lemmas.List.Sums.{sum_by-cons, sum-map}
 use Rattle.std.specs.Result.{IsOk, OnOk}
 use Rattle.std.specs.Option.{option_map}
 use Rattle.std.proofs.lemmas.Bool.{cases_eq, eq-eqb, ne_eqb}
+use Rattle.std.proofs.lemmas.Option.{same_Some}
 use Rattle.uac_units.specs.Rendering.{in_a_row}
 use Rattle.uac_graph.specs.Wiring.{Frames, frame_on}
-
--- a list of one
-pub all_one : {X : Type 0} (P : X → Type 0) (x : X) → P x → All P (x ∷ [])
-all_one P x h zero d below = h
-all_one P x h (suc k) d below = absurd (omega arith)
 
 pub in_a_row-append : (frames others : List (List ℤ)) → in_a_row (frames ++ others) ≡ in_a_row frames ++ in_a_row others
 in_a_row-append [] others = refl
@@ -103,10 +97,7 @@ when_ok (Err e) P ok p = absurd (cc)
 pub no_samples : (o : Option (List ℤ)) (n : ℕ) → option_map length o ≡ Some n → n ≡ 0 → o ≡ Some []
 no_samples None n e none = absurd (cc)
 no_samples (Some []) n e none = refl
-no_samples (Some (z ∷ zs)) n e none = absurd (omega (arith, some_is (length (z ∷ zs)) n e))
-  where
-    some_is : (a b : ℕ) → Some a ≡ Some b → a ≡ b
-    some_is a b s = cc
+no_samples (Some (z ∷ zs)) n e none = absurd (omega (arith, same_Some (length (z ∷ zs)) n e))
 
 -- a wire that gets what it has
 pub same_wire : (frames : Frames) (own id : ℕ) (frame : List ℤ) → frame_on frames own ≡ Some frame

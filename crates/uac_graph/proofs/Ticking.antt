@@ -2,6 +2,7 @@
 use Rattle.std.proofs.Common.{◌≡◌, ◌∙◌, sym, ap, subst, refl, ℕ, ◌+◌, ◌<◌, Bool, true, false, ◌||◌, ◌&&◌, ℤ, List, [], Option, Some, None, length, get_or, take, unwrap_or}
 use Rattle.std.specs.List.{list_any}
 use Rattle.std.specs.Option.{option_map}
+use Rattle.std.proofs.lemmas.Bool.{and_parts}
 use Rattle.std.proofs.lemmas.List.Folds.{list_any_more}
 use Rattle.uac_walk.specs.Walk.{has_walk}
 use Rattle.uac_entities.specs.declared.entity.Entity.{Entity}
@@ -23,11 +24,6 @@ pub output_signal : (k : EntityKind) → is_output k ≡ true → is_clock k ≡
 output_signal kind.OutputTerminal e = refl
 output_signal _ e = absurd (cc)
 
--- what holds of both holds of the first
-both_first : (a b : Bool) → (a && b) ≡ true → a ≡ true
-both_first true b e = refl
-both_first false b e = absurd (cc)
-
 -- the entity at a place is the one with its id
 pub entity_itself : (entities : List Entity) (place : ℕ) → IsSignalGraph entities → place < length entities → entity entities (at entities place).id ≡ at entities place
 unfolding entity
@@ -40,7 +36,7 @@ end_signal entities slice domain place e sound same below item end =
     let inside : place < length entities = subst (λ (xs : List Entity). place < length xs) same below in
     let here : at entities place ≡ e = sym (at_read entities place e inside (subst (λ (xs : List Entity). e ≡ get_or xs place e) same item)) in
     subst (λ (f : Entity). is_clock (entity entities f.id).kind ≡ false) here
-    (ap (λ (f : Entity). is_clock f.kind) (entity_itself entities place sound inside ∙ here) ∙ output_signal e.kind (both_first (is_output e.kind) _ end))
+    (ap (λ (f : Entity). is_clock f.kind) (entity_itself entities place sound inside ∙ here) ∙ output_signal e.kind (and_parts (is_output e.kind) _ end).0)
 
 -- no walk from it goes on for ever
 pub end_stops : (entities slice : List Entity) (place : ℕ) (e : Entity) → IsSignalGraph entities → slice ≡ entities → place < length slice → e ≡ get_or slice place e

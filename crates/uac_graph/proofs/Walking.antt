@@ -1,5 +1,5 @@
 -- Wires rendered one after the other, each after its sources.
-use Rattle.std.proofs.Common.{◌≡◌, ◌∙◌, sym, ap, refl, ℕ, ◌<◌, Bool, true, false, ◌||◌, if◌then◌else◌, ℤ, List, [], Option, Some, None, length, map, inl, inr}
+use Rattle.std.proofs.Common.{◌≡◌, ◌∙◌, sym, ap, refl, ℕ, ◌<◌, Bool, true, false, if◌then◌else◌, ℤ, List, [], Option, Some, None, length, map, inl, inr}
 use Rattle.uac_entities.specs.declared.entity.Entity.{Entity}
 use Rattle.uac_rules.specs.Clusters.{is_input}
 use Rattle.uac_rules.specs.Links.{is_clock, signal_sources}
@@ -41,20 +41,6 @@ rendered_by entities controls ins done told old new same rendered = record {
       rendered.wires id ∙ ap (λ (b : Bool). if b then Some (meaning entities controls ins id) else frame_on old id) (same id);
 }
 
--- some wires and then some more
-pub rendered_more : (entities : List Entity) (controls : Controls) (ins : ℕ → List ℤ) (first second : ℕ → Bool) (old mid new : Frames)
-    → AreRendered entities controls ins first old mid → AreRendered entities controls ins second mid new
-    → AreRendered entities controls ins (λ id. first id || second id) old new
-rendered_more entities controls ins first second old mid new before after = record {
-  wires = λ id. after.wires id ∙ ap (λ o. if second id then Some (meaning entities controls ins id) else o) (before.wires id) ∙ joined (first id) (second id) _ _;
-}
-  where
-    joined : (a b : Bool) (w o : Option (List ℤ)) → (if b then w else if a then w else o) ≡ (if a || b then w else o)
-    joined true true w o = refl
-    joined true false w o = refl
-    joined false true w o = refl
-    joined false false w o = refl
-
 -- an input terminal's meaning is what it is given
 pub meaning_given : (entities : List Entity) (controls : Controls) (ins : ℕ → List ℤ) (id : ℕ) → IsSignalGraph entities
     → is_input (entity entities id).kind ≡ true → meaning entities controls ins id ≡ ins id
@@ -64,6 +50,11 @@ meaning_given entities controls ins id sound input =
     ∙ ap (λ (b : Bool). if b then ins id
     else frame_of controls id (entity entities id).kind (entity entities id).cluster.channels (map (meaning entities controls ins) (signal_sources (entity entities id)))) input
 
+-- what is the same whether or not
+pub either_way : (b : Bool) (o : Option (List ℤ)) → (if b then o else o) ≡ o
+either_way true o = refl
+either_way false o = refl
+
 -- input terminals keep what they are given
 pub given_kept : (entities : List Entity) (controls : Controls) (ins : ℕ → List ℤ) (done : ℕ → Bool) (old new : Frames) → IsSignalGraph entities
     → AreGiven entities ins old → AreRendered entities controls ins done old new → AreGiven entities ins new
@@ -72,9 +63,5 @@ given_kept entities controls ins done old new sound given rendered = record {
       rendered.wires id
       ∙ ap (λ frame. if done id then Some frame else frame_on old id) (meaning_given entities controls ins id sound input)
       ∙ ap (λ o. if done id then Some (ins id) else o) (given.inputs id input)
-      ∙ same (done id) (Some (ins id));
+      ∙ either_way (done id) (Some (ins id));
 }
-  where
-    same : (b : Bool) (o : Option (List ℤ)) → (if b then o else o) ≡ o
-    same true o = refl
-    same false o = refl

@@ -53,7 +53,3 @@ samples (suc n) entities controls ins id = samples_by entities controls ins (sam
 -- the samples on the wire of the entity with this id, one for each channel
 unfoldable pub meaning : List Entity → Controls → (ℕ → List ℤ) → ℕ → List ℤ
 meaning entities controls ins id = samples (length entities) entities controls ins id
-
--- the sample of a channel on a wire
-abbrev pub wire : List Entity → Controls → (ℕ → List ℤ) → ℕ → ℕ → ℤ
-wire entities controls ins id channel = input (meaning entities controls ins id) channel

@@ -1,12 +1,11 @@
 -- More links change nothing where no walk is that long.
 use Rattle.std.proofs.Common.{◌≡◌, ◌<◌, ◌+◌, sym, ℕ, false, cond, List, [], ◌∷◌, ◌++◌, zero, suc, length, get_or, refl, ap, ◌∙◌, arith}
 use Rattle.std.specs.Prelude.{slice_get}
-use Rattle.std.specs.List.{list_any, flat_map}
+use Rattle.std.specs.List.{flat_map}
 use Rattle.std.specs.Option.{option_map_or}
-use Rattle.std.proofs.lemmas.Bool.{or_parts}
 use Rattle.std.proofs.Common.{zero-add}
 use Rattle.std.proofs.Math.Nat.{suc-add}
-use Rattle.uac_walk.proofs.Walks.{no_longer}
+use Rattle.uac_walk.proofs.Walks.{no_longer, none_at}
 use Rattle.uac_walk.specs.Walk.{links, has_walk}
 use Rattle.uac_entities.specs.Entities.{no_cluster}
 use Rattle.uac_entities.specs.declared.entity.Cluster.{Cluster}
@@ -18,12 +17,7 @@ use Rattle.uac_rules.specs.Clusters.{takes_over, is_input, cluster_step, cluster
 -- where no walk of n + 1 links leads on, none of n leads on from a source
 shorter : (g : List (List ℕ)) (n k i : ℕ) → has_walk g (suc n) k ≡ false → i < length (links g k) → has_walk g n (get_or (links g k) i 0) ≡ false
 unfolding has_walk
-shorter g n k i e below = at_place (links g k) i below e
-  where
-    at_place : (xs : List ℕ) (i : ℕ) → i < length xs → list_any (has_walk g n) xs ≡ false → has_walk g n (get_or xs i 0) ≡ false
-    at_place [] i h e = absurd (omega arith)
-    at_place (x ∷ xs) zero h e = (or_parts (has_walk g n x) (list_any (has_walk g n) xs) e).0
-    at_place (x ∷ xs) (suc i) h e = at_place xs i (omega arith) (or_parts (has_walk g n x) (list_any (has_walk g n) xs) e).1
+shorter g n k i e below = none_at (has_walk g n) (links g k) i 0 below e
 
 -- a step looks at the sources alone
 pub cluster_same : (es : List Entity) (f g : ℕ → Cluster) (k : ℕ) →

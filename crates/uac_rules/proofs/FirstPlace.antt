@@ -1,6 +1,7 @@
 -- The first place that a test finds.
 use Rattle.std.proofs.Common.{◌≡◌, ℕ, ◌+◌, ◌<◌, ◌≤◌, Bool, true, false, List, Option, Some, None, suc, zero, length, refl, sym, ap, ◌∙◌, arith, subst, inl, inr}
 use Rattle.std.proofs.lemmas.Bool.{cases_eq, cases_Bool, cond-true, cond-false}
+use Rattle.std.proofs.lemmas.Option.{none-some}
 use Rattle.std.specs.List.{find, range_with_len}
 use Rattle.std.specs.Option.{option_map}
 use Rattle.uac_entities.specs.declared.entity.Entity.{Entity}
@@ -32,25 +33,23 @@ pub first_place_none : (test : ℕ → Bool) (n : ℕ) → ((j : ℕ) → j < n 
 unfolding first_place
 first_place_none test n none = none_from test 0 n (λ j l h. none j (omega arith))
 
+-- a broken rule, with who breaks it
+abbrev fault_by : ℕ → ℕ → Bool → TopologyFault
+fault_by rule id interface = record { rule = rule; id = id; interface = interface }
+
 -- an entity that breaks a rule, and none before it does
 pub entity_breaks : (rule : ℕ) (es : List Entity) (breaks : List Entity → ℕ → Bool) (k : ℕ) → k < length es →
     ((j : ℕ) → j < k → breaks es j ≡ false) → breaks es k ≡ true →
     of_entity rule es breaks ≡ Some (record { rule = rule; id = (at es k).id; interface = false })
 unfolding of_entity offender
 entity_breaks rule es breaks k below none here =
-    ap (λ (o : Option ℕ). option_map (λ (id : ℕ). fault rule id) (option_map (λ (p : ℕ). (at es p).id) o)) (first_place_is (breaks es) (length es) k below none here)
-  where
-    fault : ℕ → ℕ → TopologyFault
-    fault rule id = record { rule = rule; id = id; interface = false }
+    ap (λ (o : Option ℕ). option_map (λ (id : ℕ). fault_by rule id false) (option_map (λ (p : ℕ). (at es p).id) o)) (first_place_is (breaks es) (length es) k below none here)
 
 pub no_entity_breaks : (rule : ℕ) (es : List Entity) (breaks : List Entity → ℕ → Bool) →
     ((j : ℕ) → j < length es → breaks es j ≡ false) → of_entity rule es breaks ≡ None
 unfolding of_entity offender
 no_entity_breaks rule es breaks none =
-    ap (λ (o : Option ℕ). option_map (λ (id : ℕ). fault rule id) (option_map (λ (p : ℕ). (at es p).id) o)) (first_place_none (breaks es) (length es) none)
-  where
-    fault : ℕ → ℕ → TopologyFault
-    fault rule id = record { rule = rule; id = id; interface = false }
+    ap (λ (o : Option ℕ). option_map (λ (id : ℕ). fault_by rule id false) (option_map (λ (p : ℕ). (at es p).id) o)) (first_place_none (breaks es) (length es) none)
 
 -- a streaming interface that breaks a rule, and none before it does
 pub interface_breaks : (rule : ℕ) (ss : List StreamInterface) (breaks : List StreamInterface → ℕ → Bool) (k : ℕ) → k < length ss →
@@ -58,35 +57,26 @@ pub interface_breaks : (rule : ℕ) (ss : List StreamInterface) (breaks : List S
     of_interface rule ss breaks ≡ Some (record { rule = rule; id = number_at ss k; interface = true })
 unfolding of_interface interface_offender
 interface_breaks rule ss breaks k below none here =
-    ap (λ (o : Option ℕ). option_map (λ (id : ℕ). fault rule id) (option_map (number_at ss) o)) (first_place_is (breaks ss) (length ss) k below none here)
-  where
-    fault : ℕ → ℕ → TopologyFault
-    fault rule id = record { rule = rule; id = id; interface = true }
+    ap (λ (o : Option ℕ). option_map (λ (id : ℕ). fault_by rule id true) (option_map (number_at ss) o)) (first_place_is (breaks ss) (length ss) k below none here)
 
 pub no_interface_breaks : (rule : ℕ) (ss : List StreamInterface) (breaks : List StreamInterface → ℕ → Bool) →
     ((j : ℕ) → j < length ss → breaks ss j ≡ false) → of_interface rule ss breaks ≡ None
 unfolding of_interface interface_offender
 no_interface_breaks rule ss breaks none =
-    ap (λ (o : Option ℕ). option_map (λ (id : ℕ). fault rule id) (option_map (number_at ss) o)) (first_place_none (breaks ss) (length ss) none)
-  where
-    fault : ℕ → ℕ → TopologyFault
-    fault rule id = record { rule = rule; id = id; interface = true }
+    ap (λ (o : Option ℕ). option_map (λ (id : ℕ). fault_by rule id true) (option_map (number_at ss) o)) (first_place_none (breaks ss) (length ss) none)
 
 -- where no fault is found, no entity breaks the rule
 find_none : (test : ℕ → Bool) (a n j : ℕ) → find test (range_with_len a n) ≡ None → a ≤ j → j < a + n → test j ≡ false
 find_none test a zero j e low high = absurd (omega arith)
 find_none test a (suc n) j e low high =
     elim (cases_Bool (test a)) [
-      | inl t ↦ absurd (some_none a (sym (cond-true (test a) (Some a) (find test (range_with_len (a + 1) n)) t) ∙ e))
+      | inl t ↦ absurd (none-some a (sym e ∙ cond-true (test a) (Some a) (find test (range_with_len (a + 1) n)) t))
       | inr f ↦
           elim (cases_eq a j) [
             | inl s ↦ subst (λ (i : ℕ). test i ≡ false) s f
             | inr n' ↦ find_none test (a + 1) n j (sym (cond-false (test a) (Some a) (find test (range_with_len (a + 1) n)) f) ∙ e) (omega arith) (omega arith)
           ]
     ]
-  where
-    some_none : (i : ℕ) → Some i ≡ None → ⊥
-    some_none i e = cc
 
 map_none : {X Y : Type 0} (f : X → Y) (o : Option X) → option_map f o ≡ None → o ≡ None
 map_none f None e = refl
@@ -97,9 +87,6 @@ pub breaks_none : (rule : ℕ) (es : List Entity) (breaks : List Entity → ℕ 
 unfolding of_entity offender first_place
 breaks_none rule es breaks e j below =
     find_none (breaks es) 0 (length es) j (map_none _ _ (map_none _ _ e)) (omega arith) (omega arith)
-
-abbrev fault_by : ℕ → ℕ → Bool → TopologyFault
-fault_by rule id interface = record { rule = rule; id = id; interface = interface }
 
 -- the same fault by equal parts
 pub same_fault : (a b i j : ℕ) (t : Bool) → a ≡ b → i ≡ j →

@@ -1,11 +1,20 @@
--- The place of the first element that passes a test.
-use Rattle.std.proofs.Common.{◌≡◌, ℕ, ◌+◌, ◌<◌, ◌≤◌, Bool, true, false, List, [], ◌∷◌, ◌++◌, Some, None, length, inl, inr, refl, sym, ap, ◌∙◌, arith, not}
+-- A place where a test passes, and the first one.
+use Rattle.std.proofs.Common.{◌≡◌, ℕ, ◌+◌, ◌<◌, ◌≤◌, Bool, true, false, List, [], ◌∷◌, ◌++◌, Some, None, length, get_or, inl, inr, refl, sym, ap, ◌∙◌, arith, not}
 use Rattle.std.specs.Prelude.{position}
-use Rattle.std.specs.List.{position_or_len}
+use Rattle.std.specs.List.{list_any, position_or_len}
 use Rattle.std.proofs.lemmas.Bool.{cases_lt, eq-eqb, ne_eqb, lt-ltb, le-ltb}
 use Rattle.std.proofs.lemmas.List.{length_push}
+use Rattle.std.proofs.lemmas.Option.{none-some, same_Some}
 use Rattle.std.proofs.lemmas.List.Sums.{prefix_len-le-length}
-use Rattle.std.proofs.lemmas.List.Folds.{position_or_len_push}
+use Rattle.std.proofs.lemmas.Grind.{get_or_default_zero}
+use Rattle.std.proofs.lemmas.List.Folds.{Any-from_list_any, position_or_len_push}
+
+-- where a test passes
+pub any_at : (p : ℕ → Bool) (xs : List ℕ) → list_any p xs ≡ true → (k : ℕ) × (k < length xs) × (p (get_or xs k 0) ≡ true)
+any_at p xs e =
+    let any = Any-from_list_any p xs e in
+    let value : get_or xs any.0 0 ≡ any.1 = sym (get_or_default_zero xs any.0 any.1 any.2) ∙ any.3 in
+    (any.0, any.2, ap p value ∙ any.4)
 
 module _ {X : Type 0} (p : X → Bool) (xs : List X) where
   pub or_len-le : position_or_len p xs ≤ length xs
@@ -21,25 +30,16 @@ module _ {X : Type 0} (p : X → Bool) (xs : List X) where
   position_is k e =
       elim (cases_lt (position_or_len p xs) (length xs)) [
         | inl below ↦
-            (let s : position_or_len p xs ≡ k = some_same (position_or_len p xs) k (sym (position-below below) ∙ e) in (omega arith, s))
-        | inr past ↦ absurd (none_some k (sym (position-past past) ∙ e))
+            (let s : position_or_len p xs ≡ k = same_Some (position_or_len p xs) k (sym (position-below below) ∙ e) in (omega arith, s))
+        | inr past ↦ absurd (none-some k (sym (position-past past) ∙ e))
       ]
-    where
-      some_same : (a b : ℕ) → Some a ≡ Some b → a ≡ b
-      some_same a b e = cc
-
-      none_some : (b : ℕ) → None ≡ Some b → ⊥
-      none_some b e = cc
 
   pub position_none : position p xs ≡ None → position_or_len p xs ≡ length xs
   position_none e =
       elim (cases_lt (position_or_len p xs) (length xs)) [
-        | inl below ↦ absurd (some_none (position_or_len p xs) (sym (position-below below) ∙ e))
+        | inl below ↦ absurd (none-some (position_or_len p xs) (sym e ∙ position-below below))
         | inr past ↦ omega (arith, or_len-le)
       ]
-    where
-      some_none : (b : ℕ) → Some b ≡ None → ⊥
-      some_none b e = cc
 
 module _ {X : Type 0} (p : X → Bool) (xs : List X) (y : X) where
   pub position-push_found : (k : ℕ) → position p xs ≡ Some k → position p (xs ++ y ∷ []) ≡ Some k

@@ -1,11 +1,12 @@
 -- What follows where the lesser rules hold.
-use Rattle.std.proofs.Common.{◌≡◌, ℕ, ◌<◌, not, Bool, true, false, List, [], ◌∷◌, Option, Some, None, length, get_or, map, refl, sym, arith, subst, zero, suc}
-use Rattle.std.specs.List.{list_any, All}
+use Rattle.std.proofs.Common.{◌≡◌, ℕ, ◌<◌, not, false, List, [], Option, Some, None, length, get_or, map, refl, sym, arith, subst}
+use Rattle.std.specs.List.{All}
 use Rattle.std.specs.Option.{option_or, option_map, is_none}
-use Rattle.std.proofs.lemmas.Bool.{or_parts}
+use Rattle.std.proofs.lemmas.Bool.{or_parts, true≢false}
 use Rattle.std.proofs.lemmas.List.{get_or-map, length-map}
 use Rattle.uac_walk.specs.Walk.{links}
 use Rattle.uac_walk.specs.Order.{IsClosed}
+use Rattle.uac_walk.proofs.Walks.{none_at}
 use Rattle.uac_entities.specs.declared.entity.Entity.{Entity}
 use Rattle.uac_rules.specs.Table.{found, place_of, at, nothing, kind_of}
 use Rattle.uac_rules.specs.Links.{signal_sources, clock_sources, signal_links, clock_links}
@@ -18,6 +19,11 @@ use Rattle.uac_rules.proofs.TableSteps.{found_is}
 pub or_none : {X : Type 0} (a b : Option X) → option_or a b ≡ None → (a ≡ None) × (b ≡ None)
 or_none None b e = (refl, e)
 or_none (Some x) b e = absurd (cc)
+
+-- nothing behind an answer changes it
+pub option_or-none : {X : Type 0} (o : Option X) → option_or o None ≡ o
+option_or-none None = refl
+option_or-none (Some x) = refl
 
 -- the rules U1 to U5 hold
 pub record HasNames (es : List Entity) : Type 0 where
@@ -43,10 +49,7 @@ unfolding kind_of
 kind_below es id e = by (found es id) refl
   where
     by : (o : Option ℕ) → found es id ≡ o → place_of es id < length es
-    by None f = absurd (none_here (subst (λ (o : Option ℕ). is_none (option_map (λ (p : ℕ). (at es p).kind) o) ≡ false) f e))
-      where
-        none_here : true ≡ false → ⊥
-        none_here t = cc
+    by None f = absurd (true≢false (subst (λ (o : Option ℕ). is_none (option_map (λ (p : ℕ). (at es p).kind) o) ≡ false) f e))
     by (Some k) f = let w = found_is es id k (sym f) in omega (arith, w.0, w.1)
 
 none_from_clock : (es : List Entity) (id : ℕ) → not (is_some_clock (kind_of es id)) ≡ false → is_none (kind_of es id) ≡ false
@@ -55,11 +58,6 @@ none_from_clock es id e = by (kind_of es id) e
     by : (o : Option _) → not (is_some_clock o) ≡ false → is_none o ≡ false
     by None e = absurd (cc)
     by (Some k) e = refl
-
-all_false : {X : Type 0} (p : X → Bool) (xs : List X) (k : ℕ) (d : X) → k < length xs → list_any p xs ≡ false → p (get_or xs k d) ≡ false
-all_false p [] k d h e = absurd (omega arith)
-all_false p (x ∷ xs) zero d h e = (or_parts (p x) (list_any p xs) e).0
-all_false p (x ∷ xs) (suc k) d h e = all_false p xs k d (omega arith) (or_parts (p x) (list_any p xs) e).1
 
 -- the links of an entity
 pub signal_links-at : (es : List Entity) (k : ℕ) → k < length es → links (signal_links es) k ≡ map (place_of es) (signal_sources (at es k))
@@ -85,7 +83,7 @@ signal_closed es e v below =
     let holds = breaks_none 3 es breaks_u3 (has_names es e).u3 v in' in
     let ids = signal_sources (at es v) in
     let here : All (λ (t : ℕ). t < length es) (map (place_of es) ids) =
-    closed_at es ids (λ i b. kind_below es (get_or ids i 0) (all_false (λ (id : ℕ). is_none (kind_of es id)) ids i 0 b holds)) in
+    closed_at es ids (λ i b. kind_below es (get_or ids i 0) (none_at (λ (id : ℕ). is_none (kind_of es id)) ids i 0 b holds)) in
     let P : List ℕ → ℕ → Type 0 = λ xs n. (i : ℕ) (d : ℕ) → i < length xs → get_or xs i d < n in
     subst (λ (n : ℕ). P (links (signal_links es) v) n) (sym size) (subst (λ (xs : List ℕ). P xs (length es)) (sym (signal_links-at es v in')) here)
 
@@ -99,6 +97,6 @@ clock_closed es e v below =
     let ids = clock_sources (at es v) in
     let here : All (λ (t : ℕ). t < length es) (map (place_of es) ids) =
     closed_at es ids (λ i b. kind_below es (get_or ids i 0) (none_from_clock es (get_or ids i 0)
-    (all_false (λ (id : ℕ). not (is_some_clock (kind_of es id))) ids i 0 b holds))) in
+    (none_at (λ (id : ℕ). not (is_some_clock (kind_of es id))) ids i 0 b holds))) in
     let P : List ℕ → ℕ → Type 0 = λ xs n. (i : ℕ) (d : ℕ) → i < length xs → get_or xs i d < n in
     subst (λ (n : ℕ). P (links (clock_links es) v) n) (sym size) (subst (λ (xs : List ℕ). P xs (length es)) (sym (clock_links-at es v in')) here)

@@ -1,29 +1,24 @@
 -- Reading the streaming interface at a place.
-use Rattle.std.proofs.Common.{◌≡◌, ◌<◌, ℕ, Bool, false, ◌||◌, ◌+◌, List, [], ◌∷◌, Option, Some, None, zero, suc, length, get_or, drop, refl, sym, ap, ◌∙◌, arith}
-use Rattle.std.specs.Prelude.{slice_get}
+use Rattle.std.proofs.Common.{◌≡◌, ◌<◌, ℕ, Bool, false, ◌||◌, ◌+◌, List, Option, Some, None, length, get_or, drop, refl, sym, ap, ◌∙◌}
 use Rattle.std.specs.List.{list_any, cons_option}
 use Rattle.std.specs.Option.{option_map_or}
 use Rattle.uac_entities.specs.declared.stream.StreamInterface.{StreamInterface}
 use Rattle.std.proofs.lemmas.List.{get_or_default}
+use Rattle.std.proofs.lemmas.Option.{slice_get_read}
 use Rattle.uac_entities.specs.declared.stream.Setting.{Setting}
 use Rattle.uac_entities.specs.Streams.{link_of, links_of}
 use Rattle.uac_entities.proofs.Behind.{filter_map_at}
 use Rattle.uac_rules.specs.Rules.{at_stream}
 use Rattle.uac_rules.specs.Offenders.{number_at}
 
-get_is : {X : Type 0} (xs : List X) (k : ℕ) (x : X) → k < length xs → x ≡ get_or xs k x → slice_get xs k ≡ Some x
-get_is [] k x below e = absurd (omega arith)
-get_is (y ∷ ys) zero x below e = ap (λ z. Some z) (sym e)
-get_is (y ∷ ys) (suc k) x below e = get_is ys k x (omega arith) e
-
 pub at_stream_is : {X : Type 0} (f : StreamInterface → X) (none : X) (streams : List StreamInterface) (k : ℕ) (s : StreamInterface) → k < length streams →
     s ≡ get_or streams k s → at_stream f none streams k ≡ f s
 unfolding at_stream
-at_stream_is f none streams k s below e = ap (λ (o : Option StreamInterface). option_map_or f o none) (get_is streams k s below e)
+at_stream_is f none streams k s below e = ap (λ (o : Option StreamInterface). option_map_or f o none) (slice_get_read streams (length streams) k s refl below e)
 
 pub number_is : (streams : List StreamInterface) (k : ℕ) (s : StreamInterface) → k < length streams → s ≡ get_or streams k s → s.number ≡ number_at streams k
 unfolding number_at
-number_is streams k s below e = sym (ap (λ (o : Option StreamInterface). option_map_or (λ (x : StreamInterface). x.number) o 0) (get_is streams k s below e))
+number_is streams k s below e = sym (ap (λ (o : Option StreamInterface). option_map_or (λ (x : StreamInterface). x.number) o 0) (slice_get_read streams (length streams) k s refl below e))
 
 -- a test of what an option gives, and of the rest
 pub any_given : {X : Type 0} (p : X → Bool) (o : Option X) (rest : List X) → list_any p (cons_option o rest) ≡ (option_map_or p o false || list_any p rest)

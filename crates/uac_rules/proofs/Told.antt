@@ -1,9 +1,8 @@
--- What tells of the clocks behind two sources, and along the order.
-use Rattle.std.proofs.Common.{◌≡◌, ◌==◌, ◌<◌, ◌||◌, ℕ, ◌+◌, Bool, true, false, not, List, [], ◌∷◌, ◌++◌, suc, length, get_or, set, take, refl, sym, ap, ◌∙◌, subst, arith, inl, inr, append-nil, append_assoc, ◌≤◌}
-use Rattle.std.specs.List.{list_any, flat_map}
-use Rattle.std.proofs.lemmas.Bool.{cases_eq, eq-eqb, ne_eqb, or_left, or_right}
-use Rattle.std.proofs.lemmas.List.{take_more, get_or-set_same, get_or-set_other, length-set, length-map}
-use Rattle.std.proofs.lemmas.List.Folds.{list_any-append}
+-- The clusters, and what tells of the clocks behind each entity, along the order.
+use Rattle.std.proofs.Common.{◌≡◌, ◌==◌, ◌<◌, ℕ, ◌+◌, true, not, List, length, get_or, set, sym, ap, ◌∙◌, subst, arith, inl, inr, ◌≤◌}
+use Rattle.std.specs.List.{list_any}
+use Rattle.std.proofs.lemmas.Bool.{cases_eq, eqb-true}
+use Rattle.std.proofs.lemmas.List.{get_or-set_same, get_or-set_other, length-set, length-map}
 use Rattle.uac_walk.specs.Walk.{links, has_walk}
 use Rattle.uac_entities.specs.Entities.{no_cluster}
 use Rattle.uac_entities.specs.declared.entity.Cluster.{Cluster}
@@ -13,60 +12,10 @@ use Rattle.uac_rules.specs.declared.signals.Behind.TheVariants as clocks
 use Rattle.uac_rules.specs.Table.{at}
 use Rattle.uac_rules.specs.Links.{signal_links}
 use Rattle.uac_rules.specs.Clusters.{cluster_of, cluster_by, cluster_step, clocks_of, clocks_by, clocks_step}
-use Rattle.uac_rules.specs.Behind.{differs, joined, Tells}
+use Rattle.uac_rules.specs.Behind.{differs, Tells}
 use Rattle.uac_rules.specs.Signals.{IsWalkable, HasClusters, HasClocks, AreClusters, AreClocks}
 use Rattle.uac_rules.proofs.Along.{cluster_same, cluster_is, clocks_are}
-
-other_true : (a c : ℕ) → (a ≡ c → ⊥) → not (a == c) ≡ true
-other_true a c n = ap not (ne_eqb a c n)
-
--- two sources together
-pub differs-joined : (a b : Behind) (c : ℕ) → differs (joined a b) c ≡ (differs a c || differs b c)
-differs-joined clocks.Nothing b c = refl
-differs-joined (clocks.One x) clocks.Nothing c = or_false (not (x == c))
-  where
-    or_false : (t : Bool) → t ≡ (t || false)
-    or_false true = refl
-    or_false false = refl
-differs-joined (clocks.One x) (clocks.One y) c =
-    elim (cases_eq x y) [
-      | inl e ↦ rw (eq-eqb x y e) (or_same (not (x == c)) ∙ ap (λ (n : ℕ). not (x == c) || not (n == c)) e)
-      | inr n ↦
-          rw (ne_eqb x y n)
-          (elim (cases_eq x c) [
-            | inl s ↦ sym (or_right (not (x == c)) (not (y == c)) (other_true y c (λ t. n (s ∙ sym t))))
-            | inr d ↦ sym (or_left (not (x == c)) (not (y == c)) (other_true x c d))
-          ])
-    ]
-  where
-    or_same : (t : Bool) → t ≡ (t || t)
-    or_same true = refl
-    or_same false = refl
-differs-joined (clocks.One x) clocks.Several c = sym (or_right (not (x == c)) true refl)
-differs-joined clocks.Several b c = refl
-
--- one more source
-pub told_more : (below : ℕ → List ℕ) (sources : List ℕ) (i : ℕ) (a b : Behind) → i < length sources → Tells a (flat_map below (take i sources)) →
-    Tells b (below (get_or sources i 0)) → Tells (joined a b) (flat_map below (take (i + 1) sources))
-told_more below sources i a b in' ha hb c =
-    let p : ℕ → Bool = λ x. not (x == c) in
-    ap (λ (xs : List ℕ). list_any p (flat_map below xs)) (take_more sources i 0 in')
-    ∙ ap (list_any p) (flat_map-push below (take i sources) (get_or sources i 0))
-    ∙ list_any-append p (flat_map below (take i sources)) (below (get_or sources i 0))
-    ∙ ap (λ (t : Bool). t || list_any p (below (get_or sources i 0))) (ha c)
-    ∙ ap (λ (t : Bool). differs a c || t) (hb c)
-    ∙ sym (differs-joined a b c)
-  where
-    flat_map-push : (f : ℕ → List ℕ) (xs : List ℕ) (x : ℕ) → flat_map f (xs ++ x ∷ []) ≡ flat_map f xs ++ f x
-    flat_map-push f [] x = append-nil (f x)
-    flat_map-push f (y ∷ ys) x = ap (λ (zs : List ℕ). f y ++ zs) (flat_map-push f ys x) ∙ sym (append_assoc (f y) (flat_map f ys) (f x))
-
-pub told_one : (clock : ℕ) → Tells (clocks.One clock) (clock ∷ [])
-told_one clock c = or_false (not (clock == c))
-  where
-    or_false : (t : Bool) → (t || false) ≡ t
-    or_false true = refl
-    or_false false = refl
+use Rattle.uac_rules.proofs.Found.{any_at}
 
 module _ (es : List Entity) (graph : List (List ℕ)) (order : List ℕ) (w : IsWalkable es graph order) where
   graph_size : length graph ≡ length es
@@ -79,26 +28,12 @@ module _ (es : List Entity) (graph : List (List ℕ)) (order : List ℕ) (w : Is
   -- each entity stands in the order
   stands : (k : ℕ) → k < length es → (i : ℕ) × (i < length order) × (get_or order i 0 ≡ k)
   stands k b =
-      place_of (any_is k b)
+      let place = any_at (λ u. u == k) order any_is in (place.0, place.1, eqb-true (get_or order place.0 0) k place.2)
     where
-      any_is : (k : ℕ) → k < length es → list_any (λ u. u == k) order ≡ true
-      any_is k b =
+      any_is : list_any (λ u. u == k) order ≡ true
+      any_is =
           w.ordered.which k (omega (arith, graph_size))
           ∙ ap not (ap (λ (n : ℕ). has_walk graph n k) graph_size ∙ ap (λ (g : List (List ℕ)). has_walk g (length es) k) w.linked ∙ w.acyclic k b)
-
-      place_of : list_any (λ u. u == k) order ≡ true → (i : ℕ) × (i < length order) × (get_or order i 0 ≡ k)
-      place_of e = go order e
-        where
-          go : (xs : List ℕ) → list_any (λ u. u == k) xs ≡ true → (i : ℕ) × (i < length xs) × (get_or xs i 0 ≡ k)
-          go [] e = absurd (cc)
-          go (x ∷ xs) e =
-              elim (cases_eq x k) [
-                | inl s ↦ (0, omega arith, s)
-                | inr n ↦
-                    (let rest : list_any (λ u. u == k) xs ≡ true = rw (ne_eqb x k n) at e in
-                    let r = go xs rest in
-                    (suc r.0, omega (arith, r.1), r.2))
-              ]
 
   -- a source of the next entity is an earlier one of the order
   source_earlier : (i m : ℕ) → i < length order → m < length (links (signal_links es) (get_or order i 0)) →

@@ -1,5 +1,5 @@
 -- An entity stands in the order exactly where no walk goes on from it for ever.
-use Rattle.std.proofs.Common.{◌≡◌, ◌==◌, ◌<◌, ℕ, Bool, true, false, not, List, Option, Some, None, refl, length, sym, ap, ◌∙◌, subst}
+use Rattle.std.proofs.Common.{◌≡◌, ◌==◌, ◌<◌, ℕ, Bool, true, false, not, List, Option, length, sym, ap, ◌∙◌, subst}
 use Rattle.std.specs.List.{list_any}
 use Rattle.std.proofs.lemmas.Bool.{not-true, not-false}
 use Rattle.uac_walk.specs.Walk.{has_walk}
@@ -11,6 +11,7 @@ use Rattle.uac_rules.specs.Links.{signal_links, clock_links}
 use Rattle.uac_rules.specs.Rules.{breaks_u6, breaks_u7}
 use Rattle.uac_rules.specs.Faults.{of_entity, broken_walks}
 use Rattle.uac_rules.specs.Walks.{goes_on}
+use Rattle.uac_rules.proofs.Sound.{option_or-none}
 
 stands_is : (es : List Entity) (graph : List (List ℕ)) (order : List ℕ) (k : ℕ) (t : Bool) → k < length es → length graph ≡ length es →
     IsOrder graph order → t ≡ list_any (λ u. u == k) order → t ≡ not (goes_on graph es k)
@@ -27,10 +28,6 @@ pub ends_where_present : (es : List Entity) (graph : List (List ℕ)) (order : L
 ends_where_present es graph order k t below sized h e f =
     not-true (goes_on graph es k) (sym (stands_is es graph order k t below sized h e) ∙ f)
 
-or_nothing : (o : Option TopologyFault) → o ≡ option_or o None
-or_nothing None = refl
-or_nothing (Some x) = refl
-
 -- both rules on walks, by the two graphs
 pub walks_are : (es : List Entity) (g h : List (List ℕ)) → g ≡ signal_links es → h ≡ clock_links es → (a b : Option TopologyFault) →
     a ≡ of_entity 6 es (goes_on g) → b ≡ of_entity 7 es (goes_on h) → option_or a b ≡ broken_walks es
@@ -39,4 +36,4 @@ walks_are es g h e f a b p q =
     let a' : a ≡ of_entity 6 es (goes_on (signal_links es)) = p ∙ ap (λ (x : List (List ℕ)). of_entity 6 es (goes_on x)) e in
     let b' : b ≡ of_entity 7 es (goes_on (clock_links es)) = q ∙ ap (λ (x : List (List ℕ)). of_entity 7 es (goes_on x)) f in
     ap (λ (x : Option TopologyFault). option_or x b) a'
-    ∙ ap (λ (x : Option TopologyFault). option_or (of_entity 6 es (goes_on (signal_links es))) x) (b' ∙ or_nothing _)
+    ∙ ap (λ (x : Option TopologyFault). option_or (of_entity 6 es (goes_on (signal_links es))) x) (b' ∙ sym (option_or-none _))

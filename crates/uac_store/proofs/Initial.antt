@@ -9,6 +9,7 @@ use Rattle.uac_entities.specs.Streams.{named}
 use Rattle.uac_entities.specs.declared.entity.EntityKind.{EntityKind}
 use Rattle.uac_entities.specs.declared.entity.EntityKind.TheVariants as kind
 use Rattle.uac_entities.specs.declared.entity.Entity.{Entity}
+use Rattle.uac_rules.proofs.Sound.{option_or-none}
 use Rattle.uac_store.specs.declared.keys.Key.{Key}
 use Rattle.uac_store.specs.Keyed.{value_of}
 use Rattle.uac_store.specs.Controls.{start_of, start_at, start_by, count_of, selectors_of, pins_of, node_start, channel_within, controls_of, initial_controls, has_on, has_control, has_pin, HavePins, takes, takes_on, takes_by, is_switch, IsStoreOf}
@@ -42,10 +43,6 @@ controls_value all e k i = from (nat_lt 0 k.selector) (nat_le k.selector (select
   from true true false l h c =
       controls_miss_channel all e k (ltb-false k.channel (count_of all e) c) ∙ sym (λ j. start (l j) (h j) (c j))
 
-or_none : (o : Option ℤ) → option_or o None ≡ o
-or_none None = refl
-or_none (Some v) = refl
-
 -- the entities behind one of this id have other ids
 others_apart : (id : ℕ) (xs : List Entity) → AllByRecursion (λ y. nat_eq id y ≡ false) (map (λ e. e.id) xs) → AllByRecursion (λ e. id ≡ e.id → ⊥) xs
 others_apart id [] h = tt
@@ -64,7 +61,7 @@ found_among all (x ∷ xs) k h = value_of-append (controls_of all x) (flat_map (
   from true here others =
       let i : k.entity ≡ x.id = sym (eqb-true x.id k.entity here) in
       let none : rest ≡ None = entities_miss all xs k (subst (λ id. AllByRecursion (λ (e : Entity). id ≡ e.id → ⊥) xs) (sym i) (others_apart x.id xs h.0)) in
-      ap (λ o. option_or (value_of (controls_of all x) k) o) none ∙ or_none (value_of (controls_of all x) k) ∙ controls_value all x k i
+      ap (λ o. option_or (value_of (controls_of all x) k) o) none ∙ option_or-none (value_of (controls_of all x) k) ∙ controls_value all x k i
   from false other others =
       ap (λ o. option_or o rest) (controls_miss_entity all x k (λ i. eqb-false x.id k.entity other (sym i))) ∙ others
 

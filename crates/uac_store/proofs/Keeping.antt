@@ -2,35 +2,25 @@
 use Rattle.std.proofs.Common.{◌≡◌, ℕ, ◌+◌, ◌<◌, ◌≤◌, zero, suc, ◌==◌, ◌&&◌, ℤ, List, [], ◌∷◌, ◌++◌, map, None, Some, cond, Bool, true, false, refl, ap, sym, ◌∙◌, arith}
 use Rattle.std.specs.Option.{option_or}
 use Rattle.std.specs.List.{flat_map, range_with_len, AllByRecursion}
-use Rattle.std.proofs.lemmas.Bool.{eqb-true, eq-eqb, eqb-false}
+use Rattle.std.proofs.Math.Bool.{and-false}
+use Rattle.std.proofs.lemmas.Bool.{eqb-true, eq-eqb, eqb-false, ne_eqb}
 use Rattle.uac_entities.specs.declared.entity.Entity.{Entity}
 use Rattle.uac_store.specs.declared.keys.Key.{Key}
 use Rattle.uac_store.specs.Keyed.{key_of, same_key, value_of}
 use Rattle.uac_store.specs.Controls.{start_of, count_of, selectors_of, first_channels, channels_at, controls_of}
 
--- numbers that differ
-pub apart : (m n : ℕ) → (m ≡ n → ⊥) → (m == n) ≡ false
-apart m n h = from (m == n) refl where
-  from : (b : Bool) → (m == n) ≡ b → (m == n) ≡ false
-  from true e = absurd (h (eqb-true m n e))
-  from false e = e
-
 -- keys that differ in a part
 other_entity : (k l : Key) → (k.entity ≡ l.entity → ⊥) → same_key k l ≡ false
-other_entity k l h = ap (λ b. b && (k.selector == l.selector && k.channel == l.channel)) (apart k.entity l.entity h)
-
-and_false : (b : Bool) → (b && false) ≡ false
-and_false true = refl
-and_false false = refl
+other_entity k l h = ap (λ b. b && (k.selector == l.selector && k.channel == l.channel)) (ne_eqb k.entity l.entity h)
 
 other_selector : (k l : Key) → (k.selector ≡ l.selector → ⊥) → same_key k l ≡ false
-other_selector k l h = ap (λ b. k.entity == l.entity && (b && k.channel == l.channel)) (apart k.selector l.selector h) ∙ and_false (k.entity == l.entity)
+other_selector k l h = ap (λ b. k.entity == l.entity && (b && k.channel == l.channel)) (ne_eqb k.selector l.selector h) ∙ and-false (k.entity == l.entity)
 
 other_channel : (k l : Key) → (k.channel ≡ l.channel → ⊥) → same_key k l ≡ false
 other_channel k l h =
-    ap (λ b. k.entity == l.entity && (k.selector == l.selector && b)) (apart k.channel l.channel h)
-    ∙ ap (λ b. k.entity == l.entity && b) (and_false (k.selector == l.selector))
-    ∙ and_false (k.entity == l.entity)
+    ap (λ b. k.entity == l.entity && (k.selector == l.selector && b)) (ne_eqb k.channel l.channel h)
+    ∙ ap (λ b. k.entity == l.entity && b) (and-false (k.selector == l.selector))
+    ∙ and-false (k.entity == l.entity)
 
 same_parts : (k l : Key) → k.entity ≡ l.entity → k.selector ≡ l.selector → k.channel ≡ l.channel → same_key k l ≡ true
 same_parts k l e s c =

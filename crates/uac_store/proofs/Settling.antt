@@ -1,10 +1,12 @@
 -- More steps change no rate where no walk of clock source links is that long.
-use Rattle.std.proofs.Common.{◌≡◌, ℕ, ◌+◌, ◌-◌, ◌<◌, ◌≤◌, zero, suc, ◌||◌, not, ◌==◌, nat_lt, ℤ, pos, negsuc, List, [], ◌∷◌, map, length, Option, None, Some, slice_get, slice_index_or, Bool, true, false, if◌then◌else◌, refl, ap, sym, ◌∙◌, arith, ◌⊎◌, inl, inr}
-use Rattle.std.specs.Option.{option_and_then}
+use Rattle.std.proofs.Common.{◌≡◌, ℕ, ◌+◌, ◌-◌, ◌<◌, ◌≤◌, zero, suc, not, ◌==◌, nat_lt, ℤ, pos, negsuc, List, [], ◌∷◌, map, length, Option, None, Some, slice_get, slice_index_or, Bool, true, false, if◌then◌else◌, refl, ap, sym, ◌∙◌, arith, ◌⊎◌, inl, inr}
+use Rattle.std.specs.Option.{option_and_then, option_map}
 use Rattle.std.specs.List.{list_any}
-use Rattle.std.proofs.lemmas.Bool.{true≢false, cases_lt, or_parts}
+use Rattle.std.proofs.lemmas.Bool.{true≢false, cases_lt}
 use Rattle.std.proofs.lemmas.List.{get_or_past, length-map}
+use Rattle.std.proofs.lemmas.Option.{get_or_from_slice_get, slice_get-map, slice_get_within}
 use Rattle.uac_walk.specs.Walk.{links, has_walk}
+use Rattle.uac_walk.proofs.Walks.{none_at}
 use Rattle.uac_entities.specs.Streams.{named}
 use Rattle.uac_entities.specs.declared.entity.Entity.{Entity}
 use Rattle.uac_entities.specs.declared.entity.EntityKind.{EntityKind}
@@ -28,17 +30,7 @@ links_at_place f (x ∷ xs) id e is = from (x.id == id) is (λ h. links_at_place
 
 -- what no element passes, none of them does
 pub none_passes : {X : Type 0} (p : X → Bool) (xs : List X) (i : ℕ) (s : X) → list_any p xs ≡ false → slice_get xs i ≡ Some s → p s ≡ false
-none_passes p [] i s none is = cc
-none_passes p (x ∷ xs) zero s none is = let e : x ≡ s = cc in from (p x) refl none e where
-  from : (b : Bool) → p x ≡ b → (b || list_any p xs) ≡ false → x ≡ s → p s ≡ false
-  from true passes none e = absurd (true≢false none)
-  from false fails none e = ap p (sym e) ∙ fails
-none_passes p (x ∷ xs) (suc i) s none is = none_passes p xs i s (or_parts (p x) (list_any p xs) none).1 is
-
-slice_get-map : (f : ℕ → ℕ) (xs : List ℕ) (i s : ℕ) → slice_get xs i ≡ Some s → slice_get (map f xs) i ≡ Some (f s)
-slice_get-map f [] i s is = cc
-slice_get-map f (x ∷ xs) zero s is = let e : x ≡ s = cc in ap (λ y. Some (f y)) e
-slice_get-map f (x ∷ xs) (suc i) s is = slice_get-map f xs i s is
+none_passes p xs i s none is = ap p (sym (get_or_from_slice_get xs i s s is)) ∙ none_at p xs i s (slice_get_within xs i s is) none
 
 -- from a source of a clock entity the walks are shorter
 sources_end : (all : List Entity) (id n : ℕ) (e : Entity) (i s : ℕ) → named all id ≡ Some e → is_clock e.kind ≡ true
@@ -50,7 +42,7 @@ sources_end all id n e i s is clock ends at =
     links_at_place (λ x. map (place_of all) (clock_sources x)) all id e is
     ∙ ap (λ (b : Bool). map (place_of all) (if b then e.sources else [])) clock in
     none_passes (has_walk graph n) (map (place_of all) e.sources) i (place_of all s)
-    (ap (list_any (has_walk graph n)) (sym named_links) ∙ ends) (slice_get-map (place_of all) e.sources i s at)
+    (ap (list_any (has_walk graph n)) (sym named_links) ∙ ends) (slice_get-map (place_of all) e.sources i ∙ ap (option_map (place_of all)) at)
 
 -- the source that is chosen is one of the sources
 chosen_is_source : (controls : List (Key × ℤ)) (e : Entity) (s : ℕ) → chosen_source controls e ≡ Some s → (i : ℕ) × (slice_get e.sources i ≡ Some s)

@@ -9,6 +9,7 @@ use Rattle.uac_entities.specs.declared.entity.Entity.{Entity}
 use Rattle.uac_entities.specs.declared.stream.StreamInterface.{StreamInterface}
 use Rattle.uac_rules.specs.declared.fault.TopologyFault.{TopologyFault}
 use Rattle.uac_rules.specs.Faults.{broken_names, broken_walks, broken_shapes, broken_ends, broken}
+use Rattle.uac_rules.proofs.Sound.{option_or-none}
 use Rattle.uac_topology.specs.Topology.{first_broken, streams_in}
 
 -- the first of four
@@ -37,13 +38,9 @@ or_third a b c d x e f g =
 
 or_last : {X : Type 0} (a b c d o : Option X) → None ≡ a → None ≡ b → None ≡ c → o ≡ d → or_at a b c d ≡ o
 unfolding or_at
-or_last {X} a b c d o e f g h =
+or_last a b c d o e f g h =
     sym (ap (λ x. option_or x (option_or b (option_or c (option_or d None)))) e) ∙ sym (ap (λ x. option_or x (option_or c (option_or d None))) f)
-    ∙ sym (ap (λ x. option_or x (option_or d None)) g) ∙ or_none d ∙ sym h
-  where
-    or_none : (x : Option X) → option_or x None ≡ x
-    or_none None = refl
-    or_none (Some y) = refl
+    ∙ sym (ap (λ x. option_or x (option_or d None)) g) ∙ option_or-none d ∙ sym h
 
 module _ (blocks : List block.Block) (es : List Entity) (e : es ≡ entities_of blocks) where
   pub by_names : (fault : TopologyFault) → Some fault ≡ broken_names es → first_broken blocks ≡ Some fault

@@ -3,6 +3,7 @@ use Rattle.std.proofs.Common.{◌≡◌, ℕ, ◌+◌, ◌-◌, ◌<◌, ◌≤�
 use Rattle.std.specs.List.{list_any, All}
 use Rattle.std.proofs.lemmas.Bool.{cases_eq, cases_lt, eq-eqb, ne_eqb, lt-ltb, le-ltb}
 use Rattle.std.proofs.lemmas.List.{get_or-take, take_more, take_all, take-take, get_or_past, get_or_default, get_or-map, length-map, length-take-le}
+use Rattle.std.proofs.lemmas.List.Folds.{list_any_at}
 use Rattle.std.proofs.lemmas.List.Sums.{sum_by-take-le}
 use Rattle.std.proofs.lemmas.Map.Steps.{length-le_from_distinct_below}
 use Rattle.uac_walk.specs.Walk.{links, has_walk}
@@ -11,7 +12,7 @@ use Rattle.uac_walk.specs.Order.{IsClosed, IsAmongFirst, IsOrder}
 use Rattle.uac_walk.specs.Noting.{IsNamedBy}
 use Rattle.uac_walk.specs.Settling.{Settles, IsSettled}
 use Rattle.uac_walk.proofs.Times.{one, times_at, times_before, place_of, seen-push, seen-cons, seen-le, seen_all, seen_short, any_from_times, none_from_times, no_equal, IsDistinct-from_times}
-use Rattle.uac_walk.proofs.Walks.{any_at, any_none, no_longer}
+use Rattle.uac_walk.proofs.Walks.{any_none, no_longer}
 
 -- a node that stands nowhere below the number of nodes
 none_past : (graph : List (List ℕ)) (order : List ℕ) → ((k : ℕ) → k < length order → get_or order k 0 < length graph) →
@@ -221,7 +222,7 @@ module _ (graph : List (List ℕ)) (done : ℕ) (waiting order : List ℕ) (clos
       let s = seen_short order (links graph v) (omega (arith, h.counted v a, ap (λ (o : List ℕ). seen o (links graph v)) (take_all done order all))) in
       let t = get_or (links graph v) s.0 0 in
       let in' : t < length graph = closed v a s.0 0 s.1 in
-      any_at (has_walk graph m) (links graph v) s.0 0 s.1
+      list_any_at (has_walk graph m) (links graph v) s.0 0 s.1
       (deep m t in' (λ e. let r : times t order ≡ 1 = rw (eq-eqb (get_or waiting t 0) 0 e) at (h.once t in') in omega (arith, s.2)))
 
   apart : (j k : ℕ) → j < k → k < length order → get_or order j 0 ≡ get_or order k 0 → ⊥

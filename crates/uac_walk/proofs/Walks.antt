@@ -5,12 +5,6 @@ use Rattle.std.specs.List.{list_any}
 use Rattle.std.proofs.lemmas.Bool.{or_from, or_parts, or_left, or_right, or_cases, cases_Bool, both_ways, eqb-true}
 use Rattle.uac_walk.specs.Walk.{links, has_walk, leads, NoWayBack}
 
--- some element passes
-pub any_at : {X : Type 0} (p : X → Bool) (xs : List X) (k : ℕ) (d : X) → k < length xs → p (get_or xs k d) ≡ true → list_any p xs ≡ true
-any_at p [] k d h e = absurd (omega arith)
-any_at p (x ∷ xs) zero d h e = or_left (p x) (list_any p xs) e
-any_at p (x ∷ xs) (suc k) d h e = or_right (p x) (list_any p xs) (any_at p xs k d (omega arith) e)
-
 -- no element passes
 pub any_none : {X : Type 0} (p : X → Bool) (xs : List X) (d : X) → ((k : ℕ) → k < length xs → p (get_or xs k d) ≡ false) → list_any p xs ≡ false
 any_none p [] d h = refl

@@ -1,10 +1,9 @@
 use Rattle.std.proofs.Common.{◌≡◌, ◌∙◌, ap, arith, sym, length, rules, ◌++◌, ◌∷◌, [], subst, ℕ, ◌≤◌, ◌^◌}
 use Rattle.std.specs.List.{All}
-use Rattle.std.proofs.lemmas.List.Elements.{All-append}
+use Rattle.std.proofs.lemmas.List.Elements.{All-push}
 use Rattle.std.proofs.lemmas.List.FromFn.{map-range_with_len_more, length-map-range_with_len}
 use Rattle.uac_graph.specs.Controls.{held_in}
 use Rattle.uac_graph.specs.Jobs.{gain_at}
-use Rattle.uac_graph.proofs.Rows.{all_one}
 use Rattle.uac_graph.proofs.jobs.set_gains.Goals as goal
 
 pub push-requires : goal.push-requires
@@ -24,5 +23,5 @@ loop-number-preserved c =
           ∙ sym (map-range_with_len_more gain 0 c.loop-number.number c.loop-number.number (omega arith));
       bound =
           subst (All (λ (g : ℕ). g ≤ 2 ^ 30)) (sym c.push.ensures.items)
-          (All-append (λ g. g ≤ 2 ^ 30) c.loop-number.gains.items (c.gain_at.result ∷ []) c.loop-number.invariant.bound (all_one (λ g. g ≤ 2 ^ 30) c.gain_at.result c.gain_at.ensures.bound));
+          (All-push (λ g. g ≤ 2 ^ 30) c.loop-number.gains.items c.gain_at.result c.loop-number.invariant.bound c.gain_at.ensures.bound);
     }

@@ -1,4 +1,5 @@
 use Rattle.std.proofs.Common.{◌≡◌, ◌∙◌, sym, refl, ap, subst, arith, ℕ, List, false, ◌-◌, ◌<◌, length, get_or}
+use Rattle.std.proofs.Math.Bool.{or-false}
 use Rattle.uac_walk.specs.Walk.{has_walk}
 use Rattle.uac_entities.specs.declared.entity.Entity.{Entity}
 use Rattle.uac_rules.specs.Links.{is_clock, signal_links}
@@ -6,7 +7,7 @@ use Rattle.uac_rules.specs.Table.{place_of}
 use Rattle.uac_graph.specs.Meaning.{entity}
 use Rattle.uac_graph.specs.Orders.{holds}
 use Rattle.uac_graph.proofs.Apart.{not_held_yet}
-use Rattle.uac_graph.proofs.Ordering.{held_already, held_done, held_itself, held_more, or_none, order_more}
+use Rattle.uac_graph.proofs.Ordering.{held_already, held_done, held_itself, held_more, order_more}
 use Rattle.uac_graph.proofs.Reaching.{entity_read, links_some, source_signal, source_stops}
 use Rattle.uac_graph.proofs.Walking.{signal_below}
 use Rattle.uac_graph.proofs.orders.+visit.Goals as goal
@@ -22,7 +23,7 @@ at-requires t c = subst (λ (n : ℕ). n < length c.args.table.now) (sym c.place
 pub loop-source-init : goal.loop-source-init
 loop-source-init t c = record {
   order = c.requires.order;
-  all = λ k. or_none (holds c.args.table.now c.args.places.now.items k);
+  all = λ k. sym (or-false (holds c.args.table.now c.args.places.now.items k));
 }
 
 pub overflow_sub-links : goal.overflow_sub-links
