@@ -1,10 +1,11 @@
 -- The clocks that are kept go on as those of the world.
 use Rattle.std.proofs.Common.{◌≡◌, ◌∙◌, sym, refl, ap, subst, arith, ℕ, zero, suc, ◌+◌, ◌-◌, ◌/◌, ◌%◌, ◌<◌, ◌≤◌, ◌==◌, Bool, true, false, if◌then◌else◌, cond, ℤ, List, [], ◌∷◌, ◌++◌, Option, Some, None, length, get_or, map, sum, take, drop, nat_eq, unwrap_or, length-append}
 use Rattle.std.specs.List.{All, find}
-use Rattle.std.specs.Option.{option_and_then, option_map_or, option_or}
+use Rattle.std.specs.Option.{option_and_then, option_map, option_map_or, option_or}
 use Rattle.std.proofs.lemmas.Bool.{eqb-true}
 use Rattle.std.proofs.lemmas.Int.{ints}
 use Rattle.std.proofs.lemmas.List.{take_all, take_at, take_more}
+use Rattle.std.proofs.lemmas.List.Elements.{All-map}
 use Rattle.std.proofs.lemmas.List.Folds.{find-append}
 use Rattle.std.proofs.lemmas.List.Sums.{sum_by_push}
 use Rattle.uac_clock.specs.Nominal.{nominal_of, step_of}
@@ -12,13 +13,22 @@ use Rattle.uac_clock.specs.Ticks.{ticks_in}
 use Rattle.uac_clock.specs.declared.values.Nominal.{Nominal}
 use Rattle.uac_store.specs.Rates.{rate_of}
 use Rattle.uac_device.specs.declared.clocks.Clock.{Clock}
-use Rattle.uac_device.specs.World.{DeviceWorld, Domain, advanced, deviated, input_of, next_ticks, step_in, steps_with_next}
+use Rattle.uac_entities.specs.declared.stream.StreamInterface.{StreamInterface}
+use Rattle.uac_device.specs.World.{DeviceWorld, Domain, OutStream, advanced, deviated, is_on, next_ticks, step_in, steps_with_next, stream_to}
 use Rattle.uac_device.specs.Kept.{DeviceFields, IsInRange, Stands, kept}
 use Rattle.uac_device.specs.Turns.{advanced_clock, deviated_clock, first_ticks, resting_clock, step_by, ticks_where}
 
 map_turned : {A B : Type 0} (f : A → B) (g : A → A) (h : B → B) → ((a : A) → f (g a) ≡ h (f a)) → (xs : List A) → map f (map g xs) ≡ map h (map f xs)
 map_turned f g h e [] = refl
 map_turned f g h e (x ∷ xs) = ap (λ b. b ∷ map f (map g xs)) (e x) ∙ ap (λ bs. h (f x) ∷ bs) (map_turned f g h e xs)
+
+-- where no stream runs, none runs to a terminal
+pub no_stream_to : (w : DeviceWorld) → ((interface : ℕ) → w.outs interface ≡ None) → (id : ℕ) → stream_to w id ≡ None
+no_stream_to w none id = one (find (λ s. s.terminal == id) w.function.streams)
+  where
+    one : (o : Option StreamInterface) → option_and_then (λ s. w.outs s.number) o ≡ None
+    one None = refl
+    one (Some s) = none s.number
 
 -- ---- a deviation
 
@@ -34,13 +44,16 @@ deviated_kept clock millionths ds = map_turned kept (off_by clock millionths) (d
 
 pub deviated_stands : (device : DeviceFields) (clocks : List Clock) (clock : ℕ) (millionths : ℤ) (w : DeviceWorld) → clocks ≡ map (deviated_clock clock millionths) device.clocks
     → Stands device w → Stands (record device { clocks = clocks }) (deviated clock millionths w)
-unfolding deviated input_of
+unfolding deviated
 deviated_stands device clocks clock millionths w turned stands = record {
   function = stands.function;
   controls = stands.controls;
   settings = stands.settings;
   clocks = turned ∙ ap (map (deviated_clock clock millionths)) stands.clocks ∙ sym (deviated_kept clock millionths w.domains);
-  inputs = stands.inputs;
+  outs = stands.outs;
+  ins = stands.ins;
+  jacks = stands.jacks;
+  resting = stands.resting;
   outputs = stands.outputs;
 }
 
@@ -104,13 +117,17 @@ next_kept w clock values rated (d ∷ ds) = one (d.clock == clock) refl (next_ke
 pub advanced_stands : (device : DeviceFields) (clocks : List Clock) (clock : ℕ) (values : Option Nominal) (w : DeviceWorld)
     → values ≡ option_and_then nominal_of (rate_of device.function.entities device.controls clock) → clocks ≡ map (advanced_clock clock values) device.clocks
     → Stands device w → Stands (record device { clocks = clocks }) (advanced clock w)
-unfolding advanced input_of
+unfolding advanced
 advanced_stands device clocks clock values w rated turned stands = record {
   function = stands.function;
   controls = stands.controls;
   settings = stands.settings;
   clocks = turned ∙ ap (map (advanced_clock clock values)) stands.clocks ∙ sym (advanced_kept w clock values (rated_in device w clock values stands rated) w.domains);
-  inputs = stands.inputs;
+  outs = λ interface.
+      ap (option_map (λ (o : OutStream). if is_on w clock interface then record o { ticks = o.ticks + next_ticks clock w } else o)) (stands.outs interface);
+  ins = stands.ins;
+  jacks = stands.jacks;
+  resting = λ id input other none. stands.resting id input other (no_stream_to w stands.outs id);
   outputs = stands.outputs;
 }
   where
@@ -198,11 +215,9 @@ first_read domain values old at first past so_far =
 
 -- ---- what every device keeps
 
--- what holds of each holds of each that is changed
-all_changed : {X Y : Type 0} (P : X → Type 0) (Q : Y → Type 0) (change : X → Y) → ((x : X) → P x → Q (change x)) → (xs : List X) → All P xs → All Q (map change xs)
-all_changed P Q change keeps [] all k d below = absurd (omega arith)
-all_changed P Q change keeps (x ∷ xs) all zero d below = keeps x (all 0 x (omega arith))
-all_changed P Q change keeps (x ∷ xs) all (suc k) d below = all_changed P Q change keeps xs (λ i e inside. all (suc i) e (omega arith)) k d (omega arith)
+-- what holds of each as it is changed holds of each that is changed
+pub all_changed : {X Y : Type 0} (P : X → Type 0) (Q : Y → Type 0) (change : X → Y) → ((x : X) → P x → Q (change x)) → (xs : List X) → All P xs → All Q (map change xs)
+all_changed P Q change keeps xs all = All-map Q change xs (λ k d below. keeps (get_or xs k d) (all k d below))
 
 pub resting_range : (ds : List ℕ) → All (λ c. IsInRange c.ppm) (map resting_clock ds)
 resting_range ds = all_changed (λ _. Unit {0}) (λ c. IsInRange c.ppm) resting_clock (λ d _. (search (arith, ints), search (arith, ints))) ds (λ k d below. tt)
@@ -245,7 +260,3 @@ advanced_phases domain values clocks all =
     one : (c : Clock) (b : Bool) → c.phase < 65536 → (if b then record c { phase = (c.phase + step_by values c.ppm) % 65536 } else c).phase < 65536
     one c true past = omega arith
     one c false past = past
-
--- a list that is lent and put back
-pub put_back : {X : Type 0} (count : ℕ) (new old : List X) → length new ≡ count → take count (new ++ drop (length new) old) ≡ new
-put_back count new old same = take_at new (drop (length new) old) count same

@@ -1,7 +1,7 @@
 -- The frames on the wires are those of the world.
 use Rattle.std.proofs.Common.{◌≡◌, ◌∙◌, sym, refl, ap, subst, ℕ, zero, suc, ◌<◌, ◌==◌, ◌&&◌, Bool, true, false, if◌then◌else◌, ℤ, List, [], ◌∷◌, Option, Some, None, length, get_or, map, position, inl, inr, unwrap_or}
-use Rattle.std.specs.Option.{option_map}
-use Rattle.std.proofs.lemmas.Bool.{eq-eqb, eqb-true, ne_eqb}
+use Rattle.std.specs.Option.{option_and_then, option_map, option_map_or}
+use Rattle.std.proofs.lemmas.Bool.{and_from, and_parts, eq-eqb, eqb-true, ne_eqb}
 use Rattle.std.proofs.lemmas.List.{get_or_default}
 use Rattle.uac_entities.specs.declared.entity.Entity.{Entity}
 use Rattle.uac_entities.specs.declared.entity.EntityKind.{EntityKind}
@@ -28,20 +28,16 @@ use Rattle.uac_graph.proofs.Walking.{given_kept, signal_channels}
 use Rattle.uac_alt.specs.Settings.{initial_settings}
 use Rattle.uac_alt.specs.declared.settings.InterfaceSetting.{InterfaceSetting}
 use Rattle.uac_device.specs.declared.clocks.Clock.{Clock}
-use Rattle.uac_device.specs.World.{DeviceWorld, at_rest, entity_in, fresh, heard_of, input_of, is_input_jack, is_jack, is_output_jack, played_at, set_jack, ticked}
+use Rattle.uac_device.specs.World.{DeviceWorld, InStream, OutStream, after_putting, after_taking, at_rest, entity_in, fresh, heard_of, input_of, is_input_jack, is_jack, is_on, is_output_jack, next_taken, played_at, played_to, set_jack, stream_to, streamed, ticked}
 use Rattle.uac_device.specs.Kept.{DeviceFields, IsDevice, Stands, kept}
 use Rattle.uac_device.specs.Turns.{frames_heard, resting_clock}
 use Rattle.uac_device.proofs.Heard.{heard_told}
+use Rattle.uac_device.proofs.Kept.{no_stream_to}
 
 -- no entity is both
 apart : (k : EntityKind) → is_input k ≡ true → is_output k ≡ true → ⊥
 apart kind.OutputTerminal input output = cc
 apart _ input output = cc
-
-both : (a b : Bool) → (a && b) ≡ true → (a ≡ true) × (b ≡ true)
-both true true e = (refl, refl)
-both true false e = absurd (cc)
-both false b e = absurd (cc)
 
 -- ---- the start
 
@@ -57,21 +53,43 @@ pub fresh_stands : (function : FunctionFields) (controls : List (Key × ℤ)) (s
     → controls ≡ initial_controls function.entities → settings ≡ initial_settings function → clocks ≡ map resting_clock function.domains
     → AreSilent function.entities wires
     → Stands (record { function = function; controls = controls; settings = settings; clocks = clocks; wires = wires }) (fresh function)
-unfolding fresh input_of
+unfolding fresh
 fresh_stands function controls settings clocks wires start first resting silent = record {
   function = refl;
   controls = start;
   settings = first;
   clocks = resting ∙ resting_kept function.domains;
-  inputs = λ id input.
-      silent_wire function.entities wires id silent (input_signal (entity function.entities id).kind input)
-      ∙ either (is_jack (entity function.entities id)) (silence (entity function.entities id).cluster.channels);
+  outs = λ interface. refl;
+  ins = λ interface. refl;
+  jacks = λ id jack.
+      let e = entity function.entities id in
+      silent_wire function.entities wires id silent (input_signal e.kind (and_parts (is_input e.kind) (is_jack e) jack).0);
+  resting = λ id input other none. silent_wire function.entities wires id silent (input_signal (entity function.entities id).kind input);
   outputs = λ id output. silent_wire function.entities wires id silent (output_signal (entity function.entities id).kind output);
 }
+
+-- ---- the input terminals
+
+-- a jack gives what it was given
+jack_gives : (w : DeviceWorld) (id : ℕ) → is_jack (entity_in w id) ≡ true → input_of w id ≡ w.given id
+unfolding input_of
+jack_gives w id jack = ap (λ (b : Bool). if b then w.given id else streamed w id) jack
+
+-- a terminal of the bus, where no stream runs, gives silence
+rest_gives : (w : DeviceWorld) (id : ℕ) → ((interface : ℕ) → w.outs interface ≡ None) → is_jack (entity_in w id) ≡ false
+    → input_of w id ≡ silence (entity_in w id).cluster.channels
+unfolding input_of streamed
+rest_gives w id none other =
+    ap (λ (b : Bool). if b then w.given id else streamed w id) other
+    ∙ ap (λ (o : Option OutStream). unwrap_or (option_and_then next_taken o) (silence (entity_in w id).cluster.channels)) (no_stream_to w none id)
+
+-- the wires of the input terminals hold what these give
+inputs_given : (device : DeviceFields) (w : DeviceWorld) → Stands device w → AreGiven w.function.entities (input_of w) device.wires
+inputs_given device w stands = record { inputs = λ id input. one id input (is_jack (entity_in w id)) refl }
   where
-    either : (b : Bool) (frame : List ℤ) → Some frame ≡ Some (if b then frame else frame)
-    either true frame = refl
-    either false frame = refl
+    one : (id : ℕ) → is_input (entity_in w id).kind ≡ true → (b : Bool) → is_jack (entity_in w id) ≡ b → frame_on device.wires id ≡ Some (input_of w id)
+    one id input true jack = stands.jacks id (and_from _ _ input jack) ∙ sym (ap Some (jack_gives w id jack))
+    one id input false other = stands.resting id input other (no_stream_to w stands.outs id) ∙ sym (ap Some (rest_gives w id stands.outs other))
 
 -- ---- a jack
 
@@ -80,20 +98,23 @@ pub jack_fits : (device : DeviceFields) (terminal : ℕ) (frame : List ℤ) → 
 jack_fits device terminal frame keeps jack channels =
     let e = entity device.function.entities terminal in
     keeps.wires.channels terminal
-    ∙ signal_channels device.function.entities terminal (input_signal e.kind (both (is_input e.kind) (is_jack e) jack).0)
+    ∙ signal_channels device.function.entities terminal (input_signal e.kind (and_parts (is_input e.kind) (is_jack e) jack).0)
     ∙ ap Some (sym channels)
 
 pub jack_stands : (device : DeviceFields) (wires : Frames) (terminal : ℕ) (frame : List ℤ) (w : DeviceWorld)
     → is_input_jack (entity device.function.entities terminal) ≡ true
     → ((id : ℕ) → frame_on wires id ≡ (if terminal == id then Some frame else frame_on device.wires id))
     → Stands device w → Stands (record device { wires = wires }) (set_jack terminal frame w)
-unfolding set_jack input_of
+unfolding set_jack
 jack_stands device wires terminal frame w jack set stands = record {
   function = stands.function;
   controls = stands.controls;
   settings = stands.settings;
   clocks = stands.clocks;
-  inputs = λ id input. given id input (terminal == id) refl;
+  outs = stands.outs;
+  ins = stands.ins;
+  jacks = λ id jacked. given id jacked (terminal == id) refl;
+  resting = λ id input other none. rests id input other none (terminal == id) refl;
   outputs = λ id output. kept_on id output (terminal == id) refl;
 }
   where
@@ -106,26 +127,30 @@ jack_stands device wires terminal frame w jack set stands = record {
     set_by : (id : ℕ) (b : Bool) → (terminal == id) ≡ b → frame_on wires id ≡ (if b then Some frame else frame_on device.wires id)
     set_by id b test = set id ∙ ap (λ (b : Bool). if b then Some frame else frame_on device.wires id) test
 
-    given : (id : ℕ) → is_input (entity_in w id).kind ≡ true → (b : Bool) → (terminal == id) ≡ b
-        → frame_on wires id ≡ Some (if is_jack (entity_in w id) then (if id == terminal then frame else w.given id) else silence (entity_in w id).cluster.channels)
-    given id input true test =
-        let same = eqb-true terminal id test in
-        let jacked : is_jack (entity_in w id) ≡ true = subst (λ (n : ℕ). is_jack (entity_in w n) ≡ true) same (both (is_input e.kind) (is_jack e) is).1 in
-        let itself : (id == terminal) ≡ true = eq-eqb id terminal (sym same) in
+    given : (id : ℕ) → is_input_jack (entity_in w id) ≡ true → (b : Bool) → (terminal == id) ≡ b
+        → frame_on wires id ≡ Some (if id == terminal then frame else w.given id)
+    given id jacked true test =
         set_by id true test
-        ∙ sym (ap (λ (b : Bool). Some (if b then frame else w.given id)) itself)
-        ∙ sym (ap (λ (b : Bool). Some (if b then (if id == terminal then frame else w.given id) else silence (entity_in w id).cluster.channels)) jacked)
-    given id input false test =
+        ∙ sym (ap (λ (b : Bool). Some (if b then frame else w.given id)) (eq-eqb id terminal (sym (eqb-true terminal id test))))
+    given id jacked false test =
         let other : (id == terminal) ≡ false = ne_eqb id terminal (λ same. let here : (terminal == id) ≡ true = eq-eqb terminal id (sym same) in cc) in
         set_by id false test
-        ∙ stands.inputs id input
-        ∙ sym (ap (λ (b : Bool). Some (if is_jack (entity_in w id) then (if b then frame else w.given id) else silence (entity_in w id).cluster.channels)) other)
+        ∙ stands.jacks id jacked
+        ∙ sym (ap (λ (b : Bool). Some (if b then frame else w.given id)) other)
+
+    rests : (id : ℕ) → is_input (entity_in w id).kind ≡ true → is_jack (entity_in w id) ≡ false → stream_to w id ≡ None → (b : Bool) → (terminal == id) ≡ b
+        → frame_on wires id ≡ Some (silence (entity_in w id).cluster.channels)
+    rests id input other none true test =
+        let jacked : is_jack (entity_in w id) ≡ true =
+        subst (λ (n : ℕ). is_jack (entity_in w n) ≡ true) (eqb-true terminal id test) (and_parts (is_input e.kind) (is_jack e) is).1 in
+        absurd (cc)
+    rests id input other none false test = set_by id false test ∙ stands.resting id input other none
 
     kept_on : (id : ℕ) → is_output (entity_in w id).kind ≡ true → (b : Bool) → (terminal == id) ≡ b → frame_on wires id ≡ Some (w.played id)
     kept_on id output true test =
         let same = eqb-true terminal id test in
         absurd (
-        apart e.kind (both (is_input e.kind) (is_jack e) is).0 (subst (λ (n : ℕ). is_output (entity_in w n).kind ≡ true) (sym same) output))
+        apart e.kind (and_parts (is_input e.kind) (is_jack e) is).0 (subst (λ (n : ℕ). is_output (entity_in w n).kind ≡ true) (sym same) output))
     kept_on id output false test = set_by id false test ∙ stands.outputs id output
 
 -- ---- a tick
@@ -172,13 +197,19 @@ pub tick_stands : (device : DeviceFields) (wires : Frames) (domain : ℕ) (w : D
     → depended device.function.entities domain id ≡ is_end domain (entity device.function.entities id))
     → AreRendered device.function.entities (held_in device.controls) (held device.wires) (depended device.function.entities domain) device.wires wires
     → Stands device w → Stands (record device { wires = wires }) (ticked domain w)
-unfolding ticked input_of
+unfolding ticked
 tick_stands device wires domain w sound ends rendered stands = record {
   function = stands.function;
   controls = stands.controls;
   settings = stands.settings;
   clocks = stands.clocks;
-  inputs = (given_kept entities controls (input_of w) (depended entities domain) device.wires wires sound_here given rendered_here).inputs;
+  outs = λ interface. ap (option_map (λ (o : OutStream). if is_on w domain interface then after_taking o else o)) (stands.outs interface);
+  ins = λ interface.
+      ap (option_map (λ (i : InStream). if is_on w domain interface then after_putting (played_to w (ticked domain w).played interface) i else i)) (stands.ins interface);
+  jacks = λ id jack.
+      let parts = and_parts (is_input (entity_in w id).kind) (is_jack (entity_in w id)) jack in
+      after id parts.0 ∙ ap Some (jack_gives w id parts.1);
+  resting = λ id input other none. after id input ∙ ap Some (rest_gives w id stands.outs other);
   outputs = λ id output.
       rendered_here.wires id
       ∙ ap (λ (b : Bool). if b then Some (meaning entities controls (input_of w) id) else frame_on device.wires id) (ends_here id output)
@@ -200,7 +231,7 @@ tick_stands device wires domain w sound ends rendered stands = record {
         stands.function ends
 
     given : AreGiven w.function.entities (input_of w) device.wires
-    given = record { inputs = stands.inputs }
+    given = inputs_given device w stands
 
     rendered_here : AreRendered w.function.entities (held_in w.controls) (input_of w) (depended w.function.entities domain) device.wires wires
     rendered_here =
@@ -208,6 +239,9 @@ tick_stands device wires domain w sound ends rendered stands = record {
         (subst (λ (f : FunctionFields). AreRendered f.entities (held_in w.controls) (held device.wires) (depended f.entities domain) device.wires wires) stands.function
         (subst (λ (cs : List (Key × ℤ)). AreRendered device.function.entities (held_in cs) (held device.wires) (depended device.function.entities domain) device.wires wires)
         stands.controls rendered))
+
+    after : (id : ℕ) → is_input (entity_in w id).kind ≡ true → frame_on wires id ≡ Some (input_of w id)
+    after = (given_kept w.function.entities (held_in w.controls) (input_of w) (depended w.function.entities domain) device.wires wires sound_here given rendered_here).inputs
 
     either : (b : Bool) (now : List ℤ) (old : Option (List ℤ)) (before : List ℤ) → old ≡ Some before
         → (if b then Some now else old) ≡ Some (if b then now else before)
@@ -234,7 +268,7 @@ heard_in device domain w sound stands =
         let e = get_or w.function.entities k d in
         let here : at w.function.entities k ≡ e = sym (at_read w.function.entities k e below (get_or_default w.function.entities k d (get_or w.function.entities k d) below)) in
         let same : entity w.function.entities e.id ≡ e = ap (λ (x : Entity). entity w.function.entities x.id) (sym here) ∙ itself k below ∙ here in
-        stands.outputs e.id (ap (λ (x : Entity). is_output x.kind) same ∙ (both (is_output e.kind) (e.clock == domain) end).0)
+        stands.outputs e.id (ap (λ (x : Entity). is_output x.kind) same ∙ (and_parts (is_output e.kind) (e.clock == domain) end).0)
 
 -- what an output jack played
 pub played_here : (device : DeviceFields) (w : DeviceWorld) (id : ℕ) → Stands device w → is_output_jack (entity device.function.entities id) ≡ true
@@ -243,7 +277,7 @@ unfolding played_at
 played_here device w id stands jack =
     let is : is_output_jack (entity_in w id) ≡ true = ap (λ (f : FunctionFields). is_output_jack (entity f.entities id)) (sym stands.function) ∙ jack in
     let e = entity_in w id in
-    stands.outputs id (both (is_output e.kind) (is_jack e) is).0
+    stands.outputs id (and_parts (is_output e.kind) (is_jack e) is).0
     ∙ sym (ap (λ (b : Bool). if b then Some (w.played id) else None) is)
 
 pub played_nowhere : (device : DeviceFields) (w : DeviceWorld) (id : ℕ) → Stands device w → is_output_jack (entity device.function.entities id) ≡ false

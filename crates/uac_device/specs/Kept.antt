@@ -1,14 +1,14 @@
 -- What a device keeps, and for which worlds it stands.
-use Rattle.std.specs.Prelude.{◌≡◌, ℕ, ◌%◌, ◌<◌, ◌≤ℤ◌, true, ℤ, pos, negsuc, List, map, sum, Some}
+use Rattle.std.specs.Prelude.{◌≡◌, ℕ, ◌%◌, ◌<◌, ◌≤ℤ◌, true, false, ℤ, pos, negsuc, List, map, sum, None, Some}
 use Rattle.std.specs.List.{All}
 use Rattle.uac_rules.specs.Clusters.{is_input}
 use Rattle.uac_rules.specs.Rules.{is_output}
 use Rattle.uac_topology.specs.Function.{FunctionFields}
 use Rattle.uac_store.specs.declared.keys.Key.{Key}
 use Rattle.uac_alt.specs.declared.settings.InterfaceSetting.{InterfaceSetting}
-use Rattle.uac_graph.specs.Wiring.{Frames, AreWiresOf, frame_on}
+use Rattle.uac_graph.specs.Wiring.{Frames, AreWiresOf, frame_on, silence}
 use Rattle.uac_device.specs.declared.clocks.Clock.{Clock}
-use Rattle.uac_device.specs.World.{Domain, DeviceWorld, entity_in, input_of}
+use Rattle.uac_device.specs.World.{Domain, DeviceWorld, entity_in, is_input_jack, is_jack, stream_to}
 
 -- what a device is seen as: of its clocks it keeps the phase alone, and its frames are those on the wires
 pub record DeviceFields : Type 0 where
@@ -22,13 +22,17 @@ pub record DeviceFields : Type 0 where
 abbrev pub kept : Domain → Clock
 kept d = record { clock = d.clock; ppm = d.deviation; phase = sum d.steps % 65536 }
 
--- the device stands for this world
+-- the device stands for this world. No stream runs yet: it keeps nothing of one
 pub record Stands (device : DeviceFields) (w : DeviceWorld) : Type 0 where
   pub function : device.function ≡ w.function
   pub controls : device.controls ≡ w.controls
   pub settings : device.settings ≡ w.settings
   pub clocks : device.clocks ≡ map kept w.domains
-  pub inputs : (id : ℕ) → is_input (entity_in w id).kind ≡ true → frame_on device.wires id ≡ Some (input_of w id)
+  pub outs : (interface : ℕ) → w.outs interface ≡ None
+  pub ins : (interface : ℕ) → w.ins interface ≡ None
+  pub jacks : (id : ℕ) → is_input_jack (entity_in w id) ≡ true → frame_on device.wires id ≡ Some (w.given id)
+  pub resting : (id : ℕ) → is_input (entity_in w id).kind ≡ true → is_jack (entity_in w id) ≡ false → stream_to w id ≡ None
+      → frame_on device.wires id ≡ Some (silence (entity_in w id).cluster.channels)
   pub outputs : (id : ℕ) → is_output (entity_in w id).kind ≡ true → frame_on device.wires id ≡ Some (w.played id)
 
 -- a clock is off by at most a tenth

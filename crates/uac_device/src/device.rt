@@ -94,7 +94,6 @@ impl Device {
     }
 
     /// The level of an interface's ring in frames. No stream runs yet: it is 0.
-    #[tactic(auto, unfolding(crate::specs::World::level_of))]
     pub fn level(&self, _interface: u8) -> u32
         ensures { (w : DeviceWorld) → Stands self.now w → result ≡ level_of w _interface }
     {
@@ -102,7 +101,6 @@ impl Device {
     }
 
     /// The level at which an interface's stream was primed; None where none runs or it is priming. No stream runs yet.
-    #[tactic(auto, unfolding(crate::specs::World::target_of))]
     pub fn target(&self, _interface: u8) -> Option<u32>
         ensures { (w : DeviceWorld) → Stands self.now w → result ≡ target_of w _interface }
     {

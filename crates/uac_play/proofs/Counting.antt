@@ -2,6 +2,7 @@
 use Rattle.std.proofs.Common.{◌≡◌, ◌∙◌, sym, ap, subst, refl, arith, ℕ, ◌+◌, ◌-◌, ◌/◌, ◌≤◌, ◌==◌, eqb, Bool, true, false, ◌&&◌, if◌then◌else◌, ℤ, List, [], ◌∷◌, ◌++◌, length, map, take, sum, inl, inr, length-append}
 use Rattle.std.specs.List.{All, AllByRecursion, IsDistinct, find, list_all}
 use Rattle.std.specs.Option.{option_map_or}
+use Rattle.std.proofs.Math.Bool.{and-true}
 use Rattle.std.proofs.lemmas.Bool.{cases_Bool, eqb-true, eqb-false, ne_eqb}
 use Rattle.std.proofs.lemmas.List.Folds.{list_all-append}
 use Rattle.std.proofs.lemmas.List.Sums.{sum_by_push}
@@ -12,7 +13,7 @@ use Rattle.uac_play.specs.declared.counts.TickCount.{TickCount}
 use Rattle.uac_topology.specs.Function.{FunctionFields}
 use Rattle.uac_play.specs.Kept.{HasItsDomains, PlayingFields, counted, more_counted}
 use Rattle.uac_play.specs.World.{is_slight}
-use Rattle.uac_play.proofs.JackSteps.{all_changed}
+use Rattle.uac_device.proofs.Kept.{all_changed}
 
 -- a domain that is off by other millionths
 abbrev pub off_by : ℕ → ℤ → Domain → Domain
@@ -94,7 +95,7 @@ clocks-more clock n (c ∷ cs) =
 -- the counts grow by no more
 pub counts-bound : (clock n most : ℕ) (counts : List TickCount) → All (λ c. c.ticks ≤ most) counts → All (λ c. c.ticks ≤ most + n) (map (more_counted clock n) counts)
 counts-bound clock n most counts all =
-    all_changed (λ c. c.ticks ≤ most) (λ c. c.ticks ≤ most + n) (more_counted clock n) counts (bound clock n most) all
+    all_changed (λ c. c.ticks ≤ most) (λ c. c.ticks ≤ most + n) (more_counted clock n) (bound clock n most) counts all
   where
     bound : (clock n most : ℕ) (c : TickCount) → c.ticks ≤ most → (more_counted clock n c).ticks ≤ most + n
     bound clock n most c small = elim (cases_Bool (c.clock == clock)) [ inl same ↦ rw same (omega arith) | inr other ↦ rw other (omega arith) ]
@@ -103,11 +104,7 @@ counts-bound clock n most counts all =
 pub slight-push : (deviations : List ℤ) (millionths : ℤ) → list_all is_slight (deviations ++ millionths ∷ []) ≡ (list_all is_slight deviations && is_slight millionths)
 slight-push deviations millionths =
     list_all-append is_slight deviations (millionths ∷ [])
-    ∙ ap (λ b. list_all is_slight deviations && b) (with_true (is_slight millionths))
-  where
-    with_true : (b : Bool) → (b && true) ≡ b
-    with_true true = refl
-    with_true false = refl
+    ∙ ap (λ b. list_all is_slight deviations && b) (and-true (is_slight millionths))
 
 -- the domains stay few and counted once
 pub domains_kept : (p q : PlayingFields) → q.device.function ≡ p.device.function → clocks_of q.counts ≡ clocks_of p.counts → HasItsDomains p → HasItsDomains q

@@ -14,12 +14,9 @@ use Rattle.uac_graph.specs.Meaning.{entity}
 use Rattle.uac_play.specs.declared.jacks.Jack.{Jack}
 use Rattle.uac_play.specs.Events.{after_one, given, given_one, gone_on, next_frame}
 use Rattle.uac_play.specs.World.{toned}
-use Rattle.uac_play.proofs.Changing.{Changed, unchanged_at}
+use Rattle.uac_device.proofs.Kept.{all_changed}
+use Rattle.uac_device.proofs.Turning.{IsTurnedBelow, untouched}
 use Rattle.uac_play.specs.Kept.{HasItsJacks, PlayingFields}
-
--- what holds of each element as it is changed holds of all changed
-pub all_changed : {X : Type 0} (P Q : X → Type 0) (f : X → X) (xs : List X) → ((x : X) → P x → Q (f x)) → All P xs → All Q (map f xs)
-all_changed P Q f xs each all = All-map Q f xs (λ k d below. each (get_or xs k d) (all k d below))
 
 -- one jack more
 pub given_more : (clock : ℕ) (jacks : List Jack) (i : ℕ) (d : Jack) (w : DeviceWorld) → i < length jacks
@@ -46,11 +43,11 @@ kept_jacks f p q keeps function is h =
     let channels : ℕ → ℕ → Type 0 = λ t c. (entity q.device.function.entities t).cluster.channels ≡ c in
     let most : ℕ → ℕ → Type 0 = λ t c. c ≤ 32 in
     record {
-      kinds = subst (All (λ (j : Jack). kind j.terminal j.channels)) (sym is) (all_changed (λ j. kind j.terminal j.channels) (λ j. kind j.terminal j.channels) f p.jacks (λ j. keeps kind j)
+      kinds = subst (All (λ (j : Jack). kind j.terminal j.channels)) (sym is) (all_changed (λ j. kind j.terminal j.channels) (λ j. kind j.terminal j.channels) f (λ j. keeps kind j) p.jacks
           (subst (λ (fn : FunctionFields). All (λ (j : Jack). is_input_jack (entity fn.entities j.terminal) ≡ true) p.jacks) (sym function) h.kinds));
-      channels = subst (All (λ (j : Jack). channels j.terminal j.channels)) (sym is) (all_changed (λ j. channels j.terminal j.channels) (λ j. channels j.terminal j.channels) f p.jacks (λ j. keeps channels j)
+      channels = subst (All (λ (j : Jack). channels j.terminal j.channels)) (sym is) (all_changed (λ j. channels j.terminal j.channels) (λ j. channels j.terminal j.channels) f (λ j. keeps channels j) p.jacks
           (subst (λ (fn : FunctionFields). All (λ (j : Jack). (entity fn.entities j.terminal).cluster.channels ≡ j.channels) p.jacks) (sym function) h.channels));
-      most = subst (All (λ (j : Jack). most j.terminal j.channels)) (sym is) (all_changed (λ j. most j.terminal j.channels) (λ j. most j.terminal j.channels) f p.jacks (λ j. keeps most j) h.most);
+      most = subst (All (λ (j : Jack). most j.terminal j.channels)) (sym is) (all_changed (λ j. most j.terminal j.channels) (λ j. most j.terminal j.channels) f (λ j. keeps most j) p.jacks h.most);
     }
 
 pub jacks_gone_on : (clock : ℕ) (p q : PlayingFields) → q.device.function ≡ p.device.function → q.jacks ≡ gone_on clock p.jacks → HasItsJacks p → HasItsJacks q
@@ -61,13 +58,13 @@ jacks_toned terminal tone p q = kept_jacks (toned terminal tone) p q (λ P j hol
 
 -- a place goes on by one at most
 pub places_more : (clock most : ℕ) (jacks : List Jack) → All (λ j. j.place ≤ most) jacks → All (λ j. j.place ≤ most + 1) (gone_on clock jacks)
-places_more clock most jacks all = all_changed (λ j. j.place ≤ most) (λ j. j.place ≤ most + 1) (after_one clock) jacks (one clock most) all
+places_more clock most jacks all = all_changed (λ j. j.place ≤ most) (λ j. j.place ≤ most + 1) (after_one clock) (one clock most) jacks all
   where
     one : (clock most : ℕ) (j : Jack) → j.place ≤ most → (after_one clock j).place ≤ most + 1
     one clock most j small = elim (cases_Bool (j.clock == clock)) [ inl same ↦ rw same (omega arith) | inr other ↦ rw other (omega arith) ]
 
 pub places_toned : (terminal most : ℕ) (tone : Tone) (jacks : List Jack) → All (λ j. j.place ≤ most) jacks → All (λ j. j.place ≤ most) (map (toned terminal tone) jacks)
-places_toned terminal most tone jacks all = all_changed (λ j. j.place ≤ most) (λ j. j.place ≤ most) (toned terminal tone) jacks (one terminal most tone) all
+places_toned terminal most tone jacks all = all_changed (λ j. j.place ≤ most) (λ j. j.place ≤ most) (toned terminal tone) (one terminal most tone) jacks all
   where
     one : (terminal most : ℕ) (tone : Tone) (j : Jack) → j.place ≤ most → (toned terminal tone j).place ≤ most
     one terminal most tone j small = elim (cases_Bool (j.terminal == terminal)) [ inl same ↦ rw same (omega arith) | inr other ↦ rw other small ]
@@ -77,10 +74,10 @@ unfolding next_frame
 length-next_frame j = length-map-range_with_len (tone_sample j.tone j.place) 0 j.channels
 
 -- the next jack gives its frame
-pub gives_next : (clock : ℕ) (old now : List Jack) (i : ℕ) (d : Jack) (w : DeviceWorld) (new : DeviceFields) → i < length old → Changed (after_one clock) old now i
+pub gives_next : (clock : ℕ) (old now : List Jack) (i : ℕ) (d : Jack) (w : DeviceWorld) (new : DeviceFields) → i < length old → IsTurnedBelow (after_one clock) now old i
     → Stands new (given_one clock (get_or now i d) (given clock (take i old) w)) → Stands new (given clock (take (i + 1) old) w)
 gives_next clock old now i d w new below changed stands =
-    subst (Stands new) (ap (λ (j : Jack). given_one clock j (given clock (take i old) w)) (unchanged_at (after_one clock) old now i d below changed) ∙ sym (given_more clock old i d w below)) stands
+    subst (Stands new) (ap (λ (j : Jack). given_one clock j (given clock (take i old) w)) (untouched (after_one clock) now old i d changed) ∙ sym (given_more clock old i d w below)) stands
 
 pub jacks_kept : (p q : PlayingFields) → q.device.function ≡ p.device.function → q.jacks ≡ p.jacks → HasItsJacks p → HasItsJacks q
 jacks_kept p q function is h = record {

@@ -1,5 +1,4 @@
 pub mod SoFar
-pub mod Changing
 pub mod JackSteps
 pub mod Counting
 pub mod Start

@@ -26,10 +26,11 @@ use Rattle.uac_graph.proofs.FromRules.{sound_graph}
 use Rattle.uac_script.specs.Numerals.{natural, numeral}
 use Rattle.uac_script.proofs.WritingLemmas.{Appends-twice}
 use Rattle.uac_device.specs.Kept.{DeviceFields, Stands}
-use Rattle.uac_device.specs.World.{Domain, DeviceWorld, is_jack, is_output_jack, played_at}
+use Rattle.uac_device.specs.World.{Domain, DeviceWorld, is_jack, is_output_jack, level_of, played_at, target_of}
+use Rattle.uac_play.specs.declared.counts.StreamCounts.{StreamCounts}
 use Rattle.uac_play.specs.declared.counts.TickCount.{TickCount}
 use Rattle.uac_play.specs.Kept.{counted}
-use Rattle.uac_play.specs.Text.{direction, domain_line, meter_line, meter_name, number_or_dash, played_line, played_lines, stream_line, stream_rest}
+use Rattle.uac_play.specs.Text.{domain_line, meter_line, meter_name, number_or_dash, played_line, played_lines, stream_line, stream_text}
 
 -- ---- numerals
 
@@ -123,10 +124,6 @@ abbrev pub count_text : List Entity → List (Key × ℤ) → TickCount → List
 count_text entities controls c =
     codes "domain " ++ decimal c.clock ++ codes " rate " ++ number_or_dash (rate_of entities controls c.clock) ++ codes " ticks " ++ decimal c.ticks ++ codes "\n"
 
-abbrev pub stream_text : List InterfaceSetting → StreamInterface → List ℕ
-stream_text settings s =
-    codes "stream " ++ decimal s.number ++ direction s.out ++ decimal (unwrap_or (setting_of settings s.number) 0) ++ stream_rest s.out
-
 abbrev pub meter_text : MeterKind → ℕ → List ℕ
 meter_text kind value = codes "meter " ++ meter_name kind ++ codes " " ++ decimal value ++ codes "\n"
 
@@ -145,9 +142,17 @@ count_at device w counts i d e c bytes text stands same h is same_text line =
 pub below_domains : (w : DeviceWorld) (counts : List TickCount) (i : ℕ) → counts ≡ map counted w.domains → i < length counts → i < length w.domains
 below_domains w counts i same h = omega (arith, ap length same, length-map w.domains counted)
 
-pub stream-line : (w : DeviceWorld) (settings : List InterfaceSetting) (s : StreamInterface) (bytes text : List ℕ) → settings ≡ w.settings → bytes ≡ text → text ≡ stream_text settings s → bytes ≡ stream_line w s
+-- the line of an interface's streams, where none runs
+pub stream-line : (w : DeviceWorld) (met : ℕ → StreamCounts) (settings : List InterfaceSetting) (s : StreamInterface) (setting level : ℕ) (target : Option ℕ) (counts : StreamCounts)
+    (text : List ℕ) → settings ≡ w.settings → setting ≡ unwrap_or (setting_of settings s.number) 0 → level ≡ level_of w s.number → target ≡ target_of w s.number
+    → counts ≡ met s.number → text ≡ stream_text s.number s.out setting level target counts → text ≡ stream_line w met s
 unfolding stream_line
-stream-line w settings s bytes text same same_text e = same_text ∙ e ∙ ap (λ (xs : List InterfaceSetting). stream_text xs s) same
+stream-line w met settings s setting level target counts text same is_setting is_level is_target is_met e =
+    e
+    ∙ ap (λ (n : ℕ). stream_text s.number s.out n level target counts) (is_setting ∙ ap (λ (xs : List InterfaceSetting). unwrap_or (setting_of xs s.number) 0) same)
+    ∙ ap (λ (n : ℕ). stream_text s.number s.out (unwrap_or (setting_of w.settings s.number) 0) n target counts) is_level
+    ∙ ap (λ (t : Option ℕ). stream_text s.number s.out (unwrap_or (setting_of w.settings s.number) 0) (level_of w s.number) t counts) is_target
+    ∙ ap (stream_text s.number s.out (unwrap_or (setting_of w.settings s.number) 0) (level_of w s.number) (target_of w s.number)) is_met
 
 -- the line of the reading at a place, from its kind and its value
 pub meter_at : (shown : List Reading) (i : ℕ) (d : Reading) (k : MeterKind) (v : ℕ) (bytes text : List ℕ) → i < length shown

@@ -14,7 +14,7 @@ head_text time steady = codes "time " ++ decimal time ++ codes "\nsteady " ++ ye
 
 -- the other lines
 abbrev rest_text : Running → List Reading → List ℕ
-rest_text r meters = flat_map (domain_line r.device) r.device.domains ++ (flat_map (stream_line r.device) r.device.function.streams ++ flat_map meter_line meters)
+rest_text r meters = flat_map (domain_line r.device) r.device.domains ++ (flat_map (stream_line r.device r.met) r.device.function.streams ++ flat_map meter_line meters)
 
 module _ (p : PlayingFields) (meters : List Reading) (r : Running) (stands : Stands p meters r) where
   head_is : head_text p.time p.steady ≡ report_head r

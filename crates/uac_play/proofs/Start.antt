@@ -1,6 +1,6 @@
 -- A device just after the descriptor's end.
 use Rattle.std.proofs.Common.{◌≡◌, ◌∙◌, sym, ap, subst, refl, arith, ℕ, ◌≤◌, ◌==◌, ◌&&◌, eqb, not, Bool, true, false, List, [], ◌∷◌, length, map, get_or, inl, inr}
-use Rattle.std.specs.List.{All, AllByRecursion, IsDistinct, filter, filter_map}
+use Rattle.std.specs.List.{All, AllByRecursion, IsDistinct, filter, filter_map, list_all}
 use Rattle.std.proofs.lemmas.Bool.{cases_Bool, eqb-false, ne_eqb}
 use Rattle.std.proofs.lemmas.List.{get_or_default}
 use Rattle.std.proofs.lemmas.List.Elements.{All-filter, All-map, filter_passes}
@@ -21,6 +21,8 @@ use Rattle.uac_graph.specs.Fitness.{IsSignalGraph}
 use Rattle.uac_graph.specs.Meaning.{entity}
 use Rattle.uac_device.specs.Kept as device
 use Rattle.uac_device.specs.World.{at_rest, fresh, is_input_jack, is_jack}
+use Rattle.uac_host.specs.World.{fresh_host}
+use Rattle.uac_mixer.specs.World.{fresh_view}
 use Rattle.uac_play.specs.declared.counts.TickCount.{TickCount}
 use Rattle.uac_play.specs.declared.jacks.Jack.{Jack}
 use Rattle.uac_play.specs.Kept.{Counts, HasItsDomains, HasItsJacks, PlayingFields, Stands, counted, none_counted}
@@ -120,6 +122,11 @@ places-silent entities = All-map (λ j. j.place ≤ 0) silent_jack entities (λ 
 pub ticks-none : (clocks : List ℕ) → All (λ c. c.ticks ≤ 0) (map none_counted clocks)
 ticks-none clocks = All-map (λ c. c.ticks ≤ 0) none_counted clocks (λ k d below. omega arith)
 
+-- no report was lost
+no_reports : (interfaces : List ℕ) → list_all (λ interface. true) interfaces ≡ true
+no_reports [] = refl
+no_reports (n ∷ ns) = no_reports ns
+
 -- ---- all of it
 
 pub function_kept : (function : FunctionFields) (d : device.DeviceFields) → device.Stands d (fresh function) → d.function ≡ function
@@ -153,14 +160,18 @@ module _ (function : FunctionFields) (sound : IsSoundFunction function) (p : Pla
   }
 
   pub stands_start : p.time ≡ 0 → p.steady ≡ true → p.detail ≡ 0 → (meters : List Reading) → Stands p meters (at_start function meters)
-  unfolding at_start fresh is_steady
+  unfolding at_start fresh fresh_host fresh_view is_steady
   stands_start time steady detail meters = record {
     device = fresh_now;
+    host = record { paces = λ interface. refl; tracks = λ interface. refl };
+    view = record { known = λ k. refl };
     jacks = jacks;
     counts = counts ∙ counts-rest function.domains;
     time = time;
-    steady = steady;
+    steady = steady ∙ sym (no_reports (map (λ s. s.number) function.streams));
     detail = detail;
+    unbroken = refl;
+    met = λ interface. refl;
     meters = refl;
   }
 

@@ -1,6 +1,7 @@
 -- Each event of a running device, from what its parts are seen to do.
-use Rattle.std.proofs.Common.{◌≡◌, ◌∙◌, sym, ap, subst, refl, arith, ℕ, suc, ◌+◌, ◌-◌, ◌<◌, ◌≤◌, ◌==◌, nat_le, eqb, ◌&&◌, if◌then◌else◌, ℤ, List, [], ◌∷◌, length, map, drop, get_or, Option, Result, inl, inr, drop-cons, add-one}
-use Rattle.std.specs.List.{IsDistinct}
+use Rattle.std.proofs.Common.{◌≡◌, ◌∙◌, sym, ap, subst, refl, arith, ℕ, suc, ◌+◌, ◌-◌, ◌<◌, ◌≤◌, ◌==◌, nat_le, eqb, ◌&&◌, Bool, true, false, if◌then◌else◌, ℤ, List, [], ◌∷◌, length, map, drop, get_or, Option, Result, inl, inr, drop-cons, add-one}
+use Rattle.std.specs.List.{IsDistinct, list_all}
+use Rattle.std.proofs.Math.Bool.{and_comm}
 use Rattle.std.proofs.lemmas.Bool.{cases_Bool}
 use Rattle.std.proofs.lemmas.List.{drop_all}
 use Rattle.uac_pcm.specs.declared.tones.Tone.{Tone}
@@ -10,7 +11,10 @@ use Rattle.uac_device.specs.World.{DeviceWorld, advanced, after_frames, deviated
 use Rattle.uac_script.specs.Writing.{Writes}
 use Rattle.uac_play.specs.declared.counts.TickCount.{TickCount}
 use Rattle.uac_play.specs.declared.jacks.Jack.{Jack}
-use Rattle.uac_play.specs.World.{Running, is_slight, is_steady, toned, with_detail, with_deviation, with_tone}
+use Rattle.uac_topology.specs.Function.{FunctionFields}
+use Rattle.uac_store.specs.declared.keys.Key.{Key}
+use Rattle.uac_store.specs.Keyed.{value_of}
+use Rattle.uac_play.specs.World.{Running, is_slight, is_steady, keeps_reports, toned, with_detail, with_deviation, with_tone}
 use Rattle.uac_play.specs.Text.{played_lines, time_line}
 use Rattle.uac_play.specs.Events.{all_given, behind, domain_microframe, domain_microframes, given, gone_on, microframe, microframes, next_frame, tick, tick_times}
 use Rattle.uac_play.specs.Kept.{Counts, PlayingFields, Stands, Tells, TicksWithin, counted, more_counted}
@@ -64,6 +68,10 @@ ticks_within most greater p le c = record {
 pub passed_within : (most : ℕ) (p q : PlayingFields) → q ≡ record p { time = p.time + 1 } → Counts most p → TicksWithin most q
 passed_within most p q is c = subst (TicksWithin most) (sym is) (record { places = c.places; ticks = c.ticks })
 
+and_turned : (a b c : Bool) → ((a && b) && c) ≡ ((a && c) && b)
+and_turned true b c = and_comm b c
+and_turned false b c = refl
+
 -- ---- the device and its counts under events
 
 module _ (meters : List Reading) (r : Running) (p q : PlayingFields) (stands : Stands p meters r) where
@@ -74,11 +82,15 @@ module _ (meters : List Reading) (r : Running) (p q : PlayingFields) (stands : S
       subst P (sym is)
       (record {
         device = stands.device;
+        host = stands.host;
+        view = stands.view;
         jacks = stands.jacks;
         counts = stands.counts;
         time = ap (λ n. n + 1) stands.time;
         steady = stands.steady;
         detail = stands.detail;
+        unbroken = stands.unbroken;
+        met = stands.met;
         meters = stands.meters;
       })
 
@@ -89,11 +101,15 @@ module _ (meters : List Reading) (r : Running) (p q : PlayingFields) (stands : S
       subst P (sym is)
       (record {
         device = stands.device;
+        host = stands.host;
+        view = stands.view;
         jacks = stands.jacks;
         counts = stands.counts;
         time = stands.time;
         steady = stands.steady;
         detail = refl;
+        unbroken = stands.unbroken;
+        met = stands.met;
         meters = stands.meters;
       })
 
@@ -104,11 +120,15 @@ module _ (meters : List Reading) (r : Running) (p q : PlayingFields) (stands : S
       subst P (sym is)
       (record {
         device = stands.device;
+        host = stands.host;
+        view = stands.view;
         jacks = changed ∙ ap (map (toned terminal tone)) stands.jacks;
         counts = stands.counts;
         time = stands.time;
         steady = stands.steady;
         detail = stands.detail;
+        unbroken = stands.unbroken;
+        met = stands.met;
         meters = stands.meters;
       })
 
@@ -117,11 +137,19 @@ module _ (meters : List Reading) (r : Running) (p q : PlayingFields) (stands : S
   unfolding is_steady with_deviation deviated
   off clock millionths kept jacks counts time steady detail = record {
     device = kept;
+    host = stands.host;
+    view = stands.view;
     jacks = jacks ∙ stands.jacks;
     counts = counts ∙ stands.counts ∙ sym (counted-off clock millionths r.device.domains);
     time = time ∙ stands.time;
-    steady = steady ∙ ap (λ b. b && is_slight millionths) stands.steady ∙ sym (slight-push r.deviations millionths);
+    steady =
+        steady
+        ∙ ap (λ b. b && is_slight millionths) stands.steady
+        ∙ and_turned (list_all is_slight r.deviations) (keeps_reports r (map (λ s. s.number) r.device.function.streams)) (is_slight millionths)
+        ∙ sym (ap (λ b. b && keeps_reports r (map (λ s. s.number) r.device.function.streams)) (slight-push r.deviations millionths));
     detail = detail ∙ stands.detail;
+    unbroken = stands.unbroken;
+    met = stands.met;
     meters = stands.meters;
   }
 
@@ -131,6 +159,8 @@ module _ (meters : List Reading) (r : Running) (p q : PlayingFields) (stands : S
   unfolding is_steady advanced next_ticks
   advanced_on clock n kept is once counts jacks time steady detail = record {
     device = kept;
+    host = stands.host;
+    view = stands.view;
     jacks = jacks ∙ stands.jacks;
     counts =
         counts
@@ -139,17 +169,19 @@ module _ (meters : List Reading) (r : Running) (p q : PlayingFields) (stands : S
     time = time ∙ stands.time;
     steady = steady ∙ stands.steady;
     detail = detail ∙ stands.detail;
+    unbroken = stands.unbroken;
+    met = stands.met;
     meters = stands.meters;
   }
 
--- giving frames leaves the domains
-given-domains : (clock : ℕ) (jacks : List Jack) (w : DeviceWorld) → (given clock jacks w).domains ≡ w.domains
-unfolding set_jack
-given-domains clock [] w = refl
-given-domains clock (j ∷ js) w =
+-- giving frames leaves all that setting a jack leaves
+given-kept : {X : Type 0} (f : DeviceWorld → X) → ((terminal : ℕ) (frame : List ℤ) (w : DeviceWorld) → f (set_jack terminal frame w) ≡ f w)
+    → (clock : ℕ) (jacks : List Jack) (w : DeviceWorld) → f (given clock jacks w) ≡ f w
+given-kept f keeps clock [] w = refl
+given-kept f keeps clock (j ∷ js) w =
     elim (cases_Bool (j.clock == clock)) [
-      | inl same ↦ rw same (given-domains clock js (set_jack j.terminal (next_frame j) w))
-      | inr other ↦ rw other (given-domains clock js w)
+      | inl same ↦ rw same (given-kept f keeps clock js (set_jack j.terminal (next_frame j) w) ∙ keeps j.terminal (next_frame j) w)
+      | inr other ↦ rw other (given-kept f keeps clock js w)
     ]
 
 -- jacks give, the device ticks, and meters hear
@@ -160,17 +192,25 @@ pub sounded : (clock : ℕ) (shown showing : List Reading) (r : Running) (p q : 
     → ((w : DeviceWorld) → device.Stands mid w → showing ≡ after_frames (heard_of clock (ticked clock w)) shown)
     → q.jacks ≡ gone_on clock jacks → q.counts ≡ p.counts → q.time ≡ p.time → q.steady ≡ p.steady → q.detail ≡ p.detail
     → Stands q showing (tick clock r).world
-unfolding is_steady tick all_given ticked
+unfolding is_steady tick all_given ticked set_jack
 sounded clock shown showing r p q jacks mid stands own gives ticks hears gone counts time steady detail =
     let all : jacks ≡ r.jacks = own ∙ stands.jacks in
     let before = subst (λ (js : List Jack). device.Stands mid (given clock js r.device)) all (gives r.device stands.device) in
     record {
       device = ticks (all_given clock r) before;
+      host = stands.host;
+      view = record { known = λ k. stands.view.known k ∙ ap (λ (controls : List (Key × ℤ)). value_of controls k) (sym (given-kept (λ w. w.controls) (λ t frame w. refl) clock r.jacks r.device)) };
       jacks = gone ∙ ap (gone_on clock) all;
-      counts = counts ∙ stands.counts ∙ ap (map counted) (sym (given-domains clock r.jacks r.device));
+      counts = counts ∙ stands.counts ∙ ap (map counted) (sym (given-kept (λ w. w.domains) (λ t frame w. refl) clock r.jacks r.device));
       time = time ∙ stands.time;
-      steady = steady ∙ stands.steady;
+      steady =
+          steady
+          ∙ stands.steady
+          ∙ ap (λ (f : FunctionFields). list_all is_slight r.deviations && keeps_reports r (map (λ s. s.number) f.streams))
+          (sym (given-kept (λ w. w.function) (λ t frame w. refl) clock r.jacks r.device));
       detail = detail ∙ stands.detail;
+      unbroken = stands.unbroken;
+      met = stands.met;
       meters = hears (all_given clock r) before ∙ ap (after_frames (heard_of clock (ticked clock (all_given clock r)))) stands.meters;
     }
 

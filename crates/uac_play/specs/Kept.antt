@@ -1,5 +1,5 @@
 -- What is kept of a running device, and for which worlds it stands.
-use Rattle.std.specs.Prelude.{◌≡◌, ℕ, ◌≤◌, ◌+◌, ◌==◌, nat_eq, true, Bool, if◌then◌else◌, List, map, length, Option, Result, OnOk}
+use Rattle.std.specs.Prelude.{◌≡◌, ℕ, ◌≤◌, ◌+◌, ◌==◌, nat_eq, true, Bool, if◌then◌else◌, List, map, length, Option, None, Result, OnOk}
 use Rattle.std.specs.List.{All, IsDistinct}
 use Rattle.uac_units.specs.Hearing.{Reading}
 use Rattle.uac_device.specs.Kept as device
@@ -8,7 +8,9 @@ use Rattle.uac_graph.specs.Meaning.{entity}
 use Rattle.uac_script.specs.Writing.{Writes}
 use Rattle.uac_play.specs.declared.jacks.Jack.{Jack}
 use Rattle.uac_play.specs.declared.counts.TickCount.{TickCount}
-use Rattle.uac_play.specs.World.{Running, is_steady}
+use Rattle.uac_host.specs.World.{Rests}
+use Rattle.uac_mixer.specs.World.{Agrees}
+use Rattle.uac_play.specs.World.{Running, is_steady, nothing_met}
 use Rattle.uac_play.specs.Events.{Told}
 use Rattle.uac_play.specs.Text.{ticks_since}
 
@@ -33,14 +35,19 @@ none_counted clock = record { clock = clock; ticks = 0 }
 abbrev pub more_counted : ℕ → ℕ → TickCount → TickCount
 more_counted clock ticks c = if c.clock == clock then record c { ticks = c.ticks + ticks } else c
 
--- it stands for this world, with meters that show this
+-- it stands for this world, with meters that show this. No stream runs yet and no transfer was made: nothing is kept of the host, of
+-- the view, of a break, or of what streams met
 pub record Stands (playing : PlayingFields) (shown : List Reading) (r : Running) : Type 0 where
   pub device : device.Stands playing.device r.device
+  pub host : Rests r.host
+  pub view : Agrees r.view r.device.controls
   pub jacks : playing.jacks ≡ r.jacks
   pub counts : playing.counts ≡ map counted r.device.domains
   pub time : playing.time ≡ r.time
   pub steady : playing.steady ≡ is_steady r
   pub detail : playing.detail ≡ r.detail
+  pub unbroken : r.break_after ≡ None
+  pub met : (interface : ℕ) → r.met interface ≡ nothing_met
   pub meters : shown ≡ r.meters
 
 -- its jacks are input jacks of its function, each with its channels

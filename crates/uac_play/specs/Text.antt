@@ -9,7 +9,8 @@ use Rattle.uac_units.specs.Hearing.{Reading}
 use Rattle.uac_units.specs.declared.hearing.MeterKind.{MeterKind}
 use Rattle.uac_units.specs.declared.hearing.MeterKind.TheVariants.{Peak, Clipped, Sum}
 use Rattle.uac_script.specs.Numerals.{numeral}
-use Rattle.uac_device.specs.World.{Domain, DeviceWorld, is_output_jack_of}
+use Rattle.uac_device.specs.World.{Domain, DeviceWorld, is_output_jack_of, level_of, target_of}
+use Rattle.uac_play.specs.declared.counts.StreamCounts.{StreamCounts}
 use Rattle.uac_play.specs.World.{Running, is_steady}
 
 -- the line of the descriptor's end
@@ -57,18 +58,26 @@ domain_line w d =
     codes "domain " ++ decimal d.clock ++ codes " rate " ++ number_or_dash (rate_of w.function.entities w.controls d.clock)
     ++ codes " ticks " ++ decimal (ticks_since d) ++ codes "\n"
 
--- what a stream to the device has beside its setting, and what one from it has: no stream runs yet
-abbrev pub stream_rest : Bool → List ℕ
-stream_rest true = codes " level 0 target - under 0 over 0 lost 0 missed 0\n"
-stream_rest false = codes " level 0 over 0 lost 0\n"
-
 abbrev pub direction : Bool → List ℕ
 direction true = codes " out setting "
 direction false = codes " in setting "
 
-unfoldable pub stream_line : DeviceWorld → StreamInterface → List ℕ
-stream_line w s =
-    codes "stream " ++ decimal s.number ++ direction s.out ++ decimal (unwrap_or (setting_of w.settings s.number) 0) ++ stream_rest s.out
+-- what stands behind the level of a stream to the device, and of one from it
+abbrev pub stream_rest : Bool → Option ℕ → StreamCounts → List ℕ
+stream_rest true target met =
+    codes " target " ++ number_or_dash target ++ codes " under " ++ decimal met.under ++ codes " over " ++ decimal met.over ++ codes " lost " ++ decimal met.lost
+    ++ codes " missed " ++ decimal met.missed ++ codes "\n"
+stream_rest false target met = codes " over " ++ decimal met.over ++ codes " lost " ++ decimal met.lost ++ codes "\n"
+
+-- the line of an interface's streams: its number, which way they go, its setting, the level of the one that runs, its target, and
+-- what they met
+abbrev pub stream_text : ℕ → Bool → ℕ → ℕ → Option ℕ → StreamCounts → List ℕ
+stream_text number out setting level target met =
+    codes "stream " ++ decimal number ++ direction out ++ decimal setting ++ codes " level " ++ decimal level ++ stream_rest out target met
+
+unfoldable pub stream_line : DeviceWorld → (ℕ → StreamCounts) → StreamInterface → List ℕ
+stream_line w met s =
+    stream_text s.number s.out (unwrap_or (setting_of w.settings s.number) 0) (level_of w s.number) (target_of w s.number) (met s.number)
 
 abbrev pub meter_name : MeterKind → List ℕ
 meter_name Peak = codes "peak"
@@ -85,4 +94,4 @@ report_head r = codes "time " ++ decimal r.time ++ codes "\nsteady " ++ yes_or_n
 unfoldable pub report_text : Running → List ℕ
 report_text r =
     report_head r ++ (flat_map (domain_line r.device) r.device.domains
-    ++ (flat_map (stream_line r.device) r.device.function.streams ++ flat_map meter_line r.meters))
+    ++ (flat_map (stream_line r.device r.met) r.device.function.streams ++ flat_map meter_line r.meters))

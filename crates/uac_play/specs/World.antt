@@ -1,23 +1,46 @@
--- The world from the descriptor's end on: the device's part, and what the bus keeps beside it (profile).
-use Rattle.std.specs.Prelude.{ℕ, ◌==◌, ◌&&◌, Bool, if◌then◌else◌, ℤ, pos, negsuc, int_le, List, [], ◌∷◌, ◌++◌, map, filter}
-use Rattle.std.specs.List.{list_all, list_any}
+-- The world from the descriptor's end on: the device's part, the host's, the view's, and the bus's, which is all else (profile).
+use Rattle.std.specs.Prelude.{ℕ, ◌-◌, ◌==◌, ◌&&◌, not, Bool, if◌then◌else◌, ℤ, pos, negsuc, int_le, List, [], ◌∷◌, ◌++◌, map, filter, length, take, drop, Option, None}
+use Rattle.std.specs.List.{list_all, list_any, range_with_len}
 use Rattle.uac_pcm.specs.declared.tones.Tone.{Tone}
 use Rattle.uac_pcm.specs.declared.tones.Tone.TheVariants.{Silent}
 use Rattle.uac_entities.specs.declared.entity.Entity.{Entity}
 use Rattle.uac_topology.specs.Function.{FunctionFields}
 use Rattle.uac_units.specs.Hearing.{Reading}
 use Rattle.uac_device.specs.World.{DeviceWorld, fresh, deviated, is_input_jack}
+use Rattle.uac_host.specs.World.{HostWorld, fresh_host}
+use Rattle.uac_mixer.specs.World.{ViewWorld, fresh_view}
+use Rattle.uac_play.specs.declared.counts.StreamCounts.{StreamCounts}
 use Rattle.uac_play.specs.declared.jacks.Jack.{Jack}
 
--- the device, the tone of each input jack and how many of its frames were given, the microframes since the start, the
--- deviations that were given, how much is printed, and what the meters show
+-- a primed stream to the device at its last delivered report, or where it was primed if that was later: by how many frames its
+-- level passed its target, the host's and the clock's remainders, and the microframes since then
+pub record Mark : Type 0 where
+  pub past : ℤ
+  pub host : ℕ
+  pub clock : ℕ
+  pub since : ℕ
+
+-- the device, the host, and the host's view of the device; and of the bus: the tone of each input jack and how many of its frames
+-- were given, the microframes since the start, the deviations that were given, how much is printed, whether the next transfer
+-- breaks, before the device acted or after it, and by interface, what its streams met, its reports since each start of a stream,
+-- each whether it was lost, and the mark of its stream; and what the meters show
 pub record Running : Type 0 where
   pub device : DeviceWorld
+  pub host : HostWorld
+  pub view : ViewWorld
   pub jacks : List Jack
   pub time : ℕ
   pub deviations : List ℤ
   pub detail : ℕ
+  pub break_after : Option Bool
+  pub met : ℕ → StreamCounts
+  pub reports : ℕ → List (List Bool)
+  pub marks : ℕ → Option Mark
   pub meters : List Reading
+
+-- streams that met nothing
+abbrev pub nothing_met : StreamCounts
+nothing_met = record { under = 0; over = 0; lost = 0; missed = 0 }
 
 -- an input jack at the start: silent
 abbrev pub silent_jack : Entity → Jack
@@ -28,10 +51,16 @@ unfoldable pub at_start : FunctionFields → List Reading → Running
 at_start function meters =
     record {
       device = fresh function;
+      host = fresh_host;
+      view = fresh_view (fresh function).controls;
       jacks = map silent_jack (filter is_input_jack function.entities);
       time = 0;
       deviations = [];
       detail = 0;
+      break_after = None;
+      met = λ interface. nothing_met;
+      reports = λ interface. [];
+      marks = λ interface. None;
       meters = meters;
     }
 
@@ -64,6 +93,14 @@ with_detail level r = record r { detail = level }
 abbrev pub is_slight : ℤ → Bool
 is_slight millionths = int_le (negsuc 999) millionths && int_le millionths (pos 1000)
 
--- no deviation passed a thousandth
+-- four in succession of these reports were lost
+abbrev pub has_four_lost : List Bool → Bool
+has_four_lost reports = list_any (λ at. list_all (λ lost. lost) (take 4 (drop at reports))) (range_with_len 0 (length reports - 3))
+
+-- no stream of these interfaces lost four reports in succession
+abbrev pub keeps_reports : Running → List ℕ → Bool
+keeps_reports r interfaces = list_all (λ interface. list_all (λ reports. not (has_four_lost reports)) (r.reports interface)) interfaces
+
+-- no deviation passed a thousandth, and no stream lost four reports in succession
 unfoldable pub is_steady : Running → Bool
-is_steady r = list_all is_slight r.deviations
+is_steady r = list_all is_slight r.deviations && keeps_reports r (map (λ s. s.number) r.device.function.streams)

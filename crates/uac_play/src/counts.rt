@@ -1,7 +1,8 @@
-// The ticks of each domain, counted.
+// What is counted for the report: the ticks of each domain, and what streams met.
 ghost use Rattle.std.specs.Prelude.{◌≡◌, ◌==◌, ◌<◌, ◌≤◌, ◌+◌, ◌^◌, if◌then◌else◌, IfOk, map};
 ghost use Rattle.std.specs.List.{All};
 ghost use Rattle.uac_play.specs.Kept.{none_counted, more_counted};
+ghost use Rattle.uac_play.specs.World.{nothing_met};
 
 use std::alloc::Global;
 use uac_descriptor::NoMemory;
@@ -11,6 +12,27 @@ use uac_descriptor::NoMemory;
 pub struct TickCount {
     pub clock: u8,
     pub ticks: u64,
+}
+
+/// What the streams of an interface met since the start: rings found empty and full, packets lost, reports missed.
+#[derive(Clone, Copy, Debug, PartialEq, Eq)]
+pub struct StreamCounts {
+    pub under: u64,
+    pub over: u64,
+    pub lost: u64,
+    pub missed: u64,
+}
+
+/// Nothing was met.
+pub(crate) fn nothing_met() -> StreamCounts
+    ensures { result ≡ nothing_met }
+{
+    StreamCounts {
+        under: 0,
+        over: 0,
+        lost: 0,
+        missed: 0,
+    }
 }
 
 /// No ticks of these domains yet.

@@ -1,7 +1,7 @@
 //! A running device under the tones of its jacks: microframes, what they print, and the report.
 #![tactic(auto)]
 
-/// The ticks of each domain, counted.
+/// What is counted for the report.
 mod counts;
 /// The jacks' tones.
 mod jacks;
@@ -12,6 +12,6 @@ mod printing;
 /// Printing the report.
 mod report;
 
-pub use counts::TickCount;
+pub use counts::{StreamCounts, TickCount};
 pub use jacks::Jack;
 pub use playing::Playing;

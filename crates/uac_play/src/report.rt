@@ -1,17 +1,17 @@
 // Printing the report.
-ghost use Rattle.std.specs.Prelude.{◌≡◌, ℕ, ◌≤◌, ◌++◌, length, map, flat_map, unwrap_or, codes, decimal};
+ghost use Rattle.std.specs.Prelude.{◌≡◌, ℕ, ◌≤◌, ◌++◌, length, map, flat_map, true, codes, decimal};
 ghost use Rattle.uac_script.specs.Faults.{HasCause};
 ghost use Rattle.uac_script.specs.Writing.{Writes};
 ghost use Rattle.uac_store.specs.Rates.{rate_of};
-ghost use Rattle.uac_alt.specs.Settings.{setting_of};
 ghost use Rattle.uac_units.specs.Panel.{readings};
 ghost use Rattle.uac_device.specs.Kept.{Stands};
 ghost use Rattle.uac_device.specs.World.{DeviceWorld};
 ghost use Rattle.uac_play.specs.Kept.{counted};
-ghost use Rattle.uac_play.specs.Text.{direction, domain_line, meter_line, meter_name, number_or_dash, ready_line, stream_line, stream_rest, yes_or_no};
+ghost use Rattle.uac_play.specs.Text.{direction, domain_line, meter_line, meter_name, number_or_dash, ready_line, stream_line, yes_or_no};
+ghost use Rattle.uac_play.specs.Text as spec;
+ghost use Rattle.uac_play.specs.World.{nothing_met as none};
 
-use crate::counts::TickCount;
-use uac_alt::Settings;
+use crate::counts::{StreamCounts, TickCount, nothing_met};
 use uac_device::Device;
 use uac_entities::StreamInterface;
 use uac_script::{Failed, Sink, TextLine, give_all};
@@ -54,9 +54,9 @@ pub(crate) fn write_rest<K: Sink>(
     counts: &[TickCount],
     meters: &Meters,
 ) -> Result<(), Failed>
-    ensures written { (w : DeviceWorld) → Stands device.now w → counts.now ≡ map counted w.domains
-        → Writes (K.written sink.old) (K.written sink.new) result
-        (flat_map (domain_line w) w.domains ++ (flat_map (stream_line w) w.function.streams
+    ensures written { (w : DeviceWorld) (met : ℕ → StreamCounts) → Stands device.now w → ((interface : ℕ) → met interface ≡ none)
+        → counts.now ≡ map counted w.domains → Writes (K.written sink.old) (K.written sink.new) result
+        (flat_map (domain_line w) w.domains ++ (flat_map (stream_line w met) w.function.streams
         ++ flat_map meter_line (readings (λ v x. (⟦<dyn Meter as Meter>⟧ v).reading_of x) meters.now))) }
     ensures cause { HasCause (K.faults sink.old) (K.faults sink.new) result }
 {
@@ -116,14 +116,14 @@ fn number_or_dash(number: Option<u32>) -> TextLine<32>
     text
 }
 
-/// Prints each stream.
+/// Prints the streams of each interface. No stream runs yet, so none met anything.
 fn write_streams<K: Sink>(sink: &mut K, device: &Device) -> Result<(), Failed>
-    ensures written { (w : DeviceWorld) → Stands device.now w
-        → Writes (K.written sink.old) (K.written sink.new) result (flat_map (stream_line w) w.function.streams) }
+    ensures written { (w : DeviceWorld) (met : ℕ → StreamCounts) → Stands device.now w → ((interface : ℕ) → met interface ≡ none)
+        → Writes (K.written sink.old) (K.written sink.new) result (flat_map (stream_line w met) w.function.streams) }
     ensures cause { HasCause (K.faults sink.old) (K.faults sink.new) result }
 {
     for stream in device.function().streams() {
-        match give_all(sink, stream_text(device.settings(), stream).as_bytes()) {
+        match give_all(sink, stream_of(device, stream).as_bytes()) {
             Ok(()) => {}
             Err(failed) => return Err(failed),
         }
@@ -131,18 +131,35 @@ fn write_streams<K: Sink>(sink: &mut K, device: &Device) -> Result<(), Failed>
     Ok(())
 }
 
-/// The line of a stream.
-fn stream_text(settings: &Settings, stream: &StreamInterface) -> TextLine<128>
-    ensures { result ≡ codes "stream " ++ decimal stream.now.number ++ direction stream.now.out
-        ++ decimal (unwrap_or (setting_of settings.now stream.now.number) 0) ++ stream_rest stream.now.out }
+/// The line of an interface's streams.
+fn stream_of(device: &Device, stream: &StreamInterface) -> TextLine<256>
+    ensures { (w : DeviceWorld) (met : ℕ → StreamCounts) → Stands device.now w → ((interface : ℕ) → met interface ≡ none)
+        → result ≡ stream_line w met stream.now }
 {
-    let setting = settings.get(stream.number).unwrap_or(0);
+    let setting = device.settings().get(stream.number).unwrap_or(0);
+    let level = device.level(stream.number);
+    let target = device.target(stream.number);
+    stream_text(stream, setting, level, target, nothing_met())
+}
+
+/// The same, from what it tells: the setting, the level in frames, the level at which it was primed, and what was met.
+fn stream_text(
+    stream: &StreamInterface,
+    setting: u8,
+    level: u32,
+    target: Option<u32>,
+    met: StreamCounts,
+) -> TextLine<256>
+    ensures { result ≡ spec.stream_text stream.now.number stream.now.out setting level target met }
+{
     let mut text = TextLine::new();
     text.push(b"stream ");
     text.push_number(u64::from(stream.number));
     text.push(direction(stream.out));
     text.push_number(u64::from(setting));
-    text.push(stream_rest(stream.out));
+    text.push(b" level ");
+    text.push_number(u64::from(level));
+    text.push(stream_rest(stream.out, target, met).as_bytes());
     text
 }
 
@@ -158,16 +175,47 @@ fn direction(out: bool) -> &'static [u8]
     }
 }
 
-/// What a stream's line has beside its setting.
-fn stream_rest(out: bool) -> &'static [u8]
-    ensures text { result.now ≡ stream_rest out }
-    ensures short { length result.now ≤ 50 }
+/// What stands behind the level.
+fn stream_rest(out: bool, target: Option<u32>, met: StreamCounts) -> TextLine<160>
+    ensures { result ≡ spec.stream_rest out target met }
 {
     if out {
-        b" level 0 target - under 0 over 0 lost 0 missed 0\n"
+        out_rest(target, met)
     } else {
-        b" level 0 over 0 lost 0\n"
+        in_rest(met)
     }
+}
+
+/// That of a stream to the device.
+fn out_rest(target: Option<u32>, met: StreamCounts) -> TextLine<160>
+    ensures { result ≡ spec.stream_rest true target met }
+{
+    let mut text = TextLine::new();
+    text.push(b" target ");
+    text.push(number_or_dash(target).as_bytes());
+    text.push(b" under ");
+    text.push_number(met.under);
+    text.push(b" over ");
+    text.push_number(met.over);
+    text.push(b" lost ");
+    text.push_number(met.lost);
+    text.push(b" missed ");
+    text.push_number(met.missed);
+    text.push(b"\n");
+    text
+}
+
+/// That of a stream from the device.
+fn in_rest(met: StreamCounts) -> TextLine<160>
+    ensures { result ≡ codes " over " ++ decimal met.over ++ codes " lost " ++ decimal met.lost ++ codes "\n" }
+{
+    let mut text = TextLine::new();
+    text.push(b" over ");
+    text.push_number(met.over);
+    text.push(b" lost ");
+    text.push_number(met.lost);
+    text.push(b"\n");
+    text
 }
 
 /// Prints each meter.

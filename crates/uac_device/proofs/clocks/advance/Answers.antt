@@ -1,15 +1,15 @@
-use Rattle.std.proofs.Common.{◌∙◌, ap, arith, subst, sym}
+use Rattle.std.proofs.Common.{◌∙◌, ap, arith}
 use Rattle.uac_device.specs.Kept.{IsInRange}
 use Rattle.uac_device.specs.Turns.{advanced_clock, ticks_where}
 use Rattle.uac_device.specs.declared.clocks.Clock.{Clock}
 use Rattle.uac_device.proofs.Kept.{first_more, first_read}
-use Rattle.uac_device.proofs.Turning.{turned_all, turned_more, untouched}
+use Rattle.uac_device.proofs.Turning.{turned_all, turned_more, untouched, untouched_holds}
 use Rattle.uac_device.proofs.clocks.advance.Goals as goal
 
 pub advance_one-requires-clause-range : goal.advance_one-requires-clause-range
 advance_one-requires-clause-range c =
-    let here = untouched _ c.loop-clock.clocks c.args.clocks.now c.loop-clock.clock-index c.clock-item.result c.loop-clock.invariant.turned in
-    subst (λ (k : Clock). IsInRange k.ppm) (sym here) (c.requires.range c.loop-clock.clock-index c.clock-item.result (omega arith))
+    untouched_holds (λ (k : Clock). IsInRange k.ppm) _ c.loop-clock.clocks c.args.clocks.now c.loop-clock.clock-index c.clock-item.result c.requires.range
+    (omega arith) c.loop-clock.invariant.turned
 
 pub loop-clock-preserved : goal.loop-clock-preserved
 loop-clock-preserved c =

@@ -2,12 +2,12 @@ use Rattle.std.proofs.Common.{◌≡◌, take}
 use Rattle.uac_device.specs.Kept.{Stands}
 use Rattle.uac_device.specs.World.{DeviceWorld}
 use Rattle.uac_play.specs.Events.{after_one, given}
-use Rattle.uac_play.proofs.Changing.{Changed}
+use Rattle.uac_device.proofs.Turning.{IsTurnedBelow}
 use Rattle.uac_play.proofs.jacks.give_jacks.Given as goal
 
 abbrev pub invariant-loop-jack : goal.invariant-loop-jack
 invariant-loop-jack l = record {
-  changed : Changed (after_one l.clock) l.initial.jacks l.jacks l.jack-index;
+  changed : IsTurnedBelow (after_one l.clock) l.jacks l.initial.jacks l.jack-index;
   stands : (w : DeviceWorld) → Stands l.initial.device w → Stands l.device (given l.clock (take l.jack-index l.initial.jacks) w);
   function : l.device.function ≡ l.initial.device.function;
 }

@@ -1,8 +1,13 @@
+use Rattle.std.proofs.Common.{arith}
 use Rattle.uac_play.specs.World.{toned}
-use Rattle.uac_play.proofs.Changing.{changed_more}
+use Rattle.uac_device.proofs.Turning.{turned_all, turned_more}
 use Rattle.uac_play.proofs.jacks.set_tone.Goals as goal
 
 pub loop-jack-preserved : goal.loop-jack-preserved
 loop-jack-preserved c =
-    changed_more (toned c.args.terminal c.args.tone) c.args.jacks.now c.loop-jack.jacks c.loop-jack.jack-index _ c.with_tone.result
-    c.loop-jack-test.true c.loop-jack.invariant c.with_tone.ensures
+    turned_more (toned c.args.terminal c.args.tone) c.loop-jack.jacks c.args.jacks.now c.loop-jack.jack-index c.with_tone.result _
+    (omega (arith, c.loop-jack.invariant.same)) c.loop-jack.invariant c.with_tone.ensures
+
+pub returns : goal.returns
+returns c =
+    turned_all (toned c.args.terminal c.args.tone) c.loop-jack.jacks c.args.jacks.now c.loop-jack.jack-index (omega (arith, c.loop-jack.invariant.same)) c.loop-jack.invariant

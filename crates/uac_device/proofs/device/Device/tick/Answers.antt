@@ -1,4 +1,4 @@
-use Rattle.std.proofs.Common.{refl, ◌∙◌, ap, subst, sym, List}
+use Rattle.std.proofs.Common.{◌∙◌, ap, subst, sym, List}
 use Rattle.uac_entities.specs.declared.entity.Entity.{Entity}
 use Rattle.uac_graph.specs.Controls.{held_in}
 use Rattle.uac_graph.specs.Needs.{depended}
@@ -11,7 +11,7 @@ use Rattle.uac_device.specs.Kept.{DeviceFields, Stands}
 use Rattle.uac_device.specs.Turns.{frames_heard}
 use Rattle.uac_device.specs.contracts.device.Device.{the_view}
 use Rattle.uac_device.proofs.Played.{heard_in, tick_stands}
-use Rattle.uac_device.specs.World.{met_of}
+use Rattle.uac_device.proofs.Resting.{none_met}
 use Rattle.uac_device.proofs.device.Device.tick.Goals as goal
 
 pub returns-clause-stands : goal.returns-clause-stands
@@ -38,5 +38,5 @@ returns-clause-heard g c w stands =
     (heard_in (record (the_view c.self.inside) { wires = c.tick.new.wires }) c.args.domain (ticked c.args.domain w) (sound_graph c.self.inside.function sound) after)
 
 pub returns-clause-met : goal.returns-clause-met
-unfolding met_of
-returns-clause-met g c w stands = refl
+returns-clause-met g c w stands =
+    none_met (the_view c.self.inside) w c.args.domain (subst (λ (device : DeviceFields). Stands device w) (sym c.self.view_is) stands)

@@ -8,7 +8,8 @@ use Rattle.uac_device.specs.Kept.{DeviceFields, IsInRange, Stands}
 use Rattle.uac_device.specs.Turns.{advanced_clock, first_ticks}
 use Rattle.uac_device.specs.contracts.device.Device.{the_view}
 use Rattle.uac_device.proofs.Fastest.{few_ticks, rated_nominal}
-use Rattle.uac_device.proofs.Kept.{advanced_phases, advanced_range, advanced_stands, put_back, ticks_next}
+use Rattle.uac_device.proofs.Kept.{advanced_phases, advanced_range, advanced_stands, ticks_next}
+use Rattle.uac_device.proofs.Turning.{put_back}
 use Rattle.uac_device.proofs.device.Device.ticks.Goals as goal
 use Rattle.uac_device.proofs.device.Device.ticks.Goals.{in-Some, in-None}
 

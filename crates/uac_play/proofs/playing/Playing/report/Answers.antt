@@ -16,4 +16,4 @@ returns-clause-written g c r stands =
     let shown = readings (λ v x. (goal.Meter-dyn g (v, x)).reading_of x) c.args.meters.now in
     let own = subst (λ (p : PlayingFields). Stands p shown r) (sym c.self.view_is) stands in
     report_whole (the_view c.self.inside) shown r own (g.K.Sink.written c.args.sink.now) (g.K.Sink.written c.write_head.new.sink) (g.K.Sink.written c.write_rest.new.sink) c.write_rest.result
-    c.in-Ok.ensures.written (c.write_rest.ensures.written r.device own.device (c.deref.ensures.value ∙ own.counts))
+    c.in-Ok.ensures.written (c.write_rest.ensures.written r.device r.met own.device own.met (c.deref.ensures.value ∙ own.counts))

@@ -3,7 +3,7 @@ use Rattle.std.specs.List.{All}
 use Rattle.uac_play.specs.declared.jacks.Jack.{Jack}
 use Rattle.uac_play.specs.World.{toned}
 use Rattle.uac_play.specs.Kept.{Counts, PlayingFields, Stands}
-use Rattle.uac_play.proofs.Changing.{changed_back}
+use Rattle.uac_device.proofs.Turning.{turned_back}
 use Rattle.uac_play.proofs.Counting.{domains_kept}
 use Rattle.uac_play.proofs.JackSteps.{jacks_toned, places_toned}
 use Rattle.uac_play.proofs.Steps.{toned_on}
@@ -12,7 +12,7 @@ use Rattle.uac_play.proofs.playing.Playing.set_tone.Goals as goal
 
 pub invariant_of-self : goal.invariant_of-self
 invariant_of-self c =
-    let jacks = changed_back (toned c.args.terminal c.args.tone) c.self.inside.jacks.len c.self.inside.jacks.items c.deref_mut.result.now c.set_tone.new.jacks
+    let jacks = turned_back (toned c.args.terminal c.args.tone) c.self.inside.jacks.len c.self.inside.jacks.items c.deref_mut.result.now c.set_tone.new.jacks
     c.set_tone.ensures c.deref_mut.ensures.value c.deref_mut.ensures.len in (
       jacks_toned c.args.terminal c.args.tone (the_view c.self.inside) _ refl jacks c.self.invariant.0,
       domains_kept (the_view c.self.inside) _ refl refl c.self.invariant.1,
@@ -20,13 +20,13 @@ invariant_of-self c =
 
 pub returns-clause-stands : goal.returns-clause-stands
 returns-clause-stands c meters r stands =
-    let jacks = changed_back (toned c.args.terminal c.args.tone) c.self.inside.jacks.len c.self.inside.jacks.items c.deref_mut.result.now c.set_tone.new.jacks
+    let jacks = turned_back (toned c.args.terminal c.args.tone) c.self.inside.jacks.len c.self.inside.jacks.items c.deref_mut.result.now c.set_tone.new.jacks
     c.set_tone.ensures c.deref_mut.ensures.value c.deref_mut.ensures.len in
     toned_on meters r (the_view c.self.inside) _ (subst (λ (p : PlayingFields). Stands p meters r) (sym c.self.view_is) stands) c.args.terminal c.args.tone _ jacks refl
 
 pub returns-clause-counts : goal.returns-clause-counts
 returns-clause-counts c most counts =
-    let jacks = changed_back (toned c.args.terminal c.args.tone) c.self.inside.jacks.len c.self.inside.jacks.items c.deref_mut.result.now c.set_tone.new.jacks
+    let jacks = turned_back (toned c.args.terminal c.args.tone) c.self.inside.jacks.len c.self.inside.jacks.items c.deref_mut.result.now c.set_tone.new.jacks
     c.set_tone.ensures c.deref_mut.ensures.value c.deref_mut.ensures.len in
     let own = subst (Counts most) (sym c.self.view_is) counts in
     record {

@@ -2,7 +2,7 @@ use Rattle.std.proofs.Common.{◌∙◌, ap, sym, subst, refl}
 use Rattle.uac_units.specs.Panel.{readings}
 use Rattle.uac_play.specs.Events.{after_one, gone_on}
 use Rattle.uac_play.specs.Kept.{PlayingFields, Stands}
-use Rattle.uac_play.proofs.Changing.{changed_back}
+use Rattle.uac_device.proofs.Turning.{turned_back}
 use Rattle.uac_play.proofs.Counting.{domains_kept}
 use Rattle.uac_play.proofs.JackSteps.{jacks_gone_on}
 use Rattle.uac_play.proofs.Steps.{sounded}
@@ -11,7 +11,7 @@ use Rattle.uac_play.proofs.playing.Playing.sound.Goals as goal
 
 pub invariant_of-self : goal.invariant_of-self
 invariant_of-self g c =
-    let jacks = changed_back (after_one c.args.clock) c.self.inside.jacks.len c.self.inside.jacks.items c.deref_mut.result.now c.give_jacks.new.jacks
+    let jacks = turned_back (after_one c.args.clock) c.self.inside.jacks.len c.self.inside.jacks.items c.deref_mut.result.now c.give_jacks.new.jacks
     c.give_jacks.ensures.jacks c.deref_mut.ensures.value c.deref_mut.ensures.len in
     let function = c.tick-ticked.ensures.function ∙ c.give_jacks.ensures.function in (
       jacks_gone_on c.args.clock (the_view c.self.inside) _ function jacks c.self.invariant.0,
@@ -22,7 +22,7 @@ pub returns-clause-stands : goal.returns-clause-stands
 returns-clause-stands g c r stands =
     let shown = readings (λ v x. (goal.Meter-dyn g (v, x)).reading_of x) c.args.meters.now in
     let showing = readings (λ v x. (goal.Meter-dyn g (v, x)).reading_of x) c.tick-ticked.new.meters in
-    let jacks = changed_back (after_one c.args.clock) c.self.inside.jacks.len c.self.inside.jacks.items c.deref_mut.result.now c.give_jacks.new.jacks
+    let jacks = turned_back (after_one c.args.clock) c.self.inside.jacks.len c.self.inside.jacks.items c.deref_mut.result.now c.give_jacks.new.jacks
     c.give_jacks.ensures.jacks c.deref_mut.ensures.value c.deref_mut.ensures.len in
     let own = subst (λ (p : PlayingFields). Stands p shown r) (sym c.self.view_is) stands in
     sounded c.args.clock shown showing r (the_view c.self.inside) _ c.deref_mut.result.now c.give_jacks.new.device own c.deref_mut.ensures.value

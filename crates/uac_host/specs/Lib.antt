@@ -1,0 +1,2 @@
+-- The host: its part of the world.
+pub mod World
