@@ -32,7 +32,8 @@ use Rattle.uac_bus.specs.declared.fault.BusFault.TheVariants as faults
 use Rattle.uac_bus.specs.declared.bus.Stage.TheVariants as stages
 use Rattle.uac_bus.specs.Description.{first_then, blocks_from, blocks_of, function_of}
 use Rattle.uac_bus.specs.World.{Step, done, describing, playing, if_no_fault, if_sound, silently, fed, gone}
-use Rattle.uac_bus.specs.Rows.{Describes, Prevents, Reaches, fault_of}
+use Rattle.uac_bus.specs.Kept.{StandsFor, Reaches, Prevents}
+use Rattle.uac_bus.specs.Rows.{Describes, fault_of}
 
 abbrev the_fields : List Entity → List ℕ → List StreamInterface → ℕ → ℕ → FunctionFields
 the_fields es ds ss k t = record { entities = es; domains = ds; streams = ss; control_interface = k; total = t }
@@ -119,12 +120,12 @@ gone_ill bytes (faults.Script rule) shown written d = absurd d
 -- more bytes show no fault
 pub fed_well : (taken piece : List ℕ) (r : reader.Reading) (shown : List Reading) (written : Option (List ℕ)) → r.stop ≡ None → r.taken ≡ taken ++ piece
     → (r.stop ≢ Some reads.NoMemory → r.stop ≡ shown_stop (taken ++ piece))
-    → Reaches (fed (taken ++ piece) shown) (stages.Describing r) shown written written
+    → Reaches (fed (taken ++ piece) shown) (StandsFor (stages.Describing r) shown) written written
 unfolding fed
 fed_well taken piece r shown written none all told =
     let quiet : shown_fault (taken ++ piece) ≡ None = no_stop_no_fault (shown_fault (taken ++ piece)) (sym (told (λ n. cc)) ∙ none) in
     let P : Option GrammarFault → Type 0 =
-    λ o. Reaches (if_no_fault o (silently (describing (taken ++ piece) shown))) (stages.Describing r) shown written written
+    λ o. Reaches (if_no_fault o (silently (describing (taken ++ piece) shown))) (StandsFor (stages.Describing r) shown) written written
     in
     subst P (sym quiet) ((all, none, refl), Appends-nil written)
 

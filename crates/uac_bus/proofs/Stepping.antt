@@ -18,8 +18,7 @@ use Rattle.uac_script.specs.Phrase.{Phrase, idle, feeds, goes}
 use Rattle.uac_bus.specs.declared.fault.BusFault.{BusFault}
 use Rattle.uac_bus.specs.declared.fault.BusFault.TheVariants as faults
 use Rattle.uac_bus.specs.World.{World, describing, playing, Step, done, refused, unless, breaks_rule, tone_of, fed, gone, step, step_playing}
-use Rattle.uac_bus.specs.Kept.{BusFields, StandsFor, IsDone, IsWhy, Answers}
-use Rattle.uac_bus.specs.Rows.{Reaches, Prevents, Does, may_want}
+use Rattle.uac_bus.specs.Kept.{BusFields, Stands, StandsFor, Reaches, Prevents, Does, may_want}
 
 -- a tone is what its words spell
 pub tone_back : (tone : Tone) → tone_of (voice_of_tone tone) ≡ tone
@@ -37,33 +36,17 @@ unless_fails true rule s e = absurd (cc)
 unless_fails false rule s e = refl
 
 -- a step that was done leaves a bus that stands for the next world, where it keeps no fault
-reached : (s : Step) (bus : BusFields) (shown : List Reading) (written written' : Option (List ℕ)) → bus.fault ≡ None
-    → Reaches s bus.stage shown written written' → IsDone s bus shown written written'
-reached (done next text) bus shown written written' none r = (record { going = none; stage = r.0 }, r.1)
-reached (refused fault) bus shown written written' none r = absurd r
-
--- why a line wasn't done
-pub prevented : (fault : BusFault) (phrase : Phrase) (w : World) (written written' : Option (List ℕ))
-    → Prevents fault (may_want phrase w) (step phrase w) written written' → IsWhy fault phrase w written written'
-prevented (faults.Script rule) phrase w written written' p = p
-prevented (faults.Grammar f) phrase w written written' p = p
-prevented (faults.Topology f) phrase w written written' p = p
-prevented faults.WriteFault phrase w written written' p = p
-prevented faults.NoMemory phrase (describing bytes shown) written written' p = (p, tt)
-prevented faults.NoMemory phrase (playing r) written written' p = absurd (cc)
-
--- the line's answer
-pub answered : (phrase : Phrase) (w : World) (bus : BusFields) (shown : List Reading) (written written' : Option (List ℕ)) (result : Result (Unit {0}) BusFault)
-    → OnOk result (bus.fault ≡ None) → Does (step phrase w) (may_want phrase w) bus.stage shown written written' result
-    → Answers phrase w bus shown written written' result
-answered phrase w bus shown written written' (Ok _) none does = reached (step phrase w) bus shown written written' none does
-answered phrase w bus shown written written' (Err fault) none does = prevented fault phrase w written written' does
+pub answered : (s : Step) (memory : Bool) (bus : BusFields) (shown : List Reading) (written written' : Option (List ℕ)) (result : Result (Unit {0}) BusFault)
+    → OnOk result (bus.fault ≡ None) → Does s memory (StandsFor bus.stage shown) written written' result → Does s memory (Stands bus shown) written written' result
+answered (done next text) memory bus shown written written' (Ok _) none does = (record { going = none; stage = does.0 }, does.1)
+answered (refused fault) memory bus shown written written' (Ok _) none does = absurd does
+answered s memory bus shown written written' (Err fault) none does = does
 
 -- ---- a line in each stage
 
 -- a line that does nothing
 pub idle_in : (r : reader.Reading) (shown : List Reading) (w : World) (written : Option (List ℕ)) → StandsFor (stages.Describing r) shown w
-    → Reaches (step idle w) (stages.Describing r) shown written written
+    → Reaches (step idle w) (StandsFor (stages.Describing r) shown) written written
 unfolding step
 idle_in r shown (describing bytes heard) written s = (s, Appends-nil written)
 idle_in r shown (playing world) written s = absurd s
@@ -71,31 +54,31 @@ idle_in r shown (playing world) written s = absurd s
 -- more bytes
 fed_here : (r r' : reader.Reading) (more : List ℕ) (shown : List Reading) (w : World) (written : Option (List ℕ)) (result : Result (Unit {0}) BusFault)
     → StandsFor (stages.Describing r) shown w
-    → (r.stop ≡ None → (heard : List Reading) (old : Option (List ℕ)) → Does (fed (r.taken ++ more) heard) true (stages.Describing r') heard old old result)
-    → Does (step (feeds more) w) (may_want (feeds more) w) (stages.Describing r') shown written written result
+    → (r.stop ≡ None → (heard : List Reading) (old : Option (List ℕ)) → Does (fed (r.taken ++ more) heard) true (StandsFor (stages.Describing r') heard) old old result)
+    → Does (step (feeds more) w) (may_want (feeds more) w) (StandsFor (stages.Describing r') shown) written written result
 unfolding step
 fed_here r r' more shown (describing bytes heard) written result s does =
-    let before : Does (fed (r.taken ++ more) shown) true (stages.Describing r') shown written written result = does s.1 shown written in
-    subst (λ (bs : List ℕ). Does (fed (bs ++ more) heard) true (stages.Describing r') shown written written result) s.0
-    (subst (λ (xs : List Reading). Does (fed (r.taken ++ more) xs) true (stages.Describing r') shown written written result) s.2 before)
+    let before : Does (fed (r.taken ++ more) shown) true (StandsFor (stages.Describing r') shown) written written result = does s.1 shown written in
+    subst (λ (bs : List ℕ). Does (fed (bs ++ more) heard) true (StandsFor (stages.Describing r') shown) written written result) s.0
+    (subst (λ (xs : List Reading). Does (fed (r.taken ++ more) xs) true (StandsFor (stages.Describing r') shown) written written result) s.2 before)
 fed_here r r' more shown (playing world) written result s does = absurd s
 
 pub fed_in : (r r' : reader.Reading) (more bytes : List ℕ) (shown : List Reading) (w : World) (written : Option (List ℕ)) (result : Result (Unit {0}) BusFault)
     → more ≡ bytes → StandsFor (stages.Describing r) shown w
-    → (r.stop ≡ None → (heard : List Reading) (old : Option (List ℕ)) → Does (fed (r.taken ++ more) heard) true (stages.Describing r') heard old old result)
-    → Does (step (feeds bytes) w) (may_want (feeds bytes) w) (stages.Describing r') shown written written result
+    → (r.stop ≡ None → (heard : List Reading) (old : Option (List ℕ)) → Does (fed (r.taken ++ more) heard) true (StandsFor (stages.Describing r') heard) old old result)
+    → Does (step (feeds bytes) w) (may_want (feeds bytes) w) (StandsFor (stages.Describing r') shown) written written result
 fed_in r r' more bytes shown w written result same s does =
-    subst (λ (bs : List ℕ). Does (step (feeds bs) w) (may_want (feeds bs) w) (stages.Describing r') shown written written result) same
+    subst (λ (bs : List ℕ). Does (step (feeds bs) w) (may_want (feeds bs) w) (StandsFor (stages.Describing r') shown) written written result) same
     (fed_here r r' more shown w written result s does)
 
 -- the descriptor's end, of a reader that was taken out
 pub begun_in : (r whole : reader.Reading) (p : PlayingFields) (shown : List Reading) (w : World) (written written' : Option (List ℕ))
-    → whole ≡ r → StandsFor (stages.Describing r) shown w → ((heard : List Reading) → Reaches (gone whole.taken heard) (stages.Playing p) heard written written')
-    → Reaches (step goes w) (stages.Playing p) shown written written'
+    → whole ≡ r → StandsFor (stages.Describing r) shown w → ((heard : List Reading) → Reaches (gone whole.taken heard) (StandsFor (stages.Playing p) heard) written written')
+    → Reaches (step goes w) (StandsFor (stages.Playing p) shown) written written'
 unfolding step
 begun_in r whole p shown (describing bytes heard) written written' same s begins =
-    subst (λ (bs : List ℕ). Reaches (gone bs heard) (stages.Playing p) shown written written') (ap (λ (x : reader.Reading). x.taken) same ∙ s.0)
-    (subst (λ (xs : List Reading). Reaches (gone whole.taken xs) (stages.Playing p) shown written written') s.2 (begins shown))
+    subst (λ (bs : List ℕ). Reaches (gone bs heard) (StandsFor (stages.Playing p) shown) written written') (ap (λ (x : reader.Reading). x.taken) same ∙ s.0)
+    (subst (λ (xs : List Reading). Reaches (gone whole.taken xs) (StandsFor (stages.Playing p) shown) written written') s.2 (begins shown))
 begun_in r whole p shown (playing world) written written' same s begins = absurd s
 
 pub unbegun_in : (r whole : reader.Reading) (fault : BusFault) (shown : List Reading) (w : World) (written written' : Option (List ℕ))
@@ -132,8 +115,8 @@ early_in r lines.Report shown (describing bs heard) s nothing bytes go = refl
 -- a line of the running device
 pub played_in : (p p' : PlayingFields) (phrase : Phrase) (shown shown' : List Reading) (w : World) (written written' : Option (List ℕ)) (result : Result (Unit {0}) BusFault)
     → StandsFor (stages.Playing p) shown w
-    → ((r : Running) → play.Stands p shown r → Does (step_playing r phrase) false (stages.Playing p') shown' written written' result)
-    → Does (step phrase w) (may_want phrase w) (stages.Playing p') shown' written written' result
+    → ((r : Running) → play.Stands p shown r → Does (step_playing r phrase) false (StandsFor (stages.Playing p') shown') written written' result)
+    → Does (step phrase w) (may_want phrase w) (StandsFor (stages.Playing p') shown') written written' result
 unfolding step
 played_in p p' phrase shown shown' (describing bytes heard) written written' result s does = absurd s
 played_in p p' phrase shown shown' (playing r) written written' result s does = does r s

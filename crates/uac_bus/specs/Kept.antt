@@ -1,5 +1,5 @@
 -- What the bus keeps, for which worlds it stands, and what a line is answered.
-use Rattle.std.specs.Prelude.{◌≡◌, ℕ, ◌*◌, ◌≤◌, Bool, true, false, List, Option, None, Result, Ok, Err}
+use Rattle.std.specs.Prelude.{◌≡◌, ℕ, ◌*◌, ◌≤◌, ◌&&◌, Bool, true, false, List, Option, None, Result, Ok, Err}
 use Rattle.std.specs.Io.KnownBytes.{Appends}
 use Rattle.uac_script.specs.Writing.{AppendsFront}
 use Rattle.uac_script.specs.Phrase.{Phrase, feeds, goes}
@@ -53,31 +53,39 @@ takes_memory (feeds bytes) = true
 takes_memory goes = true
 takes_memory _ = false
 
--- the line was done
-abbrev pub IsDone : Step → BusFields → List Reading → Option (List ℕ) → Option (List ℕ) → Type 0
-IsDone (done next text) bus meters written written' = Stands bus meters next × Appends written written' text
-IsDone (refused fault) bus meters written written' = ⊥
+-- the descriptor's end hasn't come
+abbrev pub is_describing : World → Bool
+is_describing (describing bytes meters) = true
+is_describing (playing r) = false
 
--- a write failed in the middle of the line's text
+-- memory may be wanted for what is said before the descriptor's end, and for nothing behind it
+abbrev pub may_want : Phrase → World → Bool
+may_want phrase w = is_describing w && takes_memory phrase
+
+-- the step was done: this holds of the next world, and the text was written
+abbrev pub Reaches : Step → (World → Type 0) → Option (List ℕ) → Option (List ℕ) → Type 0
+Reaches (done next text) Holds written written' = Holds next × Appends written written' text
+Reaches (refused fault) Holds written written' = ⊥
+
+-- a write failed in the middle of the step's text
 abbrev pub IsCut : Step → Option (List ℕ) → Option (List ℕ) → Type 0
 IsCut (done next text) written written' = AppendsFront written written' text
 IsCut (refused fault) written written' = ⊥
 
--- the descriptor's end hasn't come
-abbrev pub IsDescribing : World → Type 0
-IsDescribing (describing bytes meters) = Unit {0}
-IsDescribing (playing r) = ⊥
+-- why a step wasn't done; memory may be wanted only where this says so
+abbrev pub Prevents : BusFault → Bool → Step → Option (List ℕ) → Option (List ℕ) → Type 0
+Prevents faults.WriteFault memory s written written' = IsCut s written written'
+Prevents faults.NoMemory memory s written written' = memory ≡ true
+Prevents fault memory s written written' = s ≡ refused fault
 
--- why the line wasn't done
-abbrev pub IsWhy : BusFault → Phrase → World → Option (List ℕ) → Option (List ℕ) → Type 0
-IsWhy faults.WriteFault phrase w written written' = IsCut (step phrase w) written written'
-IsWhy faults.NoMemory phrase w written written' = (takes_memory phrase ≡ true) × IsDescribing w
-IsWhy fault phrase w written written' = step phrase w ≡ refused fault
+-- what a step is answered, and what it leaves
+abbrev pub Does : Step → Bool → (World → Type 0) → Option (List ℕ) → Option (List ℕ) → Result (Unit {0}) BusFault → Type 0
+Does s memory Holds written written' (Ok _) = Reaches s Holds written written'
+Does s memory Holds written written' (Err fault) = Prevents fault memory s written written'
 
 -- what a line that says this is answered in a world, and what it leaves
 abbrev pub Answers : Phrase → World → BusFields → List Reading → Option (List ℕ) → Option (List ℕ) → Result (Unit {0}) BusFault → Type 0
-Answers phrase w bus meters written written' (Ok _) = IsDone (step phrase w) bus meters written written'
-Answers phrase w bus meters written written' (Err fault) = IsWhy fault phrase w written written'
+Answers phrase w bus meters written written' result = Does (step phrase w) (may_want phrase w) (Stands bus meters) written written' result
 
 -- a fault that is answered again from now on
 abbrev pub is_final : BusFault → Bool

@@ -9,6 +9,7 @@ use Rattle.uac_sentence.specs.declared.faults.GrammarFault.{GrammarFault}
 use Rattle.uac_sentence.specs.Grammar.{first_fault}
 use Rattle.uac_grammar.specs.Stop.{shown_fault}
 use Rattle.uac_rules.specs.declared.fault.TopologyFault.{TopologyFault}
+use Rattle.uac_topology.specs.Function.{FunctionFields}
 use Rattle.uac_topology.specs.Topology.{first_broken}
 use Rattle.uac_graph.specs.Meaning.{entity}
 use Rattle.uac_units.specs.Hearing.{Reading}
@@ -94,26 +95,27 @@ is_out number s = s.number == number && (s.out && not (s.terminal == 0))
 abbrev pub is_in : ℕ → StreamInterface → Bool
 is_in number s = s.number == number && (not s.out && not (s.terminal == 0))
 
-abbrev pub has_out : Running → ℕ → Bool
-has_out r number = list_any (is_out number) r.device.function.streams
+-- one of these streaming interfaces is such an interface
+abbrev pub has_out : List StreamInterface → ℕ → Bool
+has_out streams number = list_any (is_out number) streams
 
-abbrev pub has_in : Running → ℕ → Bool
-has_in r number = list_any (is_in number) r.device.function.streams
+abbrev pub has_in : List StreamInterface → ℕ → Bool
+has_in streams number = list_any (is_in number) streams
 
--- an interface has such packets or reports: to the device and feedback where it carries a stream to the device
-abbrev pub has_marked : Running → MarkKind → ℕ → Bool
-has_marked r Out number = has_out r number
-has_marked r In number = has_in r number
-has_marked r Feedback number = has_out r number
+-- one of them has such packets or reports: to the device and feedback where it carries a stream to the device
+abbrev pub has_marked : List StreamInterface → MarkKind → ℕ → Bool
+has_marked streams Out number = has_out streams number
+has_marked streams In number = has_in streams number
+has_marked streams Feedback number = has_out streams number
 
--- a mark names an interface that has such packets or reports
-abbrev pub is_placed : Running → Loss → Bool
-is_placed r loss = has_marked r loss.letter (size_of loss.place)
+-- a mark names one of them that has such packets or reports
+abbrev pub is_placed : List StreamInterface → Loss → Bool
+is_placed streams loss = has_marked streams loss.letter (size_of loss.place)
 
 -- the samples are whole frames of the channels of the terminal to which the interface links
-unfoldable pub are_frames : Running → ℕ → ℕ → Bool
-are_frames r number count =
-    option_map_or (λ s. count % (entity r.device.function.entities s.terminal).cluster.channels == 0) (find (is_out number) r.device.function.streams) false
+unfoldable pub are_frames : FunctionFields → ℕ → ℕ → Bool
+are_frames function number count =
+    option_map_or (λ s. count % (entity function.entities s.terminal).cluster.channels == 0) (find (is_out number) function.streams) false
 
 -- a line that isn't built yet
 abbrev pub unbuilt : Step
@@ -136,14 +138,14 @@ step_playing r (sets name value) = unbuilt
 step_playing r (shows name) = unbuilt
 step_playing r (breaks after) = unbuilt
 step_playing r (appends number samples) =
-    unless (has_out r (size_of number)) 6 (unless (are_frames r (size_of number) (length samples)) 7 unbuilt)
-step_playing r (tracks number voice) = unless (has_out r (size_of number)) 6 unbuilt
+    unless (has_out r.device.function.streams (size_of number)) 6 (unless (are_frames r.device.function (size_of number) (length samples)) 7 unbuilt)
+step_playing r (tracks number voice) = unless (has_out r.device.function.streams (size_of number)) 6 unbuilt
 step_playing r (jacks terminal voice) =
     unless (has_jack r (size_of terminal)) 6 (silently (playing (with_tone (size_of terminal) (tone_of voice) r)))
 step_playing r (deviates clock millionths) =
     unless (has_domain r (size_of clock)) 6 (silently (playing (with_deviation (size_of clock) millionths r)))
 step_playing r (runs count losses) =
-    unless (list_all (is_placed r) losses) 6 (unless (is_empty losses) 9 (told (microframes (size_of count) r)))
+    unless (list_all (is_placed r.device.function.streams) losses) 6 (unless (is_empty losses) 9 (told (microframes (size_of count) r)))
 step_playing r (details level) = silently (playing (with_detail (size_of level) r))
 step_playing r reports = done (playing r) (report_text r)
 

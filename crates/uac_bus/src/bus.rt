@@ -6,8 +6,8 @@ ghost use Rattle.uac_units.specs.Panel.{readings};
 ghost use Rattle.uac_script.specs.Faults.{Rose};
 ghost use Rattle.uac_script.specs.Line.{phrase_of, Keeps};
 ghost use Rattle.uac_bus.specs.World.{World, start, step, finish_of};
-ghost use Rattle.uac_bus.specs.Kept.{Stands, StandsFor, StageCounts, Answers, is_final, most_lines};
-ghost use Rattle.uac_bus.specs.Rows.{Does, HasRoom, may_want};
+ghost use Rattle.uac_bus.specs.Kept.{Stands, StandsFor, StageCounts, Does, Answers, may_want, is_final, most_lines};
+ghost use Rattle.uac_bus.specs.Rows.{HasRoom};
 
 use crate::describing::{begin, feed};
 use crate::fault::BusFault;
@@ -162,8 +162,8 @@ fn advance<K: Sink>(
     requires keeps { Keeps line.now }
     requires room { HasRoom stage.old }
     ensures does { (w : World) → StandsFor stage.old (readings (λ v x. (⟦<dyn Meter as Meter>⟧ v).reading_of x) meters.old) w
-        → Does (step (phrase_of line.now) w) (may_want (phrase_of line.now) w) stage.new
-        (readings (λ v x. (⟦<dyn Meter as Meter>⟧ v).reading_of x) meters.new) (K.written sink.old) (K.written sink.new) result }
+        → Does (step (phrase_of line.now) w) (may_want (phrase_of line.now) w)
+        (StandsFor stage.new (readings (λ v x. (⟦<dyn Meter as Meter>⟧ v).reading_of x) meters.new)) (K.written sink.old) (K.written sink.new) result }
     ensures script { IfErr result (λ fault. is_final fault ≡ false → stage.new ≡ stage.old) }
     ensures unwritten { IfErr result (λ fault. fault ≢ BusFault.WriteFault → sink.new ≡ sink.old) }
     ensures unheard { IfErr result (λ fault. fault ≢ BusFault.WriteFault → meters.new ≡ meters.old) }

@@ -4,8 +4,8 @@ ghost use Rattle.uac_units.specs.Hearing.{Reading};
 ghost use Rattle.uac_script.specs.Faults.{Rose};
 ghost use Rattle.uac_play.specs.Kept.{Counts};
 ghost use Rattle.uac_bus.specs.World.{fed, gone};
-ghost use Rattle.uac_bus.specs.Kept.{is_final};
-ghost use Rattle.uac_bus.specs.Rows.{Does, Begins, Describes, fault_of};
+ghost use Rattle.uac_bus.specs.Kept.{StandsFor, Does, is_final};
+ghost use Rattle.uac_bus.specs.Rows.{Begins, Describes, fault_of};
 
 use crate::bus::Stage;
 use crate::fault::BusFault;
@@ -18,7 +18,7 @@ use uac_topology::{CheckStop, Function, check};
 /// Takes more bytes of the descriptor.
 pub(crate) fn feed(reader: &mut Reader, bytes: &[u8]) -> Result<(), BusFault>
     ensures does { reader.old.stop ≡ None → (shown : List Reading) (written : Option (List ℕ))
-        → Does (fed (reader.old.taken ++ bytes.now) shown) true (Stage.Describing reader.new) shown written written result }
+        → Does (fed (reader.old.taken ++ bytes.now) shown) true (StandsFor (Stage.Describing reader.new) shown) written written result }
     ensures fault { IfErr result (λ fault. is_final fault ≡ true) }
     ensures unwritten { IfErr result (λ fault. fault ≢ BusFault.WriteFault) }
 {

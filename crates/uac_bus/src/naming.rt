@@ -1,11 +1,10 @@
 // The marks of a line, and the streams that it names.
-ghost use Rattle.std.specs.Prelude.{◌≡◌, ◌==◌, ◌%◌, ℕ, map, Bool, false};
-ghost use Rattle.std.specs.List.{list_all, list_any, find};
-ghost use Rattle.std.specs.Option.{option_map, option_map_or};
+ghost use Rattle.std.specs.Prelude.{◌≡◌, ◌==◌, ◌%◌};
+ghost use Rattle.std.specs.List.{list_all, find};
+ghost use Rattle.std.specs.Option.{option_map};
 ghost use Rattle.uac_graph.specs.Meaning.{entity};
 ghost use Rattle.uac_script.specs.Line.{loss_of};
 ghost use Rattle.uac_bus.specs.World as world;
-ghost use Rattle.uac_bus.specs.Rows as spec;
 
 use uac_entities::StreamInterface;
 use uac_script::{Mark, MarkKind};
@@ -27,21 +26,21 @@ fn is_in(stream: &StreamInterface, number: u8) -> bool
 
 /// Whether an interface of this number carries a stream to the device.
 pub(crate) fn has_out(streams: &[StreamInterface], number: u8) -> bool
-    ensures { result ≡ list_any (world.is_out number) streams.now }
+    ensures { result ≡ world.has_out streams.now number }
 {
     streams.iter().any(|stream| is_out(stream, number))
 }
 
 /// Whether an interface of this number carries a stream from the device.
 fn has_in(streams: &[StreamInterface], number: u8) -> bool
-    ensures { result ≡ list_any (world.is_in number) streams.now }
+    ensures { result ≡ world.has_in streams.now number }
 {
     streams.iter().any(|stream| is_in(stream, number))
 }
 
 /// Whether a mark names an interface that has such packets or reports.
 fn is_placed(streams: &[StreamInterface], mark: &Mark) -> bool
-    ensures { result ≡ spec.is_placed_in streams.now (loss_of mark.now) }
+    ensures { result ≡ world.is_placed streams.now (loss_of mark.now) }
 {
     match mark.kind {
         MarkKind::Out => has_out(streams, mark.interface),
@@ -52,7 +51,7 @@ fn is_placed(streams: &[StreamInterface], mark: &Mark) -> bool
 
 /// Whether each mark does.
 pub(crate) fn are_placed(streams: &[StreamInterface], marks: &[Mark]) -> bool
-    ensures { result ≡ list_all (λ mark. spec.is_placed_in streams.now (loss_of mark)) marks.now }
+    ensures { result ≡ list_all (λ mark. world.is_placed streams.now (loss_of mark)) marks.now }
 {
     marks.iter().all(|mark| is_placed(streams, mark))
 }
@@ -78,8 +77,9 @@ fn channels_of(function: &Function, id: u8) -> u8
 }
 
 /// Whether so many samples are whole frames of the interface that carries a stream to the device.
+#[tactic(auto, unfolding(crate::specs::World::are_frames))]
 pub(crate) fn are_frames(function: &Function, number: u8, count: usize) -> bool
-    ensures { result ≡ option_map_or (λ s. count % (entity function.now.entities s.terminal).cluster.channels == 0) (find (world.is_out number) function.now.streams) false }
+    ensures { result ≡ world.are_frames function.now number count }
 {
     match out_terminal(function.streams(), number) {
         Some(terminal) => are_whole(count, channels_of(function, terminal)),

@@ -9,8 +9,7 @@ ghost use Rattle.uac_script.specs.Phrase as phrase;
 ghost use Rattle.uac_play.specs.World.{Running};
 ghost use Rattle.uac_play.specs.Kept.{Stands, Counts};
 ghost use Rattle.uac_bus.specs.World.{step_playing, refused};
-ghost use Rattle.uac_bus.specs.Kept.{is_final, most_rise};
-ghost use Rattle.uac_bus.specs.Rows.{Does};
+ghost use Rattle.uac_bus.specs.Kept.{StandsFor, Does, is_final, most_rise};
 
 use crate::bus::Stage;
 use crate::fault::BusFault;
@@ -51,7 +50,7 @@ fn track(playing: &Playing, interface: u8, tone: &Tone) -> BusFault
 /// The tone of an input jack.
 fn set_jack(playing: &mut Playing, terminal: u8, tone: &Tone) -> Result<(), BusFault>
     ensures does { (shown : List Reading) (r : Running) (written : Option (List ℕ)) → Stands playing.old shown r
-        → Does (step_playing r (phrase.jacks (pos terminal) (voice_of_tone tone.now))) false (Stage.Playing playing.new) shown written written result }
+        → Does (step_playing r (phrase.jacks (pos terminal) (voice_of_tone tone.now))) false (StandsFor (Stage.Playing playing.new) shown) written written result }
     ensures rule { IfErr result (λ fault. is_final fault ≡ false) }
     ensures unchanged { OnErr result (playing.new ≡ playing.old) }
     ensures counts { (most : ℕ) → Counts most playing.old → Counts most playing.new }
@@ -68,7 +67,7 @@ fn deviate(playing: &mut Playing, domain: u8, ppm: i32) -> Result<(), BusFault>
     requires low { negsuc 99999 ≤ℤ ppm }
     requires high { ppm ≤ℤ pos 100000 }
     ensures does { (shown : List Reading) (r : Running) (written : Option (List ℕ)) → Stands playing.old shown r
-        → Does (step_playing r (phrase.deviates (pos domain) ppm)) false (Stage.Playing playing.new) shown written written result }
+        → Does (step_playing r (phrase.deviates (pos domain) ppm)) false (StandsFor (Stage.Playing playing.new) shown) written written result }
     ensures rule { IfErr result (λ fault. is_final fault ≡ false) }
     ensures unchanged { OnErr result (playing.new ≡ playing.old) }
     ensures counts { (most : ℕ) → Counts most playing.old → Counts most playing.new }
@@ -93,8 +92,8 @@ fn run<K: Sink>(
     requires few { count ≤ 8000 }
     requires room { Counts (2 ^ 62) playing.old }
     ensures does { (r : Running) → Stands playing.old (readings (λ v x. (⟦<dyn Meter as Meter>⟧ v).reading_of x) meters.old) r
-        → Does (step_playing r (phrase.runs (pos count) (map loss_of marks.now))) false (Stage.Playing playing.new)
-        (readings (λ v x. (⟦<dyn Meter as Meter>⟧ v).reading_of x) meters.new) (K.written sink.old) (K.written sink.new) result }
+        → Does (step_playing r (phrase.runs (pos count) (map loss_of marks.now))) false
+        (StandsFor (Stage.Playing playing.new) (readings (λ v x. (⟦<dyn Meter as Meter>⟧ v).reading_of x) meters.new)) (K.written sink.old) (K.written sink.new) result }
     ensures script { IfErr result (λ fault. is_final fault ≡ false → playing.new ≡ playing.old) }
     ensures unwritten { IfErr result (λ fault. fault ≢ BusFault.WriteFault → sink.new ≡ sink.old) }
     ensures unheard { IfErr result (λ fault. fault ≢ BusFault.WriteFault → meters.new ≡ meters.old) }
@@ -117,8 +116,8 @@ fn run<K: Sink>(
 /// The report.
 fn report<K: Sink>(playing: &Playing, meters: &Meters, sink: &mut K) -> Result<(), BusFault>
     ensures does { (r : Running) → Stands playing.now (readings (λ v x. (⟦<dyn Meter as Meter>⟧ v).reading_of x) meters.now) r
-        → Does (step_playing r phrase.reports) false (Stage.Playing playing.now)
-        (readings (λ v x. (⟦<dyn Meter as Meter>⟧ v).reading_of x) meters.now) (K.written sink.old) (K.written sink.new) result }
+        → Does (step_playing r phrase.reports) false
+        (StandsFor (Stage.Playing playing.now) (readings (λ v x. (⟦<dyn Meter as Meter>⟧ v).reading_of x) meters.now)) (K.written sink.old) (K.written sink.new) result }
     ensures cause { IfErr result (λ fault. (fault ≡ BusFault.WriteFault) × Rose (K.faults sink.old) (K.faults sink.new)) }
     ensures never_falls { K.faults sink.old ≤ K.faults sink.new }
 {
@@ -140,8 +139,8 @@ pub(crate) fn play<K: Sink>(
     requires keeps { Keeps line.now }
     requires room { Counts (2 ^ 62) playing.old }
     ensures does { (r : Running) → Stands playing.old (readings (λ v x. (⟦<dyn Meter as Meter>⟧ v).reading_of x) meters.old) r
-        → Does (step_playing r (phrase_of line.now)) false (Stage.Playing playing.new)
-        (readings (λ v x. (⟦<dyn Meter as Meter>⟧ v).reading_of x) meters.new) (K.written sink.old) (K.written sink.new) result }
+        → Does (step_playing r (phrase_of line.now)) false
+        (StandsFor (Stage.Playing playing.new) (readings (λ v x. (⟦<dyn Meter as Meter>⟧ v).reading_of x) meters.new)) (K.written sink.old) (K.written sink.new) result }
     ensures script { IfErr result (λ fault. is_final fault ≡ false → playing.new ≡ playing.old) }
     ensures unwritten { IfErr result (λ fault. fault ≢ BusFault.WriteFault → sink.new ≡ sink.old) }
     ensures unheard { IfErr result (λ fault. fault ≢ BusFault.WriteFault → meters.new ≡ meters.old) }

@@ -14,14 +14,14 @@ use Rattle.uac_bus.specs.Description.{blocks_of, function_of}
 use Rattle.uac_bus.specs.World.{World, describing, playing, Step, done, refused, step, unless, unbuilt, silently, if_no_fault, if_sound, fed, gone, step_describing, step_playing, meters_in, size_of, has_out, are_frames, is_placed, is_empty}
 use Rattle.uac_bus.specs.declared.bus.Stage.{Stage}
 use Rattle.uac_bus.specs.declared.bus.Stage.TheVariants as stages
-use Rattle.uac_bus.specs.Kept.{BusFields, Stands, StandsFor, IsDescribing}
+use Rattle.uac_bus.specs.Kept.{BusFields, Stands, StandsFor, is_describing}
 use Rattle.uac_cli.specs.Transcript.{said_step}
 
 -- where the next world is still before the descriptor's end, so was this one, nothing was printed, and the meters show the same
 abbrev pub IsQuiet : World → Step → Type 0
 IsQuiet w (refused fault) = Unit {0}
 IsQuiet w (done (playing r) text) = Unit {0}
-IsQuiet w (done (describing bytes meters) text) = IsDescribing w × (text ≡ []) × (meters ≡ meters_in w)
+IsQuiet w (done (describing bytes meters) text) = (is_describing w ≡ true) × (text ≡ []) × (meters ≡ meters_in w)
 
 unless_quiet : (w : World) (b : Bool) (rule : ℕ) (s : Step) → IsQuiet w s → IsQuiet w (unless b rule s)
 unless_quiet w true rule s q = q
@@ -37,9 +37,9 @@ if_sound_quiet w (Some fault) s q = tt
 
 describing_quiet : (bytes : List ℕ) (meters : List Reading) (phrase : Phrase) → IsQuiet (describing bytes meters) (step_describing bytes meters phrase)
 unfolding fed gone
-describing_quiet bytes meters idle = (tt, refl, refl)
+describing_quiet bytes meters idle = (refl, refl, refl)
 describing_quiet bytes meters (feeds more) =
-    if_no_fault_quiet (describing bytes meters) (shown_fault (bytes ++ more)) (silently (describing (bytes ++ more) meters)) (tt, refl, refl)
+    if_no_fault_quiet (describing bytes meters) (shown_fault (bytes ++ more)) (silently (describing (bytes ++ more) meters)) (refl, refl, refl)
 describing_quiet bytes meters goes =
     let function = function_of (blocks_of bytes) in
     let begun : Step = done (playing (at_start function meters)) (ready_line function) in
@@ -49,13 +49,14 @@ describing_quiet bytes meters _ = tt
 
 playing_quiet : (r : Running) (phrase : Phrase) → IsQuiet (playing r) (step_playing r phrase)
 playing_quiet r (appends number samples) =
-    unless_quiet (playing r) (has_out r (size_of number)) 6 (unless (are_frames r (size_of number) (length samples)) 7 unbuilt)
-    (unless_quiet (playing r) (are_frames r (size_of number) (length samples)) 7 unbuilt tt)
-playing_quiet r (tracks number voice) = unless_quiet (playing r) (has_out r (size_of number)) 6 unbuilt tt
+    unless_quiet (playing r) (has_out r.device.function.streams (size_of number)) 6
+    (unless (are_frames r.device.function (size_of number) (length samples)) 7 unbuilt)
+    (unless_quiet (playing r) (are_frames r.device.function (size_of number) (length samples)) 7 unbuilt tt)
+playing_quiet r (tracks number voice) = unless_quiet (playing r) (has_out r.device.function.streams (size_of number)) 6 unbuilt tt
 playing_quiet r (jacks terminal voice) = unless_quiet (playing r) (has_jack r (size_of terminal)) 6 _ tt
 playing_quiet r (deviates clock millionths) = unless_quiet (playing r) (has_domain r (size_of clock)) 6 _ tt
 playing_quiet r (runs count losses) =
-    unless_quiet (playing r) (list_all (is_placed r) losses) 6 _ (unless_quiet (playing r) (is_empty losses) 9 _ tt)
+    unless_quiet (playing r) (list_all (is_placed r.device.function.streams) losses) 6 _ (unless_quiet (playing r) (is_empty losses) 9 _ tt)
 playing_quiet r _ = tt
 
 step_quiet : (phrase : Phrase) (w : World) → IsQuiet w (step phrase w)
@@ -68,15 +69,15 @@ said_quiet (Ok phrase) w = step_quiet phrase w
 said_quiet (Err rule) w = tt
 
 -- the same of a line that was done
-pub still_describing : (s : Step) (w next : World) (text : List ℕ) → IsQuiet w s → s ≡ done next text → IsDescribing next
-    → IsDescribing w × (text ≡ []) × (meters_in next ≡ meters_in w)
+pub still_describing : (s : Step) (w next : World) (text : List ℕ) → IsQuiet w s → s ≡ done next text → is_describing next ≡ true
+    → (is_describing w ≡ true) × (text ≡ []) × (meters_in next ≡ meters_in w)
 still_describing (refused fault) w next text q is d = absurd (cc)
 still_describing (done (describing bytes meters) told) w (describing bytes' meters') text q is d =
     let text-is : told ≡ text = cc in
     let meters-is : meters ≡ meters' = cc in
     (q.0, sym text-is ∙ q.1, sym meters-is ∙ q.2)
 still_describing (done (playing r) told) w (describing bytes' meters') text q is d = absurd (cc)
-still_describing (done world told) w (playing r) text q is d = absurd d
+still_describing (done world told) w (playing r) text q is d = absurd (cc)
 
 -- what the meters show is the world's
 pub Stands-meters : (bus : BusFields) (shown : List Reading) (w : World) → Stands bus shown w → shown ≡ meters_in w

@@ -18,13 +18,13 @@ use Rattle.uac_script.proofs.WritingLemmas.{Appends-twice, Appends-none, Appends
 use Rattle.uac_bus.specs.declared.fault.BusFault.{BusFault}
 use Rattle.uac_bus.specs.declared.fault.BusFault.TheVariants as faults
 use Rattle.uac_bus.specs.World.{World, describing, playing, Step, done, refused, start, step, finish_of, meters_in}
-use Rattle.uac_bus.specs.Kept.{BusFields, Stands, Answers, IsDone, IsCut, IsDescribing}
+use Rattle.uac_bus.specs.Kept.{BusFields, Stands, Reaches, IsCut, Prevents, Answers, is_describing, may_want}
 use Rattle.uac_cli.specs.declared.command.Command.TheVariants.{Run}
 use Rattle.uac_cli.specs.declared.status.Status.{Status}
 use Rattle.uac_cli.specs.declared.status.Status.TheVariants as statuses
 use Rattle.uac_cli.specs.Outcome.{End, at_end, read_failed, stopped, Outcome, no_memory, read_fault}
 use Rattle.uac_cli.specs.Run.{HasEnded, Closes, IsRun}
-use Rattle.uac_cli.specs.Running.{IsSilent, Fails, Does, stop_outcome}
+use Rattle.uac_cli.specs.Running.{IsSilent, Leaves, Does, stop_outcome}
 use Rattle.uac_cli.specs.Transcript.{Ending, misread, too_long, last_line, ends, behind, said_step, after_step, closed_by, finished, goes, transcript}
 use Rattle.uac_cli.proofs.Describing.{said_quiet, still_describing, Stands-meters}
 use Rattle.uac_cli.proofs.Going.{line_size, goes_at, head_nothing, rest_is_done, rest_failed, behind-behind}
@@ -47,7 +47,7 @@ pub record IsFar (shown : List Reading) (left left' : Option (List ℕ)) (writte
   pub to_come : ToCome shown taken text lines left' world lines.ended
   pub appended : Appends written written' text
   pub stands : Stands bus shown' world
-  pub quiet : IsDescribing world → (text ≡ []) × (shown' ≡ shown)
+  pub quiet : is_describing world ≡ true → (text ≡ []) × (shown' ≡ shown)
   pub few : bus.lines ≤ lines.number
 
 -- ---- the start
@@ -219,17 +219,17 @@ record WasDone (s : Step) (bus : BusFields) (shown : List Reading) (written writ
   pub stands : Stands bus shown next
   pub appended : Appends written written' more
 
-done_parts : (s : Step) (bus : BusFields) (shown : List Reading) (written written' : Option (List ℕ)) → IsDone s bus shown written written' → WasDone s bus shown written written'
+done_parts : (s : Step) (bus : BusFields) (shown : List Reading) (written written' : Option (List ℕ)) → Reaches s (Stands bus shown) written written' → WasDone s bus shown written written'
 done_parts (done next more) bus shown written written' d = record { next = next; more = more; is = refl; stands = d.0; appended = d.1 }
 done_parts (refused fault) bus shown written written' d = absurd d
 
 pub far_on : (shown shown' shown'' : List Reading) (left mid left' : Option (List ℕ)) (written written' written'' : Option (List ℕ)) (bus bus' : BusFields) (old new : Splitting) (reads reads' : ℕ)
     → (far : IsFar shown left mid written written' bus shown' old) → HasLine shown far.text far.world left left' old.number new reads reads'
-    → (told : List ℕ) → told ≡ new.text → IsDone (said_step (answer told) far.world) bus' shown'' written' written'' → bus'.lines ≤ bus.lines + 1
+    → (told : List ℕ) → told ≡ new.text → Reaches (said_step (answer told) far.world) (Stands bus' shown'') written' written'' → bus'.lines ≤ bus.lines + 1
     → IsFar shown left left' written written'' bus' shown'' new
 far_on shown shown' shown'' left mid left' written written' written'' bus bus' old new reads reads' far has told told-is isdone few =
     let d = done_parts (said_step (answer new.text) far.world) bus' shown'' written' written''
-    (subst (λ (t : List ℕ). IsDone (said_step (answer t) far.world) bus' shown'' written' written'') told-is isdone) in
+    (subst (λ (t : List ℕ). Reaches (said_step (answer t) far.world) (Stands bus' shown'') written' written'') told-is isdone) in
     record {
       taken = has.taken;
       text = far.text ++ d.more;
@@ -308,7 +308,7 @@ ended_earlier stopped left first reads reads' le h = tt
 
 module _ (shown shown' shown'' : List Reading) (left left' : Option (List ℕ)) (written mid mid' written' : Option (List ℕ)) (bus : BusFields) (new : Splitting) (text : List ℕ) (w : World)
     (first reads reads' writes before after last counted : ℕ) (status : Status) (has : HasLine shown text w left left' counted new reads reads') (stands : Stands bus shown' w)
-    (quiet : IsDescribing w → (text ≡ []) × (shown' ≡ shown)) (front : Appends written mid text) (within : length new.unread ≤ new.spare + 1)
+    (quiet : is_describing w ≡ true → (text ≡ []) × (shown' ≡ shown)) (front : Appends written mid text) (within : length new.unread ≤ new.spare + 1)
     (reads-early : first ≤ reads) (early : writes ≤ before) (late : before ≤ after) where
   ended : HasEnded has.end left' first reads'
   ended = ended_earlier has.end left' first reads reads' reads-early has.ended
@@ -326,7 +326,7 @@ module _ (shown shown' shown'' : List Reading) (left left' : Option (List ℕ)) 
       (λ _. silent.heard ∙ Stands-meters bus shown' w stands)
 
   -- the line failed, and its last line was printed
-  failed_by : (fault : BusFault) → Fails (said_step (answer new.text) w) w shown' shown'' mid mid' before after fault
+  failed_by : (fault : BusFault) → Prevents fault (is_describing w) (said_step (answer new.text) w) mid mid' × Leaves shown' shown'' mid mid' before after fault
       → Closes (last_line fault new.number) mid' written' after last status → (fault ≡ faults.WriteFault → (status ≡ statuses.WriteFault) × (written' ≡ mid') × (last ≡ after))
       → IsRun (Some Run) shown shown'' left left' first reads' written written' writes last status
   failed_by (faults.Script rule) fails closed silence = refused_run (faults.Script rule) fails.0 fails.1 closed
@@ -349,11 +349,11 @@ module _ (shown shown' shown'' : List Reading) (left left' : Option (List ℕ)) 
       (λ other. absurd (other quietly.0))
 
   pub failed_line : (fault : BusFault) (told : List ℕ) (number : ℕ) → told ≡ new.text → number ≡ new.number
-      → Fails (said_step (answer told) w) w shown' shown'' mid mid' before after fault
+      → Prevents fault (is_describing w) (said_step (answer told) w) mid mid' × Leaves shown' shown'' mid mid' before after fault
       → Closes (last_line fault number) mid' written' after last status → (fault ≡ faults.WriteFault → (status ≡ statuses.WriteFault) × (written' ≡ mid') × (last ≡ after))
       → IsRun (Some Run) shown shown'' left left' first reads' written written' writes last status
   failed_line fault told number told-is number-is fails closed silence =
-      failed_by fault (subst (λ (t : List ℕ). Fails (said_step (answer t) w) w shown' shown'' mid mid' before after fault) told-is fails)
+      failed_by fault (subst (λ (t : List ℕ). Prevents fault (is_describing w) (said_step (answer t) w) mid mid' × Leaves shown' shown'' mid mid' before after fault) told-is fails)
       (subst (λ (n : ℕ). Closes (last_line fault n) mid' written' after last status) number-is closed) silence
 
 -- ---- no next line
@@ -460,6 +460,11 @@ module _ (shown shown' : List Reading) (left mid left' : Option (List ℕ)) (wri
 
 -- ---- what the bus answers
 
+-- memory is wanted before the descriptor's end alone
+early : (phrase : Phrase) (w : World) → may_want phrase w ≡ true → is_describing w ≡ true
+early phrase (describing bytes meters) e = refl
+early phrase (playing r) e = absurd (cc)
+
 -- a line of the bus, in the words of a line's text
 pub does_line : {X : Type 0} (told : X → Option (List ℕ)) (sink sink' : X) (phrase : Phrase) (w : World) (bus bus' : BusFields) (shown shown' : List Reading) (writes writes' : ℕ) (result : Result (Unit {0}) BusFault)
     → bus.fault ≡ None → Answers phrase w bus' shown' (told sink) (told sink') result
@@ -467,7 +472,7 @@ pub does_line : {X : Type 0} (told : X → Option (List ℕ)) (sink sink' : X) (
     → IfErr result (λ fault. fault ≢ faults.WriteFault → shown' ≡ shown)
     → IfErr result (λ fault. fault ≡ faults.WriteFault → (bus.fault ≡ Some faults.WriteFault) ⊎ Rose writes writes')
     → Does (step phrase w) w bus' shown shown' (told sink) (told sink') writes writes' result
-does_line told sink sink' phrase w bus bus' shown shown' writes writes' (Ok _) going answers unwritten unheard cause = answers
+does_line told sink sink' phrase w bus bus' shown shown' writes writes' (Ok _) going answers unwritten unheard cause = (answers, tt)
 does_line told sink sink' phrase w bus bus' shown shown' writes writes' (Err (faults.Script rule)) going answers unwritten unheard cause =
     (answers, record { heard = unheard (λ e. cc); kept = ap told (unwritten (λ e. cc)) })
 does_line told sink sink' phrase w bus bus' shown shown' writes writes' (Err (faults.Grammar fault)) going answers unwritten unheard cause =
@@ -475,7 +480,7 @@ does_line told sink sink' phrase w bus bus' shown shown' writes writes' (Err (fa
 does_line told sink sink' phrase w bus bus' shown shown' writes writes' (Err (faults.Topology fault)) going answers unwritten unheard cause =
     (answers, record { heard = unheard (λ e. cc); kept = ap told (unwritten (λ e. cc)) })
 does_line told sink sink' phrase w bus bus' shown shown' writes writes' (Err faults.NoMemory) going answers unwritten unheard cause =
-    (answers.1, record { heard = unheard (λ e. cc); kept = ap told (unwritten (λ e. cc)) })
+    (early phrase w answers, record { heard = unheard (λ e. cc); kept = ap told (unwritten (λ e. cc)) })
 does_line told sink sink' phrase w bus bus' shown shown' writes writes' (Err faults.WriteFault) going answers unwritten unheard cause =
     (answers, elim (cause refl) as (λ _. Rose writes writes') [ inl before ↦ absurd (let none : None ≡ Some faults.WriteFault = sym going ∙ before in cc) | inr rose ↦ rose ])
 

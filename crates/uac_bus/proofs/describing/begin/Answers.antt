@@ -5,8 +5,7 @@ use Rattle.uac_script.specs.Writing.{AppendsFront}
 use Rattle.uac_play.specs.Text.{ready_line}
 use Rattle.uac_bus.specs.declared.bus.Stage.TheVariants as stages
 use Rattle.uac_bus.specs.World.{Step}
-use Rattle.uac_bus.specs.Kept.{IsCut}
-use Rattle.uac_bus.specs.Rows.{Reaches}
+use Rattle.uac_bus.specs.Kept.{StandsFor, Reaches, IsCut}
 use Rattle.uac_bus.proofs.Described.{gone_well, gone_ill}
 use Rattle.uac_bus.proofs.describing.begin.Goals as goal
 
@@ -15,7 +14,7 @@ returns-in-Err-clause-begins g c = λ shown. gone_ill _ _ shown _ c.in-Err.ensur
 
 pub returns-in-Ok-ready-clause-begins : goal.returns-in-Ok-ready-clause-begins
 returns-in-Ok-ready-clause-begins g c = λ shown.
-    subst (λ (s : Step). Reaches s (stages.Playing c.in-Ok-new.playing) shown (g.K.Sink.written c.args.sink.now) (g.K.Sink.written c.ready.new.sink))
+    subst (λ (s : Step). Reaches s (StandsFor (stages.Playing c.in-Ok-new.playing) shown) (g.K.Sink.written c.args.sink.now) (g.K.Sink.written c.ready.new.sink))
     (sym (gone_well c.args.reader.taken c.in-Ok.function shown c.in-Ok.ensures)) (
       c.in-Ok-new.ensures.stands shown,
       subst (λ (f : FunctionFields). Appends (g.K.Sink.written c.args.sink.now) (g.K.Sink.written c.ready.new.sink) (ready_line f)) c.in-Ok-new.ensures.function c.in-Ok-ready.ensures.written,

@@ -12,4 +12,4 @@ returns-clause-does c = λ shown r written s.
     subst (λ (ppm : ℤ). Stands c.deviate.new.self shown (with_deviation c.args.domain ppm r)) (to_z-of_z w32 c.args.ppm c.ranges.ppm)
     (c.deviate.ensures.stands shown r s)
     in
-    unless_reached _ 6 _ _ _ _ _ (sym (c.has_domain.ensures shown r s) ∙ c.if-not-has_domain.false) (stands, Appends-nil written)
+    unless_reached _ 6 _ _ _ _ (sym (c.has_domain.ensures shown r s) ∙ c.if-not-has_domain.false) (stands, Appends-nil written)

@@ -18,7 +18,7 @@ loop-bus-preserved g c =
     let before_end = not_ended c.loop-bus.lines.ended (Ok c.in-Ok-Line.field-0) (c.in-Ok-Line.ensures.ended f.going) (λ e. cc (c.in-Ok-Line.field-0-is)) in
     let has = has_line _ _ _ _ _ _ _ _ _ _ _ _ f c.in-Ok-Line.field-0 c.in-Ok-Line.field-0-is before_end (c.in-Ok-Line.ensures.splits f.going before_end) in
     record {
-      far = far_on _ _ _ _ _ _ _ _ _ _ _ _ _ _ _ f has _ c.text.ensures.0 (c.in-Ok.ensures.does f.world f.stands) c.do_line.ensures.at_most;
+      far = far_on _ _ _ _ _ _ _ _ _ _ _ _ _ _ _ f has _ c.text.ensures.0 (c.in-Ok.ensures.does f.world f.stands).0 c.do_line.ensures.at_most;
       bounded = c.next.ensures.bounded has.going;
       reads = (let later = c.next.ensures.never_falls in omega arith);
       writes = (let later = c.do_line.ensures.never_falls in omega arith);
