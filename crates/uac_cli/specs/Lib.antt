@@ -1,3 +1,4 @@
+pub mod Boxes
 pub mod Command
 pub mod Entities
 pub mod Outcome

@@ -1,5 +1,10 @@
 // The boxes of the program: its units and its meters. They are made where the program is called.
+ghost use Rattle.std.specs.Prelude.{◌≡◌, map, string_bytes, IfOk, OnErr};
+ghost use Rattle.std.specs.Io.KnownBytes.{IsAtEnd};
+ghost use Rattle.uac_script.specs.Faults.{Rose};
 ghost use Rattle.uac_units.specs.Fitting.{IsFitted};
+ghost use Rattle.uac_cli.specs.Command.{command_of};
+ghost use Rattle.uac_cli.specs.Boxes.{IsFreshRun};
 
 use crate::status::Status;
 use crate::top::{Racks, uac_main};
@@ -16,7 +21,23 @@ pub fn run_in_boxes<S: Source, K: Sink>(
     words: &[String],
     source: &mut S,
     sink: &mut K,
-) -> Result<Status, AllocError> {
+) -> Result<Status, AllocError>
+    // Status and text follow from the words and the bytes that were taken, as with meters that have heard nothing.
+    ensures run { IfOk result (λ status. IsFreshRun (command_of (map (λ word. string_bytes word) words.now))
+        (S.left source.old) (S.left source.new) (S.faults source.old) (S.faults source.new)
+        (K.written sink.old) (K.written sink.new) (K.faults sink.old) (K.faults sink.new) status) }
+
+    // Each fault of the outside has its cause in this call.
+    ensures read_fault { IfOk result (λ status. status ≡ Status.ReadFault → Rose (S.faults source.old) (S.faults source.new)) }
+    ensures write_fault { IfOk result (λ status. status ≡ Status.WriteFault → Rose (K.faults sink.old) (K.faults sink.new)) }
+
+    // The whole input was read.
+    ensures ok { IfOk result (λ status. status ≡ Status.Ok → IsAtEnd (S.left source.new)) }
+
+    // Where there is no memory for the boxes nothing is taken and nothing is written.
+    ensures untaken { OnErr result (source.new ≡ source.old) }
+    ensures unwritten { OnErr result (sink.new ≡ sink.old) }
+{
     let racks = Racks {
         plain: Rack::new(
             Box::new(alloc, PlainMixer)?,
@@ -44,6 +65,14 @@ fn run_with_racks<S: Source, K: Sink>(
 ) -> Result<Status, AllocError>
     requires plain { IsFitted (λ v x. (⟦<dyn Unit as Unit>⟧ v).kind_of x) racks.now.plain }
     requires lanes { IsFitted (λ v x. (⟦<dyn Unit as Unit>⟧ v).kind_of x) racks.now.lanes }
+    ensures run { IfOk result (λ status. IsFreshRun (command_of (map (λ word. string_bytes word) words.now))
+        (S.left source.old) (S.left source.new) (S.faults source.old) (S.faults source.new)
+        (K.written sink.old) (K.written sink.new) (K.faults sink.old) (K.faults sink.new) status) }
+    ensures read_fault { IfOk result (λ status. status ≡ Status.ReadFault → Rose (S.faults source.old) (S.faults source.new)) }
+    ensures write_fault { IfOk result (λ status. status ≡ Status.WriteFault → Rose (K.faults sink.old) (K.faults sink.new)) }
+    ensures ok { IfOk result (λ status. status ≡ Status.Ok → IsAtEnd (S.left source.new)) }
+    ensures untaken { OnErr result (source.new ≡ source.old) }
+    ensures unwritten { OnErr result (sink.new ≡ sink.old) }
 {
     let mut list: Vec<Box<dyn Meter>> = Vec::new(alloc);
     list.push(Box::new(alloc, PeakMeter::new())?)?;
