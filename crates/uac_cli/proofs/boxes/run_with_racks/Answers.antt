@@ -40,5 +40,5 @@ returns-clause-run g c =
     let sum : (lists.own-2.entry third.result.vtable).1.reading_of third.result.value ≡ record { kind = Sum; value = 0 } =
     read_made lists.own-2 (lists.own-2.entry lists.at-2-3) lists.at-2-3 refl Reading (λ j. j.1.reading_of) _ _ _ third.ensures.1
     ∙ ap (λ m. (lists.own-2.entry lists.at-2-3).1.reading_of m) c.in_ok-new-3.ensures.ok ∙ c.new-5.ensures in
-    from_fresh _ _ _ _ _ _ _ _ _ _ _ _ (c.new-meters.ensures ∙ pushed (λ b. (lists.own-2.entry b.vtable).1.reading_of b.value) _ _ _ _ c.into_dyn_box.result c.into_dyn_box-in_ok-new-2.result c.into_dyn_box-in_ok-new-3.result _ _ _
+    from_fresh _ _ _ _ _ _ _ _ _ _ _ _ (c.new-meters.ensures ∙ pushed (λ b. (lists.own-2.entry b.vtable).1.reading_of b.value) c.new-list.result.items c.push.new.self.items c.push-2.new.self.items c.push-3.new.self.items c.into_dyn_box.result c.into_dyn_box-in_ok-new-2.result c.into_dyn_box-in_ok-new-3.result _ _ _
     c.new-list.ensures.items c.in_ok-push.ensures.items c.in_ok-push-2.ensures.items c.in_ok-push-3.ensures.items peak clipped sum) c.uac_main.ensures.run
