@@ -78,7 +78,7 @@ fed bytes meters = if_no_fault (shown_fault bytes) (silently (describing bytes m
 unfoldable pub gone : List ℕ → List Reading → Step
 gone bytes meters =
     let function = function_of (blocks_of bytes) in
-    if_no_fault (first_fault bytes) (if_sound (first_broken (blocks_of bytes)) (done (playing (at_start function meters)) (ready_line function)))
+    if_no_fault (first_fault bytes) (if_sound (first_broken (blocks_of bytes)) (done (playing (at_start bytes function meters)) (ready_line function)))
 
 abbrev pub step_describing : List ℕ → List Reading → Phrase → Step
 step_describing bytes meters idle = silently (describing bytes meters)
@@ -145,7 +145,7 @@ step_playing r (jacks terminal voice) =
 step_playing r (deviates clock millionths) =
     unless (has_domain r (size_of clock)) 6 (silently (playing (with_deviation (size_of clock) millionths r)))
 step_playing r (runs count losses) =
-    unless (list_all (is_placed r.device.function.streams) losses) 6 (unless (is_empty losses) 9 (told (microframes (size_of count) r)))
+    unless (list_all (is_placed r.device.function.streams) losses) 6 (unless (is_empty losses) 9 (told (microframes losses (size_of count) r)))
 step_playing r (details level) = silently (playing (with_detail (size_of level) r))
 step_playing r reports = done (playing r) (report_text r)
 

@@ -42,7 +42,7 @@ describing_quiet bytes meters (feeds more) =
     if_no_fault_quiet (describing bytes meters) (shown_fault (bytes ++ more)) (silently (describing (bytes ++ more) meters)) (refl, refl, refl)
 describing_quiet bytes meters goes =
     let function = function_of (blocks_of bytes) in
-    let begun : Step = done (playing (at_start function meters)) (ready_line function) in
+    let begun : Step = done (playing (at_start bytes function meters)) (ready_line function) in
     if_no_fault_quiet (describing bytes meters) (first_fault bytes) (if_sound (first_broken (blocks_of bytes)) begun)
     (if_sound_quiet (describing bytes meters) (first_broken (blocks_of bytes)) begun tt)
 describing_quiet bytes meters _ = tt

@@ -219,6 +219,33 @@ first_read domain values old at first past so_far =
 pub all_changed : {X Y : Type 0} (P : X → Type 0) (Q : Y → Type 0) (change : X → Y) → ((x : X) → P x → Q (change x)) → (xs : List X) → All P xs → All Q (map change xs)
 all_changed P Q change keeps xs all = All-map Q change xs (λ k d below. keeps (get_or xs k d) (all k d below))
 
+-- the clocks stay those of the domains
+pub resting_domains : (ds : List ℕ) → map (λ c. c.clock) (map resting_clock ds) ≡ ds
+resting_domains [] = refl
+resting_domains (d ∷ ds) = ap (λ rest. d ∷ rest) (resting_domains ds)
+
+domains_kept : (change : Clock → Clock) → ((c : Clock) → (change c).clock ≡ c.clock) → (clocks : List Clock)
+    → map (λ c. c.clock) (map change clocks) ≡ map (λ c. c.clock) clocks
+domains_kept change keeps [] = refl
+domains_kept change keeps (c ∷ cs) =
+    ap (λ n. n ∷ map (λ c. c.clock) (map change cs)) (keeps c) ∙ ap (λ rest. c.clock ∷ rest) (domains_kept change keeps cs)
+
+pub deviated_domains : (domain : ℕ) (millionths : ℤ) (clocks : List Clock)
+    → map (λ c. c.clock) (map (deviated_clock domain millionths) clocks) ≡ map (λ c. c.clock) clocks
+deviated_domains domain millionths clocks = domains_kept (deviated_clock domain millionths) (λ c. one c (c.clock == domain)) clocks
+  where
+    one : (c : Clock) (b : Bool) → (if b then record c { ppm = millionths } else c).clock ≡ c.clock
+    one c true = refl
+    one c false = refl
+
+pub advanced_domains : (domain : ℕ) (values : Option Nominal) (clocks : List Clock)
+    → map (λ c. c.clock) (map (advanced_clock domain values) clocks) ≡ map (λ c. c.clock) clocks
+advanced_domains domain values clocks = domains_kept (advanced_clock domain values) (λ c. one c (c.clock == domain)) clocks
+  where
+    one : (c : Clock) (b : Bool) → (if b then record c { phase = (c.phase + step_by values c.ppm) % 65536 } else c).clock ≡ c.clock
+    one c true = refl
+    one c false = refl
+
 pub resting_range : (ds : List ℕ) → All (λ c. IsInRange c.ppm) (map resting_clock ds)
 resting_range ds = all_changed (λ _. Unit {0}) (λ c. IsInRange c.ppm) resting_clock (λ d _. (search (arith, ints), search (arith, ints))) ds (λ k d below. tt)
 

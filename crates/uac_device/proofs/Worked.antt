@@ -10,9 +10,13 @@ use Rattle.uac_entities.specs.declared.stream.StreamInterface.{StreamInterface}
 use Rattle.uac_rules.specs.Links.{signal_sources}
 use Rattle.uac_rules.specs.Table.{at, place_of}
 use Rattle.uac_topology.specs.Function.{FunctionFields}
+use Rattle.uac_clock.specs.Nominal.{nominal_of, values_of}
+use Rattle.uac_entities.specs.Streams.{named}
+use Rattle.uac_store.specs.Keyed.{value_of}
+use Rattle.uac_store.specs.Rates.{rate_of, rate_step, rate_within, source_rate}
 use Rattle.uac_graph.specs.Meaning.{entity, frame_of, meaning, samples, samples_by}
 use Rattle.uac_device.specs.declared.device.Ticked.{Ticked}
-use Rattle.uac_device.specs.World.{DeviceWorld, InStream, OutStream, after_putting, after_taking, bits_of, input_of, level_of, met_of, streamed, target_of, ticked}
+use Rattle.uac_device.specs.World.{DeviceWorld, InStream, OutStream, advanced, after_putting, after_taking, bits_of, input_of, level_of, met_of, next_ticks, step_in, streamed, target_of, ticked}
 
 abbrev with : ℕ → EntityKind → ℕ → List ℕ → ℕ → Entity
 with id k type sources channels =
@@ -63,6 +67,10 @@ one_put = record { made = (pos 9 ∷ []) ∷ []; gone = 0 }
 full : InStream
 full = record { made = map (λ n. pos n ∷ []) (range_with_len 0 513); gone = 1 }
 
+-- the same with its clock at 48,000 Hz
+clocked : DeviceWorld
+clocked = record (world half one_put) { controls = (record { entity = 1; selector = 1; channel = 0 }, pos 48000) ∷ []; domains = record { clock = 1; deviation = pos 0; steps = [] } ∷ [] }
+
 levels : (level_of (world half one_put) 1 ≡ 1) × (level_of (world half one_put) 2 ≡ 1) × (level_of (world half one_put) 3 ≡ 0)
 unfolding level_of world half one_put
 levels = (refl, refl, refl)
@@ -81,7 +89,21 @@ plays : ((ticked 1 (world half one_put)).played 4 ≡ pos 6 ∷ []) × ((ticked 
 unfolding ticked input_of streamed world half one_put function entities linked entity at place_of meaning samples samples_by frame_of signal_sources after_putting
 plays = (refl, refl)
 
--- then its ring is empty: the next tick finds it so, plays silence, and it primes again
+-- then its ring is empty: the next tick finds it so and plays silence, and it primes again
+plays_silence : (ticked 1 (ticked 1 (world half one_put))).played 4 ≡ pos 0 ∷ []
+unfolding ticked input_of streamed world half one_put function entities linked entity at place_of meaning samples samples_by frame_of signal_sources after_taking
+plays_silence = refl
+
+-- a terminal whose interface runs no stream gives silence, and meets nothing
+at_rest : (input_of (record (world half one_put) { outs = λ n. None }) 2 ≡ pos 0 ∷ []) × (met_of 1 (record (world half one_put) { outs = λ n. None; ins = λ n. None }) ≡ record { under = 0; over = 0 })
+unfolding input_of streamed met_of bits_of world function entities linked entity at place_of
+at_rest = (refl, refl)
+
+-- in a microframe of its domain a stream counts the ticks, here six at 48,000 Hz; in another's it doesn't
+counts : ((advanced 1 clocked).outs 1 ≡ Some (record half { ticks = 6 })) × ((advanced 9 clocked).outs 1 ≡ Some half)
+unfolding advanced clocked next_ticks step_in rate_of rate_within rate_step source_rate named value_of nominal_of values_of world half function entities linked entity at place_of
+counts = (refl, refl)
+
 runs_dry : (met_of 1 (ticked 1 (world half one_put)) ≡ record { under = 1; over = 0 }) × ((ticked 1 (ticked 1 (world half one_put))).outs 1
     ≡ Some (record { microframes = 3; arrived = []; taken = 0; target = None; lost = false; ticks = 0 }))
 unfolding met_of bits_of ticked world half one_put function entities linked entity at place_of after_taking after_putting

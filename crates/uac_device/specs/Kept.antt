@@ -39,8 +39,10 @@ pub record Stands (device : DeviceFields) (w : DeviceWorld) : Type 0 where
 abbrev pub IsInRange : ℤ → Type 0
 IsInRange millionths = (negsuc 99999 ≤ℤ millionths) × (millionths ≤ℤ pos 100000)
 
--- what every device keeps: a frame for each wire of its function, and clocks that are in range, none a frame past its last tick
+-- what every device keeps: a frame for each wire of its function, and a clock for each of its domains, in range, none a frame past
+-- its last tick
 pub record IsDevice (device : DeviceFields) : Type 0 where
   pub wires : AreWiresOf device.function.entities device.wires
+  pub domains : map (λ c. c.clock) device.clocks ≡ device.function.domains
   pub clocks : All (λ c. IsInRange c.ppm) device.clocks
   pub phases : All (λ c. c.phase < 65536) device.clocks

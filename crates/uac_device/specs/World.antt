@@ -30,32 +30,35 @@ pub record Domain : Type 0 where
   pub deviation : ℤ
   pub steps : List ℕ
 
--- a running stream to the device: the microframes since its start, all frames that arrived since it last began to prime and how
--- many of them were played, and the level at which it was primed, none while it is priming; and within a microframe, whether its
--- packet was lost, and the ticks since that began
+-- a running stream to the device
 pub record OutStream : Type 0 where
+  -- the microframes since its start
   pub microframes : ℕ
+  -- all frames that arrived since it last began to prime, and how many of them its terminal took
   pub arrived : List (List ℤ)
   pub taken : ℕ
+  -- the level at which it was primed; none while it is priming
   pub target : Option ℕ
+  -- in the middle of a microframe: whether its packet was lost, and the ticks of its domain so far
   pub lost : Bool
   pub ticks : ℕ
 
--- a running stream from the device: all frames that were put since its start, and how many of them are gone
+-- a running stream from the device
 pub record InStream : Type 0 where
+  -- all frames that its terminal made since its start, and how many of them are gone
   pub made : List (List ℤ)
   pub gone : ℕ
 
--- the device: its function, the values of its controls, the settings of its interfaces, its clock domains, the stream to the
--- device or from it that an interface runs, the frame that was last given to each jack, and the frame that each output terminal
--- last played
+-- the device
 pub record DeviceWorld : Type 0 where
   pub function : FunctionFields
   pub controls : List (Key × ℤ)
   pub settings : List InterfaceSetting
   pub domains : List Domain
+  -- by interface, the stream to the device, or from it, that it runs
   pub outs : ℕ → Option OutStream
   pub ins : ℕ → Option InStream
+  -- by jack, the frame that it was last given, and by output terminal, the frame that it last played
   pub given : ℕ → List ℤ
   pub played : ℕ → List ℤ
 
@@ -63,7 +66,7 @@ pub record DeviceWorld : Type 0 where
 abbrev pub entity_in : DeviceWorld → ℕ → Entity
 entity_in w id = entity w.function.entities id
 
--- a terminal that carries no stream of the bus (USB Terminal Types 2.0, 2.1)
+-- not a terminal that carries a stream of the bus (USB Terminal Types 2.0, 2.1)
 abbrev pub is_jack : Entity → Bool
 is_jack e = not (e.terminal_type == USB_STREAMING)
 
@@ -139,7 +142,7 @@ is_on w clock interface =
 unfoldable pub level_of : DeviceWorld → ℕ → ℕ
 level_of w interface = unwrap_or (option_or (option_map out_level (w.outs interface)) (option_map in_level (w.ins interface))) 0
 
--- the level at which it was primed; none where no stream to the device runs, or while it is priming
+-- the level at which an interface's stream to the device was primed; none where none runs, or while it is priming
 unfoldable pub target_of : DeviceWorld → ℕ → Option ℕ
 target_of w interface = option_and_then (λ o. o.target) (w.outs interface)
 
@@ -178,7 +181,7 @@ steps_with_next w d = d.steps ++ step_in w d ∷ []
 unfoldable pub next_ticks : ℕ → DeviceWorld → ℕ
 next_ticks clock w = option_map_or (λ d. ticks_in (steps_with_next w d)) (find (λ d. d.clock == clock) w.domains) 0
 
--- a domain's clock goes on by one microframe, and the streams to its terminals count its ticks
+-- a domain's clock goes on by one microframe; the streams to its terminals count its ticks
 unfoldable pub advanced : ℕ → DeviceWorld → DeviceWorld
 advanced clock w =
     record (with_domain clock (λ d. record d { steps = steps_with_next w d }) w) {

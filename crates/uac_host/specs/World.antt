@@ -2,23 +2,30 @@
 use Rattle.std.specs.Prelude.{◌≡◌, ℕ, ℤ, List, [], Option, None}
 use Rattle.uac_pcm.specs.declared.tones.Tone.{Tone}
 use Rattle.uac_pcm.specs.declared.tones.Tone.TheVariants.{Silent}
+use Rattle.uac_topology.specs.Function.{FunctionFields}
 
--- a running stream to the device, as it is sent: the rate value that was used in each microframe since its start, and the one in
--- force, in 65,536ths of a frame
+-- a running stream to the device, as it is sent, in 65,536ths of a frame
 pub record Pace : Type 0 where
+  -- the rate value that was used in each microframe since its start
   pub used : List ℕ
+  -- the rate value in force
   pub value : ℕ
 
--- what waits to be sent on an interface: the frames that were appended and not sent, and the tone behind them with the place of
--- its next frame
+-- what waits to be sent on an interface
 pub record Track : Type 0 where
+  -- the frames that were appended and aren't sent yet
   pub waiting : List (List ℤ)
+  -- the tone behind them, and the place of its next frame
   pub tone : Tone
   pub place : ℕ
 
--- the host: how the stream of an interface is sent, where one runs, and the track of each
+-- the host
 pub record HostWorld : Type 0 where
+  -- the function that it streams to and from
+  pub function : FunctionFields
+  -- by interface, how the stream to the device is sent that it runs
   pub paces : ℕ → Option Pace
+  -- by interface, its track
   pub tracks : ℕ → Track
 
 -- a track to which nothing was given
@@ -26,10 +33,11 @@ abbrev pub silent_track : Track
 silent_track = record { waiting = []; tone = Silent; place = 0 }
 
 -- just after the descriptor was accepted: no stream runs, and nothing waits
-unfoldable pub fresh_host : HostWorld
-fresh_host = record { paces = λ interface. None; tracks = λ interface. silent_track }
+unfoldable pub fresh_host : FunctionFields → HostWorld
+fresh_host function = record { function = function; paces = λ interface. None; tracks = λ interface. silent_track }
 
--- no stream runs, and nothing waits: nothing need be kept of it
-pub record Rests (h : HostWorld) : Type 0 where
+-- the host is that of this function, runs no stream, and has silent tracks alone
+pub record Rests (f : FunctionFields) (h : HostWorld) : Type 0 where
+  pub function : h.function ≡ f
   pub paces : (interface : ℕ) → h.paces interface ≡ None
   pub tracks : (interface : ℕ) → h.tracks interface ≡ silent_track

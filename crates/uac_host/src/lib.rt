@@ -1,3 +1,2 @@
-//! The host's part of the world: how the streams to the device are sent, and what waits to be sent. So far these are definitions
-//! alone: no stream runs yet.
+//! The host. So far it is its part of the world, as definitions alone, since no stream runs yet.
 #![tactic(auto)]

@@ -109,6 +109,7 @@ slight-push deviations millionths =
 -- the domains stay few and counted once
 pub domains_kept : (p q : PlayingFields) → q.device.function ≡ p.device.function → clocks_of q.counts ≡ clocks_of p.counts → HasItsDomains p → HasItsDomains q
 domains_kept p q function clocks h = record {
+  counted = clocks ∙ h.counted ∙ ap (λ (fn : FunctionFields). fn.domains) (sym function);
   few = subst (λ (fn : FunctionFields). length fn.domains ≤ 8) (sym function) h.few;
   once = subst (IsDistinct eqb) (sym clocks) h.once;
 }

@@ -5,3 +5,4 @@ pub mod Start
 pub mod Steps
 pub mod Reporting
 pub mod Printed
+pub mod Worked

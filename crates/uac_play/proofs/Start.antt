@@ -22,7 +22,6 @@ use Rattle.uac_graph.specs.Meaning.{entity}
 use Rattle.uac_device.specs.Kept as device
 use Rattle.uac_device.specs.World.{at_rest, fresh, is_input_jack, is_jack}
 use Rattle.uac_host.specs.World.{fresh_host}
-use Rattle.uac_mixer.specs.World.{fresh_view}
 use Rattle.uac_play.specs.declared.counts.TickCount.{TickCount}
 use Rattle.uac_play.specs.declared.jacks.Jack.{Jack}
 use Rattle.uac_play.specs.Kept.{Counts, HasItsDomains, HasItsJacks, PlayingFields, Stands, counted, none_counted}
@@ -155,16 +154,17 @@ module _ (function : FunctionFields) (sound : IsSoundFunction function) (p : Pla
 
   pub domains_start : length function.domains ≤ 8 → HasItsDomains p
   domains_start few = record {
+    counted = ap clocks_of counts ∙ clocks-none function.domains ∙ ap (λ (f : FunctionFields). f.domains) own;
     few = subst (λ (f : FunctionFields). length f.domains ≤ 8) own few;
     once = subst (IsDistinct eqb) (sym (ap clocks_of counts ∙ clocks-none function.domains)) each_domain_once;
   }
 
-  pub stands_start : p.time ≡ 0 → p.steady ≡ true → p.detail ≡ 0 → (meters : List Reading) → Stands p meters (at_start function meters)
-  unfolding at_start fresh fresh_host fresh_view is_steady
-  stands_start time steady detail meters = record {
+  pub stands_start : p.time ≡ 0 → p.steady ≡ true → p.detail ≡ 0 → (descriptor : List ℕ) (meters : List Reading) → Stands p meters (at_start descriptor function meters)
+  unfolding at_start fresh fresh_host is_steady
+  stands_start time steady detail descriptor meters = record {
     device = fresh_now;
-    host = record { paces = λ interface. refl; tracks = λ interface. refl };
-    view = record { known = λ k. refl };
+    host = record { function = refl; paces = λ interface. refl; tracks = λ interface. refl };
+    view = refl;
     jacks = jacks;
     counts = counts ∙ counts-rest function.domains;
     time = time;
@@ -172,6 +172,7 @@ module _ (function : FunctionFields) (sound : IsSoundFunction function) (p : Pla
     detail = detail;
     unbroken = refl;
     met = λ interface. refl;
+    unreported = λ interface. refl;
     meters = refl;
   }
 

@@ -8,13 +8,14 @@ use Rattle.uac_pcm.specs.declared.tones.Tone.{Tone}
 use Rattle.uac_units.specs.Hearing.{Reading}
 use Rattle.uac_device.specs.Kept as device
 use Rattle.uac_device.specs.World.{DeviceWorld, advanced, after_frames, deviated, heard_of, next_ticks, set_jack, step_in, ticked}
+use Rattle.uac_script.specs.Phrase.{Loss}
 use Rattle.uac_script.specs.Writing.{Writes}
 use Rattle.uac_play.specs.declared.counts.TickCount.{TickCount}
 use Rattle.uac_play.specs.declared.jacks.Jack.{Jack}
 use Rattle.uac_topology.specs.Function.{FunctionFields}
-use Rattle.uac_store.specs.declared.keys.Key.{Key}
-use Rattle.uac_store.specs.Keyed.{value_of}
-use Rattle.uac_play.specs.World.{Running, is_slight, is_steady, keeps_reports, toned, with_detail, with_deviation, with_tone}
+use Rattle.uac_host.specs.World.{Rests}
+use Rattle.uac_mixer.specs.World.{known_view}
+use Rattle.uac_play.specs.World.{Running, is_slight, is_steady, keeps_feedback, toned, with_detail, with_deviation, with_tone}
 use Rattle.uac_play.specs.Text.{played_lines, time_line}
 use Rattle.uac_play.specs.Events.{all_given, behind, domain_microframe, domain_microframes, given, gone_on, microframe, microframes, next_frame, tick, tick_times}
 use Rattle.uac_play.specs.Kept.{Counts, PlayingFields, Stands, Tells, TicksWithin, counted, more_counted}
@@ -32,13 +33,14 @@ pub ticks_end : (count i clock : ℕ) (w : Running) → count ≤ i → tick_tim
 unfolding tick_times
 ticks_end count i clock w past = let left : count - i ≡ 0 = omega arith in ap (λ n. tick_times n clock w) left
 
-pub microframes_split : (count i : ℕ) (w : Running) → i < count → microframes (count - i) w ≡ behind (microframe w).text (microframes (count - (i + 1)) (microframe w).world)
+pub microframes_split : (losses : List Loss) (count i : ℕ) (w : Running) → i < count
+    → microframes losses (count - i) w ≡ behind (microframe losses w).text (microframes losses (count - (i + 1)) (microframe losses w).world)
 unfolding microframes
-microframes_split count i w below = let left : count - i ≡ suc (count - (i + 1)) = omega arith in ap (λ n. microframes n w) left
+microframes_split losses count i w below = let left : count - i ≡ suc (count - (i + 1)) = omega arith in ap (λ n. microframes losses n w) left
 
-pub microframes_end : (count i : ℕ) (w : Running) → count ≤ i → microframes (count - i) w ≡ still w
+pub microframes_end : (losses : List Loss) (count i : ℕ) (w : Running) → count ≤ i → microframes losses (count - i) w ≡ still w
 unfolding microframes
-microframes_end count i w past = let left : count - i ≡ 0 = omega arith in ap (λ n. microframes n w) left
+microframes_end losses count i w past = let left : count - i ≡ 0 = omega arith in ap (λ n. microframes losses n w) left
 
 pub domains_split : (clocks : List ℕ) (i : ℕ) (w : Running) → i < length clocks
     → domain_microframes (drop i clocks) w ≡ behind (domain_microframe (get_or clocks i 0) w).text (domain_microframes (drop (i + 1) clocks) (domain_microframe (get_or clocks i 0) w).world)
@@ -91,6 +93,7 @@ module _ (meters : List Reading) (r : Running) (p q : PlayingFields) (stands : S
         detail = stands.detail;
         unbroken = stands.unbroken;
         met = stands.met;
+        unreported = stands.unreported;
         meters = stands.meters;
       })
 
@@ -110,6 +113,7 @@ module _ (meters : List Reading) (r : Running) (p q : PlayingFields) (stands : S
         detail = refl;
         unbroken = stands.unbroken;
         met = stands.met;
+        unreported = stands.unreported;
         meters = stands.meters;
       })
 
@@ -129,6 +133,7 @@ module _ (meters : List Reading) (r : Running) (p q : PlayingFields) (stands : S
         detail = stands.detail;
         unbroken = stands.unbroken;
         met = stands.met;
+        unreported = stands.unreported;
         meters = stands.meters;
       })
 
@@ -145,11 +150,12 @@ module _ (meters : List Reading) (r : Running) (p q : PlayingFields) (stands : S
     steady =
         steady
         ∙ ap (λ b. b && is_slight millionths) stands.steady
-        ∙ and_turned (list_all is_slight r.deviations) (keeps_reports r (map (λ s. s.number) r.device.function.streams)) (is_slight millionths)
-        ∙ sym (ap (λ b. b && keeps_reports r (map (λ s. s.number) r.device.function.streams)) (slight-push r.deviations millionths));
+        ∙ and_turned (list_all is_slight r.deviations) (keeps_feedback r.feedback (map (λ s. s.number) r.device.function.streams)) (is_slight millionths)
+        ∙ sym (ap (λ b. b && keeps_feedback r.feedback (map (λ s. s.number) r.device.function.streams)) (slight-push r.deviations millionths));
     detail = detail ∙ stands.detail;
     unbroken = stands.unbroken;
     met = stands.met;
+    unreported = stands.unreported;
     meters = stands.meters;
   }
 
@@ -171,6 +177,7 @@ module _ (meters : List Reading) (r : Running) (p q : PlayingFields) (stands : S
     detail = detail ∙ stands.detail;
     unbroken = stands.unbroken;
     met = stands.met;
+    unreported = stands.unreported;
     meters = stands.meters;
   }
 
@@ -198,19 +205,24 @@ sounded clock shown showing r p q jacks mid stands own gives ticks hears gone co
     let before = subst (λ (js : List Jack). device.Stands mid (given clock js r.device)) all (gives r.device stands.device) in
     record {
       device = ticks (all_given clock r) before;
-      host = stands.host;
-      view = record { known = λ k. stands.view.known k ∙ ap (λ (controls : List (Key × ℤ)). value_of controls k) (sym (given-kept (λ w. w.controls) (λ t frame w. refl) clock r.jacks r.device)) };
+      host =
+          subst (λ (f : FunctionFields). Rests f r.host) (sym (given-kept (λ w. w.function) (λ t frame w. refl) clock r.jacks r.device)) stands.host;
+      view =
+          stands.view
+          ∙ ap (λ (f : FunctionFields). known_view f.entities r.device.controls) (sym (given-kept (λ w. w.function) (λ t frame w. refl) clock r.jacks r.device))
+          ∙ ap (known_view (given clock r.jacks r.device).function.entities) (sym (given-kept (λ w. w.controls) (λ t frame w. refl) clock r.jacks r.device));
       jacks = gone ∙ ap (gone_on clock) all;
       counts = counts ∙ stands.counts ∙ ap (map counted) (sym (given-kept (λ w. w.domains) (λ t frame w. refl) clock r.jacks r.device));
       time = time ∙ stands.time;
       steady =
           steady
           ∙ stands.steady
-          ∙ ap (λ (f : FunctionFields). list_all is_slight r.deviations && keeps_reports r (map (λ s. s.number) f.streams))
+          ∙ ap (λ (f : FunctionFields). list_all is_slight r.deviations && keeps_feedback r.feedback (map (λ s. s.number) f.streams))
           (sym (given-kept (λ w. w.function) (λ t frame w. refl) clock r.jacks r.device));
       detail = detail ∙ stands.detail;
       unbroken = stands.unbroken;
       met = stands.met;
+      unreported = stands.unreported;
       meters = hears (all_given clock r) before ∙ ap (after_frames (heard_of clock (ticked clock (all_given clock r)))) stands.meters;
     }
 
@@ -236,6 +248,6 @@ pub number_text : (r : Running) (p : PlayingFields) (meters : List Reading) → 
 number_text r p meters stands =
     ap (λ n. if nat_le 2 n then time_line p.time else []) stands.detail ∙ ap (λ t. if nat_le 2 r.detail then time_line t else []) stands.time
 
-pub microframe_is : (r : Running) → behind (if nat_le 2 r.detail then time_line (r.time + 1) else []) (domain_microframes r.device.function.domains (record r { time = r.time + 1 })) ≡ microframe r
+pub microframe_is : (losses : List Loss) (r : Running) → behind (if nat_le 2 r.detail then time_line (r.time + 1) else []) (domain_microframes r.device.function.domains (record r { time = r.time + 1 })) ≡ microframe losses r
 unfolding microframe
-microframe_is r = refl
+microframe_is losses r = refl

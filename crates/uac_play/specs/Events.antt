@@ -3,6 +3,7 @@ use Rattle.std.specs.Prelude.{ℕ, zero, suc, ◌+◌, ◌==◌, nat_le, if◌th
 use Rattle.std.specs.List.{fold, range_with_len}
 use Rattle.uac_pcm.specs.Tones.{tone_sample}
 use Rattle.uac_device.specs.World.{DeviceWorld, advanced, next_ticks, set_jack, ticked, heard_of, after_frames}
+use Rattle.uac_script.specs.Phrase.{Loss}
 use Rattle.uac_play.specs.declared.jacks.Jack.{Jack}
 use Rattle.uac_play.specs.World.{Running}
 use Rattle.uac_play.specs.Text.{time_line, played_lines}
@@ -64,13 +65,14 @@ unfoldable pub domain_microframes : List ℕ → Running → Told
 domain_microframes [] r = record { text = []; world = r }
 domain_microframes (clock ∷ clocks) r = behind (domain_microframe clock r).text (domain_microframes clocks (domain_microframe clock r).world)
 
--- one microframe: from detail 2 on its number is printed, and each domain has its part in it, in order
-unfoldable pub microframe : Running → Told
-microframe r =
+-- one microframe, in which these packets and feedback reports are lost: from detail 2 on its number is printed, and each domain has
+-- its part in it, in order. No stream runs yet, so none of them is there
+unfoldable pub microframe : List Loss → Running → Told
+microframe losses r =
     behind (if nat_le 2 r.detail then time_line (r.time + 1) else [])
     (domain_microframes r.device.function.domains (record r { time = r.time + 1 }))
 
--- so many microframes
-unfoldable pub microframes : ℕ → Running → Told
-microframes zero r = record { text = []; world = r }
-microframes (suc n) r = behind (microframe r).text (microframes n (microframe r).world)
+-- so many microframes, with these losses in each
+unfoldable pub microframes : List Loss → ℕ → Running → Told
+microframes losses zero r = record { text = []; world = r }
+microframes losses (suc n) r = behind (microframe losses r).text (microframes losses n (microframe losses r).world)

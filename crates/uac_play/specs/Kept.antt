@@ -1,5 +1,5 @@
 -- What is kept of a running device, and for which worlds it stands.
-use Rattle.std.specs.Prelude.{◌≡◌, ℕ, ◌≤◌, ◌+◌, ◌==◌, nat_eq, true, Bool, if◌then◌else◌, List, map, length, Option, None, Result, OnOk}
+use Rattle.std.specs.Prelude.{◌≡◌, ℕ, ◌≤◌, ◌+◌, ◌==◌, nat_eq, true, Bool, if◌then◌else◌, List, [], map, length, Option, None, Result, OnOk}
 use Rattle.std.specs.List.{All, IsDistinct}
 use Rattle.uac_units.specs.Hearing.{Reading}
 use Rattle.uac_device.specs.Kept as device
@@ -9,7 +9,7 @@ use Rattle.uac_script.specs.Writing.{Writes}
 use Rattle.uac_play.specs.declared.jacks.Jack.{Jack}
 use Rattle.uac_play.specs.declared.counts.TickCount.{TickCount}
 use Rattle.uac_host.specs.World.{Rests}
-use Rattle.uac_mixer.specs.World.{Agrees}
+use Rattle.uac_mixer.specs.World.{known_view}
 use Rattle.uac_play.specs.World.{Running, is_steady, nothing_met}
 use Rattle.uac_play.specs.Events.{Told}
 use Rattle.uac_play.specs.Text.{ticks_since}
@@ -39,15 +39,16 @@ more_counted clock ticks c = if c.clock == clock then record c { ticks = c.ticks
 -- the view, of a break, or of what streams met
 pub record Stands (playing : PlayingFields) (shown : List Reading) (r : Running) : Type 0 where
   pub device : device.Stands playing.device r.device
-  pub host : Rests r.host
-  pub view : Agrees r.view r.device.controls
+  pub host : Rests r.device.function r.host
+  pub view : r.view ≡ known_view r.device.function.entities r.device.controls
   pub jacks : playing.jacks ≡ r.jacks
   pub counts : playing.counts ≡ map counted r.device.domains
   pub time : playing.time ≡ r.time
   pub steady : playing.steady ≡ is_steady r
   pub detail : playing.detail ≡ r.detail
-  pub unbroken : r.break_after ≡ None
+  pub unbroken : r.breaks ≡ None
   pub met : (interface : ℕ) → r.met interface ≡ nothing_met
+  pub unreported : (interface : ℕ) → r.feedback interface ≡ []
   pub meters : shown ≡ r.meters
 
 -- its jacks are input jacks of its function, each with its channels
@@ -56,8 +57,9 @@ pub record HasItsJacks (playing : PlayingFields) : Type 0 where
   pub channels : All (λ j. (entity playing.device.function.entities j.terminal).cluster.channels ≡ j.channels) playing.jacks
   pub most : All (λ j. j.channels ≤ 32) playing.jacks
 
--- its domains are few, and each is counted once
+-- its domains are few, and each is counted, once
 pub record HasItsDomains (playing : PlayingFields) : Type 0 where
+  pub counted : map (λ c. c.clock) playing.counts ≡ playing.device.function.domains
   pub few : length playing.device.function.domains ≤ 8
   pub once : IsDistinct nat_eq (map (λ c. c.clock) playing.counts)
 

@@ -8,34 +8,45 @@ use Rattle.uac_topology.specs.Function.{FunctionFields}
 use Rattle.uac_units.specs.Hearing.{Reading}
 use Rattle.uac_device.specs.World.{DeviceWorld, fresh, deviated, is_input_jack}
 use Rattle.uac_host.specs.World.{HostWorld, fresh_host}
-use Rattle.uac_mixer.specs.World.{ViewWorld, fresh_view}
+use Rattle.uac_mixer.specs.World.{ViewWorld, known_view}
+use Rattle.uac_mixer.specs.declared.When.{When}
 use Rattle.uac_play.specs.declared.counts.StreamCounts.{StreamCounts}
 use Rattle.uac_play.specs.declared.jacks.Jack.{Jack}
 
--- a primed stream to the device at its last delivered report, or where it was primed if that was later: by how many frames its
--- level passed its target, the host's and the clock's remainders, and the microframes since then
-pub record Mark : Type 0 where
+-- a primed stream to the device as it stood at its last delivered feedback report, or where it was primed if that was later
+pub record StreamMark : Type 0 where
+  -- by how many frames its level passed its target
   pub past : ℤ
-  pub host : ℕ
-  pub clock : ℕ
+  -- the remainders of the host's pace and of the domain's clock, in 65,536ths of a frame
+  pub host_remainder : ℕ
+  pub clock_remainder : ℕ
+  -- the microframes since then
   pub since : ℕ
 
--- the device, the host, and the host's view of the device; and of the bus: the tone of each input jack and how many of its frames
--- were given, the microframes since the start, the deviations that were given, how much is printed, whether the next transfer
--- breaks, before the device acted or after it, and by interface, what its streams met, its reports since each start of a stream,
--- each whether it was lost, and the mark of its stream; and what the meters show
+-- the device, the host, the host's view of the device, and the bus, whose part all else is
 pub record Running : Type 0 where
   pub device : DeviceWorld
   pub host : HostWorld
   pub view : ViewWorld
+  -- the descriptor's bytes
+  pub descriptor : List ℕ
+  -- the tone of each input jack, and how many of its frames were given
   pub jacks : List Jack
+  -- the microframes since the start
   pub time : ℕ
+  -- the deviations that were given, in millionths
   pub deviations : List ℤ
+  -- how much is printed
   pub detail : ℕ
-  pub break_after : Option Bool
+  -- when the next transfer breaks; none where it doesn't
+  pub breaks : Option When
+  -- by interface, what its streams met
   pub met : ℕ → StreamCounts
-  pub reports : ℕ → List (List Bool)
-  pub marks : ℕ → Option Mark
+  -- by interface, a list for each start of its stream, in order: of each feedback report since then, whether it was lost
+  pub feedback : ℕ → List (List Bool)
+  -- by interface, the mark of its primed stream
+  pub marks : ℕ → Option StreamMark
+  -- what the meters show, which heard all frames so far
   pub meters : List Reading
 
 -- streams that met nothing
@@ -46,20 +57,21 @@ nothing_met = record { under = 0; over = 0; lost = 0; missed = 0 }
 abbrev pub silent_jack : Entity → Jack
 silent_jack e = record { terminal = e.id; clock = e.clock; channels = e.cluster.channels; tone = Silent; place = 0 }
 
--- just after the descriptor was accepted
-unfoldable pub at_start : FunctionFields → List Reading → Running
-at_start function meters =
+-- just after the descriptor with these bytes was accepted
+unfoldable pub at_start : List ℕ → FunctionFields → List Reading → Running
+at_start descriptor function meters =
     record {
       device = fresh function;
-      host = fresh_host;
-      view = fresh_view (fresh function).controls;
+      host = fresh_host function;
+      view = known_view function.entities (fresh function).controls;
+      descriptor = descriptor;
       jacks = map silent_jack (filter is_input_jack function.entities);
       time = 0;
       deviations = [];
       detail = 0;
-      break_after = None;
+      breaks = None;
       met = λ interface. nothing_met;
-      reports = λ interface. [];
+      feedback = λ interface. [];
       marks = λ interface. None;
       meters = meters;
     }
@@ -93,14 +105,14 @@ with_detail level r = record r { detail = level }
 abbrev pub is_slight : ℤ → Bool
 is_slight millionths = int_le (negsuc 999) millionths && int_le millionths (pos 1000)
 
--- four in succession of these reports were lost
+-- four in succession of these feedback reports were lost
 abbrev pub has_four_lost : List Bool → Bool
 has_four_lost reports = list_any (λ at. list_all (λ lost. lost) (take 4 (drop at reports))) (range_with_len 0 (length reports - 3))
 
--- no stream of these interfaces lost four reports in succession
-abbrev pub keeps_reports : Running → List ℕ → Bool
-keeps_reports r interfaces = list_all (λ interface. list_all (λ reports. not (has_four_lost reports)) (r.reports interface)) interfaces
+-- no stream of these interfaces lost four feedback reports in succession
+abbrev pub keeps_feedback : (ℕ → List (List Bool)) → List ℕ → Bool
+keeps_feedback feedback interfaces = list_all (λ interface. list_all (λ reports. not (has_four_lost reports)) (feedback interface)) interfaces
 
--- no deviation passed a thousandth, and no stream lost four reports in succession
+-- no deviation passed a thousandth, and no stream lost four feedback reports in succession
 unfoldable pub is_steady : Running → Bool
-is_steady r = list_all is_slight r.deviations && keeps_reports r (map (λ s. s.number) r.device.function.streams)
+is_steady r = list_all is_slight r.deviations && keeps_feedback r.feedback (map (λ s. s.number) r.device.function.streams)

@@ -53,7 +53,7 @@ impl Model for Playing {
 impl Playing {
     /// A device of a function, just after the descriptor's end, with all the memory that it will use.
     pub fn new(alloc: Global, function: Function) -> Result<Playing, NoMemory>
-        ensures stands { IfOk result (λ playing. (meters : List Reading) → Stands playing meters (at_start function meters)) }
+        ensures stands { IfOk result (λ playing. (descriptor : List ℕ) (meters : List Reading) → Stands playing meters (at_start descriptor function meters)) }
         ensures counts { IfOk result (Counts 0) }
         ensures function { IfOk result (λ playing. playing.device.function ≡ function) }
     {
@@ -120,7 +120,7 @@ impl Playing {
         self.detail = level;
     }
 
-    /// So many microframes (1 to 8,000), printed as they come. It takes no memory.
+    /// So many microframes (1 to 8,000), printed as they come, with nothing lost. It takes no memory.
     pub fn microframes<K: Sink>(
         &mut self,
         count: u32,
@@ -132,7 +132,7 @@ impl Playing {
         requires few { count ≤ 8000 }
         requires room { Counts (2 ^ 62) self.old }
         ensures tells { (r : Running) → Stands self.old (readings (λ v x. (⟦<dyn Meter as Meter>⟧ v).reading_of x) meters.old) r
-            → Tells (microframes count r) self.new (readings (λ v x. (⟦<dyn Meter as Meter>⟧ v).reading_of x) meters.new) (K.written sink.old) (K.written sink.new) result }
+            → Tells (microframes [] count r) self.new (readings (λ v x. (⟦<dyn Meter as Meter>⟧ v).reading_of x) meters.new) (K.written sink.old) (K.written sink.new) result }
         ensures cause { HasCause (K.faults sink.old) (K.faults sink.new) result }
         ensures counts { (most : ℕ) → Counts most self.old → Counts (most + 216 * count) self.new }
     {
@@ -155,7 +155,7 @@ impl Playing {
         requires rack { IsFitted (λ v x. (⟦<dyn Unit as Unit>⟧ v).kind_of x) rack.now }
         requires room { Counts (2 ^ 62 + 216 * 8000) self.old }
         ensures tells { (r : Running) → Stands self.old (readings (λ v x. (⟦<dyn Meter as Meter>⟧ v).reading_of x) meters.old) r
-            → Tells (microframe r) self.new (readings (λ v x. (⟦<dyn Meter as Meter>⟧ v).reading_of x) meters.new) (K.written sink.old) (K.written sink.new) result }
+            → Tells (microframe [] r) self.new (readings (λ v x. (⟦<dyn Meter as Meter>⟧ v).reading_of x) meters.new) (K.written sink.old) (K.written sink.new) result }
         ensures cause { HasCause (K.faults sink.old) (K.faults sink.new) result }
         ensures counts { (most : ℕ) → Counts most self.old → Counts (most + 216) self.new }
     {

@@ -16,7 +16,7 @@ pub returns-in-Ok-ready-clause-begins : goal.returns-in-Ok-ready-clause-begins
 returns-in-Ok-ready-clause-begins g c = λ shown.
     subst (λ (s : Step). Reaches s (StandsFor (stages.Playing c.in-Ok-new.playing) shown) (g.K.Sink.written c.args.sink.now) (g.K.Sink.written c.ready.new.sink))
     (sym (gone_well c.args.reader.taken c.in-Ok.function shown c.in-Ok.ensures)) (
-      c.in-Ok-new.ensures.stands shown,
+      c.in-Ok-new.ensures.stands c.args.reader.taken shown,
       subst (λ (f : FunctionFields). Appends (g.K.Sink.written c.args.sink.now) (g.K.Sink.written c.ready.new.sink) (ready_line f)) c.in-Ok-new.ensures.function c.in-Ok-ready.ensures.written,
     )
 

@@ -5,7 +5,7 @@ use Rattle.uac_device.specs.declared.clocks.Clock.{Clock}
 use Rattle.uac_device.specs.Kept.{DeviceFields, IsInRange, Stands}
 use Rattle.uac_device.specs.Turns.{deviated_clock}
 use Rattle.uac_device.specs.contracts.device.Device.{the_view}
-use Rattle.uac_device.proofs.Kept.{deviated_phases, deviated_range, deviated_stands}
+use Rattle.uac_device.proofs.Kept.{deviated_domains, deviated_phases, deviated_range, deviated_stands}
 use Rattle.uac_device.proofs.Turning.{put_back}
 use Rattle.uac_device.proofs.device.Device.deviate.Goals as goal
 
@@ -19,6 +19,10 @@ invariant_of-self c =
     ∙ ap (map (deviated_clock c.args.domain c.args.ppm)) c.deref_mut.ensures.value in (
       record {
         wires = c.self.invariant.0.wires;
+        domains =
+            ap (map (λ k. k.clock)) turned
+            ∙ deviated_domains c.args.domain c.args.ppm c.self.inside.clocks.items
+            ∙ c.self.invariant.0.domains;
         clocks =
             subst (λ (clocks : List Clock). All (λ k. IsInRange k.ppm) clocks) (sym turned)
             (deviated_range c.args.domain c.args.ppm c.self.inside.clocks.items (c.requires.low, c.requires.high) c.self.invariant.0.clocks);

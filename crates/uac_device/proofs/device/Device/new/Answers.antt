@@ -3,7 +3,7 @@ use Rattle.std.specs.List.{All}
 use Rattle.uac_device.specs.declared.clocks.Clock.{Clock}
 use Rattle.uac_device.specs.Kept.{IsInRange}
 use Rattle.uac_device.specs.Turns.{resting_clock}
-use Rattle.uac_device.proofs.Kept.{resting_phases, resting_range}
+use Rattle.uac_device.proofs.Kept.{resting_domains, resting_phases, resting_range}
 use Rattle.uac_device.proofs.Played.{fresh_stands}
 use Rattle.uac_device.proofs.device.Device.new.Goals as goal
 
@@ -12,6 +12,7 @@ invariant_of-result c =
     let resting = c.in_ok-clocks.ensures ∙ ap (map resting_clock) c.domains.ensures in (
       record {
         wires = c.in_ok-wires.ensures.fitting;
+        domains = ap (map (λ k. k.clock)) resting ∙ resting_domains c.args.function.domains;
         clocks = subst (λ (clocks : List Clock). All (λ k. IsInRange k.ppm) clocks) (sym resting) (resting_range c.args.function.domains);
         phases = subst (λ (clocks : List Clock). All (λ k. k.phase < 65536) clocks) (sym resting) (resting_phases c.args.function.domains);
       },

@@ -8,7 +8,7 @@ use Rattle.uac_device.specs.Kept.{DeviceFields, IsInRange, Stands}
 use Rattle.uac_device.specs.Turns.{advanced_clock, first_ticks}
 use Rattle.uac_device.specs.contracts.device.Device.{the_view}
 use Rattle.uac_device.proofs.Fastest.{few_ticks, rated_nominal}
-use Rattle.uac_device.proofs.Kept.{advanced_phases, advanced_range, advanced_stands, ticks_next}
+use Rattle.uac_device.proofs.Kept.{advanced_domains, advanced_phases, advanced_range, advanced_stands, ticks_next}
 use Rattle.uac_device.proofs.Turning.{put_back}
 use Rattle.uac_device.proofs.device.Device.ticks.Goals as goal
 use Rattle.uac_device.proofs.device.Device.ticks.Goals.{in-Some, in-None}
@@ -21,6 +21,10 @@ invariant_of-self c =
     ∙ c.advance.ensures.clocks ∙ ap (map (advanced_clock c.args.domain c.match-rate.values)) c.deref_mut.ensures.value in (
       record {
         wires = c.self.invariant.0.wires;
+        domains =
+            ap (map (λ k. k.clock)) turned
+            ∙ advanced_domains c.args.domain c.match-rate.values c.self.inside.clocks.items
+            ∙ c.self.invariant.0.domains;
         clocks =
             subst (λ (clocks : List Clock). All (λ k. IsInRange k.ppm) clocks) (sym turned)
             (advanced_range c.args.domain c.match-rate.values c.self.inside.clocks.items c.self.invariant.0.clocks);

@@ -15,7 +15,7 @@ returns-in-Err-clause-tells g c r stands =
     let later = passed (readings (λ v x. (goal.Meter-dyn g (v, x)).reading_of x) c.args.meters.now) r c.args.self.now c.pass.new.self stands c.pass.ensures in
     let text = number_text r c.pass.new.self (readings (λ v x. (goal.Meter-dyn g (v, x)).reading_of x) c.args.meters.now) later in
     let front = subst (AppendsFront (g.K.Sink.written c.args.sink.now) (g.K.Sink.written c.write_number.new.sink)) text c.in-Err.ensures.written in (
-      subst (λ (told : Told). AppendsFront (g.K.Sink.written c.args.sink.now) (g.K.Sink.written c.write_number.new.sink) told.text) (microframe_is r)
+      subst (λ (told : Told). AppendsFront (g.K.Sink.written c.args.sink.now) (g.K.Sink.written c.write_number.new.sink) told.text) (microframe_is [] r)
           (AppendsFront-longer (g.K.Sink.written c.args.sink.now) (g.K.Sink.written c.write_number.new.sink) (if nat_le 2 r.detail then time_line (r.time + 1) else [])
           (domain_microframes r.device.function.domains (record r { time = r.time + 1 })).text front),
       tt,
@@ -26,7 +26,7 @@ returns-clause-tells g c r stands =
     let later = passed (readings (λ v x. (goal.Meter-dyn g (v, x)).reading_of x) c.args.meters.now) r c.args.self.now c.pass.new.self stands c.pass.ensures in
     let text = number_text r c.pass.new.self (readings (λ v x. (goal.Meter-dyn g (v, x)).reading_of x) c.args.meters.now) later in
     let number = subst (Appends (g.K.Sink.written c.args.sink.now) (g.K.Sink.written c.write_number.new.sink)) text c.in-Ok.ensures.written in
-    subst (λ (told : Told). Tells told c.domain_microframes.new.self (readings (λ v x. (goal.Meter-dyn g (v, x)).reading_of x) c.domain_microframes.new.meters) (g.K.Sink.written c.args.sink.now) (g.K.Sink.written c.domain_microframes.new.sink) c.domain_microframes.result) (microframe_is r)
+    subst (λ (told : Told). Tells told c.domain_microframes.new.self (readings (λ v x. (goal.Meter-dyn g (v, x)).reading_of x) c.domain_microframes.new.meters) (g.K.Sink.written c.args.sink.now) (g.K.Sink.written c.domain_microframes.new.sink) c.domain_microframes.result) (microframe_is [] r)
     (tells_behind (if nat_le 2 r.detail then time_line (r.time + 1) else []) (domain_microframes r.device.function.domains (record r { time = r.time + 1 }))
     c.domain_microframes.new.self (readings (λ v x. (goal.Meter-dyn g (v, x)).reading_of x) c.domain_microframes.new.meters) (g.K.Sink.written c.args.sink.now) (g.K.Sink.written c.write_number.new.sink) (g.K.Sink.written c.domain_microframes.new.sink) c.domain_microframes.result
     number (c.domain_microframes.ensures.tells (record r { time = r.time + 1 }) later))
