@@ -1,1 +1,2 @@
--- The settings of interfaces need no lemma.
+pub mod Changed
+pub mod Found

@@ -1,7 +1,7 @@
 // The settings of all interfaces.
-ghost use Rattle.std.specs.Prelude.{◌≡◌};
+ghost use Rattle.std.specs.Prelude.{◌≡◌, ◌==◌, ℕ, if◌then◌else◌, Some, IsSome};
 ghost use Rattle.uac_alt.specs.Settings as spec;
-ghost use Rattle.uac_alt.specs.Settings.{initial_settings, setting_of};
+ghost use Rattle.uac_alt.specs.Settings.{initial_settings, is_running, setting_of, with_setting};
 
 use arrayvec::ArrayVec;
 use std::marker::Model;
@@ -57,6 +57,43 @@ impl Settings {
             }
         }
         None
+    }
+
+    /// An interface of the audio function is in this setting from now on, and each other one stays in its own (USB 2.0,
+    /// 9.4.10). It takes no memory.
+    pub fn set(&mut self, interface: u8, setting: u8)
+        requires { IsSome (setting_of self.old interface) }
+        ensures value { self.new ≡ with_setting self.old interface setting }
+        ensures setting { (n : ℕ) → setting_of self.new n ≡ (if n == interface then Some setting else setting_of self.old n) }
+    {
+        change(self.held.as_mut_slice(), interface, setting);
+    }
+
+    /// Whether some interface is in a setting other than 0.
+    pub fn running(&self) -> bool
+        ensures { result ≡ is_running self.now }
+    {
+        self.held.as_slice().iter().any(|held| held.setting != 0)
+    }
+}
+
+// One interface's setting is this one.
+#[tactic(auto, unfolding(crate::specs::Settings::with_setting))]
+fn change(settings: &mut [InterfaceSetting], interface: u8, setting: u8)
+    ensures { settings.new ≡ with_setting settings.old interface setting }
+{
+    for held in settings.iter_mut() {
+        *held = changed(*held, interface, setting);
+    }
+}
+
+fn changed(held: InterfaceSetting, interface: u8, setting: u8) -> InterfaceSetting
+    ensures { result ≡ spec.changed interface setting held }
+{
+    if held.interface == interface {
+        InterfaceSetting { setting, ..held }
+    } else {
+        held
     }
 }
 

@@ -1,0 +1,18 @@
+-- A setting that was found.
+use Rattle.std.proofs.Common.{◌≡◌, ◌≢◌, ℕ, ◌==◌, false, List, Option, Some, arith}
+use Rattle.std.specs.List.{find}
+use Rattle.uac_clock.specs.Nominal.{nominal_of}
+use Rattle.uac_clock.specs.declared.values.Nominal.{Nominal}
+use Rattle.uac_entities.specs.declared.stream.Setting.{Setting}
+use Rattle.uac_entities.specs.declared.stream.StreamInterface.{StreamInterface}
+use Rattle.uac_topology.specs.Function.{FunctionFields}
+use Rattle.uac_alt.specs.Streams.{StreamFields, stream_at, stream_of}
+
+-- the stream of an interface in a setting above 0, where both, and the nominal values of the rate, were found
+pub stream_of_found : (function : FunctionFields) (rate interface number : ℕ) {carrier : StreamInterface} {setting : Setting} {nominal : Nominal} {streams : List StreamInterface} {settings : List Setting} {result : Option StreamFields} → number ≢ 0 → streams ≡ function.streams → Some carrier ≡ find (λ s. s.number == interface) streams → settings ≡ carrier.settings → Some setting ≡ find (λ t. t.number == number) settings → Some nominal ≡ nominal_of rate → result ≡ stream_at function carrier setting nominal → result ≡ stream_of function rate interface number
+unfolding stream_of
+stream_of_found function rate interface number above streams carrier settings setting nominal result =
+    let is_above : (number == 0) ≡ false = grind arith in
+    let of_function = rw streams at carrier in
+    let of_carrier = rw settings at setting in
+    rw (is_above, ← of_function, ← of_carrier, ← nominal) result

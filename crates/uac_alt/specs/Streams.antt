@@ -1,0 +1,119 @@
+-- The alternate settings that can run (profile), and the stream that one runs (USB 2.0, 9.6.6; Audio Class 2.0, 4.9, 4.10; Audio Data
+-- Formats 2.0, 2.3.1).
+use Rattle.std.specs.Prelude.{ℕ, ◌+◌, ◌-◌, ◌*◌, ◌/◌, ◌%◌, ◌^◌, ◌==◌, ◌&&◌, ◌||◌, not, nat_le, Bool, true, false, if◌then◌else◌, Option, Some, None, is_some}
+use Rattle.std.specs.List.{find}
+use Rattle.std.specs.Option.{option_and_then, option_map_or}
+use Rattle.uac_clock.specs.Nominal.{nominal_of}
+use Rattle.uac_clock.specs.declared.values.Nominal.{Nominal}
+use Rattle.uac_descriptor.specs.Endpoints.{synchronization_type, usage_type, packet_size, additional_transactions}
+use Rattle.uac_descriptor.specs.declared.standard.Endpoint.{Endpoint}
+use Rattle.uac_descriptor.specs.declared.streaming.General.{General}
+use Rattle.uac_descriptor.specs.declared.streaming.TypeOne.{TypeOne}
+use Rattle.uac_entities.specs.Streams.{named}
+use Rattle.uac_entities.specs.declared.stream.Setting.{Setting}
+use Rattle.uac_entities.specs.declared.stream.StreamInterface.{StreamInterface}
+use Rattle.uac_topology.specs.Function.{FunctionFields}
+use Rattle.uac_alt.specs.declared.values.Stream.{Stream}
+
+-- what a setting that can run says: its format, the nominal values of its rate, whether it goes to the device, the frames that its
+-- endpoint's packet holds at most, and the microframes between two feedback reports, none of which a stream from the device has
+pub record StreamFields : Type 0 where
+  pub channels : ℕ
+  pub subslot : ℕ
+  pub bits : ℕ
+  pub nominal : Nominal
+  pub out : Bool
+  pub most : ℕ
+  pub period : ℕ
+
+-- a stream as the numbers that it holds
+abbrev pub seen : Stream → StreamFields
+seen s =
+    record {
+      channels = s.format.channels;
+      subslot = s.format.subslot;
+      bits = s.format.bits;
+      nominal = s.nominal;
+      out = s.out;
+      most = s.most;
+      period = s.period;
+    }
+
+-- the bytes that an endpoint carries in a microframe
+abbrev pub packet_room : Endpoint → ℕ
+packet_room e = packet_size e.max_packet * (1 + additional_transactions e.max_packet)
+
+-- the microframes from one packet of an endpoint to the next
+abbrev pub period_of : Endpoint → ℕ
+period_of e = 2 ^ (e.interval - 1)
+
+-- Type I PCM: format type 1, and the lowest bit of the formats
+abbrev pub is_pcm : General → Bool
+is_pcm g = g.format_type == 1 && g.formats % 2 == 1
+
+-- the channels of the terminal to which an interface links
+unfoldable pub linked_channels : FunctionFields → StreamInterface → ℕ
+linked_channels function s = option_map_or (λ e. e.cluster.channels) (named function.entities s.terminal) 0
+
+-- a first endpoint that is asynchronous, has a packet in each microframe, and carries data, or from the device also data that is feedback
+abbrev pub carries_data : Bool → Endpoint → Bool
+carries_data out e =
+    synchronization_type e.attributes == 1 && (e.interval == 1 && (usage_type e.attributes == 0 || (not out && usage_type e.attributes == 2)))
+
+-- a second endpoint for feedback: a report of four bytes every 1 to 8 microframes
+abbrev pub carries_feedback : Endpoint → Bool
+carries_feedback e = nat_le 1 e.interval && (nat_le e.interval 4 && nat_le 4 (packet_size e.max_packet))
+
+-- a stream to the device has feedback, and one from it has none
+abbrev pub has_its_feedback : Bool → Option Endpoint → Bool
+has_its_feedback true (Some e) = carries_feedback e
+has_its_feedback true None = false
+has_its_feedback false second = not (is_some second)
+
+-- the numbers of a format: 1 to 32 channels, subslots of 1 to 4 bytes, and bits that fit
+abbrev pub is_format : ℕ → ℕ → ℕ → Bool
+is_format channels subslot bits =
+    nat_le 1 channels && (nat_le channels 32 && (nat_le 1 subslot && (nat_le subslot 4 && (nat_le 1 bits && nat_le bits (8 * subslot)))))
+
+-- the most frames of a packet at this rate fit the endpoint
+abbrev pub fits : Nominal → General → TypeOne → Endpoint → Bool
+fits nominal g f first = nat_le (nominal.hi * g.channels * f.subslot) (packet_room first)
+
+-- all that is asked of a setting with these parts
+unfoldable pub can_run : FunctionFields → StreamInterface → Setting → Nominal → General → TypeOne → Endpoint → Bool
+can_run function s setting nominal g f first =
+    is_pcm g && (g.channels == linked_channels function s && (is_format g.channels f.subslot f.bits && (carries_data s.out first && (has_its_feedback s.out setting.second
+    && fits nominal g f first))))
+
+-- the microframes between reports by the second endpoint; 0 where there are none
+abbrev pub report_period : Bool → Option Endpoint → ℕ
+report_period true (Some e) = period_of e
+report_period _ _ = 0
+
+-- the stream of a setting with these parts
+abbrev pub stream_with : StreamInterface → Setting → Nominal → General → TypeOne → Endpoint → StreamFields
+stream_with s setting nominal g f first =
+    record {
+      channels = g.channels;
+      subslot = f.subslot;
+      bits = f.bits;
+      nominal = nominal;
+      out = s.out;
+      most = packet_room first / (g.channels * f.subslot);
+      period = report_period s.out setting.second;
+    }
+
+-- the stream of a setting of an interface at these nominal values, where it has all its parts and can run
+unfoldable pub stream_at : FunctionFields → StreamInterface → Setting → Nominal → Option StreamFields
+stream_at function s setting nominal =
+    option_and_then (λ g. option_and_then (λ f. option_and_then (λ first.
+    if can_run function s setting nominal g f first then Some (stream_with s setting nominal g f first) else None)
+    setting.first) setting.format) setting.general
+
+-- the stream of the interface with this number in its setting with that number, at a rate in Hz; none where there is no such interface or
+-- setting, in setting 0, where the rate is none of the twelve, and where the setting can't run
+unfoldable pub stream_of : FunctionFields → ℕ → ℕ → ℕ → Option StreamFields
+stream_of function rate interface number =
+    if number == 0 then None
+    else option_and_then (λ s. option_and_then (λ setting. option_and_then (stream_at function s setting) (nominal_of rate))
+    (find (λ t. t.number == number) s.settings)) (find (λ s. s.number == interface) function.streams)

@@ -1,0 +1,214 @@
+// The stream of a setting, where it can run.
+ghost use Rattle.std.specs.Prelude.{◌≡◌, ◌==◌, ◌*◌, ◌/◌, true, IfSome};
+ghost use Rattle.std.specs.Bool.{OnTrue};
+ghost use Rattle.std.specs.List.{find};
+ghost use Rattle.std.specs.Option.{option_map};
+ghost use Rattle.uac_clock.specs.Nominal.{IsNominal};
+ghost use Rattle.uac_entities.specs.Streams.{named};
+ghost use Rattle.uac_pcm.specs.Frames.{IsFormat};
+ghost use Rattle.uac_alt.specs.Streams as spec;
+ghost use Rattle.uac_alt.specs.Streams.{seen, stream_of};
+
+use crate::values::Stream;
+use uac_clock::{Nominal, nominal};
+use uac_descriptor::{Endpoint, EndpointBits, General, TypeOne};
+use uac_pcm::Format;
+use uac_topology::{Entity, Function, Setting, StreamInterface};
+
+/// The stream of an interface in a setting, at a rate in Hz (USB 2.0, 9.6.6; Audio Class 2.0, 4.9; Audio Data Formats
+/// 2.0, 2.3.1). It takes no memory.
+///
+/// None comes for setting 0, where there is no such interface or setting, where the rate is none of the twelve, and
+/// where the setting can't run at that rate: it is not Type I PCM, has not its terminal's channels, has other endpoints
+/// than such a stream needs, or the most frames of a packet are too large for its endpoint.
+#[tactic(auto, unfolding(crate::specs::Streams::stream_of))]
+pub fn stream(function: &Function, rate: u32, interface: u8, setting: u8) -> Option<Stream>
+    ensures value { option_map seen result ≡ stream_of function.now rate interface setting }
+    ensures of_a_rate { IfSome result (λ s. IsNominal s.nominal) }
+{
+    if setting == 0 {
+        return None;
+    }
+    let carrier = interface_of(function.streams(), interface)?;
+    let chosen = setting_at(carrier.settings.as_slice(), setting)?;
+    let nominal = nominal(rate)?;
+    stream_at(function, carrier, chosen, nominal)
+}
+
+/// The streaming interface with a number.
+fn interface_of(streams: &[StreamInterface], number: u8) -> Option<&StreamInterface>
+    ensures { option_map (λ s. s.now) result ≡ find (λ s. s.number == number) streams.now }
+{
+    streams.iter().find(|stream| stream.number == number)
+}
+
+/// The setting with a number.
+fn setting_at(settings: &[Setting], number: u8) -> Option<&Setting>
+    ensures { option_map (λ s. s.now) result ≡ find (λ s. s.number == number) settings.now }
+{
+    settings.iter().find(|setting| setting.number == number)
+}
+
+/// The stream of a setting at these nominal values; None where a part is missing or it can't run.
+#[tactic(auto, unfolding(crate::specs::Streams::stream_at))]
+fn stream_at(
+    function: &Function,
+    carrier: &StreamInterface,
+    setting: &Setting,
+    nominal: Nominal,
+) -> Option<Stream>
+    ensures value { option_map seen result ≡ spec.stream_at function.now carrier.now setting.now nominal }
+    ensures nominal { IfSome result (λ s. s.nominal ≡ nominal) }
+{
+    let general = setting.general.as_ref()?;
+    let type_one = setting.format.as_ref()?;
+    let first = setting.first.as_ref()?;
+    if !can_run(
+        function, carrier, setting, &nominal, general, type_one, first,
+    ) {
+        return None;
+    }
+    let format = Format::new(general.channels, type_one.subslot, type_one.bits)?;
+    Some(Stream {
+        format,
+        nominal,
+        out: carrier.out,
+        most: most_frames(&format, first),
+        period: report_period(carrier.out, &setting.second),
+    })
+}
+
+/// Whether a setting with these parts can run at these nominal values.
+#[tactic(auto, unfolding(crate::specs::Streams::can_run))]
+fn can_run(
+    function: &Function,
+    carrier: &StreamInterface,
+    setting: &Setting,
+    nominal: &Nominal,
+    general: &General,
+    type_one: &TypeOne,
+    first: &Endpoint,
+) -> bool
+    ensures value { result ≡ spec.can_run function.now carrier.now setting.now nominal.now general.now type_one.now first.now }
+    ensures format { OnTrue result (IsFormat general.now.channels type_one.now.subslot type_one.now.bits) }
+    ensures feedback { OnTrue result (spec.has_its_feedback carrier.now.out setting.now.second ≡ true) }
+{
+    is_pcm(general)
+        && (general.channels == linked_channels(function, carrier)
+            && (is_format(general.channels, type_one.subslot, type_one.bits)
+                && (carries_data(carrier.out, first)
+                    && (has_its_feedback(carrier.out, &setting.second)
+                        && fits(nominal, general, type_one, first)))))
+}
+
+/// Whether the format is Type I PCM: format type 1, and bit 0 of bmFormats (Audio Class 2.0, 4.9.2; Audio Data Formats
+/// 2.0, A.1 and A.2.1).
+fn is_pcm(general: &General) -> bool
+    ensures { result ≡ spec.is_pcm general.now }
+{
+    general.format_type == 1 && general.formats % 2 == 1
+}
+
+/// The channels of the terminal to which an interface links; 0 where there is none.
+#[tactic(auto, unfolding(crate::specs::Streams::linked_channels))]
+fn linked_channels(function: &Function, carrier: &StreamInterface) -> u8
+    ensures { result ≡ spec.linked_channels function.now carrier.now }
+{
+    match entity_named(function.entities(), carrier.terminal) {
+        Some(terminal) => terminal.cluster.channels,
+        None => 0,
+    }
+}
+
+/// The entity with an id.
+#[tactic(auto, unfolding(uac_entities::specs::Streams::named))]
+fn entity_named(entities: &[Entity], id: u8) -> Option<&Entity>
+    ensures { option_map (λ e. e.now) result ≡ named entities.now id }
+{
+    entities.iter().find(|entity| entity.id == id)
+}
+
+/// Whether these are the numbers of a format (Audio Data Formats 2.0, 2.3.1.6).
+fn is_format(channels: u8, subslot: u8, bits: u8) -> bool
+    ensures value { result ≡ spec.is_format channels subslot bits }
+    ensures in_range { OnTrue result (IsFormat channels subslot bits) }
+{
+    (1..=32).contains(&channels)
+        && ((1..=4).contains(&subslot) && (1 <= bits && u16::from(bits) <= 8 * u16::from(subslot)))
+}
+
+/// Whether the first endpoint carries the stream: it is asynchronous, has a packet in each microframe, and its usage is
+/// data, or from the device also data that is feedback (USB 2.0, 9.6.6).
+fn carries_data(out: bool, endpoint: &Endpoint) -> bool
+    ensures { result ≡ spec.carries_data out endpoint.now }
+{
+    let bits = EndpointBits::of(endpoint.attributes);
+    bits.is_asynchronous()
+        && (endpoint.interval == 1 && (bits.is_data() || (!out && bits.is_implicit_feedback())))
+}
+
+/// Whether a second endpoint carries feedback: a report of four bytes, every 1, 2, 4 or 8 microframes (USB 2.0,
+/// 5.12.4.2 and 9.6.6).
+fn carries_feedback(endpoint: &Endpoint) -> bool
+    ensures { result ≡ spec.carries_feedback endpoint.now }
+{
+    1 <= endpoint.interval && (endpoint.interval <= 4 && 4 <= endpoint.packet_size())
+}
+
+/// Whether a stream to the device has its feedback, and one from the device none.
+fn has_its_feedback(out: bool, second: &Option<Endpoint>) -> bool
+    ensures { result ≡ spec.has_its_feedback out second.now }
+{
+    match second {
+        Some(endpoint) => out && carries_feedback(endpoint),
+        None => !out,
+    }
+}
+
+/// Whether the most frames of a packet fit the endpoint.
+fn fits(nominal: &Nominal, general: &General, type_one: &TypeOne, first: &Endpoint) -> bool
+    ensures { result ≡ spec.fits nominal.now general.now type_one.now first.now }
+{
+    let size = frame_size(general.channels, type_one.subslot);
+    u64::from(nominal.hi) * u64::from(size) <= u64::from(packet_room(first))
+}
+
+/// The bytes that an endpoint carries in a microframe, additional transactions and all (USB 2.0, 9.6.6).
+fn packet_room(endpoint: &Endpoint) -> u32
+    ensures { result ≡ spec.packet_room endpoint.now }
+{
+    u32::from(endpoint.packet_size()) * (1 + u32::from(endpoint.additional_transactions()))
+}
+
+/// The bytes of a frame (Audio Data Formats 2.0, 2.3.1).
+fn frame_size(channels: u8, subslot: u8) -> u32
+    ensures { result ≡ channels * subslot }
+{
+    u32::from(channels) * u32::from(subslot)
+}
+
+/// The frames that an endpoint carries in a microframe at most.
+fn most_frames(format: &Format, endpoint: &Endpoint) -> u32
+    ensures { result ≡ spec.packet_room endpoint.now / (format.now.channels * format.now.subslot) }
+{
+    packet_room(endpoint) / frame_size(format.channels, format.subslot)
+}
+
+/// The microframes between the reports of a second endpoint that carries feedback; 0 for a stream from the device.
+fn report_period(out: bool, second: &Option<Endpoint>) -> u32
+    requires { spec.has_its_feedback out second.now ≡ true }
+    ensures { result ≡ spec.report_period out second.now }
+{
+    match second {
+        Some(endpoint) => period_of(endpoint),
+        None => 0,
+    }
+}
+
+/// The microframes from one packet of an endpoint to the next: `2^(interval - 1)` (USB 2.0, 9.6.6).
+fn period_of(endpoint: &Endpoint) -> u32
+    requires { spec.carries_feedback endpoint.now ≡ true }
+    ensures { result ≡ spec.period_of endpoint.now }
+{
+    1 << (endpoint.interval - 1)
+}
