@@ -1,15 +1,32 @@
 -- The values at the start, one control after the other.
-use Rattle.std.proofs.Common.{◌≡◌, ℕ, ◌+◌, ◌*◌, ◌<◌, ◌≤◌, zero, suc, nat_eq, false, ℤ, List, [], ◌∷◌, ◌++◌, map, length, take, sum, get_or, None, ap, sym, subst, ◌∙◌, arith, append-nil, append_assoc, take_all}
+use Rattle.std.proofs.Common.{◌≡◌, ℕ, ◌+◌, ◌*◌, ◌<◌, ◌≤◌, zero, suc, nat_eq, false, ℤ, List, [], ◌∷◌, ◌++◌, map, length, take, sum, sum_by, get_or, None, ap, sym, subst, ◌∙◌, arith, append-nil, append_assoc, take_all}
 use Rattle.std.specs.List.{flat_map, range_with_len, AllByRecursion, IsDistinct}
 use Rattle.std.proofs.lemmas.Bool.{eqb-false}
 use Rattle.std.proofs.lemmas.List.FromFn.{map-range_with_len_more}
+use Rattle.std.proofs.lemmas.List.Sums.{sum-map, sum_by_more_le}
 use Rattle.uac_entities.specs.declared.entity.Entity.{Entity}
 use Rattle.indexmap.specs.IndexMap.{IndexMap, insert_entry}
 use Rattle.indexmap.proofs.CallerLemmas.{insert_entry-new}
 use Rattle.uac_store.specs.declared.keys.Key.{Key}
 use Rattle.uac_store.specs.Keyed.{key_of, same_key, value_of}
-use Rattle.uac_store.specs.Controls.{pins_of, node_start, start_by, start_of, count_by, count_of, selectors_of, first_channels, channels_at, controls_of, initial_controls}
+use Rattle.uac_store.specs.Controls.{channels_of, pins_of, node_start, start_by, start_of, count_by, count_of, selectors_of, first_channels, channels_at, controls_of, initial_controls}
 use Rattle.uac_store.proofs.Keeping.{none_of_both, channels_miss_channel, selectors_miss, entities_miss}
+
+-- the channels of the next pin are among those of all
+pub inputs_within : (all : List Entity) (e : Entity) (items : List ℕ) (i : ℕ) → items ≡ e.sources → i < length items
+    → sum (pins_of all e) ≤ 256 → sum_by (channels_of all) (take i items) + channels_of all (get_or items i 0) ≤ 256
+unfolding pins_of
+inputs_within all e items i same within few =
+    let total : sum (map (channels_of all) e.sources) ≡ sum_by (channels_of all) items =
+    sum-map (channels_of all) e.sources ∙ ap (sum_by (channels_of all)) (sym same) in
+    omega (arith, few, total, sum_by_more_le (channels_of all) items i 0 within)
+
+-- a channel that is counted, by the channels of the pins
+pub below_count : (all : List Entity) (e : Entity) (channel : ℕ) (pins : List ℕ) → pins ≡ pins_of all e → channel < count_of all e
+    → channel < count_by e.kind (sum pins * e.cluster.channels) e.cluster.channels
+unfolding count_of
+below_count all e channel pins is_pins below =
+    subst (λ ps. channel < count_by e.kind (sum ps * e.cluster.channels) e.cluster.channels) (sym is_pins) below
 
 module _ (all : List Entity) (e : Entity) (before : List (Key × ℤ)) where
   pub no_channels : (s : ℕ) → before ≡ before ++ first_channels all e s 0
@@ -33,13 +50,10 @@ module _ (all : List Entity) (e : Entity) (before : List (Key × ℤ)) where
       ∙ append_assoc before (first_channels all e s n) ((k, start_of all e n) ∷ [])
       ∙ ap (λ xs. before ++ xs) (sym (map-range_with_len_more (λ c. (key_of e.id s c, start_of all e c)) 0 n n (omega arith)))
 
-  pub all_channels : (s n : ℕ) (m : List (Key × ℤ)) (pins : List ℕ) → pins ≡ pins_of all e
-      → n ≡ count_by e.kind (sum pins * e.cluster.channels) e.cluster.channels
+  pub all_channels : (s n : ℕ) (m : List (Key × ℤ)) → n ≡ count_of all e
       → m ≡ before ++ first_channels all e s n → m ≡ before ++ channels_at all e s
-  unfolding channels_at count_of
-  all_channels s n m pins is_pins is_count now =
-      let count : n ≡ count_of all e = is_count ∙ ap (λ ps. count_by e.kind (sum ps * e.cluster.channels) e.cluster.channels) is_pins in
-      now ∙ ap (λ c. before ++ first_channels all e s c) count
+  unfolding channels_at
+  all_channels s n m is_count now = now ∙ ap (λ c. before ++ first_channels all e s c) is_count
 
   -- the next selector has no control yet
   pub selector_absent : (below c : ℕ) (m : List (Key × ℤ))

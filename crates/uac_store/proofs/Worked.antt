@@ -1,14 +1,16 @@
 -- Worked values of the definitions, on the entities of a headset with a mixer, and on a tree of clocks.
-use Rattle.std.proofs.Common.{◌≡◌, ℤ, pos, negsuc, List, [], ◌∷◌, true, false, Some, None, refl}
+use Rattle.std.proofs.Common.{◌≡◌, ℤ, pos, negsuc, List, [], ◌∷◌, true, false, Option, Some, None, refl}
 use Rattle.uac_entities.specs.Entities as entity
 use Rattle.uac_entities.specs.Streams.{named}
 use Rattle.uac_entities.specs.declared.entity.Cluster.{Cluster}
 use Rattle.uac_entities.specs.declared.entity.Entity.{Entity}
 use Rattle.uac_rules.specs.Table.{with_cluster}
 use Rattle.uac_store.specs.declared.keys.Key.{Key}
-use Rattle.uac_store.specs.Keyed.{key_of, value_of}
+use Rattle.uac_store.specs.declared.keys.Range.{Range}
+use Rattle.uac_store.specs.Keyed.{key_of, value_of, with_value}
 use Rattle.uac_store.specs.Controls.{channels_of, pins_of, count_of, node_start, start_of, first_channels, channels_at, controls_of, initial_controls, has_on, has_control, takes_on, takes}
 use Rattle.uac_store.specs.Rates.{source_rate, chosen_source, multiplier_rate, rate_step, rate_within, rate_of}
+use Rattle.uac_store.specs.Values.{ranges_of, are_clocked, is_legal}
 
 abbrev stereo : Cluster
 stereo = record { channels = 2; locations = 3; names = 0 }
@@ -103,3 +105,36 @@ no_denominator = refl
 off_the_list : rate_of clocks (held (pos 44000) (pos 2) (pos 1) (pos 1)) 2 ≡ None
 unfolding clocks rate_of rate_within rate_step source_rate named value_of
 off_the_list = refl
+
+-- the second volume's range; its mute has none, and neither has a third volume or what is no control
+abbrev volumes : Option (List Range)
+volumes = Some (record { min = negsuc 24575; max = pos 0; res = pos 256 } ∷ [])
+
+volume_range : ranges_of headset (key_of 3 2 2) ≡ volumes
+unfolding headset ranges_of has_on count_of named
+volume_range = refl
+
+node_range : ranges_of headset (key_of 8 1 8) ≡ volumes
+unfolding headset ranges_of has_on count_of pins_of channels_of named
+node_range = refl
+
+mute_range : ranges_of headset (key_of 3 1 2) ≡ None
+unfolding headset ranges_of has_on count_of named
+mute_range = refl
+
+no_range : ranges_of headset (key_of 3 2 3) ≡ None
+unfolding headset ranges_of has_on count_of named
+no_range = refl
+
+-- twice 96000 is a rate, and twice 192000 is none: the frequency is legal only where the multiplier doesn't follow it
+doubled : is_legal clocks (held (pos 48000) (pos 1) (pos 2) (pos 1)) (key_of 1 1 0) (pos 96000) ≡ true
+unfolding clocks is_legal takes takes_on are_clocked rate_of rate_within rate_step source_rate chosen_source multiplier_rate named value_of with_value
+doubled = refl
+
+too_fast : is_legal clocks (held (pos 48000) (pos 1) (pos 2) (pos 1)) (key_of 1 1 0) (pos 192000) ≡ false
+unfolding clocks is_legal takes takes_on are_clocked rate_of rate_within rate_step source_rate chosen_source multiplier_rate named value_of with_value
+too_fast = refl
+
+not_followed : is_legal clocks (held (pos 48000) (pos 2) (pos 2) (pos 1)) (key_of 1 1 0) (pos 192000) ≡ true
+unfolding clocks is_legal takes takes_on are_clocked rate_of rate_within rate_step source_rate chosen_source multiplier_rate named value_of with_value
+not_followed = refl

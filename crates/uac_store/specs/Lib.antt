@@ -1,3 +1,4 @@
 pub mod Keyed
 pub mod Controls
 pub mod Rates
+pub mod Values

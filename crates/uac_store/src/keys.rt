@@ -29,7 +29,7 @@ impl Hash for Key {
 
 /// A subrange of the values of a control, as RANGE answers it (Audio Class 2.0, 5.2.1): from `min` to `max` in steps of
 /// `res`, in the control's own units.
-#[derive(Clone, Copy, PartialEq, Eq, Debug)]
+#[derive(Clone, Copy, PartialEq, Eq, Debug, Default)]
 pub struct Range {
     pub min: i32,
     pub max: i32,

@@ -12,6 +12,9 @@ mod start;
 mod store;
 #[cfg(test)]
 mod tests;
+/// The values that controls can take.
+mod values;
 
 pub use keys::{Key, Range, Ranges};
 pub use store::Store;
+pub use values::ranges;

@@ -1,33 +1,43 @@
 // The rates of clock entities.
-ghost use Rattle.std.specs.Prelude.{◌≡◌, ◌≤◌};
+ghost use Rattle.std.specs.Prelude.{◌≡◌, ◌≤◌, IfSome, IsSome};
 ghost use Rattle.uac_clock.specs.Nominal.{is_listed};
+ghost use Rattle.uac_store.specs.Keyed.{value_of};
 ghost use Rattle.uac_store.specs.Rates as spec;
+ghost use Rattle.uac_store.specs.Values.{changed};
 
 use crate::keys::Key;
 use crate::start::entity_with;
 use crate::store::Store;
+use crate::values::Change;
 use uac_clock::RATES;
 use uac_topology::{Entity, EntityKind, Function};
 
 /// The rate of the clock entity with an id, along at most so many entities.
 #[tactic(auto, unfolding(crate::specs::Rates::rate_step), using(crate::proofs::Steps::rate_within_none, crate::proofs::Steps::rate_within_more))]
-pub(crate) fn rate_within(steps: usize, function: &Function, store: &Store, id: u8) -> Option<u32>
-    ensures { result ≡ spec.rate_within steps function.now.entities store.now id }
+pub(crate) fn rate_within(
+    steps: usize,
+    function: &Function,
+    store: &Store,
+    change: Option<Change>,
+    id: u8,
+) -> Option<u32>
+    requires { IfSome change (λ c. IsSome (value_of store.now c.key)) }
+    ensures { result ≡ spec.rate_within steps function.now.entities (changed store.now change) id }
 {
     if steps == 0 {
         return None;
     }
     let entity = entity_with(function, id)?;
     match entity.kind {
-        EntityKind::ClockSource => source_rate(store, entity.id),
+        EntityKind::ClockSource => source_rate(store, change, entity.id),
         EntityKind::ClockSelector => {
-            let source = chosen_source(store, entity)?;
-            rate_within(steps - 1, function, store, source)
+            let source = chosen_source(store, change, entity)?;
+            rate_within(steps - 1, function, store, change, source)
         }
         EntityKind::ClockMultiplier => {
             let source = entity.sources.as_slice().first().copied()?;
-            let rate = rate_within(steps - 1, function, store, source)?;
-            multiplier_rate(store, entity.id, rate)
+            let rate = rate_within(steps - 1, function, store, change, source)?;
+            multiplier_rate(store, change, entity.id, rate)
         }
         _ => None,
     }
@@ -35,41 +45,58 @@ pub(crate) fn rate_within(steps: usize, function: &Function, store: &Store, id: 
 
 // The rate that a source's frequency is.
 #[tactic(auto, unfolding(crate::specs::Rates::source_rate))]
-fn source_rate(store: &Store, id: u8) -> Option<u32>
-    ensures { result ≡ spec.source_rate store.now id }
+fn source_rate(store: &Store, change: Option<Change>, id: u8) -> Option<u32>
+    requires { IfSome change (λ c. IsSome (value_of store.now c.key)) }
+    ensures { result ≡ spec.source_rate (changed store.now change) id }
 {
-    let hertz = value(store, id, 1)?;
+    let hertz = value(store, change, id, 1)?;
     of_frequency(hertz)
 }
 
 // The clock source that a clock selector chooses.
 #[tactic(auto, unfolding(crate::specs::Rates::chosen_source))]
-fn chosen_source(store: &Store, entity: &Entity) -> Option<u8>
-    ensures { result ≡ spec.chosen_source store.now entity.now }
+fn chosen_source(store: &Store, change: Option<Change>, entity: &Entity) -> Option<u8>
+    requires { IfSome change (λ c. IsSome (value_of store.now c.key)) }
+    ensures { result ≡ spec.chosen_source (changed store.now change) entity.now }
 {
-    let pin = value(store, entity.id, 1)?;
+    let pin = value(store, change, entity.id, 1)?;
     chosen(entity.sources.as_slice(), pin)
 }
 
 // The rate of a multiplier by the rate of its source.
 #[tactic(auto, unfolding(crate::specs::Rates::multiplier_rate))]
-fn multiplier_rate(store: &Store, id: u8, rate: u32) -> Option<u32>
-    ensures { result ≡ spec.multiplier_rate store.now id rate }
+fn multiplier_rate(store: &Store, change: Option<Change>, id: u8, rate: u32) -> Option<u32>
+    requires { IfSome change (λ c. IsSome (value_of store.now c.key)) }
+    ensures { result ≡ spec.multiplier_rate (changed store.now change) id rate }
 {
-    let numerator = value(store, id, 1)?;
-    let denominator = value(store, id, 2)?;
+    let numerator = value(store, change, id, 1)?;
+    let denominator = value(store, change, id, 2)?;
     multiplied(rate, numerator, denominator)
 }
 
 // The value of a control that has no channels but 0.
-fn value(store: &Store, entity: u8, selector: u8) -> Option<i32>
-    ensures { result ≡ spec.value_at store.now entity selector }
+fn value(store: &Store, change: Option<Change>, entity: u8, selector: u8) -> Option<i32>
+    requires { IfSome change (λ c. IsSome (value_of store.now c.key)) }
+    ensures { result ≡ spec.value_at (changed store.now change) entity selector }
 {
-    store.cur(Key {
+    let key = Key {
         entity,
         selector,
         channel: 0,
-    })
+    };
+    cur_under(store, change, key)
+}
+
+// The value of a control under a change.
+#[tactic(auto, using(crate::proofs::Setting::changed_alone))]
+fn cur_under(store: &Store, change: Option<Change>, key: Key) -> Option<i32>
+    requires { IfSome change (λ c. IsSome (value_of store.now c.key)) }
+    ensures { result ≡ value_of (changed store.now change) key }
+{
+    match change {
+        Some(change) if change.key == key => Some(change.value),
+        _ => store.cur(key),
+    }
 }
 
 fn listed(hertz: u64) -> Option<u32>

@@ -61,7 +61,7 @@ fn add_channels(
     requires absent { (channel : ℕ) → value_of values.old.entries (key_of entity.now.id selector channel) ≡ None }
     ensures { OnOk result (values.new.entries ≡ values.old.entries ++ channels_at function.now.entities entity.now selector) }
 {
-    for channel in 0..count_of(entity, pins) {
+    for channel in 0..count_of(function, entity) {
         let key = Key {
             entity: entity.id,
             selector,
@@ -75,7 +75,8 @@ fn add_channels(
     Ok(())
 }
 
-fn selectors_of(kind: EntityKind) -> u8
+// How many controls of an entity keep a value.
+pub(crate) fn selectors_of(kind: EntityKind) -> u8
     ensures value { result ≡ spec.selectors_of kind }
     ensures few { result ≤ 2 }
 {
@@ -87,28 +88,31 @@ fn selectors_of(kind: EntityKind) -> u8
 }
 
 // How many of each control an entity has.
-fn count_of(entity: &Entity, pins: &[u8]) -> usize
-    requires { IsSmall entity.now.kind (sum pins.now) entity.now.cluster.channels }
+#[tactic(auto, unfolding(crate::specs::Controls::count_of))]
+pub(crate) fn count_of(function: &Function, entity: &Entity) -> usize
+    requires { IsSmall entity.now.kind (sum (spec.pins_of function.now.entities entity.now)) entity.now.cluster.channels }
     ensures few { result ≤ 256 }
-    ensures value { result ≡ spec.count_by entity.now.kind (sum pins.now * entity.now.cluster.channels) entity.now.cluster.channels }
+    ensures value { result ≡ spec.count_of function.now.entities entity.now }
 {
     let channels = entity.cluster.channels as usize;
     match entity.kind {
-        EntityKind::Mixer => total(pins) * channels,
+        EntityKind::Mixer => inputs_of(function, entity) * channels,
         EntityKind::Feature | EntityKind::Effect => channels + 1,
         _ => 1,
     }
 }
 
-fn total(pins: &[u8]) -> usize
-    requires { sum pins.now ≤ 256 }
-    ensures { result ≡ sum pins.now }
+// The channels of all its pins. It takes no memory.
+#[tactic(auto, unfolding(crate::specs::Controls::pins_of))]
+fn inputs_of(function: &Function, entity: &Entity) -> usize
+    requires { sum (spec.pins_of function.now.entities entity.now) ≤ 256 }
+    ensures { result ≡ sum (spec.pins_of function.now.entities entity.now) }
 {
-    let mut total = 0;
-    for channels in pins {
-        total += *channels as usize;
+    let mut inputs = 0;
+    for id in entity.sources.as_slice() {
+        inputs += channels_of(function, *id) as usize;
     }
-    total
+    inputs
 }
 
 fn start_of(entity: &Entity, pins: &[u8], channel: usize) -> i32

@@ -4,10 +4,12 @@ ghost use Rattle.uac_entities.specs.declared.entity.Entity.{Entity};
 ghost use Rattle.uac_store.specs.Keyed.{same_key, value_of, with_value};
 ghost use Rattle.uac_store.specs.Controls.{HavePins, IsStoreOf, initial_controls, takes};
 ghost use Rattle.uac_store.specs.Rates.{rate_of};
+ghost use Rattle.uac_store.specs.Values.{is_legal};
 
 use crate::keys::Key;
 use crate::rates::rate_within;
 use crate::start::start_values;
+use crate::values::{Change, is_legal};
 use indexmap::IndexMap;
 use std::alloc::Global;
 use std::marker::Model;
@@ -77,6 +79,16 @@ impl Store {
     pub fn rate(&self, function: &Function, clock: u8) -> Option<u32>
         ensures { result ≡ rate_of function.now.entities self.now clock }
     {
-        rate_within(function.entities().len(), function, self, clock)
+        rate_within(function.entities().len(), function, self, None, clock)
+    }
+
+    /// Whether a value is legal for a control: one that the control takes, and for a clock entity's control one after
+    /// which every clock entity has a rate (profile; Audio Class 2.0, 5.2.5, has the controls). The value is in the
+    /// control's own units: Hz, 1/256 decibel, pins from 1, or 0 and 1. It takes no memory and changes nothing.
+    pub fn legal(&self, function: &Function, key: Key, value: i32) -> bool
+        requires { IsSome (value_of self.now key) }
+        ensures { result ≡ is_legal function.now.entities self.now key value }
+    {
+        is_legal(function, self, Change { key, value })
     }
 }

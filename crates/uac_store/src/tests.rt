@@ -5,8 +5,8 @@ use super::*;
 use std::alloc::{AllocError, Global};
 use std::test::Fail;
 use uac_descriptor::{
-    Block, ByteList, ClockMultiplier, ClockSelector, ClockSource, Feature, InputTerminal, Mixer,
-    NoMemory, WordList,
+    Block, ByteList, ClockMultiplier, ClockSelector, ClockSource, Effect, Feature, InputTerminal,
+    Mixer, NoMemory, Selector, WordList,
 };
 use uac_topology::{Function, check};
 
@@ -35,10 +35,10 @@ fn words(alloc: Global, items: &[u32]) -> Result<WordList, AllocError>
     }
 }
 
-fn clock(id: u8) -> Block {
+fn clock(id: u8, attributes: u8) -> Block {
     Block::ClockSource(ClockSource {
         id,
-        attributes: 3,
+        attributes,
         controls: 7,
         assoc: 0,
         name: 0,
@@ -88,7 +88,7 @@ fn hold(store: &mut Store, key: Key, value: i32) {
 // The headset's clock, microphone feature, and a mixer of two inputs and three outputs on both terminals.
 fn headset(alloc: Global) -> Result<Vec<Block>, AllocError> {
     let mut blocks = Vec::new(alloc);
-    push(&mut blocks, clock(1))?;
+    push(&mut blocks, clock(1, 3))?;
     push(&mut blocks, input(2, 2))?;
     push(&mut blocks, input(5, 1))?;
     let words = words(alloc, &[3, 12])?;
@@ -145,30 +145,71 @@ fn controls_have_start_values(rt: HostRuntime) -> Result<(), Fail> {
     Ok(())
 }
 
-// Two sources, a selector over them, and a multiplier of what it chooses.
-fn clocks(alloc: Global) -> Result<Vec<Block>, AllocError> {
-    let mut blocks = Vec::new(alloc);
-    push(&mut blocks, clock(1))?;
-    push(&mut blocks, clock(2))?;
-    let sources = bytes(alloc, &[1, 2])?;
+// The headset with a selector and an effect of its terminals, and a second clock that is fixed, a selector of both clocks
+// and a multiplier of what it chooses.
+fn boxes(alloc: Global) -> Result<Vec<Block>, AllocError> {
+    let mut blocks = headset(alloc)?;
+    let sources = bytes(alloc, &[2, 2])?;
     push(
         &mut blocks,
+        Block::Selector(Selector {
+            id: 9,
+            sources,
+            controls: 3,
+            name: 0,
+        }),
+    )?;
+    let words = words(alloc, &[3, 3])?;
+    push(
+        &mut blocks,
+        Block::Effect(Effect {
+            id: 10,
+            effect_type: 0,
+            source: 5,
+            words,
+            name: 0,
+        }),
+    )?;
+    push(&mut blocks, clock(11, 1))?;
+    push_clock_units(alloc, &mut blocks, &[1, 11], 12, 13)?;
+    Ok(blocks)
+}
+
+// A selector over these clocks, and a multiplier of what it chooses.
+fn push_clock_units(
+    alloc: Global,
+    blocks: &mut Vec<Block>,
+    clocks: &[u8; 2],
+    selector: u8,
+    multiplier: u8,
+) -> Result<(), AllocError> {
+    let sources = bytes(alloc, clocks)?;
+    push(
+        blocks,
         Block::ClockSelector(ClockSelector {
-            id: 3,
+            id: selector,
             sources,
             controls: 3,
             name: 0,
         }),
     )?;
     push(
-        &mut blocks,
+        blocks,
         Block::ClockMultiplier(ClockMultiplier {
-            id: 4,
-            source: 3,
+            id: multiplier,
+            source: selector,
             controls: 15,
             name: 0,
         }),
-    )?;
+    )
+}
+
+// Two sources, a selector over them, and a multiplier of what it chooses.
+fn clocks(alloc: Global) -> Result<Vec<Block>, AllocError> {
+    let mut blocks = Vec::new(alloc);
+    push(&mut blocks, clock(1, 3))?;
+    push(&mut blocks, clock(2, 3))?;
+    push_clock_units(alloc, &mut blocks, &[1, 2], 3, 4)?;
     Ok(blocks)
 }
 
@@ -194,5 +235,133 @@ fn rates_follow_the_clocks(rt: HostRuntime) -> Result<(), Fail> {
     }
     assert_eq!(rt; store.rate(&function, 2), Some(44100));
     assert_eq!(rt; store.rate(&function, 9), None);
+    Ok(())
+}
+
+// The subrange of a control that has one alone, as MIN, MAX and RES.
+fn only_range(function: &Function, key: Key) -> Option<(i32, i32, i32)> {
+    match ranges(function, key)?.as_slice() {
+        [range] => Some((range.min, range.max, range.res)),
+        _ => None,
+    }
+}
+
+#[test]
+fn controls_have_ranges(rt: HostRuntime) -> Result<(), Fail> {
+    let blocks = boxes(rt.alloc())?;
+    let (function, _store) = store_of(rt.alloc(), &blocks)?;
+    for (key, want) in [
+        (key(11, 1, 0), (48000, 48000, 0)),
+        (key(12, 1, 0), (1, 2, 1)),
+        (key(13, 1, 0), (1, 8, 1)),
+        (key(13, 2, 0), (1, 8, 1)),
+        (key(8, 1, 8), (-24576, 0, 256)),
+        (key(9, 1, 0), (1, 2, 1)),
+        (key(6, 2, 0), (-24576, 0, 256)),
+        (key(6, 2, 1), (-24576, 0, 256)),
+    ] {
+        assert_eq!(rt; only_range(&function, key), Some(want));
+    }
+    for key in [
+        key(6, 1, 0),
+        key(10, 1, 1),
+        key(1, 2, 0),
+        key(2, 2, 0),
+        key(6, 2, 2),
+        key(8, 1, 9),
+        key(12, 0, 0),
+        key(13, 3, 0),
+        key(14, 1, 0),
+    ] {
+        assert_eq!(rt; ranges(&function, key).is_none(), true);
+    }
+    Ok(())
+}
+
+#[test]
+fn frequencies_are_the_twelve(rt: HostRuntime) -> Result<(), Fail> {
+    let blocks = boxes(rt.alloc())?;
+    let (function, _store) = store_of(rt.alloc(), &blocks)?;
+    let twelve = [
+        8000, 11025, 16000, 22050, 32000, 44100, 48000, 64000, 88200, 96000, 176400, 192000,
+    ];
+    let told = match ranges(&function, key(1, 1, 0)) {
+        Some(told) => told,
+        None => return Err(Fail::from(AllocError)),
+    };
+    assert_eq!(rt; told.len(), 12);
+    for (range, hertz) in told.as_slice().iter().zip(twelve.iter()) {
+        assert_eq!(rt; (range.min, range.max, range.res), (*hertz, *hertz, 0));
+    }
+    Ok(())
+}
+
+// Whether a control is there and the value is legal for it.
+fn may_hold(store: &Store, function: &Function, key: Key, value: i32) -> bool {
+    store.cur(key).is_some() && store.legal(function, key, value)
+}
+
+#[test]
+fn legal_values_of_units(rt: HostRuntime) -> Result<(), Fail> {
+    let blocks = boxes(rt.alloc())?;
+    let (function, store) = store_of(rt.alloc(), &blocks)?;
+    for volume in [key(6, 2, 1), key(8, 1, 5)] {
+        for value in [0, -256, -24576, -32768] {
+            assert_eq!(rt; may_hold(&store, &function, volume, value), true, "{value}");
+        }
+        for value in [
+            256, -1, -24575, -24577, -24832, -32767, -32769, -65536, 32768,
+        ] {
+            assert_eq!(rt;
+                may_hold(&store, &function, volume, value),
+                false,
+                "{value}"
+            );
+        }
+    }
+    for switch in [key(6, 1, 0), key(10, 1, 1)] {
+        for (value, want) in [(0, true), (1, true), (2, false), (-1, false)] {
+            assert_eq!(rt; may_hold(&store, &function, switch, value), want, "{value}");
+        }
+    }
+    for (value, want) in [(0, false), (1, true), (2, true), (3, false), (-1, false)] {
+        assert_eq!(rt;
+            may_hold(&store, &function, key(9, 1, 0), value),
+            want,
+            "{value}"
+        );
+    }
+    Ok(())
+}
+
+#[test]
+fn legal_values_of_clocks(rt: HostRuntime) -> Result<(), Fail> {
+    let blocks = boxes(rt.alloc())?;
+    let (function, mut store) = store_of(rt.alloc(), &blocks)?;
+    for (key, value, want) in [
+        (key(1, 1, 0), 44100, true),
+        (key(1, 1, 0), 44000, false),
+        (key(1, 1, 0), -8000, false),
+        (key(11, 1, 0), 48000, true),
+        (key(11, 1, 0), 44100, false),
+        (key(12, 1, 0), 0, false),
+        (key(12, 1, 0), 2, true),
+        (key(12, 1, 0), 3, false),
+        (key(13, 1, 0), 0, false),
+        (key(13, 1, 0), 4, true),
+        (key(13, 1, 0), 8, false),
+        (key(13, 1, 0), 9, false),
+        (key(13, 2, 0), 6, true),
+        (key(13, 2, 0), 7, false),
+    ] {
+        assert_eq!(rt; may_hold(&store, &function, key, value), want, "{value}");
+    }
+    hold(&mut store, key(13, 1, 0), 4);
+    assert_eq!(rt; may_hold(&store, &function, key(1, 1, 0), 44100), true);
+    assert_eq!(rt; may_hold(&store, &function, key(1, 1, 0), 96000), false);
+    hold(&mut store, key(12, 1, 0), 2);
+    assert_eq!(rt; may_hold(&store, &function, key(1, 1, 0), 96000), true);
+    hold(&mut store, key(1, 1, 0), 96000);
+    assert_eq!(rt; may_hold(&store, &function, key(12, 1, 0), 1), false);
     Ok(())
 }

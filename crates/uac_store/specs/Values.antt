@@ -1,0 +1,71 @@
+-- The values that controls can take: the ranges that are told of them, and those that leave every clock with a rate (Audio Class 2.0,
+-- 5.2.1 and 5.2.5; profile: the subranges, and that a clock's value may take no clock's rate away).
+use Rattle.std.specs.Prelude.{ℕ, ◌%◌, ◌==◌, ◌&&◌, ◌||◌, not, nat_lt, Bool, false, if◌then◌else◌, ℤ, pos, negsuc, List, [], ◌∷◌, map, length, Option, Some, None, is_some}
+use Rattle.std.specs.List.{list_all}
+use Rattle.std.specs.Option.{option_and_then, option_map_or}
+use Rattle.uac_clock.specs.Nominal.{twelve_rates}
+use Rattle.uac_entities.specs.Streams.{named}
+use Rattle.uac_entities.specs.declared.entity.Entity.{Entity}
+use Rattle.uac_entities.specs.declared.entity.EntityKind.{EntityKind}
+use Rattle.uac_entities.specs.declared.entity.EntityKind.TheVariants as kind
+use Rattle.uac_rules.specs.Links.{is_clock}
+use Rattle.uac_store.specs.declared.keys.Key.{Key}
+use Rattle.uac_store.specs.declared.keys.Range.{Range}
+use Rattle.uac_store.specs.declared.values.Change.{Change}
+use Rattle.uac_store.specs.Keyed.{with_value}
+use Rattle.uac_store.specs.Controls.{has_on, takes}
+use Rattle.uac_store.specs.Rates.{rate_of}
+
+-- ---- ranges
+
+-- one subrange
+abbrev pub one_range : ℤ → ℤ → ℤ → Option (List Range)
+one_range min max res = Some (record { min = min; max = max; res = res } ∷ [])
+
+-- one frequency by itself
+abbrev pub alone : ℕ → Range
+alone hertz = record { min = pos hertz; max = pos hertz; res = pos 0 }
+
+-- the frequencies of a clock source by its attributes: 48000 Hz where it is external or fixed, else each of the twelve rates
+abbrev pub frequencies : ℕ → List ℕ
+frequencies attributes = if nat_lt (attributes % 4) 2 then 48000 ∷ [] else twelve_rates
+
+-- the pins that a control of one byte can choose
+abbrev pub choices : ℕ → ℕ
+choices pins = if nat_lt pins 256 then pins else 255
+
+-- the subranges of an entity's control, in the control's own units; mutes and enables have none
+abbrev pub ranges_by : EntityKind → ℕ → ℕ → ℕ → Option (List Range)
+ranges_by kind.ClockSource pins attributes selector = Some (map alone (frequencies attributes))
+ranges_by kind.ClockSelector pins attributes selector = one_range (pos 1) (pos (choices pins)) (pos 1)
+ranges_by kind.ClockMultiplier pins attributes selector = one_range (pos 1) (pos 8) (pos 1)
+ranges_by kind.Mixer pins attributes selector = one_range (negsuc 24575) (pos 0) (pos 256)
+ranges_by kind.Selector pins attributes selector = one_range (pos 1) (pos (choices pins)) (pos 1)
+ranges_by kind.Feature pins attributes selector = if selector == 2 then one_range (negsuc 24575) (pos 0) (pos 256) else None
+ranges_by _ pins attributes selector = None
+
+-- the subranges of the control of this key; none where there is no such control, or it has no ranges
+unfoldable pub ranges_of : List Entity → Key → Option (List Range)
+ranges_of entities k =
+    option_and_then (λ e. if has_on entities k e then ranges_by e.kind (length e.sources) e.attributes k.selector else None) (named entities k.entity)
+
+-- ---- values that are legal
+
+-- each clock entity has a rate under these controls
+unfoldable pub are_clocked : List Entity → List (Key × ℤ) → Bool
+are_clocked entities controls = list_all (λ e. not (is_clock e.kind) || is_some (rate_of entities controls e.id)) entities
+
+-- the control of this key is a clock entity's
+abbrev pub is_of_a_clock : List Entity → Key → Bool
+is_of_a_clock entities k = option_map_or (λ e. is_clock e.kind) (named entities k.entity) false
+
+-- a value is legal where the control takes it, and a clock entity's only where each clock entity has a rate under it
+unfoldable pub is_legal : List Entity → List (Key × ℤ) → Key → ℤ → Bool
+is_legal entities controls k v = takes entities k v && (not (is_of_a_clock entities k) || are_clocked entities (with_value controls k v))
+
+-- ---- a change that is tried
+
+-- the controls under a change, where there is one
+abbrev pub changed : List (Key × ℤ) → Option Change → List (Key × ℤ)
+changed controls None = controls
+changed controls (Some c) = with_value controls c.key c.value

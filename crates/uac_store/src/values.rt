@@ -1,0 +1,238 @@
+// The values that controls can take.
+ghost use Rattle.std.specs.Prelude.{◌≡◌, ◌%◌, ◌<◌, ◌≤◌, ◌^◌, IsSome, Some, is_some, length, map, nat_lt, pos, negsuc, sum};
+ghost use Rattle.std.specs.List.{All};
+ghost use Rattle.std.specs.Option.{option_map};
+ghost use Rattle.uac_gain.specs.Gain.{gain_of};
+ghost use Rattle.uac_store.specs.Controls as controls;
+ghost use Rattle.uac_store.specs.Controls.{IsSmall};
+ghost use Rattle.uac_store.specs.Keyed.{value_of, with_value};
+ghost use Rattle.uac_store.specs.Rates.{rate_of};
+ghost use Rattle.uac_store.specs.Values as spec;
+
+use crate::keys::{Key, Range, Ranges};
+use crate::rates::rate_within;
+use crate::start::{count_of, entity_with, selectors_of};
+use crate::store::Store;
+use arrayvec::ArrayVec;
+use uac_clock::RATES;
+use uac_gain::gain;
+use uac_rules::is_clock;
+use uac_topology::laws::functions_are_sound;
+use uac_topology::{Entity, EntityKind, Function};
+
+/// The least volume that isn't silence, in 1/256 decibel (profile).
+const LEAST_VOLUME: i32 = -24576;
+
+/// The step between two volumes, in 1/256 decibel (profile).
+const DECIBEL: i32 = 256;
+
+/// The frequency in Hz of a clock source that is external or fixed (profile).
+const FIXED: u32 = 48000;
+
+/// The greatest numerator and denominator of a clock multiplier (profile).
+const MOST_TIMES: u8 = 8;
+
+/// A control, and a value that it might be given: in Hz, 1/256 decibel, pins from 1, or 0 and 1, as the control has it.
+#[derive(Clone, Copy, PartialEq, Eq, Debug)]
+pub(crate) struct Change {
+    pub(crate) key: Key,
+    pub(crate) value: i32,
+}
+
+/// The subranges of a control's values, as RANGE answers them (Audio Class 2.0, 5.2.1 and 5.2.5), in the control's own
+/// units: frequencies in Hz, volumes and mixer nodes in 1/256 decibel, selectors' pins from 1.
+///
+/// None comes exactly where there is no control with this key that keeps a value, or it has no ranges, as mutes and
+/// enables have none. It takes no memory.
+#[tactic(auto, unfolding(crate::specs::Values::ranges_of), using(crate::proofs::Small::small_named, crate::proofs::Soundness::keyed))]
+pub fn ranges(function: &Function, key: Key) -> Option<Ranges>
+    ensures { option_map (λ ranges. ranges.items) result ≡ spec.ranges_of function.now.entities key }
+{
+    functions_are_sound(function);
+    let entity = entity_with(function, key.entity)?;
+    if has_on(function, entity, key) {
+        ranges_on(entity, key.selector)
+    } else {
+        None
+    }
+}
+
+// Whether an entity of the function has a control of this selector and channel that keeps a value.
+#[tactic(auto, unfolding(crate::specs::Controls::has_on))]
+fn has_on(function: &Function, entity: &Entity, key: Key) -> bool
+    requires { IsSmall entity.now.kind (sum (controls.pins_of function.now.entities entity.now)) entity.now.cluster.channels }
+    ensures { result ≡ controls.has_on function.now.entities key entity.now }
+{
+    key.selector >= 1
+        && key.selector <= selectors_of(entity.kind)
+        && usize::from(key.channel) < count_of(function, entity)
+}
+
+// The subranges of a control that an entity has.
+fn ranges_on(entity: &Entity, selector: u8) -> Option<Ranges>
+    ensures { option_map (λ ranges. ranges.items) result ≡ spec.ranges_by entity.now.kind (length entity.now.sources) entity.now.attributes selector }
+{
+    match entity.kind {
+        EntityKind::ClockSource => Some(frequencies(entity.attributes)),
+        EntityKind::ClockSelector | EntityKind::Selector => {
+            Some(one_range(1, choices(entity.sources.as_slice()), 1))
+        }
+        EntityKind::ClockMultiplier => Some(one_range(1, i32::from(MOST_TIMES), 1)),
+        EntityKind::Mixer => Some(volumes()),
+        EntityKind::Feature if selector == 2 => Some(volumes()),
+        _ => None,
+    }
+}
+
+// The last pin, counted from 1, that a control of one byte can choose.
+fn choices(sources: &[u8]) -> i32
+    ensures { result ≡ pos (spec.choices (length sources.now)) }
+{
+    match u8::try_from(sources.len()) {
+        Ok(pins) => i32::from(pins),
+        Err(_) => 255,
+    }
+}
+
+// The volumes but for silence, in 1/256 decibel.
+fn volumes() -> Ranges
+    ensures { Some result.items ≡ spec.one_range (negsuc 24575) (pos 0) (pos 256) }
+{
+    one_range(LEAST_VOLUME, 0, DECIBEL)
+}
+
+fn one_range(min: i32, max: i32, res: i32) -> Ranges
+    ensures { Some result.items ≡ spec.one_range min max res }
+{
+    let mut ranges = ArrayVec::new();
+    ranges.push(Range { min, max, res });
+    ranges
+}
+
+// The frequencies of a clock source, each a subrange by itself.
+fn frequencies(attributes: u8) -> Ranges
+    ensures { result.items ≡ map spec.alone (spec.frequencies attributes) }
+{
+    if is_fixed(attributes) {
+        each_alone(&[FIXED])
+    } else {
+        each_alone(&RATES)
+    }
+}
+
+// Whether a clock source is external or fixed (Audio Class 2.0, 4.7.2.1: bits 1 and 0 of bmAttributes).
+fn is_fixed(attributes: u8) -> bool
+    ensures { result ≡ nat_lt (attributes % 4) 2 }
+{
+    attributes % 4 < 2
+}
+
+// Each frequency as a subrange by itself.
+fn each_alone(rates: &[u32]) -> Ranges
+    requires few { length rates.now ≤ 12 }
+    requires held { All (λ rate. rate < 2 ^ 31) rates.now }
+    ensures { result.items ≡ map spec.alone rates.now }
+{
+    let mut ranges = ArrayVec::new();
+    for rate in rates {
+        let hertz = *rate as i32;
+        ranges.push(Range {
+            min: hertz,
+            max: hertz,
+            res: 0,
+        });
+    }
+    ranges
+}
+
+/// Whether a change gives its control a value that is legal: one that the control takes, and where it is a clock
+/// entity's, one under which every clock entity has a rate. It takes no memory.
+#[tactic(auto, unfolding(crate::specs::Values::is_legal, crate::specs::Controls::takes))]
+pub(crate) fn is_legal(function: &Function, store: &Store, change: Change) -> bool
+    requires { IsSome (value_of store.now change.key) }
+    ensures { result ≡ spec.is_legal function.now.entities store.now change.key change.value }
+{
+    match entity_with(function, change.key.entity) {
+        Some(entity) => {
+            takes(entity, change.key.selector, change.value)
+                && (!is_clock(entity.kind) || are_clocked(function, store, change))
+        }
+        None => false,
+    }
+}
+
+// Whether an entity's control takes a value, by the entity's kind (profile).
+#[tactic(auto, unfolding(crate::specs::Controls::takes_on))]
+fn takes(entity: &Entity, selector: u8, value: i32) -> bool
+    ensures { result ≡ controls.takes_on selector value entity.now }
+{
+    match entity.kind {
+        EntityKind::ClockSource => is_frequency(entity.attributes, value),
+        EntityKind::ClockSelector | EntityKind::Selector => {
+            is_one_to(entity.sources.as_slice().len(), value)
+        }
+        EntityKind::ClockMultiplier => is_one_to(usize::from(MOST_TIMES), value),
+        EntityKind::Feature if selector == 1 => is_switch(value),
+        EntityKind::Feature | EntityKind::Mixer => is_volume(value),
+        EntityKind::Effect => is_switch(value),
+        EntityKind::InputTerminal | EntityKind::OutputTerminal => false,
+    }
+}
+
+fn is_frequency(attributes: u8, value: i32) -> bool
+    ensures { result ≡ controls.is_frequency attributes value }
+{
+    match u32::try_from(value) {
+        Ok(hertz) if is_fixed(attributes) => hertz == FIXED,
+        Ok(hertz) => RATES.contains(&hertz),
+        Err(_) => false,
+    }
+}
+
+fn is_one_to(most: usize, value: i32) -> bool
+    ensures { result ≡ controls.is_one_to most value }
+{
+    value >= 1 && value as usize <= most
+}
+
+fn is_switch(value: i32) -> bool
+    ensures { result ≡ controls.is_switch value }
+{
+    value == 0 || value == 1
+}
+
+// Whether it is silence or a whole number of decibels from -96 to 0, in 1/256 decibel.
+fn is_volume(value: i32) -> bool
+    ensures { result ≡ is_some (gain_of value) }
+{
+    match i16::try_from(value) {
+        Ok(volume) => gain(volume).is_some(),
+        Err(_) => false,
+    }
+}
+
+// Whether each clock entity has a rate under a change.
+#[tactic(auto, unfolding(crate::specs::Values::are_clocked))]
+fn are_clocked(function: &Function, store: &Store, change: Change) -> bool
+    requires { IsSome (value_of store.now change.key) }
+    ensures { result ≡ spec.are_clocked function.now.entities (with_value store.now change.key change.value) }
+{
+    function.entities().iter().all(|entity| !is_clock(entity.kind)
+        || has_rate(function, store, change, entity.id))
+}
+
+// Whether the clock entity with an id has a rate under a change.
+#[tactic(auto, unfolding(crate::specs::Rates::rate_of))]
+fn has_rate(function: &Function, store: &Store, change: Change, clock: u8) -> bool
+    requires { IsSome (value_of store.now change.key) }
+    ensures { result ≡ is_some (rate_of function.now.entities (with_value store.now change.key change.value) clock) }
+{
+    rate_within(
+        function.entities().len(),
+        function,
+        store,
+        Some(change),
+        clock,
+    )
+    .is_some()
+}
