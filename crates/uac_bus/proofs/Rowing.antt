@@ -1,5 +1,5 @@
 -- The rows of the running device.
-use Rattle.std.proofs.Common.{◌≡◌, ℕ, ℤ, pos, Result, Bool, true, false, List, [], ◌∷◌, map, length, get_or, refl, sym, ap, subst, ◌∙◌, Option, None, Some, ◌&&◌, ◌==◌, ◌%◌, arith}
+use Rattle.std.proofs.Common.{◌≡◌, ℕ, ℤ, pos, Result, Bool, true, false, List, [], ◌∷◌, map, length, get_or, refl, sym, ap, subst, ◌∙◌, Option, None, Some, ◌&&◌, ◌==◌, arith}
 use Rattle.std.specs.Prelude.{position}
 use Rattle.std.specs.List.{list_all, position_or_len}
 use Rattle.std.proofs.lemmas.List.{get_or_default, get_or_past}

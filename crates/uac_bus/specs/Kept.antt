@@ -21,7 +21,7 @@ pub record BusFields : Type 0 where
 abbrev pub most_lines : ℕ
 most_lines = 268435456
 
--- the most that a count can rise by in one line: 27 ticks of each of 8 domains in 8,000 microframes
+-- no count rises by more in one line: 27 ticks of each of 8 domains in 8,000 microframes
 abbrev pub most_rise : ℕ
 most_rise = 1728000
 

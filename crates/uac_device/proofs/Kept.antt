@@ -1,5 +1,5 @@
 -- The clocks that are kept go on as those of the world.
-use Rattle.std.proofs.Common.{◌≡◌, ◌∙◌, sym, refl, ap, subst, arith, ℕ, zero, suc, ◌+◌, ◌-◌, ◌/◌, ◌%◌, ◌<◌, ◌≤◌, ◌==◌, Bool, true, false, if◌then◌else◌, cond, ℤ, List, [], ◌∷◌, ◌++◌, Option, Some, None, length, get_or, map, sum, take, drop, nat_eq, unwrap_or, length-append}
+use Rattle.std.proofs.Common.{◌≡◌, ◌∙◌, sym, refl, ap, subst, arith, ℕ, ◌+◌, ◌-◌, ◌/◌, ◌%◌, ◌<◌, ◌≤◌, ◌==◌, Bool, true, false, if◌then◌else◌, cond, ℤ, List, [], ◌∷◌, ◌++◌, Option, Some, None, length, get_or, map, sum, take, nat_eq, unwrap_or, length-append}
 use Rattle.std.specs.List.{All, find}
 use Rattle.std.specs.Option.{option_and_then, option_map, option_map_or, option_or}
 use Rattle.std.proofs.lemmas.Bool.{eqb-true}

@@ -1,5 +1,5 @@
 -- What a device tells of streams where none runs.
-use Rattle.std.proofs.Common.{◌≡◌, ◌∙◌, sym, refl, ap, ℕ, ◌+◌, ◌*◌, ◌&&◌, Bool, false, if◌then◌else◌, List, [], ◌∷◌, Option, Some, None, map, unwrap_or}
+use Rattle.std.proofs.Common.{◌≡◌, ◌∙◌, sym, refl, ap, ℕ, ◌+◌, ◌*◌, ◌&&◌, Bool, false, if◌then◌else◌, List, [], ◌∷◌, Option, None, map, unwrap_or}
 use Rattle.std.specs.Option.{option_and_then, option_map, option_map_or, option_or}
 use Rattle.std.proofs.Math.Bool.{and-false}
 use Rattle.uac_entities.specs.declared.stream.StreamInterface.{StreamInterface}

@@ -1,7 +1,6 @@
 -- Worked values of the streams' definitions: a stream to a jack, and one from a jack.
-use Rattle.std.proofs.Common.{◌≡◌, ℕ, eqb, if◌then◌else◌, ℤ, pos, List, [], ◌∷◌, Option, Some, None, Bool, true, false, map, refl}
+use Rattle.std.proofs.Common.{◌≡◌, ℕ, eqb, if◌then◌else◌, pos, List, [], ◌∷◌, Some, None, Bool, true, false, map, refl}
 use Rattle.std.specs.List.{range_with_len}
-use Rattle.uac_entities.specs.declared.entity.Cluster.{Cluster}
 use Rattle.uac_entities.specs.declared.entity.Entity.{Entity}
 use Rattle.uac_entities.specs.declared.entity.EntityKind.{EntityKind}
 use Rattle.uac_entities.specs.declared.entity.EntityKind.TheVariants as kind
@@ -15,7 +14,6 @@ use Rattle.uac_entities.specs.Streams.{named}
 use Rattle.uac_store.specs.Keyed.{value_of}
 use Rattle.uac_store.specs.Rates.{rate_of, rate_step, rate_within, source_rate}
 use Rattle.uac_graph.specs.Meaning.{entity, frame_of, meaning, samples, samples_by}
-use Rattle.uac_device.specs.declared.device.Ticked.{Ticked}
 use Rattle.uac_device.specs.World.{DeviceWorld, InStream, OutStream, advanced, after_putting, after_taking, bits_of, input_of, level_of, met_of, next_ticks, step_in, streamed, target_of, ticked}
 
 abbrev with : ℕ → EntityKind → ℕ → List ℕ → ℕ → Entity

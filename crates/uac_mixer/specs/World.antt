@@ -1,5 +1,5 @@
 -- The view's part of the world: what the host knows of the device's controls (profile).
-use Rattle.std.specs.Prelude.{◌≡◌, ℕ, ◌-◌, ◌/◌, ◌%◌, ◌^◌, ◌==◌, not, Bool, true, false, ℤ, List, map, filter, get_or, Option, Some}
+use Rattle.std.specs.Prelude.{ℕ, ◌-◌, ◌/◌, ◌%◌, ◌^◌, ◌==◌, not, Bool, true, false, ℤ, List, map, filter, get_or, Option, Some}
 use Rattle.std.specs.Option.{option_map_or}
 use Rattle.uac_entities.specs.Streams.{named}
 use Rattle.uac_entities.specs.declared.entity.Entity.{Entity}

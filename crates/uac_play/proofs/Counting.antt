@@ -1,5 +1,5 @@
 -- The ticks of the domains, counted.
-use Rattle.std.proofs.Common.{◌≡◌, ◌∙◌, sym, ap, subst, refl, arith, ℕ, ◌+◌, ◌-◌, ◌/◌, ◌≤◌, ◌==◌, eqb, Bool, true, false, ◌&&◌, if◌then◌else◌, ℤ, List, [], ◌∷◌, ◌++◌, length, map, take, sum, inl, inr, length-append}
+use Rattle.std.proofs.Common.{◌≡◌, ◌∙◌, sym, ap, subst, refl, arith, ℕ, ◌+◌, ◌-◌, ◌/◌, ◌≤◌, ◌==◌, eqb, false, ◌&&◌, if◌then◌else◌, ℤ, List, [], ◌∷◌, ◌++◌, length, map, take, sum, inl, inr, length-append}
 use Rattle.std.specs.List.{All, AllByRecursion, IsDistinct, find, list_all}
 use Rattle.std.specs.Option.{option_map_or}
 use Rattle.std.proofs.Math.Bool.{and-true}
