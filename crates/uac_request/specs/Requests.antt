@@ -1,0 +1,416 @@
+-- Requests to controls and interfaces (Audio Class 2.0, 5.2; USB 2.0, 9.4), and what the device answers. The rules Q1 to Q12, by which a
+-- request is stalled, are this profile's; the first that is broken is told.
+use Rattle.std.specs.Prelude.{◌≡◌, ℕ, ◌+◌, ◌-◌, ◌*◌, ◌/◌, ◌%◌, ◌^◌, ◌==◌, ◌&&◌, ◌||◌, not, nat_le, nat_lt, Bool, true, false, if◌then◌else◌, ℤ, pos, negsuc, List, [], ◌∷◌, ◌++◌, map, flat_map, length, get_or, take, sum, Option, Some, None, is_some, unwrap_or}
+use Rattle.std.specs.List.{find, filter_map, list_any, range_with_len}
+use Rattle.std.specs.Option.{option_and_then, option_map, option_map_or}
+use Rattle.std.specs.Ordering.{int_eq}
+use Rattle.uac_entities.specs.Streams.{named}
+use Rattle.uac_entities.specs.declared.entity.Entity.{Entity}
+use Rattle.uac_entities.specs.declared.entity.EntityKind.{EntityKind}
+use Rattle.uac_entities.specs.declared.entity.EntityKind.TheVariants as kind
+use Rattle.uac_entities.specs.declared.stream.Setting.{Setting}
+use Rattle.uac_entities.specs.declared.stream.StreamInterface.{StreamInterface}
+use Rattle.uac_rules.specs.Links.{is_clock}
+use Rattle.uac_topology.specs.Function.{FunctionFields}
+use Rattle.uac_store.specs.declared.keys.Key.{Key}
+use Rattle.uac_store.specs.declared.keys.Range.{Range}
+use Rattle.uac_store.specs.Controls.{count_of}
+use Rattle.uac_store.specs.Keyed.{key_of, value_of, with_value}
+use Rattle.uac_store.specs.Rates.{rate_of}
+use Rattle.uac_store.specs.Values.{ranges_of, is_legal}
+use Rattle.uac_request.specs.declared.request.Request.{Request}
+use Rattle.uac_request.specs.declared.request.Request.TheVariants as ask
+use Rattle.uac_request.specs.declared.setup.Setup.{Setup}
+use Rattle.uac_request.specs.declared.told.Answer.{Answer}
+use Rattle.uac_request.specs.declared.told.Answer.TheVariants as told
+use Rattle.uac_alt.specs.declared.settings.InterfaceSetting.{InterfaceSetting}
+use Rattle.uac_alt.specs.Settings.{setting_of, with_setting, is_running}
+use Rattle.uac_alt.specs.Streams.{stream_of}
+
+-- ---- the request
+
+-- the setup packet of eight bytes: numbers of two bytes have the low one first (USB 2.0, 9.3)
+abbrev pub setup_of : List ℕ → Setup
+setup_of bytes =
+    record {
+      request_type = get_or bytes 0 0;
+      request = get_or bytes 1 0;
+      value = get_or bytes 2 0 + 256 * get_or bytes 3 0;
+      index = get_or bytes 4 0 + 256 * get_or bytes 5 0;
+      length = get_or bytes 6 0 + 256 * get_or bytes 7 0;
+    }
+
+-- the request that these two bytes name (Audio Class 2.0, A.14; USB 2.0, 9.4)
+abbrev pub request_of : ℕ → ℕ → Option Request
+request_of type request =
+    if type == 161 && request == 1 then Some ask.GetCur
+    else if type == 161 && request == 2 then Some ask.GetRange
+    else if type == 33 && request == 1 then Some ask.SetCur
+    else if type == 128 && request == 6 then Some ask.GetDescriptor
+    else if type == 129 && request == 10 then Some ask.GetInterface
+    else if type == 1 && request == 11 then Some ask.SetInterface
+    else None
+
+-- a request to a control names its selector and channel in wValue, its entity and the interface in wIndex (5.2.2)
+abbrev pub high : ℕ → ℕ
+high n = n / 256
+
+abbrev pub low : ℕ → ℕ
+low n = n % 256
+
+-- ---- what answers
+
+-- what keeps a request's control: an entity, or a streaming interface
+pub data Owner : Type 0 where
+  by_entity : Entity → Owner
+  by_stream : StreamInterface → Owner
+
+-- the streaming interface with a number
+abbrev pub stream_in : FunctionFields → ℕ → Option StreamInterface
+stream_in function number = find (λ s. s.number == number) function.streams
+
+-- the function has this interface
+abbrev pub has_interface : FunctionFields → ℕ → Bool
+has_interface function number = number == function.control_interface || is_some (stream_in function number)
+
+-- what keeps the controls that wIndex names: on the control interface the entity, on a streaming interface that, where no entity is named
+unfoldable pub owner_of : FunctionFields → ℕ → Option Owner
+owner_of function index =
+    if low index == function.control_interface then option_map by_entity (named function.entities (high index))
+    else if high index == 0 then option_map by_stream (stream_in function (low index))
+    else None
+
+-- the bytes of the controls of a kind, by selector, from 1 on; none where it has no such control
+abbrev pub widths_of : EntityKind → List (Option ℕ)
+widths_of kind.ClockSource = Some 4 ∷ Some 1 ∷ []
+widths_of kind.ClockSelector = Some 1 ∷ []
+widths_of kind.ClockMultiplier = Some 2 ∷ Some 2 ∷ []
+widths_of kind.InputTerminal = None ∷ Some 6 ∷ []
+widths_of kind.OutputTerminal = None ∷ Some 6 ∷ []
+widths_of kind.Mixer = Some 2 ∷ []
+widths_of kind.Selector = Some 1 ∷ []
+widths_of kind.Feature = Some 1 ∷ Some 2 ∷ []
+widths_of kind.Effect = Some 1 ∷ []
+
+-- the bytes of the control with a selector; none where there is none
+abbrev pub at_selector : List (Option ℕ) → ℕ → Option ℕ
+at_selector widths selector = if selector == 0 then None else get_or widths (selector - 1) None
+
+abbrev pub entity_width : EntityKind → ℕ → Option ℕ
+entity_width k selector = at_selector (widths_of k) selector
+
+-- an interface with more than eight settings has a second byte of them
+abbrev pub map_bytes : StreamInterface → ℕ
+map_bytes s = if nat_le (length s.settings) 8 then 1 else 2
+
+-- the bytes of a streaming interface's control: 1 is the active setting, 2 the valid settings
+abbrev pub stream_width : StreamInterface → ℕ → Option ℕ
+stream_width s selector = at_selector (Some 1 ∷ Some (1 + map_bytes s) ∷ []) selector
+
+abbrev pub width_of : Owner → ℕ → Option ℕ
+width_of (by_entity e) selector = entity_width e.kind selector
+width_of (by_stream s) selector = stream_width s selector
+
+-- the controls that answer RANGE (5.2.1): frequencies, selectors, numerators and denominators, nodes and volumes
+abbrev pub entity_range : EntityKind → ℕ → Bool
+entity_range kind.ClockSource selector = selector == 1
+entity_range kind.ClockSelector selector = selector == 1
+entity_range kind.ClockMultiplier selector = selector == 1 || selector == 2
+entity_range kind.Mixer selector = selector == 1
+entity_range kind.Selector selector = selector == 1
+entity_range kind.Feature selector = selector == 2
+entity_range _ selector = false
+
+abbrev pub has_range : Owner → ℕ → Bool
+has_range (by_entity e) selector = entity_range e.kind selector
+has_range (by_stream s) selector = false
+
+-- which control word holds a channel's control: a feature and an effect have one for each channel, the master's first
+-- (4.7.2.8, 4.7.2.10)
+abbrev pub word_of : EntityKind → ℕ → ℕ
+word_of kind.Feature channel = channel
+word_of kind.Effect channel = channel
+word_of _ channel = 0
+
+-- the place of a control's two bits in its word: by selector, but for a terminal's connector, which stands second (4.7.2)
+abbrev pub entity_bits : Entity → ℕ → ℕ → ℕ
+entity_bits e selector channel = get_or e.controls (word_of e.kind channel) 0 / 4 ^ (selector - 1) % 4
+
+-- the presence of an interface's controls is told by its first general block; without one both are absent
+abbrev pub stream_bits : StreamInterface → ℕ → ℕ
+stream_bits s selector = option_map_or (λ g. g.controls / 4 ^ (selector - 1) % 4) (find (λ g. true) (filter_map (λ t. t.general) s.settings)) 0
+
+-- a node's bit among those of its mixer, the most significant bit of the first byte being the first: 1 where it can be set (profile)
+abbrev pub node_bit : List ℕ → ℕ → ℕ
+node_bit bytes node = get_or bytes (node / 8) 0 / 2 ^ (7 - node % 8) % 2
+
+-- how many channels, or nodes, a control has
+abbrev pub owner_count : List Entity → Owner → ℕ
+owner_count entities (by_entity e) = count_of entities e
+owner_count entities (by_stream s) = 1
+
+abbrev pub is_in_range : List Entity → Owner → ℕ → Bool
+is_in_range entities owner channel = nat_lt channel (owner_count entities owner)
+
+-- the control is declared: its bits aren't 00, and every node of a mixer is
+abbrev pub is_declared_on : EntityKind → Entity → ℕ → ℕ → Bool
+is_declared_on kind.Mixer e selector channel = true
+is_declared_on _ e selector channel = not (entity_bits e selector channel == 0)
+
+abbrev pub is_declared : Owner → ℕ → ℕ → Bool
+is_declared (by_entity e) selector channel = is_declared_on e.kind e selector channel
+is_declared (by_stream s) selector channel = not (stream_bits s selector == 0)
+
+-- a host may set the control: its bits are 11, or a node's bit is 1. The validity of a clock and the controls of terminals and
+-- interfaces can only be read, whatever their bits say
+abbrev pub is_writable_on : EntityKind → Entity → ℕ → ℕ → Bool
+is_writable_on kind.Mixer e selector channel = node_bit e.mix_bits channel == 1
+is_writable_on kind.ClockSource e selector channel = selector == 1 && entity_bits e selector channel == 3
+is_writable_on kind.InputTerminal e selector channel = false
+is_writable_on kind.OutputTerminal e selector channel = false
+is_writable_on _ e selector channel = entity_bits e selector channel == 3
+
+abbrev pub is_writable : Owner → ℕ → ℕ → Bool
+is_writable (by_entity e) selector channel = is_writable_on e.kind e selector channel
+is_writable (by_stream s) selector channel = false
+
+-- ---- values as bytes
+
+-- so many bytes of a number, the lowest first
+unfoldable pub little_bytes : ℕ → ℕ → List ℕ
+little_bytes width n = map (λ i. n / 256 ^ i % 256) (range_with_len 0 width)
+
+-- the number that a value is in so many bytes, in two's complement where it is negative
+abbrev pub complement : ℕ → ℤ → ℕ
+complement width (pos n) = n
+complement width (negsuc n) = 256 ^ width - 1 - n
+
+-- a value in so many bytes
+unfoldable pub value_bytes : ℕ → ℤ → List ℕ
+value_bytes width v = little_bytes width (complement width v)
+
+-- the number that bytes are, the lowest first
+unfoldable pub little_number : List ℕ → ℕ
+little_number bytes = sum (map (λ i. get_or bytes i 0 * 256 ^ i) (range_with_len 0 (length bytes)))
+
+-- a volume and a node are signed
+abbrev pub is_signed : EntityKind → ℕ → Bool
+is_signed kind.Mixer selector = true
+is_signed kind.Feature selector = selector == 2
+is_signed _ selector = false
+
+-- the value that bytes are
+unfoldable pub value_from : Bool → List ℕ → ℤ
+value_from signed bytes =
+    let n = little_number bytes in
+    if signed && nat_le (256 ^ length bytes / 2) n then negsuc (256 ^ length bytes - 1 - n) else pos n
+
+-- ---- the rules
+
+-- what the device keeps that a request may change
+pub record Held : Type 0 where
+  pub controls : List (Key × ℤ)
+  pub settings : List InterfaceSetting
+
+-- the rate at which an interface's streams run: that of its terminal's clock, if it has one
+abbrev pub rate_at : FunctionFields → List (Key × ℤ) → StreamInterface → Option ℕ
+rate_at function controls s = option_and_then (λ e. rate_of function.entities controls e.clock) (named function.entities s.terminal)
+
+-- a setting of a streaming interface is valid: it is 0, or can run at the rate now
+unfoldable pub is_valid : FunctionFields → List (Key × ℤ) → StreamInterface → ℕ → Bool
+is_valid function controls s number =
+    number == 0 || option_map_or (λ rate. is_some (stream_of function rate s.number number)) (rate_at function controls s) false
+
+-- the interface has the setting; the control interface has 0 alone
+unfoldable pub has_setting : FunctionFields → ℕ → ℕ → Bool
+has_setting function interface number =
+    if interface == function.control_interface then number == 0
+    else option_map_or (λ s. list_any (λ t. t.number == number) s.settings) (stream_in function interface) false
+
+-- the first of these rules that is broken
+unfoldable pub least : List (ℕ × Bool) → Option ℕ
+least [] = None
+least ((rule, broken) ∷ rules) = if broken then Some rule else least rules
+
+abbrev pub is_empty : List ℕ → Bool
+is_empty [] = true
+is_empty (byte ∷ bytes) = false
+
+-- a request for a control's values
+unfoldable pub get_broken : FunctionFields → Setup → List ℕ → Bool → Owner → Option ℕ
+get_broken function p sent range owner =
+    least (
+    (4, not (is_some (width_of owner (high p.value))) || (range && not (has_range owner (high p.value))))
+    ∷ (5, is_in_range function.entities owner (low p.value) && not (is_declared owner (high p.value) (low p.value)))
+    ∷ (6, not (is_in_range function.entities owner (low p.value)))
+    ∷ (8, not (is_empty sent))
+    ∷ [])
+
+-- the key of the control that wValue and wIndex name
+abbrev pub key_named : Setup → Key
+key_named p = key_of (high p.index) (high p.value) (low p.value)
+
+-- what bytes that are sent say of a control
+abbrev pub sent_value : Owner → ℕ → List ℕ → ℤ
+sent_value (by_entity e) selector sent = value_from (is_signed e.kind selector) sent
+sent_value (by_stream s) selector sent = value_from false sent
+
+abbrev pub is_clock_control : Owner → Bool
+is_clock_control (by_entity e) = is_clock e.kind
+is_clock_control (by_stream s) = false
+
+-- a request that sets a control's value
+unfoldable pub set_broken : FunctionFields → Held → Setup → List ℕ → Owner → Option ℕ
+set_broken function held p sent owner =
+    let width : Option ℕ = width_of owner (high p.value) in
+    let value : ℤ = sent_value owner (high p.value) sent in
+    least (
+    (4, not (is_some width))
+    ∷ (5, is_in_range function.entities owner (low p.value) && not (is_declared owner (high p.value) (low p.value)))
+    ∷ (6, not (is_in_range function.entities owner (low p.value)))
+    ∷ (7, not (is_writable owner (high p.value) (low p.value)))
+    ∷ (8, not (p.length == unwrap_or width 0 && length sent == unwrap_or width 0))
+    ∷ (9, not (is_legal function.entities held.controls (key_named p) value))
+    ∷ (10, is_clock_control owner && (is_running held.settings && not (option_map_or (int_eq value) (value_of held.controls (key_named p)) false)))
+    ∷ [])
+
+-- a setting that an interface has is valid; the control interface's is
+abbrev pub can_hold : FunctionFields → List (Key × ℤ) → ℕ → ℕ → Bool
+can_hold function controls interface setting = option_map_or (λ s. is_valid function controls s setting) (stream_in function interface) true
+
+-- a request that sets an interface's setting
+unfoldable pub interface_broken : FunctionFields → Held → Setup → List ℕ → Option ℕ
+interface_broken function held p sent =
+    least (
+    (8, not (p.length == 0 && is_empty sent))
+    ∷ (11, not (has_setting function p.index p.value))
+    ∷ (12, not (can_hold function held.controls p.index p.value))
+    ∷ [])
+
+-- the rule that a request to what keeps a control breaks first; Q3 where nothing keeps it
+abbrev pub owned_broken : Option Owner → (Owner → Option ℕ) → Option ℕ
+owned_broken None broken = Some 3
+owned_broken (Some owner) broken = broken owner
+
+abbrev pub if_interface : Bool → Option ℕ → Option ℕ
+if_interface true broken = broken
+if_interface false broken = Some 2
+
+-- the rule that a request to a control breaks first, Q2 and Q3 before those of what keeps it
+abbrev pub owned_in : FunctionFields → ℕ → (Owner → Option ℕ) → Option ℕ
+owned_in function index broken = if_interface (has_interface function (low index)) (owned_broken (owner_of function index) broken)
+
+-- the first rule that a request breaks
+unfoldable pub broken_by : FunctionFields → Held → Setup → List ℕ → Request → Option ℕ
+broken_by function held p sent ask.GetCur = owned_in function p.index (get_broken function p sent false)
+broken_by function held p sent ask.GetRange = owned_in function p.index (get_broken function p sent true)
+broken_by function held p sent ask.SetCur = owned_in function p.index (set_broken function held p sent)
+broken_by function held p sent ask.GetDescriptor = least ((4, not (p.value == 512)) ∷ (8, not (is_empty sent)) ∷ [])
+broken_by function held p sent ask.GetInterface = if_interface (has_interface function p.index) (least ((8, not (is_empty sent)) ∷ []))
+broken_by function held p sent ask.SetInterface = if_interface (has_interface function p.index) (interface_broken function held p sent)
+
+-- ---- the answer
+
+-- bytes, a piece of the configuration, that it is done, or the rule by which it is stalled
+pub data Told : Type 0 where
+  with_bytes : List ℕ → Told
+  with_descriptor : ℕ → ℕ → Told
+  is_done : Told
+  is_stalled : ℕ → Told
+
+-- an answer as what it tells
+abbrev pub seen : Answer → Told
+seen (told.Bytes reply) = with_bytes reply.items
+seen (told.Descriptor from to) = with_descriptor from to
+seen told.Done = is_done
+seen (told.Stall rule) = is_stalled rule
+
+abbrev pub one_byte : ℕ → List ℕ
+one_byte byte = byte ∷ []
+
+-- the value that is kept, in the control's bytes
+abbrev pub kept_bytes : List (Key × ℤ) → Key → Option ℕ → List ℕ
+kept_bytes controls k width = value_bytes (unwrap_or width 0) (unwrap_or (value_of controls k) (pos 0))
+
+-- a terminal's connector is its cluster (5.2.5.4.2)
+abbrev pub connector_bytes : Entity → List ℕ
+connector_bytes e = e.cluster.channels ∷ (little_bytes 4 e.cluster.locations ++ e.cluster.names ∷ [])
+
+-- a clock source is always valid, and all other controls of entities keep a value
+abbrev pub entity_bytes : EntityKind → Entity → List (Key × ℤ) → Key → List ℕ
+entity_bytes kind.InputTerminal e controls k = connector_bytes e
+entity_bytes kind.OutputTerminal e controls k = connector_bytes e
+entity_bytes kind.ClockSource e controls k = if k.selector == 2 then 1 ∷ [] else kept_bytes controls k (entity_width e.kind k.selector)
+entity_bytes _ e controls k = kept_bytes controls k (entity_width e.kind k.selector)
+
+-- the bit of a setting by its number, where it is valid
+abbrev pub valid_bit : FunctionFields → List (Key × ℤ) → StreamInterface → ℕ → ℕ
+valid_bit function controls s number = if is_valid function controls s number then 2 ^ number else 0
+
+abbrev pub valid_sum : FunctionFields → List (Key × ℤ) → StreamInterface → List Setting → ℕ
+valid_sum function controls s settings = sum (map (λ t. valid_bit function controls s t.number) settings)
+
+-- the valid settings: the number of bitmap bytes, and a bit for each setting by its number
+unfoldable pub valid_bytes : FunctionFields → List (Key × ℤ) → StreamInterface → List ℕ
+valid_bytes function controls s =
+    map_bytes s ∷ little_bytes (map_bytes s) (valid_sum function controls s s.settings)
+
+abbrev pub stream_bytes : FunctionFields → Held → StreamInterface → ℕ → List ℕ
+stream_bytes function held s selector =
+    if selector == 1 then unwrap_or (setting_of held.settings s.number) 0 ∷ [] else valid_bytes function held.controls s
+
+unfoldable pub cur_bytes : FunctionFields → Held → Setup → Owner → List ℕ
+cur_bytes function held p (by_entity e) = entity_bytes e.kind e held.controls (key_named p)
+cur_bytes function held p (by_stream s) = stream_bytes function held s (high p.value)
+
+abbrev pub one_range_bytes : ℕ → Range → List ℕ
+one_range_bytes width r = value_bytes width r.min ++ (value_bytes width r.max ++ value_bytes width r.res)
+
+-- the number of subranges in two bytes, and of each the least value, the greatest and the step (5.2.3)
+unfoldable pub range_bytes : ℕ → List Range → List ℕ
+range_bytes width ranges =
+    little_bytes 2 (length ranges) ++ flat_map (one_range_bytes width) ranges
+
+-- what a request that breaks no rule is answered
+unfoldable pub answered : FunctionFields → Held → Setup → Request → Told
+answered function held p ask.GetCur = with_bytes (take p.length (option_map_or (cur_bytes function held p) (owner_of function p.index) []))
+answered function held p ask.GetRange =
+    with_bytes
+    (take p.length
+    (option_map_or (λ owner. range_bytes (unwrap_or (width_of owner (high p.value)) 0) (unwrap_or (ranges_of function.entities (key_named p)) [])) (owner_of function p.index) []))
+answered function held p ask.GetDescriptor = with_descriptor 0 (if nat_le p.length function.total then p.length else function.total)
+answered function held p ask.GetInterface = with_bytes (take p.length (unwrap_or (setting_of held.settings p.index) 0 ∷ []))
+answered function held p _ = is_done
+
+-- what it leaves: a value that is set is held, and so is a setting
+unfoldable pub left_by : FunctionFields → Held → Setup → List ℕ → Request → Held
+left_by function held p sent ask.SetCur =
+    record held { controls = option_map_or (λ owner. with_value held.controls (key_named p) (sent_value owner (high p.value) sent)) (owner_of function p.index) held.controls }
+left_by function held p sent ask.SetInterface = record held { settings = with_setting held.settings p.index p.value }
+left_by function held p sent _ = held
+
+-- what a request is told: the rule that it breaks first, or its answer
+abbrev pub told_to : FunctionFields → Held → Setup → List ℕ → Request → Told
+told_to function held p sent r = option_map_or is_stalled (broken_by function held p sent r) (answered function held p r)
+
+-- what the device keeps behind it: a stalled request changes nothing
+abbrev pub kept_after : FunctionFields → Held → Setup → List ℕ → Request → Held
+kept_after function held p sent r = if is_some (broken_by function held p sent r) then held else left_by function held p sent r
+
+-- the answer to a request; Q1 where no request has this type and number
+unfoldable pub reply_of : FunctionFields → Held → Setup → List ℕ → Told
+reply_of function held p sent =
+    option_map_or (told_to function held p sent) (request_of p.request_type p.request) (is_stalled 1)
+
+-- what the device keeps behind it: a stalled request changes nothing
+unfoldable pub after_request : FunctionFields → Held → Setup → List ℕ → Held
+after_request function held p sent =
+    option_map_or (kept_after function held p sent) (request_of p.request_type p.request) held
+
+-- each interface of the function, and no other, has a setting
+abbrev pub AreSettingsOf : FunctionFields → List InterfaceSetting → Type 0
+AreSettingsOf function settings = (number : ℕ) → is_some (setting_of settings number) ≡ has_interface function number
+
+-- the controls' values and the settings, as what the device keeps
+abbrev pub held_by : List (Key × ℤ) → List InterfaceSetting → Held
+held_by controls settings = record { controls = controls; settings = settings }

@@ -1,0 +1,105 @@
+// Values as bytes.
+ghost use Rattle.std.specs.Prelude.{◌≡◌, ◌≤◌, ◌<◌, ◌+◌, ◌-◌, ◌^◌, ◌++◌, get_or, length};
+ghost use Rattle.std.specs.Int.{w32};
+ghost use Rattle.std.specs.Int.RustNames.{FitsSigned};
+ghost use Rattle.arrayvec.specs.ArrayVec.{array_vec_len};
+ghost use Rattle.uac_request.specs.Requests as spec;
+ghost use Rattle.uac_request.specs.Requests.{little_bytes, value_bytes};
+
+use crate::told::Reply;
+
+/// Adds so many bytes of a number to a reply, the lowest first.
+#[tactic(auto, unfolding(crate::specs::Requests::little_bytes))]
+pub(crate) fn push_number(reply: &mut Reply, width: usize, number: u64)
+    requires room { array_vec_len reply.old + width ≤ 146 }
+    ensures bytes { reply.new.items ≡ reply.old.items ++ little_bytes width number }
+    ensures len { array_vec_len reply.new ≡ array_vec_len reply.old + width }
+{
+    let mut rest = number;
+    for _place in 0..width {
+        reply.push((rest % 256) as u8);
+        rest /= 256;
+    }
+}
+
+/// Adds a value in so many bytes to a reply, in two's complement where it is negative.
+#[tactic(auto, unfolding(crate::specs::Requests::value_bytes))]
+pub(crate) fn push_value(reply: &mut Reply, width: u8, value: i32)
+    requires narrow { width ≤ 6 }
+    requires room { array_vec_len reply.old + width ≤ 146 }
+    ensures bytes { reply.new.items ≡ reply.old.items ++ value_bytes width value }
+    ensures len { array_vec_len reply.new ≡ array_vec_len reply.old + width }
+{
+    push_number(reply, usize::from(width), complement(width, value));
+}
+
+// The number that a value is in so many bytes.
+fn complement(width: u8, value: i32) -> u64
+    requires { width ≤ 6 }
+    ensures { result ≡ spec.complement width value }
+{
+    match u64::try_from(value) {
+        Ok(number) => number,
+        Err(_) => (numbers(width) - 1).saturating_sub((-1 - i64::from(value)) as u64),
+    }
+}
+
+// How many numbers so many bytes have.
+fn numbers(width: u8) -> u64
+    requires { width ≤ 6 }
+    ensures value { result ≡ 256 ^ width }
+    ensures some { 1 ≤ result }
+    ensures most { result ≤ 2 ^ 48 }
+    ensures two { width ≤ 2 → result ≤ 65536 }
+{
+    match width {
+        0 => 1,
+        1 => 1 << 8,
+        2 => 1 << 16,
+        3 => 1 << 24,
+        4 => 1 << 32,
+        5 => 1 << 40,
+        _ => 1 << 48,
+    }
+}
+
+/// The value that at most four bytes are, the lowest first; a signed one in two's complement.
+#[tactic(auto, unfolding(crate::specs::Requests::value_from))]
+pub(crate) fn value_from(signed: bool, bytes: &[u8]) -> i64
+    requires { length bytes.now ≤ 4 }
+    ensures value { result ≡ spec.value_from signed bytes.now }
+    ensures short { length bytes.now ≤ 2 → FitsSigned w32 result }
+{
+    let numbers = numbers(bytes.len() as u8);
+    let number = number_from(bytes);
+    if signed && number >= numbers / 2 {
+        -1 - (numbers - 1).saturating_sub(number) as i64
+    } else {
+        number as i64
+    }
+}
+
+// The number that at most four bytes are, the lowest first.
+#[tactic(auto, using(crate::proofs::Little::four_bytes, crate::proofs::Little::below_power))]
+fn number_from(bytes: &[u8]) -> u64
+    requires { length bytes.now ≤ 4 }
+    ensures value { result ≡ spec.little_number bytes.now }
+    ensures most { result < 256 ^ length bytes.now }
+    ensures four { result < 2 ^ 32 }
+{
+    byte_at(bytes, 0)
+        + (byte_at(bytes, 1) << 8)
+        + (byte_at(bytes, 2) << 16)
+        + (byte_at(bytes, 3) << 24)
+}
+
+// A byte, 0 past the last.
+fn byte_at(bytes: &[u8], place: usize) -> u64
+    ensures value { result ≡ get_or bytes.now place 0 }
+    ensures most { result < 256 }
+{
+    match bytes.get(place) {
+        Some(byte) => u64::from(*byte),
+        None => 0,
+    }
+}

@@ -1,0 +1,31 @@
+//! Control requests, and what a device answers.
+#![tactic(auto)]
+
+/// Values as bytes.
+mod bytes;
+/// The controls that descriptors declare.
+mod controls;
+/// A control's value now.
+mod current;
+/// What a device answers.
+mod device;
+/// What keeps a control.
+mod owner;
+/// A control's ranges.
+mod ranging;
+/// The requests that there are.
+mod request;
+/// The rules that requests to controls break.
+mod rules;
+/// The six requests.
+mod serve;
+/// The setup packet of a control transfer.
+mod setup;
+/// What a request is told.
+mod told;
+/// The settings that are valid.
+mod valid;
+
+pub use device::answer;
+pub use setup::Setup;
+pub use told::{Answer, Reply};

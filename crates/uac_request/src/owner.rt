@@ -1,0 +1,95 @@
+// What keeps a control.
+ghost use Rattle.std.specs.Prelude.{◌≡◌, ◌==◌, None, Some, if◌then◌else◌, is_some};
+ghost use Rattle.std.specs.List.{list_any};
+ghost use Rattle.std.specs.Option.{option_copied, option_map};
+ghost use Rattle.uac_entities.specs.Streams.{named};
+ghost use Rattle.uac_request.specs.Owners as owners;
+ghost use Rattle.uac_request.specs.Requests as spec;
+
+use crate::setup::{high_byte, low_byte};
+use uac_topology::{Entity, Function, Setting, StreamInterface};
+
+/// What keeps a request's control: an entity, or a streaming interface.
+#[derive(Clone, Copy)]
+pub(crate) enum Owner<'a> {
+    Entity(&'a Entity),
+    Stream(&'a StreamInterface),
+}
+
+/// What keeps the controls that wIndex names: on the control interface an entity, on a streaming interface that, where
+/// no entity is named (Audio Class 2.0, 5.2.2).
+#[tactic(auto, unfolding(crate::specs::Requests::owner_of))]
+pub(crate) fn owner_of(function: &Function, index: u16) -> Option<Owner<'_>>
+    ensures { option_map owners.owned result ≡ spec.owner_of function.now index }
+{
+    if low_byte(index) == function.control_interface() {
+        entity_with(function, high_byte(index)).map(Owner::Entity)
+    } else if high_byte(index) == 0 {
+        stream_in(function, u16::from(low_byte(index))).map(Owner::Stream)
+    } else {
+        None
+    }
+}
+
+/// The entity with an id.
+#[tactic(auto, unfolding(uac_entities::specs::Streams::named))]
+pub(crate) fn entity_with(function: &Function, id: u8) -> Option<&Entity>
+    ensures { option_map (λ e. e.now) result ≡ named function.now.entities id }
+{
+    function.entities().iter().find(|entity| entity.id == id)
+}
+
+/// The streaming interface with a number.
+pub(crate) fn stream_in(function: &Function, number: u16) -> Option<&StreamInterface>
+    ensures { option_map (λ s. s.now) result ≡ spec.stream_in function.now number }
+{
+    function
+        .streams()
+        .iter()
+        .find(|stream| u16::from(stream.number) == number)
+}
+
+/// Whether the audio function has an interface of this number.
+pub(crate) fn has_interface(function: &Function, number: u16) -> bool
+    ensures { result ≡ spec.has_interface function.now number }
+{
+    number == u16::from(function.control_interface()) || stream_in(function, number).is_some()
+}
+
+/// A number as that of an interface of the audio function, None where it has no such interface.
+#[tactic(auto, using(crate::proofs::Found::number_found))]
+pub(crate) fn interface_named(function: &Function, number: u16) -> Option<u8>
+    ensures { result ≡ (if spec.has_interface function.now number then Some number else None) }
+{
+    if number == u16::from(function.control_interface()) {
+        return Some(function.control_interface());
+    }
+    match stream_in(function, number) {
+        Some(stream) => Some(stream.number),
+        None => None,
+    }
+}
+
+/// A number as that of a setting of an interface, None where it has no such setting; the control interface has 0 alone.
+#[tactic(auto, unfolding(crate::specs::Requests::has_setting))]
+pub(crate) fn setting_named(function: &Function, interface: u8, number: u16) -> Option<u8>
+    ensures { result ≡ (if spec.has_setting function.now interface number then Some number else None) }
+{
+    if interface == function.control_interface() {
+        return if number == 0 { Some(0) } else { None };
+    }
+    let stream = stream_in(function, u16::from(interface))?;
+    number_among(stream.settings.as_slice(), number)
+}
+
+// A number as that of one of the settings.
+fn number_among(settings: &[Setting], number: u16) -> Option<u8>
+    ensures { result ≡ (if list_any (λ t. t.number == number) settings.now then Some number else None) }
+{
+    for setting in settings {
+        if u16::from(setting.number) == number {
+            return Some(setting.number);
+        }
+    }
+    None
+}

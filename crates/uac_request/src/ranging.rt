@@ -1,0 +1,58 @@
+// The bytes of a control's ranges.
+ghost use Rattle.std.specs.Prelude.{◌≡◌, ◌≤◌, ◌+◌, ◌*◌, ◌++◌, true, length, unwrap_or, []};
+ghost use Rattle.arrayvec.specs.ArrayVec.{array_vec_len};
+ghost use Rattle.uac_store.specs.Values.{ranges_of};
+ghost use Rattle.uac_request.specs.Owners.{owned};
+ghost use Rattle.uac_request.specs.Requests as spec;
+ghost use Rattle.uac_request.specs.Requests.{key_named};
+
+use crate::bytes::{push_number, push_value};
+use crate::controls::width_of;
+use crate::current::key_of;
+use crate::owner::Owner;
+use crate::setup::Setup;
+use crate::told::Reply;
+use arrayvec::ArrayVec;
+use uac_store::{Range, ranges};
+use uac_topology::Function;
+
+/// The bytes of a control's ranges, whole (Audio Class 2.0, 5.2.1).
+#[tactic(auto, using(crate::proofs::Narrow::narrow_range))]
+pub(crate) fn ranges_now(function: &Function, setup: &Setup, owner: Owner<'_>) -> Reply
+    requires { spec.has_range (owned owner) (spec.high setup.now.value) ≡ true }
+    ensures { result.items ≡ spec.range_bytes (unwrap_or (spec.width_of (owned owner.entry) (spec.high setup.now.value)) 0) (unwrap_or (ranges_of function.now.entities (key_named setup.now)) []) }
+{
+    let key = key_of(setup);
+    let width = width_of(owner, key.selector).unwrap_or(0);
+    match ranges(function, key) {
+        Some(ranges) => range_bytes(width, ranges.as_slice()),
+        None => range_bytes(width, &[]),
+    }
+}
+
+// The number of subranges in two bytes, and of each the least value, the greatest and the step (Audio Class 2.0, 5.2.3).
+#[tactic(auto, unfolding(crate::specs::Requests::range_bytes))]
+fn range_bytes(width: u8, ranges: &[Range]) -> Reply
+    requires narrow { width ≤ 6 }
+    requires room { 2 + length ranges.now * (3 * width) ≤ 146 }
+    ensures { result.items ≡ spec.range_bytes width ranges.now }
+{
+    let mut reply = ArrayVec::new();
+    push_number(&mut reply, 2, ranges.len() as u64);
+    for range in ranges {
+        push_range(&mut reply, width, range);
+    }
+    reply
+}
+
+// One subrange.
+fn push_range(reply: &mut Reply, width: u8, range: &Range)
+    requires narrow { width ≤ 6 }
+    requires room { array_vec_len reply.old + 3 * width ≤ 146 }
+    ensures bytes { reply.new.items ≡ reply.old.items ++ spec.one_range_bytes width range.now }
+    ensures len { array_vec_len reply.new ≡ array_vec_len reply.old + 3 * width }
+{
+    push_value(reply, width, range.min);
+    push_value(reply, width, range.max);
+    push_value(reply, width, range.res);
+}

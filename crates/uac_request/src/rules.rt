@@ -1,0 +1,180 @@
+// The rules that requests to controls break.
+ghost use Rattle.std.specs.Prelude.{◌≡◌, ◌≤◌, ◌==◌, IfOk, IfErr, IfSome, IsSome, List, nat_le, Some, None, is_some, if◌then◌else◌, length, true, nat_lt};
+ghost use Rattle.std.specs.Int.{w32};
+ghost use Rattle.std.specs.Int.RustNames.{FitsSigned};
+ghost use Rattle.uac_entities.specs.Streams.{named};
+ghost use Rattle.uac_entities.specs.declared.entity.Entity.{Entity};
+ghost use Rattle.uac_topology.specs.Function.{FunctionFields};
+ghost use Rattle.uac_store.specs.Controls.{IsStoreOf, count_of, selectors_of, takes};
+ghost use Rattle.uac_store.specs.Keyed.{value_of};
+ghost use Rattle.uac_store.specs.Values.{is_legal};
+ghost use Rattle.uac_request.specs.Owners.{owned};
+ghost use Rattle.uac_request.specs.Requests as spec;
+ghost use Rattle.uac_request.specs.Requests.{by_entity, held_by, key_named, owner_of, sent_value};
+
+use crate::bytes::value_from;
+use crate::controls::{has_range, is_declared, width_of, written};
+use crate::current::key_of;
+use crate::owner::Owner;
+use crate::setup::{Setup, high_byte, low_byte};
+use uac_alt::Settings;
+use uac_rules::is_clock;
+use uac_store::{Key, Store};
+use uac_topology::{Entity, EntityKind, Function};
+
+/// The first rule that a request for a control's values, or for its ranges, breaks.
+#[tactic(auto, unfolding(crate::specs::Requests::get_broken, crate::specs::Requests::least))]
+pub(crate) fn get_broken(
+    function: &Function,
+    store: &Store,
+    setup: &Setup,
+    sent: &[u8],
+    range: bool,
+    owner: Owner<'_>,
+) -> Option<u8>
+    requires of_function { IsStoreOf function.now.entities store.now }
+    requires of_index { owner_of function.now setup.now.index ≡ Some (owned owner) }
+    ensures broken { result ≡ spec.get_broken function.now setup.now sent.now range (owned owner.entry) }
+    ensures ranged { result ≡ None → range ≡ true → spec.has_range (owned owner.entry) (spec.high setup.now.value) ≡ true }
+{
+    let key = key_of(setup);
+    if width_of(owner, key.selector).is_none() || (range && !has_range(owner, key.selector)) {
+        return Some(4);
+    }
+    let within = is_in_range(store, setup, owner);
+    if within && !is_declared(owner, key.selector, key.channel) {
+        return Some(5);
+    }
+    if !within {
+        return Some(6);
+    }
+    if !sent.is_empty() {
+        return Some(8);
+    }
+    None
+}
+
+// Whether a control has the channel, or the node, that wValue names.
+#[tactic(auto, using(crate::proofs::Owned::entity_named))]
+fn is_in_range(store: &Store, setup: &Setup, owner: Owner<'_>) -> bool
+    ensures { (function : FunctionFields) → IsStoreOf function.entities store.now → owner_of function setup.now.index ≡ Some (owned owner.entry) → result ≡ spec.is_in_range function.entities (owned owner.entry) (spec.low setup.now.value) }
+{
+    match owner {
+        Owner::Entity(entity) => has_channel(store, entity.kind, key_of(setup)),
+        Owner::Stream(_) => low_byte(setup.value) == 0,
+    }
+}
+
+// Whether the controls of an entity have a channel: those that keep a value have it exactly where the store has, and a
+// terminal's connector is on channel 0 alone.
+#[tactic(auto, using(crate::proofs::Owned::of_terminal, crate::proofs::Owned::of_store))]
+fn has_channel(store: &Store, kind: EntityKind, key: Key) -> bool
+    ensures { (entities : List Entity) (e : Entity) → IsStoreOf entities store.now → named entities key.entity ≡ Some e → e.kind ≡ kind → result ≡ nat_lt key.channel (count_of entities e) }
+{
+    if keeps_values(kind) {
+        store.cur(Key { selector: 1, ..key }).is_some()
+    } else {
+        key.channel == 0
+    }
+}
+
+// Whether the first control of a kind keeps a value.
+fn keeps_values(kind: EntityKind) -> bool
+    ensures { result ≡ nat_le 1 (selectors_of kind) }
+{
+    !matches!(kind, EntityKind::InputTerminal | EntityKind::OutputTerminal)
+}
+
+/// The value that a request to set a control's value sends, or the first rule that it breaks.
+#[tactic(auto, unfolding(crate::specs::Requests::set_broken, crate::specs::Requests::least), using(crate::proofs::Owned::entity_named))]
+pub(crate) fn value_to_set(
+    function: &Function,
+    store: &Store,
+    settings: &Settings,
+    setup: &Setup,
+    sent: &[u8],
+    owner: Owner<'_>,
+) -> Result<i32, u8>
+    requires of_function { IsStoreOf function.now.entities store.now }
+    requires of_index { owner_of function.now setup.now.index ≡ Some (owned owner) }
+    ensures broken { IfErr result (λ rule. spec.set_broken function.now (held_by store.now settings.now) setup.now sent.now (owned owner.entry) ≡ Some rule) }
+    ensures met { IfOk result (λ value. spec.set_broken function.now (held_by store.now settings.now) setup.now sent.now (owned owner.entry) ≡ None) }
+    ensures value { IfOk result (λ value. value ≡ sent_value (owned owner.entry) (spec.high setup.now.value) sent.now) }
+    ensures kept { IfOk result (λ value. IsSome (value_of store.now (key_named setup.now))) }
+    ensures taken { IfOk result (λ value. takes function.now.entities (key_named setup.now) value ≡ true) }
+{
+    let key = key_of(setup);
+    let Some(width) = width_of(owner, key.selector) else {
+        return Err(4);
+    };
+    let within = is_in_range(store, setup, owner);
+    if within && !is_declared(owner, key.selector, key.channel) {
+        return Err(5);
+    }
+    if !within {
+        return Err(6);
+    }
+    let Some(entity) = written(owner, key.selector, key.channel) else {
+        return Err(7);
+    };
+    if !(setup.length == u16::from(width) && sent.len() == usize::from(width)) {
+        return Err(8);
+    }
+    let Some(value) = legal_value(function, store, entity, key, sent) else {
+        return Err(9);
+    };
+    if is_clock(entity.kind) && (settings.running() && store.cur(key) != Some(value)) {
+        return Err(10);
+    }
+    Ok(value)
+}
+
+// The value that bytes are, where it is legal for a control that a host may set.
+#[tactic(auto, unfolding(uac_store::specs::Values::is_legal), using(crate::proofs::Sent::is_held, crate::proofs::Sent::at_most_four))]
+fn legal_value(
+    function: &Function,
+    store: &Store,
+    entity: &Entity,
+    key: Key,
+    sent: &[u8],
+) -> Option<i32>
+    requires of_function { IsStoreOf function.now.entities store.now }
+    requires named { named function.now.entities key.entity ≡ Some entity.now }
+    requires some { 1 ≤ key.selector }
+    requires low { key.selector ≤ 2 }
+    requires whole { spec.entity_width entity.now.kind key.selector ≡ Some (length sent.now) }
+    requires writable { spec.is_writable_on entity.now.kind entity.now key.selector key.channel ≡ true }
+    requires within { nat_lt key.channel (count_of function.now.entities entity.now) ≡ true }
+    ensures value { result ≡ (if is_legal function.now.entities store.now key (sent_value (by_entity entity.now) key.selector sent.now) then Some (sent_value (by_entity entity.now) key.selector sent.now) else None) }
+    ensures taken { IfSome result (λ value. takes function.now.entities key value ≡ true) }
+    ensures kept { IsSome (value_of store.now key) }
+{
+    let number = value_from(is_signed(entity.kind, key.selector), sent);
+    let Some(value) = narrowed(number) else {
+        return None;
+    };
+    if store.legal(function, key, value) {
+        Some(value)
+    } else {
+        None
+    }
+}
+
+// A value as one of 32 bits, None where it is none.
+fn narrowed(value: i64) -> Option<i32>
+    ensures kept { IfSome result (λ narrow. narrow ≡ value) }
+    ensures fits { FitsSigned w32 value → IsSome result }
+{
+    i32::try_from(value).ok()
+}
+
+// A volume and a node are signed.
+fn is_signed(kind: EntityKind, selector: u8) -> bool
+    ensures { result ≡ spec.is_signed kind selector }
+{
+    match kind {
+        EntityKind::Mixer => true,
+        EntityKind::Feature => selector == 2,
+        _ => false,
+    }
+}

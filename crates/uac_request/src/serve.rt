@@ -1,0 +1,211 @@
+// The six requests, each by itself.
+ghost use Rattle.std.specs.Prelude as prelude;
+ghost use Rattle.std.specs.Prelude.{◌≡◌, ℕ, IfErr, IfOk, None, Some, if◌then◌else◌, take, true};
+ghost use Rattle.uac_alt.specs.Settings.{setting_of};
+ghost use Rattle.uac_store.specs.Controls.{IsStoreOf};
+ghost use Rattle.uac_request.specs.Owners.{owned};
+ghost use Rattle.uac_request.specs.Requests as spec;
+ghost use Rattle.uac_request.specs.Requests.{AreSettingsOf, held_by, kept_after, low, seen, told_to};
+ghost use Rattle.uac_request.specs.declared.request.Request.TheVariants as ask;
+
+use crate::current::{cur_bytes, key_of, one_byte};
+use crate::owner::{Owner, has_interface, interface_named, owner_of, setting_named, stream_in};
+use crate::ranging::ranges_now;
+use crate::rules::{get_broken, value_to_set};
+use crate::setup::{Setup, low_byte};
+use crate::told::{Answer, Reply};
+use crate::valid::is_valid;
+use uac_alt::Settings;
+use uac_store::Store;
+use uac_topology::Function;
+
+/// What a request for a control's value is told (Audio Class 2.0, 5.2.2).
+#[tactic(auto, unfolding(crate::specs::Requests::broken_by, crate::specs::Requests::answered, crate::specs::Requests::left_by))]
+pub(crate) fn get_cur(
+    function: &Function,
+    store: &Store,
+    settings: &Settings,
+    setup: &Setup,
+    sent: &[u8],
+) -> Answer
+    requires { IsStoreOf function.now.entities store.now }
+    ensures told { seen result ≡ told_to function.now (held_by store.now settings.now) setup.now sent.now ask.GetCur }
+    ensures held { held_by store.now settings.now ≡ kept_after function.now (held_by store.now settings.now) setup.now sent.now ask.GetCur }
+{
+    let owner = match owner_named(function, setup) {
+        Ok(owner) => owner,
+        Err(rule) => return Answer::Stall(rule),
+    };
+    match get_broken(function, store, setup, sent, false, owner) {
+        Some(rule) => Answer::Stall(rule),
+        None => Answer::Bytes(cut(
+            cur_bytes(function, store, settings, setup, owner),
+            setup.length,
+        )),
+    }
+}
+
+/// What a request for a control's ranges is told (Audio Class 2.0, 5.2.1).
+#[tactic(auto, unfolding(crate::specs::Requests::broken_by, crate::specs::Requests::answered, crate::specs::Requests::left_by))]
+pub(crate) fn get_range(
+    function: &Function,
+    store: &Store,
+    settings: &Settings,
+    setup: &Setup,
+    sent: &[u8],
+) -> Answer
+    requires { IsStoreOf function.now.entities store.now }
+    ensures told { seen result ≡ told_to function.now (held_by store.now settings.now) setup.now sent.now ask.GetRange }
+    ensures held { held_by store.now settings.now ≡ kept_after function.now (held_by store.now settings.now) setup.now sent.now ask.GetRange }
+{
+    let owner = match owner_named(function, setup) {
+        Ok(owner) => owner,
+        Err(rule) => return Answer::Stall(rule),
+    };
+    match get_broken(function, store, setup, sent, true, owner) {
+        Some(rule) => Answer::Stall(rule),
+        None => Answer::Bytes(cut(ranges_now(function, setup, owner), setup.length)),
+    }
+}
+
+/// What a request to set a control's value is told, and the controls behind it (Audio Class 2.0, 5.2.2).
+#[tactic(auto, unfolding(crate::specs::Requests::broken_by, crate::specs::Requests::answered, crate::specs::Requests::left_by))]
+pub(crate) fn set_cur(
+    function: &Function,
+    store: &mut Store,
+    settings: &Settings,
+    setup: &Setup,
+    sent: &[u8],
+) -> Answer
+    requires { IsStoreOf function.now.entities store.old }
+    ensures told { seen result ≡ told_to function.now (held_by store.old settings.now) setup.now sent.now ask.SetCur }
+    ensures held { held_by store.new settings.now ≡ kept_after function.now (held_by store.old settings.now) setup.now sent.now ask.SetCur }
+    ensures of_function { IsStoreOf function.now.entities store.new }
+{
+    let owner = match owner_named(function, setup) {
+        Ok(owner) => owner,
+        Err(rule) => return Answer::Stall(rule),
+    };
+    match value_to_set(function, store, settings, setup, sent, owner) {
+        Ok(value) => {
+            store.set(key_of(setup), value);
+            Answer::Done
+        }
+        Err(rule) => Answer::Stall(rule),
+    }
+}
+
+/// What a request for the configuration is told (USB 2.0, 9.4.3).
+#[tactic(auto, unfolding(crate::specs::Requests::broken_by, crate::specs::Requests::answered, crate::specs::Requests::left_by, crate::specs::Requests::least))]
+pub(crate) fn get_descriptor(
+    function: &Function,
+    store: &Store,
+    settings: &Settings,
+    setup: &Setup,
+    sent: &[u8],
+) -> Answer
+    ensures told { seen result ≡ told_to function.now (held_by store.now settings.now) setup.now sent.now ask.GetDescriptor }
+    ensures held { held_by store.now settings.now ≡ kept_after function.now (held_by store.now settings.now) setup.now sent.now ask.GetDescriptor }
+{
+    if setup.value != 0x0200 {
+        return Answer::Stall(4);
+    }
+    if !sent.is_empty() {
+        return Answer::Stall(8);
+    }
+    let to = if setup.length <= function.total() {
+        setup.length
+    } else {
+        function.total()
+    };
+    Answer::Descriptor {
+        from: 0,
+        to: u32::from(to),
+    }
+}
+
+/// What a request for an interface's setting is told (USB 2.0, 9.4.4).
+#[tactic(auto, unfolding(crate::specs::Requests::broken_by, crate::specs::Requests::answered, crate::specs::Requests::left_by, crate::specs::Requests::least))]
+pub(crate) fn get_interface(
+    function: &Function,
+    store: &Store,
+    settings: &Settings,
+    setup: &Setup,
+    sent: &[u8],
+) -> Answer
+    ensures told { seen result ≡ told_to function.now (held_by store.now settings.now) setup.now sent.now ask.GetInterface }
+    ensures held { held_by store.now settings.now ≡ kept_after function.now (held_by store.now settings.now) setup.now sent.now ask.GetInterface }
+{
+    let Some(interface) = interface_named(function, setup.index) else {
+        return Answer::Stall(2);
+    };
+    if !sent.is_empty() {
+        return Answer::Stall(8);
+    }
+    let setting = settings.get(interface).unwrap_or(0);
+    Answer::Bytes(cut(one_byte(setting), setup.length))
+}
+
+/// What a request to set an interface's setting is told, and the settings behind it (USB 2.0, 9.4.10).
+#[tactic(auto, unfolding(crate::specs::Requests::broken_by, crate::specs::Requests::answered, crate::specs::Requests::left_by, crate::specs::Requests::interface_broken, crate::specs::Requests::least))]
+pub(crate) fn set_interface(
+    function: &Function,
+    store: &Store,
+    settings: &mut Settings,
+    setup: &Setup,
+    sent: &[u8],
+) -> Answer
+    requires { AreSettingsOf function.now settings.old }
+    ensures told { seen result ≡ told_to function.now (held_by store.now settings.old) setup.now sent.now ask.SetInterface }
+    ensures held { held_by store.now settings.new ≡ kept_after function.now (held_by store.now settings.old) setup.now sent.now ask.SetInterface }
+    ensures of_function { AreSettingsOf function.now settings.new }
+{
+    let Some(interface) = interface_named(function, setup.index) else {
+        return Answer::Stall(2);
+    };
+    if !(setup.length == 0 && sent.is_empty()) {
+        return Answer::Stall(8);
+    }
+    let Some(setting) = setting_named(function, interface, setup.value) else {
+        return Answer::Stall(11);
+    };
+    if !can_hold(function, store, interface, setting) {
+        return Answer::Stall(12);
+    }
+    settings.set(interface, setting);
+    Answer::Done
+}
+
+// Whether a setting of an interface is valid; those of the control interface are.
+fn can_hold(function: &Function, store: &Store, interface: u8, setting: u8) -> bool
+    ensures { result ≡ spec.can_hold function.now store.now interface setting }
+{
+    match stream_in(function, u16::from(interface)) {
+        Some(stream) => is_valid(function, store, stream, setting),
+        None => true,
+    }
+}
+
+// What keeps the control that a request names, or the rule by which it is stalled where nothing does.
+fn owner_named<'a>(function: &'a Function, setup: &Setup) -> Result<Owner<'a>, u8>
+    ensures none { IfErr result (λ rule. (broken : spec.Owner → prelude.Option ℕ) → spec.owned_in function.now setup.now.index broken ≡ Some rule) }
+    ensures interface { IfOk result (λ owner. spec.has_interface function.now (low setup.now.index) ≡ true) }
+    ensures owner { IfOk result (λ owner. spec.owner_of function.now setup.now.index ≡ Some (owned owner)) }
+{
+    if !has_interface(function, u16::from(low_byte(setup.index))) {
+        return Err(2);
+    }
+    match owner_of(function, setup.index) {
+        Some(owner) => Ok(owner),
+        None => Err(3),
+    }
+}
+
+// The bytes of an answer, cut at wLength.
+fn cut(reply: Reply, length: u16) -> Reply
+    ensures { result.items ≡ take length reply.items }
+{
+    let mut short = reply;
+    short.truncate(usize::from(length));
+    short
+}

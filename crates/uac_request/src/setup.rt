@@ -1,0 +1,54 @@
+// The setup packet of a control transfer.
+ghost use Rattle.std.specs.Prelude.{◌≡◌, ◌+◌, ◌*◌};
+ghost use Rattle.uac_request.specs.Requests.{high, low, setup_of};
+
+/// The setup packet of a control transfer (USB 2.0, 9.3).
+#[derive(Clone, Copy, PartialEq, Eq, Debug)]
+pub struct Setup {
+    /// bmRequestType
+    pub request_type: u8,
+    /// bRequest
+    pub request: u8,
+    /// wValue
+    pub value: u16,
+    /// wIndex
+    pub index: u16,
+    /// wLength
+    pub length: u16,
+}
+
+impl Setup {
+    /// The packet of eight bytes: numbers of two bytes have the low one first (USB 2.0, 9.3).
+    pub fn read(bytes: [u8; 8]) -> Setup
+        ensures { result ≡ setup_of bytes }
+    {
+        Setup {
+            request_type: bytes[0],
+            request: bytes[1],
+            value: word(bytes[2], bytes[3]),
+            index: word(bytes[4], bytes[5]),
+            length: word(bytes[6], bytes[7]),
+        }
+    }
+}
+
+// The number of two bytes.
+fn word(low: u8, high: u8) -> u16
+    ensures { result ≡ low + 256 * high }
+{
+    u16::from(low) + 256 * u16::from(high)
+}
+
+/// The high byte of a number: a control's selector in wValue, an entity in wIndex (Audio Class 2.0, 5.2.2).
+pub(crate) fn high_byte(number: u16) -> u8
+    ensures { result ≡ high number }
+{
+    (number / 256) as u8
+}
+
+/// The low byte of a number: a control's channel in wValue, the interface in wIndex (Audio Class 2.0, 5.2.2).
+pub(crate) fn low_byte(number: u16) -> u8
+    ensures { result ≡ low number }
+{
+    (number % 256) as u8
+}
