@@ -4,4 +4,5 @@ pub mod Maps
 pub mod Narrow
 pub mod Owned
 pub mod Sent
+pub mod Started
 pub mod Worked

@@ -9,6 +9,7 @@ mod controls;
 mod current;
 /// What a device answers.
 mod device;
+pub mod laws;
 /// What keeps a control.
 mod owner;
 /// A control's ranges.
