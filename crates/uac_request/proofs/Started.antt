@@ -1,11 +1,11 @@
 -- The settings at the start.
-use Rattle.std.proofs.Common.{◌≡◌, ◌∙◌, ap, ℕ, ◌==◌, ◌||◌, Bool, true, false, List, [], ◌∷◌, map, is_some, refl, inl, inr, rules, arith}
+use Rattle.std.proofs.Common.{◌≡◌, ℕ, ◌==◌, true, false, List, [], ◌∷◌, map, is_some, refl, inl, inr, arith}
 use Rattle.std.proofs.lemmas.Bool.{cases_Bool}
 use Rattle.std.specs.List.{find}
 use Rattle.uac_entities.specs.declared.stream.StreamInterface.{StreamInterface}
 use Rattle.uac_topology.specs.Function.{FunctionFields}
 use Rattle.uac_alt.specs.Settings.{in_first, initial_settings, setting_of}
-use Rattle.uac_request.specs.Requests.{AreSettingsOf, has_interface}
+use Rattle.uac_request.specs.Requests.{AreSettingsOf}
 
 -- of the streaming interfaces
 among_streams : (streams : List StreamInterface) (n : ℕ) → is_some (setting_of (map in_first (map (λ s. s.number) streams)) n) ≡ is_some (find (λ s. s.number == n) streams)
