@@ -1,5 +1,5 @@
 // The bytes of a control's value now.
-ghost use Rattle.std.specs.Prelude.{◌≡◌, ◌≤◌, unwrap_or, IfSome};
+ghost use Rattle.std.specs.Prelude.{◌≡◌, ◌≤◌, IfSome};
 ghost use Rattle.uac_request.specs.Owners.{owned};
 ghost use Rattle.uac_request.specs.Requests as spec;
 ghost use Rattle.uac_request.specs.Requests.{held_by, key_named};

@@ -32,10 +32,10 @@ pub fn answer(
 {
     match request_of(setup.request_type, setup.request) {
         Some(Request::GetCur) => get_cur(function, store, settings, setup, sent),
-        Some(Request::GetRange) => get_range(function, store, settings, setup, sent),
+        Some(Request::GetRange) => get_range(function, store, setup, sent),
         Some(Request::SetCur) => set_cur(function, store, settings, setup, sent),
-        Some(Request::GetDescriptor) => get_descriptor(function, store, settings, setup, sent),
-        Some(Request::GetInterface) => get_interface(function, store, settings, setup, sent),
+        Some(Request::GetDescriptor) => get_descriptor(function, setup, sent),
+        Some(Request::GetInterface) => get_interface(function, settings, setup, sent),
         Some(Request::SetInterface) => set_interface(function, store, settings, setup, sent),
         None => Answer::Stall(1),
     }

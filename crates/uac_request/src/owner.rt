@@ -1,7 +1,7 @@
 // What keeps a control.
-ghost use Rattle.std.specs.Prelude.{◌≡◌, ◌==◌, None, Some, if◌then◌else◌, is_some};
+ghost use Rattle.std.specs.Prelude.{◌≡◌, ◌==◌, None, Some, if◌then◌else◌};
 ghost use Rattle.std.specs.List.{list_any};
-ghost use Rattle.std.specs.Option.{option_copied, option_map};
+ghost use Rattle.std.specs.Option.{option_map};
 ghost use Rattle.uac_entities.specs.Streams.{named};
 ghost use Rattle.uac_request.specs.Owners as owners;
 ghost use Rattle.uac_request.specs.Requests as spec;

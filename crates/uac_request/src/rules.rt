@@ -1,5 +1,5 @@
 // The rules that requests to controls break.
-ghost use Rattle.std.specs.Prelude.{◌≡◌, ◌≤◌, ◌==◌, IfOk, IfErr, IfSome, IsSome, List, nat_le, Some, None, is_some, if◌then◌else◌, length, true, nat_lt};
+ghost use Rattle.std.specs.Prelude.{◌≡◌, ◌≤◌, ◌==◌, IfOk, IfErr, IfSome, IsSome, List, nat_le, Some, None, if◌then◌else◌, length, true, nat_lt};
 ghost use Rattle.std.specs.Int.{w32};
 ghost use Rattle.std.specs.Int.RustNames.{FitsSigned};
 ghost use Rattle.uac_entities.specs.Streams.{named};

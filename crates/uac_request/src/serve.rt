@@ -1,11 +1,12 @@
 // The six requests, each by itself.
 ghost use Rattle.std.specs.Prelude as prelude;
-ghost use Rattle.std.specs.Prelude.{◌≡◌, ℕ, IfErr, IfOk, None, Some, if◌then◌else◌, take, true};
-ghost use Rattle.uac_alt.specs.Settings.{setting_of};
+ghost use Rattle.std.specs.Prelude.{◌≡◌, ℤ, List, ℕ, IfErr, IfOk, None, Some, take, true};
+ghost use Rattle.uac_alt.specs.declared.settings.InterfaceSetting.{InterfaceSetting};
 ghost use Rattle.uac_store.specs.Controls.{IsStoreOf};
+ghost use Rattle.uac_store.specs.declared.keys.Key.{Key};
 ghost use Rattle.uac_request.specs.Owners.{owned};
 ghost use Rattle.uac_request.specs.Requests as spec;
-ghost use Rattle.uac_request.specs.Requests.{AreSettingsOf, held_by, kept_after, low, seen, told_to};
+ghost use Rattle.uac_request.specs.Requests.{AreSettingsOf, Held, held_by, kept_after, low, seen, told_to};
 ghost use Rattle.uac_request.specs.declared.request.Request.TheVariants as ask;
 
 use crate::current::{cur_bytes, key_of, one_byte};
@@ -47,16 +48,10 @@ pub(crate) fn get_cur(
 
 /// What a request for a control's ranges is told (Audio Class 2.0, 5.2.1).
 #[tactic(auto, unfolding(crate::specs::Requests::broken_by, crate::specs::Requests::answered, crate::specs::Requests::left_by))]
-pub(crate) fn get_range(
-    function: &Function,
-    store: &Store,
-    settings: &Settings,
-    setup: &Setup,
-    sent: &[u8],
-) -> Answer
+pub(crate) fn get_range(function: &Function, store: &Store, setup: &Setup, sent: &[u8]) -> Answer
     requires { IsStoreOf function.now.entities store.now }
-    ensures told { seen result ≡ told_to function.now (held_by store.now settings.now) setup.now sent.now ask.GetRange }
-    ensures held { held_by store.now settings.now ≡ kept_after function.now (held_by store.now settings.now) setup.now sent.now ask.GetRange }
+    ensures told { (settings : List InterfaceSetting) → seen result ≡ told_to function.now (held_by store.now settings) setup.now sent.now ask.GetRange }
+    ensures held { (settings : List InterfaceSetting) → held_by store.now settings ≡ kept_after function.now (held_by store.now settings) setup.now sent.now ask.GetRange }
 {
     let owner = match owner_named(function, setup) {
         Ok(owner) => owner,
@@ -97,15 +92,9 @@ pub(crate) fn set_cur(
 
 /// What a request for the configuration is told (USB 2.0, 9.4.3).
 #[tactic(auto, unfolding(crate::specs::Requests::broken_by, crate::specs::Requests::answered, crate::specs::Requests::left_by, crate::specs::Requests::least))]
-pub(crate) fn get_descriptor(
-    function: &Function,
-    store: &Store,
-    settings: &Settings,
-    setup: &Setup,
-    sent: &[u8],
-) -> Answer
-    ensures told { seen result ≡ told_to function.now (held_by store.now settings.now) setup.now sent.now ask.GetDescriptor }
-    ensures held { held_by store.now settings.now ≡ kept_after function.now (held_by store.now settings.now) setup.now sent.now ask.GetDescriptor }
+pub(crate) fn get_descriptor(function: &Function, setup: &Setup, sent: &[u8]) -> Answer
+    ensures told { (held : Held) → seen result ≡ told_to function.now held setup.now sent.now ask.GetDescriptor }
+    ensures held { (held : Held) → held ≡ kept_after function.now held setup.now sent.now ask.GetDescriptor }
 {
     if setup.value != 0x0200 {
         return Answer::Stall(4);
@@ -128,13 +117,12 @@ pub(crate) fn get_descriptor(
 #[tactic(auto, unfolding(crate::specs::Requests::broken_by, crate::specs::Requests::answered, crate::specs::Requests::left_by, crate::specs::Requests::least))]
 pub(crate) fn get_interface(
     function: &Function,
-    store: &Store,
     settings: &Settings,
     setup: &Setup,
     sent: &[u8],
 ) -> Answer
-    ensures told { seen result ≡ told_to function.now (held_by store.now settings.now) setup.now sent.now ask.GetInterface }
-    ensures held { held_by store.now settings.now ≡ kept_after function.now (held_by store.now settings.now) setup.now sent.now ask.GetInterface }
+    ensures told { (controls : List (Key × ℤ)) → seen result ≡ told_to function.now (held_by controls settings.now) setup.now sent.now ask.GetInterface }
+    ensures held { (controls : List (Key × ℤ)) → held_by controls settings.now ≡ kept_after function.now (held_by controls settings.now) setup.now sent.now ask.GetInterface }
 {
     let Some(interface) = interface_named(function, setup.index) else {
         return Answer::Stall(2);

@@ -1,5 +1,5 @@
 // The settings of a streaming interface that are valid.
-ghost use Rattle.std.specs.Prelude.{◌≡◌, ◌==◌, ◌<◌, ◌%◌, ◌^◌, is_some, if◌then◌else◌, false, map, sum};
+ghost use Rattle.std.specs.Prelude.{◌≡◌, ◌==◌, ◌<◌, ◌%◌, ◌^◌, is_some, false};
 ghost use Rattle.std.specs.Option.{option_map_or};
 ghost use Rattle.uac_alt.specs.Streams.{stream_of};
 ghost use Rattle.uac_request.specs.Requests as spec;
