@@ -21,12 +21,12 @@ use Rattle.uac_grammar.proofs.Readings.{no_stop_no_fault}
 use Rattle.uac_grammar.proofs.Stops.{stop_at-Fault}
 use Rattle.uac_entities.specs.declared.entity.Entity.{Entity}
 use Rattle.uac_entities.specs.declared.stream.StreamInterface.{StreamInterface}
-use Rattle.uac_rules.specs.declared.fault.TopologyFault.{TopologyFault}
+use Rattle.uac_topology_rules.specs.declared.fault.TopologyFault.{TopologyFault}
 use Rattle.uac_topology.specs.Function.{FunctionFields}
 use Rattle.uac_topology.specs.Topology.{first_broken, IsSound, IsFunctionOf}
 use Rattle.uac_units.specs.Hearing.{Reading}
-use Rattle.uac_play.specs.Text.{ready_line}
-use Rattle.uac_play.specs.World.{at_start}
+use Rattle.uac_running.specs.Text.{ready_line}
+use Rattle.uac_running.specs.World.{at_start}
 use Rattle.uac_bus.specs.declared.fault.BusFault.{BusFault}
 use Rattle.uac_bus.specs.declared.fault.BusFault.TheVariants as faults
 use Rattle.uac_bus.specs.declared.bus.Stage.TheVariants as stages

@@ -5,16 +5,16 @@ use Rattle.std.specs.List.{list_all, position_or_len}
 use Rattle.std.proofs.lemmas.List.{get_or_default, get_or_past}
 use Rattle.uac_entities.specs.declared.entity.Entity.{Entity}
 use Rattle.uac_entities.specs.declared.stream.StreamInterface.{StreamInterface}
-use Rattle.uac_rules.specs.Table.{at, place_of, nothing}
-use Rattle.uac_rules.proofs.Found.{position_is, position_none}
+use Rattle.uac_topology_rules.specs.Table.{at, place_of, nothing}
+use Rattle.uac_topology_rules.proofs.Found.{position_is, position_none}
 use Rattle.uac_graph.specs.Meaning.{entity}
 use Rattle.uac_units.specs.Hearing.{Reading}
 use Rattle.uac_script.specs.declared.line.Mark.{Mark}
 use Rattle.uac_script.specs.Line.{loss_of}
 use Rattle.uac_script.specs.Phrase.{deviates}
 use Rattle.uac_topology.specs.Function.{FunctionFields}
-use Rattle.uac_play.specs.World.{Running}
-use Rattle.uac_play.specs.Kept.{PlayingFields, Stands}
+use Rattle.uac_running.specs.World.{Running}
+use Rattle.uac_running.specs.Kept.{PlayingFields, Stands}
 use Rattle.uac_bus.specs.declared.bus.Stage.TheVariants as stages
 use Rattle.uac_bus.specs.declared.fault.BusFault.{BusFault}
 use Rattle.uac_bus.specs.World.{World, Step, step_playing, unless, breaks_rule, unbuilt, is_placed, is_empty, has_out, are_frames}

@@ -6,9 +6,9 @@ use Rattle.std.proofs.lemmas.List.Elements.{All-weaker}
 use Rattle.uac_grammar.specs.Reading as reader
 use Rattle.uac_script.specs.declared.line.Line.{Line}
 use Rattle.uac_script.specs.declared.line.Line.TheVariants as lines
-use Rattle.uac_play.specs.Kept as play
-use Rattle.uac_play.specs.Kept.{PlayingFields}
-use Rattle.uac_play.specs.World.{Running}
+use Rattle.uac_running.specs.Kept as play
+use Rattle.uac_running.specs.Kept.{PlayingFields}
+use Rattle.uac_running.specs.World.{Running}
 use Rattle.uac_bus.specs.declared.bus.Stage.TheVariants as stages
 use Rattle.uac_pcm.specs.declared.tones.Tone.{Tone}
 use Rattle.uac_pcm.specs.declared.tones.Tone.TheVariants.{Silent, Ramp, Noise}

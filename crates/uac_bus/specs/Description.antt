@@ -7,8 +7,8 @@ use Rattle.uac_descriptor.specs.Reading.{block_of}
 use Rattle.uac_sentence.specs.Cutting.{chop}
 use Rattle.uac_sentence.specs.Letter.{context_after}
 use Rattle.uac_entities.specs.Entities.{entities_of}
-use Rattle.uac_rules.specs.Clusters.{clustered}
-use Rattle.uac_rules.specs.Domains.{domains_of}
+use Rattle.uac_topology_rules.specs.Clusters.{clustered}
+use Rattle.uac_topology_rules.specs.Domains.{domains_of}
 use Rattle.uac_topology.specs.Function.{FunctionFields}
 use Rattle.uac_topology.specs.Topology.{control_number, first_given, streams_in, total_length}
 

@@ -1,10 +1,10 @@
 -- What the bus keeps, for which worlds it stands, and what a line is answered.
 use Rattle.std.specs.Prelude.{◌≡◌, ℕ, ◌*◌, ◌≤◌, ◌&&◌, Bool, true, false, List, Option, None, Result, Ok, Err}
 use Rattle.std.specs.Io.KnownBytes.{Appends}
-use Rattle.uac_script.specs.Writing.{AppendsFront}
+use Rattle.uac_edges.specs.Writing.{AppendsFront}
 use Rattle.uac_script.specs.Phrase.{Phrase, feeds, goes}
 use Rattle.uac_units.specs.Hearing.{Reading}
-use Rattle.uac_play.specs.Kept as play
+use Rattle.uac_running.specs.Kept as play
 use Rattle.uac_bus.specs.declared.fault.BusFault.{BusFault}
 use Rattle.uac_bus.specs.declared.fault.BusFault.TheVariants as faults
 use Rattle.uac_bus.specs.declared.bus.Stage.{Stage}

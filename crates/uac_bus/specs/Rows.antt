@@ -6,8 +6,8 @@ use Rattle.uac_grammar.specs.declared.fault.ReadStop.TheVariants as reads
 use Rattle.uac_topology.specs.Function.{FunctionFields}
 use Rattle.uac_topology.specs.Topology.{first_broken}
 use Rattle.uac_units.specs.Hearing.{Reading}
-use Rattle.uac_play.specs.Kept.{PlayingFields}
-use Rattle.uac_play.specs.Kept as play
+use Rattle.uac_running.specs.Kept.{PlayingFields}
+use Rattle.uac_running.specs.Kept as play
 use Rattle.uac_bus.specs.declared.fault.BusFault.{BusFault}
 use Rattle.uac_bus.specs.declared.fault.BusFault.TheVariants as faults
 use Rattle.uac_bus.specs.declared.bus.Stage.{Stage}

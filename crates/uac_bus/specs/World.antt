@@ -8,7 +8,7 @@ use Rattle.uac_entities.specs.declared.stream.StreamInterface.{StreamInterface}
 use Rattle.uac_sentence.specs.declared.faults.GrammarFault.{GrammarFault}
 use Rattle.uac_sentence.specs.Grammar.{first_fault}
 use Rattle.uac_grammar.specs.Stop.{shown_fault}
-use Rattle.uac_rules.specs.declared.fault.TopologyFault.{TopologyFault}
+use Rattle.uac_topology_rules.specs.declared.fault.TopologyFault.{TopologyFault}
 use Rattle.uac_topology.specs.Function.{FunctionFields}
 use Rattle.uac_topology.specs.Topology.{first_broken}
 use Rattle.uac_graph.specs.Meaning.{entity}
@@ -16,9 +16,9 @@ use Rattle.uac_units.specs.Hearing.{Reading}
 use Rattle.uac_script.specs.declared.line.MarkKind.{MarkKind}
 use Rattle.uac_script.specs.declared.line.MarkKind.TheVariants.{Out, In, Feedback}
 use Rattle.uac_script.specs.Phrase.{Voice, silent, ramps, hisses, Loss, Phrase, idle, feeds, goes, controls, gets, sets, shows, breaks, appends, tracks, jacks, deviates, runs, details, reports}
-use Rattle.uac_play.specs.World.{Running, at_start, has_jack, has_domain, with_tone, with_deviation, with_detail}
-use Rattle.uac_play.specs.Events.{Told, microframes}
-use Rattle.uac_play.specs.Text.{ready_line, report_text}
+use Rattle.uac_running.specs.World.{Running, at_start, has_jack, has_domain, with_tone, with_deviation, with_detail}
+use Rattle.uac_running.specs.Events.{Told, microframes}
+use Rattle.uac_running.specs.Text.{ready_line, report_text}
 use Rattle.uac_bus.specs.declared.fault.BusFault.{BusFault}
 use Rattle.uac_bus.specs.declared.fault.BusFault.TheVariants as faults
 use Rattle.uac_bus.specs.Description.{blocks_of, function_of}

@@ -3,7 +3,7 @@ ghost use Rattle.std.specs.Prelude.{◌≡◌, ◌≢◌, ◌+◌, ◌<◌, ◌�
 ghost use Rattle.uac_units.specs.Fitting.{IsFitted};
 ghost use Rattle.uac_units.specs.Hearing.{Reading};
 ghost use Rattle.uac_units.specs.Panel.{readings};
-ghost use Rattle.uac_script.specs.Faults.{Rose};
+ghost use Rattle.uac_edges.specs.Faults.{Rose};
 ghost use Rattle.uac_script.specs.Line.{phrase_of, Keeps};
 ghost use Rattle.uac_bus.specs.World.{World, start, step, finish_of};
 ghost use Rattle.uac_bus.specs.Kept.{Stands, StandsFor, StageCounts, Does, Answers, may_want, is_final, most_lines};
@@ -15,9 +15,10 @@ use crate::rows::play;
 use std::alloc::Global;
 use std::marker::Model;
 use std::mem;
+use uac_edges::Sink;
 use uac_grammar::Reader;
-use uac_play::Playing;
-use uac_script::{Line, Sink};
+use uac_running::Playing;
+use uac_script::Line;
 use uac_units::{Meter, Meters, Rack, Unit};
 
 /// How far a script is.

@@ -1,8 +1,8 @@
 // The lines of the descriptor.
 ghost use Rattle.std.specs.Prelude.{◌≡◌, ◌≢◌, ◌≤◌, ◌++◌, ℕ, List, Option, None, true, IfOk, IfErr};
 ghost use Rattle.uac_units.specs.Hearing.{Reading};
-ghost use Rattle.uac_script.specs.Faults.{Rose};
-ghost use Rattle.uac_play.specs.Kept.{Counts};
+ghost use Rattle.uac_edges.specs.Faults.{Rose};
+ghost use Rattle.uac_running.specs.Kept.{Counts};
 ghost use Rattle.uac_bus.specs.World.{fed, gone};
 ghost use Rattle.uac_bus.specs.Kept.{StandsFor, Does, is_final};
 ghost use Rattle.uac_bus.specs.Rows.{Begins, Describes, fault_of};
@@ -10,9 +10,9 @@ ghost use Rattle.uac_bus.specs.Rows.{Begins, Describes, fault_of};
 use crate::bus::Stage;
 use crate::fault::BusFault;
 use std::alloc::Global;
+use uac_edges::Sink;
 use uac_grammar::{ReadStop, Reader};
-use uac_play::Playing;
-use uac_script::Sink;
+use uac_running::Playing;
 use uac_topology::{CheckStop, Function, check};
 
 /// Takes more bytes of the descriptor.

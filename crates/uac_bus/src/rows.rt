@@ -3,20 +3,21 @@ ghost use Rattle.std.specs.Prelude.{◌≡◌, ◌≢◌, ◌+◌, ◌^◌, ◌�
 ghost use Rattle.uac_units.specs.Fitting.{IsFitted};
 ghost use Rattle.uac_units.specs.Hearing.{Reading};
 ghost use Rattle.uac_units.specs.Panel.{readings};
-ghost use Rattle.uac_script.specs.Faults.{Rose};
+ghost use Rattle.uac_edges.specs.Faults.{Rose};
 ghost use Rattle.uac_script.specs.Line.{phrase_of, voice_of_tone, loss_of, Keeps};
 ghost use Rattle.uac_script.specs.Phrase as phrase;
-ghost use Rattle.uac_play.specs.World.{Running};
-ghost use Rattle.uac_play.specs.Kept.{Stands, Counts};
+ghost use Rattle.uac_running.specs.World.{Running};
+ghost use Rattle.uac_running.specs.Kept.{Stands, Counts};
 ghost use Rattle.uac_bus.specs.World.{step_playing, refused};
 ghost use Rattle.uac_bus.specs.Kept.{StandsFor, Does, is_final, most_rise};
 
 use crate::bus::Stage;
 use crate::fault::BusFault;
 use crate::naming::{are_frames, are_placed, has_out};
+use uac_edges::Sink;
 use uac_pcm::Tone;
-use uac_play::Playing;
-use uac_script::{Line, Mark, Sink};
+use uac_running::Playing;
+use uac_script::{Line, Mark};
 use uac_units::{Meter, Meters, Rack, Unit};
 
 /// Samples for a track. Tracks aren't built yet.

@@ -4,7 +4,7 @@ use Rattle.uac_descriptor.specs.declared.block.Block.{Block}
 use Rattle.uac_sentence.specs.Sentence.{IsSentence}
 use Rattle.uac_grammar.specs.declared.fault.ReadStop.{ReadStop}
 use Rattle.uac_grammar.specs.declared.fault.ReadStop.TheVariants.{Fault, NoMemory}
-use Rattle.uac_rules.specs.declared.fault.TopologyFault.{TopologyFault}
+use Rattle.uac_topology_rules.specs.declared.fault.TopologyFault.{TopologyFault}
 use Rattle.uac_topology.specs.declared.soundness.CheckStop.{CheckStop}
 use Rattle.uac_topology.specs.declared.soundness.CheckStop.TheVariants as stops
 use Rattle.uac_topology.specs.Function.{FunctionFields}
@@ -20,7 +20,7 @@ use Rattle.uac_cli.specs.Reading.{Reads}
 use Rattle.uac_cli.specs.Run.{Closes, Judges, Refuses, RefusesFunction, IsAnswered, IsEnding, IsRun}
 use Rattle.uac_cli.specs.Transcript.{Ending}
 use Rattle.uac_units.specs.Hearing.{Reading}
-use Rattle.uac_script.proofs.Consuming.{Consumes-none}
+use Rattle.uac_edges.proofs.Consuming.{Consumes-none}
 use Rattle.uac_cli.proofs.Composing.{nothing_shown, quiet_so_far}
 
 module _ (a b : Option (List ℕ)) (r r' : ℕ) (w w' : Option (List ℕ)) (f f' : ℕ) (status : Status) where

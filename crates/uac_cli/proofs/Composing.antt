@@ -13,7 +13,7 @@ use Rattle.uac_sentence.specs.Cutting.{chop, chop_within}
 use Rattle.uac_sentence.specs.Fault.{faults_from}
 use Rattle.uac_sentence.specs.Grammar.{first_fault, grammar, rule_at_end, start}
 use Rattle.uac_cli.specs.Reading.{piece_size, StopsThere, Comes, Reads, Finishes}
-use Rattle.uac_script.proofs.Consuming.{Consumes-Consumes}
+use Rattle.uac_edges.proofs.Consuming.{Consumes-Consumes}
 
 -- no bytes show nothing: their fault is that the configuration is missing
 pub nothing_shown : shown_fault [] ≡ None

@@ -6,10 +6,10 @@ use Rattle.uac_script.specs.Phrase.{Phrase, idle, feeds, goes, appends, tracks, 
 use Rattle.uac_sentence.specs.declared.faults.GrammarFault.{GrammarFault}
 use Rattle.uac_sentence.specs.Grammar.{first_fault}
 use Rattle.uac_grammar.specs.Stop.{shown_fault}
-use Rattle.uac_rules.specs.declared.fault.TopologyFault.{TopologyFault}
+use Rattle.uac_topology_rules.specs.declared.fault.TopologyFault.{TopologyFault}
 use Rattle.uac_topology.specs.Topology.{first_broken}
-use Rattle.uac_play.specs.World.{Running, at_start, has_jack, has_domain}
-use Rattle.uac_play.specs.Text.{ready_line}
+use Rattle.uac_running.specs.World.{Running, at_start, has_jack, has_domain}
+use Rattle.uac_running.specs.Text.{ready_line}
 use Rattle.uac_bus.specs.Description.{blocks_of, function_of}
 use Rattle.uac_bus.specs.World.{World, describing, playing, Step, done, refused, step, unless, unbuilt, silently, if_no_fault, if_sound, fed, gone, step_describing, step_playing, meters_in, size_of, has_out, are_frames, is_placed, is_empty}
 use Rattle.uac_bus.specs.declared.bus.Stage.{Stage}

@@ -3,8 +3,8 @@ use Rattle.std.proofs.Common.{◌≡◌, ◌≢◌, ℕ, ◌+◌, ◌-◌, ◌�
 use Rattle.std.proofs.lemmas.List.{append-nil}
 use Rattle.std.specs.Io.KnownBytes.{Appends, Consumes, IsAtEnd, Keeps}
 use Rattle.uac_units.specs.Hearing.{Reading}
-use Rattle.uac_script.specs.Faults.{Rose}
-use Rattle.uac_script.specs.Writing.{AppendsFront}
+use Rattle.uac_edges.specs.Faults.{Rose}
+use Rattle.uac_edges.specs.Writing.{AppendsFront}
 use Rattle.uac_script.specs.Lines.{line, long, past, unended, head_of, most_of_input, Splitting, Splits, Goes}
 use Rattle.uac_script.specs.Phrase.{Phrase}
 use Rattle.uac_script.specs.Reading.{answer}
@@ -12,9 +12,9 @@ use Rattle.uac_script.specs.declared.lines.Next.{Next}
 use Rattle.uac_script.specs.declared.lines.Next.TheVariants as next
 use Rattle.uac_script.specs.declared.lines.LineStop.{LineStop}
 use Rattle.uac_script.specs.declared.lines.LineStop.TheVariants as stops
-use Rattle.uac_script.proofs.Consuming.{Consumes-none, Consumes-Consumes}
+use Rattle.uac_edges.proofs.Consuming.{Consumes-none, Consumes-Consumes}
 use Rattle.uac_script.proofs.HeadLemmas.{head_line-more}
-use Rattle.uac_script.proofs.WritingLemmas.{Appends-twice, Appends-none, AppendsFront-after, AppendsFront-longer, Rose-earlier}
+use Rattle.uac_edges.proofs.WritingLemmas.{Appends-twice, Appends-none, AppendsFront-after, AppendsFront-longer, Rose-earlier}
 use Rattle.uac_bus.specs.declared.fault.BusFault.{BusFault}
 use Rattle.uac_bus.specs.declared.fault.BusFault.TheVariants as faults
 use Rattle.uac_bus.specs.World.{World, describing, playing, Step, done, refused, start, step, finish_of, meters_in}

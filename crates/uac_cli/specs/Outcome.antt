@@ -5,7 +5,7 @@ use Rattle.uac_sentence.specs.declared.faults.GrammarFault.{GrammarFault}
 use Rattle.uac_sentence.specs.Grammar.{first_fault}
 use Rattle.uac_sentence.specs.Sentence.{IsSentence}
 use Rattle.uac_grammar.specs.Stop.{shown_fault}
-use Rattle.uac_rules.specs.declared.fault.TopologyFault.{TopologyFault}
+use Rattle.uac_topology_rules.specs.declared.fault.TopologyFault.{TopologyFault}
 use Rattle.uac_topology.specs.Function.{FunctionFields}
 use Rattle.uac_topology.specs.Topology.{first_broken, IsSound, IsFunctionOf}
 use Rattle.uac_cli.specs.declared.command.Command.{Command}

@@ -5,7 +5,7 @@ use Rattle.uac_sentence.specs.Grammar.{first_fault}
 use Rattle.uac_sentence.specs.Sentence.{IsSentence}
 use Rattle.uac_grammar.specs.declared.fault.ReadStop.TheVariants.{Fault, NoMemory}
 use Rattle.uac_grammar.specs.Stop.{shown_fault}
-use Rattle.uac_script.specs.Faults.{Rose}
+use Rattle.uac_edges.specs.Faults.{Rose}
 use Rattle.uac_cli.specs.declared.reading.Reading.{Reading}
 use Rattle.uac_cli.specs.declared.reading.Reading.TheVariants.{Whole, Stopped, Failed}
 

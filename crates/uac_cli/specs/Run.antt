@@ -1,8 +1,8 @@
 -- One call of the program, as its source and its sink see it (profile).
 use Rattle.std.specs.Prelude.{◌≡◌, ◌≢◌, ◌≤◌, ℕ, ◌+◌, ◌⊎◌, List, length, Option, Some, IsSome}
 use Rattle.std.specs.Io.KnownBytes.{Appends, Consumes, IsAtEnd}
-use Rattle.uac_script.specs.Faults.{Rose}
-use Rattle.uac_script.specs.Writing.{AppendsFront}
+use Rattle.uac_edges.specs.Faults.{Rose}
+use Rattle.uac_edges.specs.Writing.{AppendsFront}
 use Rattle.uac_script.specs.Lines.{most_of_input}
 use Rattle.uac_units.specs.Hearing.{Reading}
 use Rattle.uac_topology.specs.declared.soundness.CheckStop.{CheckStop}

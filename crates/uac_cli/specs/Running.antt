@@ -1,7 +1,7 @@
 -- What a line of a script comes to, and what stops its lines.
 use Rattle.std.specs.Prelude.{◌≡◌, ℕ, List, Option, Result, IfErr}
 use Rattle.uac_units.specs.Hearing.{Reading}
-use Rattle.uac_script.specs.Faults.{Rose}
+use Rattle.uac_edges.specs.Faults.{Rose}
 use Rattle.uac_script.specs.declared.lines.LineStop.{LineStop}
 use Rattle.uac_script.specs.declared.lines.LineStop.TheVariants as stop
 use Rattle.uac_bus.specs.declared.fault.BusFault.{BusFault}

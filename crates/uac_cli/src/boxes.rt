@@ -1,7 +1,7 @@
 // The boxes of the program: its units and its meters. They are made where the program is called.
 ghost use Rattle.std.specs.Prelude.{◌≡◌, map, string_bytes, IfOk, OnErr};
 ghost use Rattle.std.specs.Io.KnownBytes.{IsAtEnd};
-ghost use Rattle.uac_script.specs.Faults.{Rose};
+ghost use Rattle.uac_edges.specs.Faults.{Rose};
 ghost use Rattle.uac_units.specs.Fitting.{IsFitted};
 ghost use Rattle.uac_cli.specs.Command.{command_of};
 ghost use Rattle.uac_cli.specs.Boxes.{IsFreshRun};
@@ -9,7 +9,7 @@ ghost use Rattle.uac_cli.specs.Boxes.{IsFreshRun};
 use crate::status::Status;
 use crate::top::{Racks, uac_main};
 use std::alloc::{AllocError, Global};
-use uac_script::{Sink, Source};
+use uac_edges::{Sink, Source};
 use uac_units::{
     ClippedMeter, Meter, Meters, PeakMeter, PlainEffect, PlainFeature, PlainMixer, PlainSelector,
     Rack, SumMeter, Unit,

@@ -1,9 +1,9 @@
 // Standard input and output as a source and a sink. They tell nothing of their bytes.
 ghost use Rattle.std.specs.Prelude.{◌<◌, ◌≤◌, length, None, IfSome};
-ghost use Rattle.uac_script.specs.Faults.{Rose};
+ghost use Rattle.uac_edges.specs.Faults.{Rose};
 
 use std::io::{ErrorKind, Read, Stdin, Stdout, Write};
-use uac_script::{Failed, Sink, Source};
+use uac_edges::{Failed, Sink, Source};
 
 /// Standard input. A read that was interrupted is tried again, and is no fault.
 #[derive(Drop)]

@@ -1,11 +1,11 @@
 // Printing the entities of a function.
 ghost use Rattle.std.specs.Prelude.{◌≡◌, ◌≤◌, ◌++◌, length, flat_map, codes, decimal};
-ghost use Rattle.uac_script.specs.Faults.{HasCause};
-ghost use Rattle.uac_script.specs.Writing.{Writes};
+ghost use Rattle.uac_edges.specs.Faults.{HasCause};
+ghost use Rattle.uac_edges.specs.Writing.{Writes};
 ghost use Rattle.uac_cli.specs.Entities.{name_of, ids_text, more_ids, entity_head, entity_tail, entity_line, channels_text, clock_text};
 
+use uac_edges::{Failed, Sink, TextLine, give_all};
 use uac_entities::{Entity, EntityKind};
-use uac_script::{Failed, Sink, TextLine, give_all};
 
 /// Writes a line for each entity.
 pub fn write_entities<K: Sink>(sink: &mut K, entities: &[Entity]) -> Result<(), Failed>
@@ -22,7 +22,7 @@ pub fn write_entities<K: Sink>(sink: &mut K, entities: &[Entity]) -> Result<(), 
 }
 
 /// Writes an entity's line.
-#[tactic(auto, using(uac_script::proofs::WritingLemmas::writings), unfolding(crate::specs::Entities::entity_line))]
+#[tactic(auto, using(uac_edges::proofs::WritingLemmas::writings), unfolding(crate::specs::Entities::entity_line))]
 fn write_entity<K: Sink>(sink: &mut K, entity: &Entity) -> Result<(), Failed>
     ensures written { Writes (K.written sink.old) (K.written sink.new) result (entity_line entity.now) }
     ensures cause { HasCause (K.faults sink.old) (K.faults sink.new) result }
@@ -35,7 +35,7 @@ fn write_entity<K: Sink>(sink: &mut K, entity: &Entity) -> Result<(), Failed>
 }
 
 /// Writes an entity's line from its sources on.
-#[tactic(auto, using(uac_script::proofs::WritingLemmas::writings))]
+#[tactic(auto, using(uac_edges::proofs::WritingLemmas::writings))]
 fn write_rest<K: Sink>(sink: &mut K, entity: &Entity) -> Result<(), Failed>
     ensures written { Writes (K.written sink.old) (K.written sink.new) result (ids_text entity.now.sources ++ entity_tail entity.now) }
     ensures cause { HasCause (K.faults sink.old) (K.faults sink.new) result }
@@ -48,7 +48,7 @@ fn write_rest<K: Sink>(sink: &mut K, entity: &Entity) -> Result<(), Failed>
 }
 
 /// Writes ids parted by commas, or a dash where there are none.
-#[tactic(auto, using(uac_script::proofs::WritingLemmas::writings))]
+#[tactic(auto, using(uac_edges::proofs::WritingLemmas::writings))]
 fn write_ids<K: Sink>(sink: &mut K, ids: &[u8]) -> Result<(), Failed>
     ensures written { Writes (K.written sink.old) (K.written sink.new) result (ids_text ids.now) }
     ensures cause { HasCause (K.faults sink.old) (K.faults sink.new) result }

@@ -6,8 +6,8 @@ ghost use Rattle.uac_cli.specs.Show.{kind_of, line_of};
 ghost use Rattle.uac_cli.specs.Transcript.{misread};
 
 use uac_descriptor::Block;
+use uac_edges::TextLine;
 use uac_grammar::GrammarFault;
-use uac_script::TextLine;
 use uac_topology::{Function, TopologyFault};
 
 pub const USAGE: &[u8] = b"usage: uac_cli check|show|run\n";

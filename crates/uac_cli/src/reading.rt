@@ -4,8 +4,8 @@ ghost use Rattle.uac_cli.specs.Reading.{Reads, Finishes};
 
 use std::alloc::Global;
 use uac_descriptor::Block;
+use uac_edges::{Failed, Source};
 use uac_grammar::{ReadStop, Reader};
-use uac_script::{Failed, Source};
 
 /// What came of reading a descriptor.
 #[derive(Drop)]

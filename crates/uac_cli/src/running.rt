@@ -1,7 +1,7 @@
 // Running a script, line by line.
 ghost use Rattle.std.specs.Prelude.{◌≡◌, ◌≢◌, ◌+◌, ◌<◌, ◌≤◌, length, List, Some};
 ghost use Rattle.std.specs.Io.KnownBytes.{IsAtEnd};
-ghost use Rattle.uac_script.specs.Faults.{Rose};
+ghost use Rattle.uac_edges.specs.Faults.{Rose};
 ghost use Rattle.uac_script.specs.Reading.{answer};
 ghost use Rattle.uac_units.specs.Fitting.{IsFitted};
 ghost use Rattle.uac_units.specs.Hearing.{Reading};
@@ -18,7 +18,8 @@ use crate::status::Status;
 use crate::top::close;
 use std::alloc::Global;
 use uac_bus::{Bus, BusFault};
-use uac_script::{Line, LineStop, Lines, Next, Sink, Source};
+use uac_edges::{Sink, Source};
+use uac_script::{Line, LineStop, Lines, Next};
 use uac_units::{Meter, Meters, Rack, Unit};
 
 /// Does the lines of a script in order, up to the first that is refused, and prints what each prints, and the last line of a

@@ -1,15 +1,15 @@
 // Printing the blocks of a descriptor.
 ghost use Rattle.std.specs.Prelude.{◌≡◌, ◌≤◌, length, flat_map, IfOk};
 ghost use Rattle.uac_descriptor.specs.Spelling.{spelling};
-ghost use Rattle.uac_script.specs.Faults.{HasCause};
-ghost use Rattle.uac_script.specs.Writing.{Writes};
+ghost use Rattle.uac_edges.specs.Faults.{HasCause};
+ghost use Rattle.uac_edges.specs.Writing.{Writes};
 ghost use Rattle.uac_cli.specs.Show.{block_line, block_lines, BeginsWith};
 
 use crate::lines::block_line;
 use std::alloc::Global;
 use uac_descriptor::laws::has_spelling;
 use uac_descriptor::{Block, ByteList, NoMemory};
-use uac_script::{Failed, Sink, give_all};
+use uac_edges::{Failed, Sink, give_all};
 
 /// The bytes of the blocks, one after the other.
 pub fn bytes_of(alloc: Global, blocks: &[Block]) -> Result<ByteList, NoMemory>

@@ -4,7 +4,7 @@ ghost use Rattle.std.specs.Prelude.{◌<◌};
 use super::*;
 use std::test::Fail;
 use uac_descriptor::{ByteList, WordList};
-use uac_script::{MemorySink, MemorySource, SteadySource};
+use uac_edges::{MemorySink, MemorySource, SteadySource};
 
 /// The least descriptor: 35 bytes, blocks at 0, 9, 17 and 26.
 const MINIMAL: [u8; 35] = [

@@ -2,8 +2,8 @@
 ghost use Rattle.std.specs.Prelude.{◌≡◌, ◌⊎◌, flat_map, map, string_bytes};
 ghost use Rattle.std.specs.Io.KnownBytes.{IsAtEnd};
 ghost use Rattle.uac_descriptor.specs.Spelling.{spelling};
-ghost use Rattle.uac_script.specs.Faults.{Rose, HasCause};
-ghost use Rattle.uac_script.specs.Writing.{Writes};
+ghost use Rattle.uac_edges.specs.Faults.{Rose, HasCause};
+ghost use Rattle.uac_edges.specs.Writing.{Writes};
 ghost use Rattle.uac_units.specs.Fitting.{IsFitted};
 ghost use Rattle.uac_units.specs.Panel.{readings};
 ghost use Rattle.uac_cli.specs.Command.{command_of};
@@ -19,8 +19,8 @@ use crate::show::{bytes_of, write_blocks};
 use crate::status::Status;
 use std::alloc::Global;
 use uac_descriptor::{Block, NoMemory};
+use uac_edges::{Failed, Sink, Source, give_all};
 use uac_grammar::ReadStop;
-use uac_script::{Failed, Sink, Source, give_all};
 use uac_topology::{CheckStop, Function, check};
 use uac_units::{Meter, Meters, Rack, Unit};
 
@@ -148,7 +148,7 @@ fn show<K: Sink>(alloc: Global, blocks: &[Block], function: &Function, sink: &mu
 }
 
 /// Writes a line for each block, whose bytes are `bytes`, and then for each entity.
-#[tactic(auto, using(uac_script::proofs::WritingLemmas::writings))]
+#[tactic(auto, using(uac_edges::proofs::WritingLemmas::writings))]
 fn write_all<K: Sink>(
     sink: &mut K,
     blocks: &[Block],

@@ -10,7 +10,7 @@ use Rattle.uac_descriptor.specs.declared.context.Context.TheVariants as context
 use Rattle.uac_descriptor.specs.Rows as rows
 use Rattle.uac_descriptor.specs.Rows.{Context, Spells, Row, row_in, row_of, row_beside}
 use Rattle.uac_descriptor.specs.Laws.{IsKept, HasSpelling, OneSpelling, SpeltIsRead, ReadIsSpelt}
-use Rattle.uac_descriptor.specs.declared.codes.TheConstants.{CONFIGURATION, INTERFACE, INTERFACE_ASSOCIATION, AS_GENERAL, FORMAT_TYPE}
+use Rattle.uac_descriptor.specs.Standard.{CONFIGURATION, INTERFACE, INTERFACE_ASSOCIATION, AS_GENERAL, FORMAT_TYPE}
 use Rattle.uac_descriptor.specs.declared.block.Block.{Block}
 use Rattle.uac_descriptor.specs.declared.block.Block.TheVariants as variant
 use Rattle.uac_descriptor.proofs.ReadBack.{block_of-Spells, length-words}

@@ -8,7 +8,7 @@ use Rattle.uac_descriptor.specs.Little.{four}
 use Rattle.uac_descriptor.specs.Spelling.{spelling}
 use Rattle.uac_descriptor.specs.Rows.{row, Spells, IsComplete, Context, row_in}
 use Rattle.uac_descriptor.specs.Reading.{has_length, fields, is_whole, block_of, words_in, selector_fields, mixer_fields, last_of}
-use Rattle.uac_descriptor.specs.declared.codes.TheConstants.{CS_INTERFACE, MIXER_UNIT, SELECTOR_UNIT, CLOCK_SELECTOR}
+use Rattle.uac_descriptor.specs.Standard.{CS_INTERFACE, MIXER_UNIT, SELECTOR_UNIT, CLOCK_SELECTOR}
 use Rattle.uac_descriptor.specs.declared.block.Block.{Block}
 use Rattle.uac_descriptor.specs.declared.block.Block.TheVariants as variant
 

@@ -11,7 +11,7 @@ use Rattle.uac_descriptor.specs.Spelling.{spelling}
 use Rattle.uac_descriptor.specs.Rows as rows
 use Rattle.uac_descriptor.specs.Rows.{row, Row, Spells, IsComplete, Context, row_in, row_of, rows_of, row_beside}
 use Rattle.uac_descriptor.specs.Reading.{AreBytes, has_length, fields, is_whole, block_of, words_in, last_of}
-use Rattle.uac_descriptor.specs.declared.codes.TheConstants.{
+use Rattle.uac_descriptor.specs.Standard.{
   CONFIGURATION,
   INTERFACE,
   ENDPOINT,

@@ -1,7 +1,7 @@
 -- Which associations and interfaces are those of an audio function of this version: Audio Class 2.0, 4.6, 4.7.1 and 4.9.1,
 -- by the class codes of A.1 and A.3 to A.6.
 use Rattle.std.specs.Prelude.{Bool, ◌&&◌, ◌==◌}
-use Rattle.uac_descriptor.specs.declared.classes.TheConstants.{AUDIO, AUDIOCONTROL, AUDIOSTREAMING, IP_VERSION_02_00}
+use Rattle.uac_descriptor.specs.Standard.{AUDIO, AUDIOCONTROL, AUDIOSTREAMING, IP_VERSION_02_00}
 use Rattle.uac_descriptor.specs.declared.standard.Association as association
 use Rattle.uac_descriptor.specs.declared.standard.Interface as interface
 

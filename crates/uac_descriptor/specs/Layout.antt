@@ -1,7 +1,7 @@
 -- The fields of the blocks whose length varies, and what their type keeps: that the block has a spelling
 -- (Audio Class 2.0, 4.7.2 and 4.9.3; USB 2.0, 9.5 for a block that is kept whole).
 use Rattle.std.specs.Prelude.{◌≡◌, ℕ, ◌+◌, ◌*◌, ◌≤◌, Bool, ◌==◌, ◌||◌, ◌&&◌, not, IsTrue, List, length, slice_index}
-use Rattle.uac_descriptor.specs.declared.codes.TheConstants.{CONFIGURATION, INTERFACE, INTERFACE_ASSOCIATION, AS_GENERAL, FORMAT_TYPE, FORMAT_TYPE_I}
+use Rattle.uac_descriptor.specs.Standard.{CONFIGURATION, INTERFACE, INTERFACE_ASSOCIATION, AS_GENERAL, FORMAT_TYPE, FORMAT_TYPE_I}
 
 -- a selector unit or a clock selector (Audio Class 2.0, 4.7.2.7 and 4.7.2.2)
 pub record SelectorFields : Type 0 where

@@ -1,4 +1,5 @@
 -- What the blocks of a USB Audio Class 2.0 configuration are as bytes, and by which block bytes are read.
+pub mod Standard
 pub mod Layout
 pub mod Little
 pub mod Spelling

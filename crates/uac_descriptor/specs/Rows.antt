@@ -3,7 +3,7 @@
 use Rattle.std.specs.Prelude.{◌≡◌, ℕ, ◌≤◌, ◌==◌, if◌then◌else◌, List, [], ◌∷◌, length}
 use Rattle.uac_descriptor.specs.Layout.{IsWhole, is_type_one}
 use Rattle.uac_descriptor.specs.Spelling.{spelling}
-use Rattle.uac_descriptor.specs.declared.codes.TheConstants.{
+use Rattle.uac_descriptor.specs.Standard.{
   CONFIGURATION,
   INTERFACE,
   ENDPOINT,

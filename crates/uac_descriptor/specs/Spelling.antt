@@ -1,7 +1,7 @@
 -- The bytes of each block (USB 2.0, 9.6; Audio Class 2.0, 4.7.2, 4.9 and 4.10; Audio Data Formats 2.0, 2.3.1.6).
 use Rattle.std.specs.Prelude.{ℕ, ◌+◌, List, [], ◌∷◌, ◌++◌, length, flat_map}
 use Rattle.uac_descriptor.specs.Little.{two, four}
-use Rattle.uac_descriptor.specs.declared.codes.TheConstants.{
+use Rattle.uac_descriptor.specs.Standard.{
   CONFIGURATION,
   INTERFACE,
   ENDPOINT,

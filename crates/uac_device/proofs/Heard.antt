@@ -5,7 +5,7 @@ use Rattle.std.proofs.lemmas.List.{append-nil, take_all, take_more}
 use Rattle.std.proofs.lemmas.List.Elements.{filter_map-append}
 use Rattle.std.proofs.lemmas.List.Sums.{fold-append}
 use Rattle.uac_entities.specs.declared.entity.Entity.{Entity}
-use Rattle.uac_rules.specs.Rules.{is_output}
+use Rattle.uac_topology_rules.specs.Rules.{is_output}
 use Rattle.uac_graph.specs.Needs.{is_end}
 use Rattle.uac_graph.specs.Wiring.{Frames, frame_on}
 use Rattle.uac_units.specs.Hearing.{Reading, after_hearing}

@@ -6,13 +6,13 @@ use Rattle.std.proofs.lemmas.List.{get_or_default}
 use Rattle.uac_entities.specs.declared.entity.Entity.{Entity}
 use Rattle.uac_entities.specs.declared.entity.EntityKind.{EntityKind}
 use Rattle.uac_entities.specs.declared.entity.EntityKind.TheVariants as kind
-use Rattle.uac_rules.specs.Clusters.{is_input}
-use Rattle.uac_rules.specs.Links.{is_clock, signal_sources}
-use Rattle.uac_rules.specs.Rules.{is_output}
-use Rattle.uac_rules.specs.Table.{at, place_of}
-use Rattle.uac_rules.proofs.Found.{position_is, position-below}
-use Rattle.uac_rules.proofs.KnownSteps.{map_same}
-use Rattle.uac_rules.proofs.TableSteps.{at_read}
+use Rattle.uac_topology_rules.specs.Clusters.{is_input}
+use Rattle.uac_topology_rules.specs.Links.{is_clock, signal_sources}
+use Rattle.uac_topology_rules.specs.Rules.{is_output}
+use Rattle.uac_topology_rules.specs.Table.{at, place_of}
+use Rattle.uac_topology_rules.proofs.Found.{position_is, position-below}
+use Rattle.uac_topology_rules.proofs.KnownSteps.{map_same}
+use Rattle.uac_topology_rules.proofs.TableSteps.{at_read}
 use Rattle.uac_topology.specs.Function.{FunctionFields}
 use Rattle.uac_store.specs.Controls.{initial_controls}
 use Rattle.uac_store.specs.declared.keys.Key.{Key}

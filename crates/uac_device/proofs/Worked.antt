@@ -4,10 +4,10 @@ use Rattle.std.specs.List.{range_with_len}
 use Rattle.uac_entities.specs.declared.entity.Entity.{Entity}
 use Rattle.uac_entities.specs.declared.entity.EntityKind.{EntityKind}
 use Rattle.uac_entities.specs.declared.entity.EntityKind.TheVariants as kind
-use Rattle.uac_entities.specs.declared.entity.TheConstants.{USB_STREAMING}
+use Rattle.uac_descriptor.specs.Standard.{USB_STREAMING}
 use Rattle.uac_entities.specs.declared.stream.StreamInterface.{StreamInterface}
-use Rattle.uac_rules.specs.Links.{signal_sources}
-use Rattle.uac_rules.specs.Table.{at, place_of}
+use Rattle.uac_topology_rules.specs.Links.{signal_sources}
+use Rattle.uac_topology_rules.specs.Table.{at, place_of}
 use Rattle.uac_topology.specs.Function.{FunctionFields}
 use Rattle.uac_clock.specs.Nominal.{nominal_of, values_of}
 use Rattle.uac_entities.specs.Streams.{named}

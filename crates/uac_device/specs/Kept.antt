@@ -1,8 +1,8 @@
 -- What a device keeps, and for which worlds it stands.
 use Rattle.std.specs.Prelude.{◌≡◌, ℕ, ◌%◌, ◌<◌, ◌≤ℤ◌, true, false, ℤ, pos, negsuc, List, map, sum, None, Some}
 use Rattle.std.specs.List.{All}
-use Rattle.uac_rules.specs.Clusters.{is_input}
-use Rattle.uac_rules.specs.Rules.{is_output}
+use Rattle.uac_topology_rules.specs.Clusters.{is_input}
+use Rattle.uac_topology_rules.specs.Rules.{is_output}
 use Rattle.uac_topology.specs.Function.{FunctionFields}
 use Rattle.uac_store.specs.declared.keys.Key.{Key}
 use Rattle.uac_alt.specs.declared.settings.InterfaceSetting.{InterfaceSetting}

@@ -4,7 +4,7 @@ ghost use Rattle.uac_device.specs.World as spec;
 
 use uac_entities::{Entity, USB_STREAMING};
 use uac_graph::is_end;
-use uac_rules::{is_input, is_output};
+use uac_topology_rules::{is_input, is_output};
 
 /// Whether a terminal carries no stream of the bus (USB Terminal Types 2.0, 2.1).
 pub fn is_jack(entity: &Entity) -> bool

@@ -9,9 +9,9 @@ use Rattle.std.proofs.Math.Seq.{get_or-append_seam}
 use Rattle.uac_walk.specs.Walk.{has_walk, leads, links}
 use Rattle.uac_walk.proofs.Walks.{no_way_back_lem, none_at}
 use Rattle.uac_entities.specs.declared.entity.Entity.{Entity}
-use Rattle.uac_rules.specs.Links.{is_clock, signal_links, signal_sources}
-use Rattle.uac_rules.specs.Table.{at, place_of}
-use Rattle.uac_rules.proofs.Found.{any_at}
+use Rattle.uac_topology_rules.specs.Links.{is_clock, signal_links, signal_sources}
+use Rattle.uac_topology_rules.specs.Table.{at, place_of}
+use Rattle.uac_topology_rules.proofs.Found.{any_at}
 use Rattle.uac_graph.specs.Fitness.{IsSignalGraph}
 use Rattle.uac_graph.specs.Meaning.{entity}
 use Rattle.uac_graph.specs.Needs.{reaches}

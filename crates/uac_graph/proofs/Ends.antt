@@ -6,9 +6,9 @@ use Rattle.std.proofs.lemmas.Bool.{cases_Bool, eqb-true, eq-eqb, ne_eqb}
 use Rattle.std.proofs.lemmas.List.{get_or_default}
 use Rattle.std.proofs.lemmas.List.Folds.{list_any_at, list_any_none}
 use Rattle.uac_entities.specs.declared.entity.Entity.{Entity}
-use Rattle.uac_rules.specs.Links.{signal_sources}
-use Rattle.uac_rules.specs.Rules.{is_output}
-use Rattle.uac_rules.specs.Table.{at, nothing, place_of}
+use Rattle.uac_topology_rules.specs.Links.{signal_sources}
+use Rattle.uac_topology_rules.specs.Rules.{is_output}
+use Rattle.uac_topology_rules.specs.Table.{at, nothing, place_of}
 use Rattle.uac_topology.specs.Function.{FunctionFields}
 use Rattle.uac_topology.specs.Topology.{IsSoundFunction}
 use Rattle.uac_graph.specs.Fitness.{IsSignalGraph}

@@ -2,10 +2,10 @@
 use Rattle.std.proofs.Common.{◌≡◌, ◌∙◌, ap, sym, refl, ℕ, zero, suc, false, ℤ, List, [], length, get_or, map, inl, inr, if◌then◌else◌}
 use Rattle.uac_walk.specs.Walk.{has_walk}
 use Rattle.uac_entities.specs.declared.entity.Entity.{Entity}
-use Rattle.uac_rules.specs.Clusters.{is_input}
-use Rattle.uac_rules.specs.Links.{signal_sources, signal_links}
-use Rattle.uac_rules.proofs.KnownSteps.{map_same}
-use Rattle.uac_rules.specs.Table.{place_of, nothing}
+use Rattle.uac_topology_rules.specs.Clusters.{is_input}
+use Rattle.uac_topology_rules.specs.Links.{signal_sources, signal_links}
+use Rattle.uac_topology_rules.proofs.KnownSteps.{map_same}
+use Rattle.uac_topology_rules.specs.Table.{place_of, nothing}
 use Rattle.uac_graph.specs.Controls.{Controls}
 use Rattle.uac_graph.specs.Fitness.{IsSignalGraph}
 use Rattle.uac_graph.specs.Meaning.{entity, frame_of, meaning, samples, samples_by}

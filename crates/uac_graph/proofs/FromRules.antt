@@ -12,12 +12,12 @@ use Rattle.uac_entities.specs.declared.entity.Cluster.{Cluster}
 use Rattle.uac_entities.specs.declared.entity.Entity.{Entity}
 use Rattle.uac_entities.specs.declared.entity.EntityKind.{EntityKind}
 use Rattle.uac_entities.specs.declared.entity.EntityKind.TheVariants as kind
-use Rattle.uac_rules.specs.Clusters.{cluster_of, cluster_step, clustered, inputs, pins, takes_over}
-use Rattle.uac_rules.specs.Links.{is_clock, signal_links, signal_sources}
-use Rattle.uac_rules.specs.Rules.{breaks_u2, breaks_u3, breaks_u4, breaks_u6, breaks_u8, breaks_u10, breaks_u14, has_own_cluster, is_output, is_selector, is_silent, too_large}
-use Rattle.uac_rules.specs.Table.{at, found, kind_of, nothing, place_of, with_cluster}
-use Rattle.uac_rules.proofs.Along.{cluster_is}
-use Rattle.uac_rules.proofs.TableSteps.{found_is}
+use Rattle.uac_topology_rules.specs.Clusters.{cluster_of, cluster_step, clustered, inputs, pins, takes_over}
+use Rattle.uac_topology_rules.specs.Links.{is_clock, signal_links, signal_sources}
+use Rattle.uac_topology_rules.specs.Rules.{breaks_u2, breaks_u3, breaks_u4, breaks_u6, breaks_u8, breaks_u10, breaks_u14, has_own_cluster, is_output, is_selector, is_silent, too_large}
+use Rattle.uac_topology_rules.specs.Table.{at, found, kind_of, nothing, place_of, with_cluster}
+use Rattle.uac_topology_rules.proofs.Along.{cluster_is}
+use Rattle.uac_topology_rules.proofs.TableSteps.{found_is}
 use Rattle.uac_topology.specs.Function.{FunctionFields}
 use Rattle.uac_topology.specs.Topology.{IsSoundFunction}
 use Rattle.uac_store.specs.Controls.{pins_of}

@@ -7,10 +7,10 @@ use Rattle.std.proofs.lemmas.Bool.{cases_eq, eq-eqb, ne_eqb}
 use Rattle.std.proofs.lemmas.List.{take_all}
 use Rattle.std.proofs.lemmas.List.Folds.{list_any_more}
 use Rattle.uac_entities.specs.declared.entity.Entity.{Entity}
-use Rattle.uac_rules.specs.Clusters.{is_input}
-use Rattle.uac_rules.specs.Links.{is_clock, signal_sources}
-use Rattle.uac_rules.specs.Table.{at}
-use Rattle.uac_rules.proofs.KnownSteps.{map_same}
+use Rattle.uac_topology_rules.specs.Clusters.{is_input}
+use Rattle.uac_topology_rules.specs.Links.{is_clock, signal_sources}
+use Rattle.uac_topology_rules.specs.Table.{at}
+use Rattle.uac_topology_rules.proofs.KnownSteps.{map_same}
 use Rattle.uac_graph.specs.Controls.{Controls}
 use Rattle.uac_graph.specs.Fitness.{IsSignalGraph}
 use Rattle.uac_graph.specs.Jobs.{FitsFrames}

@@ -12,9 +12,9 @@ use Rattle.uac_walk.specs.Walk.{links, has_walk}
 use Rattle.uac_walk.proofs.Walks.{none_at}
 use Rattle.uac_entities.specs.Streams.{named}
 use Rattle.uac_entities.specs.declared.entity.Entity.{Entity}
-use Rattle.uac_rules.specs.Links.{signal_sources, signal_links}
-use Rattle.uac_rules.specs.Table.{at, place_of, nothing}
-use Rattle.uac_rules.proofs.Found.{or_len-le}
+use Rattle.uac_topology_rules.specs.Links.{signal_sources, signal_links}
+use Rattle.uac_topology_rules.specs.Table.{at, place_of, nothing}
+use Rattle.uac_topology_rules.proofs.Found.{or_len-le}
 use Rattle.uac_store.specs.Controls.{channels_of}
 use Rattle.uac_graph.specs.Meaning.{entity}
 

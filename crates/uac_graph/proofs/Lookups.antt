@@ -7,8 +7,8 @@ use Rattle.std.proofs.lemmas.List.{length-replicate}
 use Rattle.std.proofs.lemmas.List.Sums.{passes_at_first}
 use Rattle.std.proofs.lemmas.Map.Made.{lookup-map_values}
 use Rattle.uac_entities.specs.declared.entity.Entity.{Entity}
-use Rattle.uac_rules.specs.Links.{is_clock}
-use Rattle.uac_rules.specs.Table.{at, place_of, nothing}
+use Rattle.uac_topology_rules.specs.Links.{is_clock}
+use Rattle.uac_topology_rules.specs.Table.{at, place_of, nothing}
 use Rattle.uac_graph.specs.Fitness.{IsSignalGraph, wire_channels}
 use Rattle.uac_graph.specs.Meaning.{entity}
 use Rattle.uac_graph.specs.Wiring.{AreSilent, AreWiresOf, Frames, frame_on, silence}

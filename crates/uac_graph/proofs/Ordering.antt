@@ -9,11 +9,11 @@ use Rattle.std.proofs.lemmas.List.Folds.{list_any-append, list_any_at, list_any_
 use Rattle.std.proofs.Math.ListN.{get_or-append, length-append}
 use Rattle.std.proofs.Math.Seq.{get_or-append_seam, take-append_seam}
 use Rattle.uac_entities.specs.declared.entity.Entity.{Entity}
-use Rattle.uac_rules.specs.Links.{is_clock, signal_sources}
-use Rattle.uac_rules.specs.Rules.{is_output}
-use Rattle.uac_rules.specs.Table.{at, nothing, place_of}
-use Rattle.uac_rules.proofs.Found.{any_at}
-use Rattle.uac_rules.proofs.TableSteps.{at_read}
+use Rattle.uac_topology_rules.specs.Links.{is_clock, signal_sources}
+use Rattle.uac_topology_rules.specs.Rules.{is_output}
+use Rattle.uac_topology_rules.specs.Table.{at, nothing, place_of}
+use Rattle.uac_topology_rules.proofs.Found.{any_at}
+use Rattle.uac_topology_rules.proofs.TableSteps.{at_read}
 use Rattle.uac_graph.specs.Fitness.{IsSignalGraph}
 use Rattle.uac_graph.specs.Meaning.{entity}
 use Rattle.uac_graph.specs.Needs.{depended, is_end, reaches}

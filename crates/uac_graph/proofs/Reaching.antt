@@ -9,9 +9,9 @@ use Rattle.uac_walk.specs.Walk.{has_walk}
 use Rattle.uac_entities.specs.declared.entity.Entity.{Entity}
 use Rattle.uac_entities.specs.declared.entity.EntityKind.{EntityKind}
 use Rattle.uac_entities.specs.declared.entity.EntityKind.TheVariants as kind
-use Rattle.uac_rules.specs.Clusters.{is_input}
-use Rattle.uac_rules.specs.Links.{is_clock, signal_links, signal_sources}
-use Rattle.uac_rules.specs.Table.{at, place_of}
+use Rattle.uac_topology_rules.specs.Clusters.{is_input}
+use Rattle.uac_topology_rules.specs.Links.{is_clock, signal_links, signal_sources}
+use Rattle.uac_topology_rules.specs.Table.{at, place_of}
 use Rattle.uac_graph.specs.Controls.{Controls}
 use Rattle.uac_store.specs.Controls.{channels_of, pins_of}
 use Rattle.uac_graph.specs.Fitness.{FitsPins, IsSignalGraph}
@@ -19,7 +19,7 @@ use Rattle.uac_graph.specs.Jobs.{FitsFrames, takes_signal}
 use Rattle.uac_graph.specs.Meaning.{entity, frame_of, sample_of}
 use Rattle.uac_graph.specs.Needs.{reaches}
 use Rattle.uac_graph.specs.Wiring.{AreWiresOf, Frames, frame_on, held}
-use Rattle.uac_rules.proofs.KnownSteps.{map_same}
+use Rattle.uac_topology_rules.proofs.KnownSteps.{map_same}
 use Rattle.uac_graph.proofs.Links.{channels_named, source_ends}
 use Rattle.uac_graph.proofs.Walking.{signal_below, signal_channels, signal_sources_of}
 

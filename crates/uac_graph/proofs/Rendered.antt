@@ -18,7 +18,7 @@ use Rattle.uac_units.proofs.Samples.{selector-in_a_row, feature-in_a_row, effect
 use Rattle.uac_graph.specs.Controls.{Controls, chosen_pin, control_value, feature_gain, node_gain, pin_of}
 use Rattle.uac_graph.specs.Jobs.{FitsFrames, IsJob, gain_at, gain_count, unit_of}
 use Rattle.uac_graph.specs.Meaning.{frame_of, sample_of}
-use Rattle.uac_rules.proofs.KnownSteps.{map_same}
+use Rattle.uac_topology_rules.proofs.KnownSteps.{map_same}
 use Rattle.uac_graph.proofs.Rows.{length-in_a_row}
 
 -- what gives the same of each number below n gives the same list

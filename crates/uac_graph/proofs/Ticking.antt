@@ -8,15 +8,15 @@ use Rattle.uac_walk.specs.Walk.{has_walk}
 use Rattle.uac_entities.specs.declared.entity.Entity.{Entity}
 use Rattle.uac_entities.specs.declared.entity.EntityKind.{EntityKind}
 use Rattle.uac_entities.specs.declared.entity.EntityKind.TheVariants as kind
-use Rattle.uac_rules.specs.Clusters.{is_input}
-use Rattle.uac_rules.specs.Links.{is_clock, signal_links}
-use Rattle.uac_rules.specs.Rules.{is_output}
-use Rattle.uac_rules.specs.Table.{at, place_of}
+use Rattle.uac_topology_rules.specs.Clusters.{is_input}
+use Rattle.uac_topology_rules.specs.Links.{is_clock, signal_links}
+use Rattle.uac_topology_rules.specs.Rules.{is_output}
+use Rattle.uac_topology_rules.specs.Table.{at, place_of}
 use Rattle.uac_graph.specs.Fitness.{IsSignalGraph}
 use Rattle.uac_graph.specs.Meaning.{entity}
 use Rattle.uac_graph.specs.Needs.{is_end, reaches}
 use Rattle.uac_graph.specs.Wiring.{AreGiven, AreWiresOf, Frames, frame_on, held}
-use Rattle.uac_rules.proofs.TableSteps.{at_read}
+use Rattle.uac_topology_rules.proofs.TableSteps.{at_read}
 use Rattle.uac_graph.proofs.Walking.{signal_channels}
 
 -- an output terminal is no clock

@@ -1,9 +1,9 @@
 -- Wires rendered one after the other, each after its sources.
 use Rattle.std.proofs.Common.{◌≡◌, ◌∙◌, sym, ap, refl, ℕ, ◌<◌, Bool, true, false, if◌then◌else◌, ℤ, List, [], Option, Some, None, length, map, inl, inr}
 use Rattle.uac_entities.specs.declared.entity.Entity.{Entity}
-use Rattle.uac_rules.specs.Clusters.{is_input}
-use Rattle.uac_rules.specs.Links.{is_clock, signal_sources}
-use Rattle.uac_rules.specs.Table.{place_of}
+use Rattle.uac_topology_rules.specs.Clusters.{is_input}
+use Rattle.uac_topology_rules.specs.Links.{is_clock, signal_sources}
+use Rattle.uac_topology_rules.specs.Table.{place_of}
 use Rattle.uac_graph.specs.Controls.{Controls}
 use Rattle.uac_graph.specs.Fitness.{IsSignalGraph, wire_channels}
 use Rattle.uac_graph.specs.Meaning.{entity, frame_of, meaning, samples_by}

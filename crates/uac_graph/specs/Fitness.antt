@@ -5,9 +5,9 @@ use Rattle.uac_walk.specs.Walk.{has_walk}
 use Rattle.uac_entities.specs.declared.entity.Entity.{Entity}
 use Rattle.uac_entities.specs.declared.entity.EntityKind.{EntityKind}
 use Rattle.uac_entities.specs.declared.entity.EntityKind.TheVariants as kind
-use Rattle.uac_rules.specs.Links.{is_clock, signal_sources, signal_links}
-use Rattle.uac_rules.specs.Rules.{is_output}
-use Rattle.uac_rules.specs.Table.{at, place_of}
+use Rattle.uac_topology_rules.specs.Links.{is_clock, signal_sources, signal_links}
+use Rattle.uac_topology_rules.specs.Rules.{is_output}
+use Rattle.uac_topology_rules.specs.Table.{at, place_of}
 use Rattle.uac_store.specs.Controls.{pins_of}
 use Rattle.uac_graph.specs.Meaning.{entity}
 

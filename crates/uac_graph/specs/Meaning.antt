@@ -5,9 +5,9 @@ use Rattle.std.specs.List.{fold, range_with_len}
 use Rattle.uac_entities.specs.declared.entity.Entity.{Entity}
 use Rattle.uac_entities.specs.declared.entity.EntityKind.{EntityKind}
 use Rattle.uac_entities.specs.declared.entity.EntityKind.TheVariants as kind
-use Rattle.uac_rules.specs.Clusters.{is_input}
-use Rattle.uac_rules.specs.Links.{signal_sources}
-use Rattle.uac_rules.specs.Table.{at, place_of}
+use Rattle.uac_topology_rules.specs.Clusters.{is_input}
+use Rattle.uac_topology_rules.specs.Links.{signal_sources}
+use Rattle.uac_topology_rules.specs.Table.{at, place_of}
 use Rattle.uac_gain.specs.Gain.{scaled, saturated}
 use Rattle.uac_units.specs.Rendering.{input, in_a_row}
 use Rattle.uac_graph.specs.Controls.{Controls, feature_gain, node_gain, chosen_pin}

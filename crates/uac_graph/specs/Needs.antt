@@ -4,8 +4,8 @@ use Rattle.std.specs.List.{list_any}
 use Rattle.uac_entities.specs.declared.entity.Entity.{Entity}
 use Rattle.uac_entities.specs.declared.entity.EntityKind.{EntityKind}
 use Rattle.uac_entities.specs.declared.entity.EntityKind.TheVariants as kind
-use Rattle.uac_rules.specs.Links.{signal_sources}
-use Rattle.uac_rules.specs.Rules.{is_output}
+use Rattle.uac_topology_rules.specs.Links.{signal_sources}
+use Rattle.uac_topology_rules.specs.Rules.{is_output}
 use Rattle.uac_graph.specs.Meaning.{entity}
 
 -- a walk of at most n signal source links leads from the one entity to the other

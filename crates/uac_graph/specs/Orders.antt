@@ -2,9 +2,9 @@
 use Rattle.std.specs.Prelude.{◌≡◌, ◌==◌, ◌<◌, ◌&&◌, not, ℕ, Bool, true, false, if◌then◌else◌, ℤ, List, Option, Some, length, map, take, slice_index_or}
 use Rattle.std.specs.List.{All, list_any}
 use Rattle.uac_entities.specs.declared.entity.Entity.{Entity}
-use Rattle.uac_rules.specs.Clusters.{is_input}
-use Rattle.uac_rules.specs.Links.{is_clock, signal_sources}
-use Rattle.uac_rules.specs.Table.{at}
+use Rattle.uac_topology_rules.specs.Clusters.{is_input}
+use Rattle.uac_topology_rules.specs.Links.{is_clock, signal_sources}
+use Rattle.uac_topology_rules.specs.Table.{at}
 use Rattle.uac_graph.specs.Controls.{Controls}
 use Rattle.uac_graph.specs.Meaning.{frame_of}
 use Rattle.uac_graph.specs.Needs.{depended}

@@ -3,7 +3,7 @@ use Rattle.std.specs.Prelude.{◌≡◌, ◌==◌, ℕ, Bool, true, if◌then◌
 use Rattle.std.specs.Map.{lookup}
 use Rattle.std.specs.Option.{option_map}
 use Rattle.uac_entities.specs.declared.entity.Entity.{Entity}
-use Rattle.uac_rules.specs.Clusters.{is_input}
+use Rattle.uac_topology_rules.specs.Clusters.{is_input}
 use Rattle.uac_graph.specs.Controls.{Controls}
 use Rattle.uac_graph.specs.Fitness.{wire_channels}
 use Rattle.uac_graph.specs.Meaning.{entity, meaning}

@@ -15,7 +15,7 @@ use std::marker::Model;
 use uac_descriptor::NoMemory;
 use uac_entities::Entity;
 use uac_pcm::Frame;
-use uac_rules::is_clock;
+use uac_topology_rules::is_clock;
 use uac_units::{Job, Pins, Rack, Steps, Unit, UnitKind};
 
 /// A frame for each terminal and each unit, by the entity's id.

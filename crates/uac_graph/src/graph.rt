@@ -1,7 +1,7 @@
 // The signal graph: which unit takes which signals, rendered tick by tick.
 ghost use Rattle.std.specs.Prelude.{◌≡◌, ◌<◌, ℕ, List, false, IfOk, length};
-ghost use Rattle.uac_rules.specs.Links.{is_clock};
-ghost use Rattle.uac_rules.specs.Table.{at};
+ghost use Rattle.uac_topology_rules.specs.Links.{is_clock};
+ghost use Rattle.uac_topology_rules.specs.Table.{at};
 ghost use Rattle.uac_units.specs.Fitting.{IsFitted};
 ghost use Rattle.uac_graph.specs.Controls.{held_in};
 ghost use Rattle.uac_graph.specs.Needs.{depended};
@@ -14,10 +14,10 @@ use crate::wires::Wires;
 use std::alloc::Global;
 use std::marker::Model;
 use uac_descriptor::NoMemory;
-use uac_rules::{EntityTable, is_input};
 use uac_store::Store;
 use uac_topology::Function;
 use uac_topology::laws::functions_are_sound;
+use uac_topology_rules::{EntityTable, is_input};
 use uac_units::{Rack, Steps, Unit};
 
 /// The signal graph of an audio function (Audio Class 2.0, 3.13), with an order for each clock domain in which its entities are

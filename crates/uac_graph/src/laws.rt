@@ -3,7 +3,7 @@
 ghost use Rattle.std.specs.Prelude.{◌≡◌, ◌==◌, ℕ, ℤ, List, true};
 ghost use Rattle.std.specs.List.{list_any};
 ghost use Rattle.uac_entities.specs.declared.entity.Entity.{Entity};
-ghost use Rattle.uac_rules.specs.Rules.{is_output};
+ghost use Rattle.uac_topology_rules.specs.Rules.{is_output};
 ghost use Rattle.uac_graph.specs.Controls.{Controls};
 ghost use Rattle.uac_graph.specs.Fitness.{IsSignalGraph};
 ghost use Rattle.uac_graph.specs.Meaning.{entity, meaning, samples_by};

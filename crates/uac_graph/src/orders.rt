@@ -3,8 +3,8 @@ ghost use Rattle.std.specs.Prelude.{◌≡◌, ◌==◌, ◌||◌, ℕ, List, fa
 ghost use Rattle.std.specs.List.{list_any};
 ghost use Rattle.uac_walk.specs.Walk.{has_walk};
 ghost use Rattle.uac_entities.specs.declared.entity.Entity.{Entity};
-ghost use Rattle.uac_rules.specs.Links.{is_clock, signal_links};
-ghost use Rattle.uac_rules.specs.Table.{place_of};
+ghost use Rattle.uac_topology_rules.specs.Links.{is_clock, signal_links};
+ghost use Rattle.uac_topology_rules.specs.Table.{place_of};
 ghost use Rattle.uac_graph.specs.Fitness.{IsSignalGraph};
 ghost use Rattle.uac_graph.specs.Meaning.{entity};
 ghost use Rattle.uac_graph.specs.Needs.{reaches};
@@ -13,7 +13,7 @@ ghost use Rattle.uac_graph.specs.Orders.{AreOrders, IsOrder, IsOrderOf, holds};
 use crate::terminals::is_end;
 use std::alloc::Global;
 use uac_descriptor::NoMemory;
-use uac_rules::{EntityTable, is_output};
+use uac_topology_rules::{EntityTable, is_output};
 
 /// The places of the entities on which the output terminals of a clock domain depend, and of these terminals.
 #[derive(Drop)]

@@ -3,7 +3,7 @@ ghost use Rattle.std.specs.Prelude.{◌≡◌};
 ghost use Rattle.uac_graph.specs.Needs as spec;
 
 use uac_entities::Entity;
-use uac_rules::is_output;
+use uac_topology_rules::is_output;
 
 /// Whether an entity is an output terminal of the domain.
 pub fn is_end(domain: u8, entity: &Entity) -> bool

@@ -18,9 +18,9 @@ use crate::current::key_of;
 use crate::owner::Owner;
 use crate::setup::{Setup, high_byte, low_byte};
 use uac_alt::Settings;
-use uac_rules::is_clock;
 use uac_store::{Key, Store};
 use uac_topology::{Entity, EntityKind, Function};
+use uac_topology_rules::is_clock;
 
 /// The first rule that a request for a control's values, or for its ranges, breaks.
 #[tactic(auto, unfolding(crate::specs::Requests::get_broken, crate::specs::Requests::least))]

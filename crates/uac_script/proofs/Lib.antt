@@ -1,9 +1,6 @@
-pub mod WritingLemmas
-pub mod Consuming
 pub mod UnreadLemmas
 pub mod HeadLemmas
 pub mod SplittingLemmas
-pub mod MemoryLemmas
 pub mod WordsLemmas
 pub mod NumeralLemmas
 pub mod HexLemmas

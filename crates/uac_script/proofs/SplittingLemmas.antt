@@ -5,7 +5,7 @@ use Rattle.std.specs.Io.KnownBytes.{Consumes}
 use Rattle.uac_script.specs.declared.lines.Next.TheVariants as next
 use Rattle.uac_script.specs.Lines.{Splitting, Splits, Goes, head_of, unended}
 use Rattle.uac_script.specs.Taking.{Grows}
-use Rattle.uac_script.proofs.Consuming.{Consumes-Consumes}
+use Rattle.uac_edges.proofs.Consuming.{Consumes-Consumes}
 
 -- bytes taken, and then more
 pub same_more : (old mid now : Splitting) (taken got : List ℕ) → mid ≡ record old { unread = old.unread ++ taken } → now ≡ record mid { unread = now.unread }

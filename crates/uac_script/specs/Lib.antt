@@ -1,6 +1,3 @@
-pub mod Faults
-pub mod Writing
-pub mod Memory
 pub mod Words
 pub mod Numerals
 pub mod Phrase

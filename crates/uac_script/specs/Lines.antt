@@ -1,7 +1,7 @@
 -- Profile: the lines of a script, each ended by a newline; a last line without one counts if it isn't empty.
 use Rattle.std.specs.Prelude.{◌≡◌, ◌≢◌, ℕ, ◌+◌, ◌==◌, Bool, true, false, not, nat_lt, if◌then◌else◌, List, [], ◌++◌, length, take, drop, take_while, Option, None, Some, ◌⊎◌, Result, Ok, Err}
 use Rattle.std.specs.Io.KnownBytes.{Consumes, IsAtEnd}
-use Rattle.uac_script.specs.Faults.{Rose}
+use Rattle.uac_edges.specs.Faults.{Rose}
 use Rattle.uac_script.specs.declared.lines.Next.{Next}
 use Rattle.uac_script.specs.declared.lines.Next.TheVariants as next
 use Rattle.uac_script.specs.declared.lines.LineStop.{LineStop}

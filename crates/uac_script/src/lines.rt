@@ -1,7 +1,7 @@
 // The lines of a script, from a source that gives its bytes in pieces of any size.
 ghost use Rattle.std.specs.Prelude.{◌≡◌, ◌+◌, ◌-◌, ◌≤◌, ◌<◌, true, false, [], None, Some, Ok, Err, IfOk, OnErr, length, take, drop};
 ghost use Rattle.std.specs.Io.KnownBytes.{Keeps};
-ghost use Rattle.uac_script.specs.Faults.{HasCause};
+ghost use Rattle.uac_edges.specs.Faults.{HasCause};
 ghost use Rattle.uac_script.specs.Lines.{Splits, Goes, Stops, most_of_input, most_of_line};
 ghost use Rattle.uac_script.specs.Looking.{Shows, line_end};
 ghost use Rattle.uac_script.specs.Taking.{Grows};
@@ -11,10 +11,10 @@ mod front;
 /// The bytes that were taken of a source and aren't in a line yet.
 mod unread;
 
-use crate::edges::{Failed, Source};
 use arrayvec::ArrayVec;
 use front::{Front, look};
 use std::marker::Model;
+use uac_edges::{Failed, Source};
 use unread::Unread;
 
 /// The most bytes of an input.

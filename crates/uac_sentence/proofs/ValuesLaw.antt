@@ -7,7 +7,7 @@ use Rattle.uac_descriptor.specs.declared.standard.Endpoint as endpoint
 use Rattle.uac_descriptor.specs.declared.streaming.TypeOne as type_one
 use Rattle.uac_descriptor.specs.declared.block.Block as block
 use Rattle.uac_descriptor.specs.declared.block.Block.TheVariants as variant
-use Rattle.uac_descriptor.specs.declared.classes.TheConstants.{VERSION_02_00}
+use Rattle.uac_descriptor.specs.Standard.{VERSION_02_00}
 use Rattle.uac_descriptor.specs.Endpoints.{packet_size, additional_transactions}
 use Rattle.uac_sentence.specs.Letter.{context_after}
 use Rattle.uac_sentence.specs.Values.{control_bits, IsAllowed, is_barred, is_audio, is_isochronous, IsHighSpeed, is_no_high_speed, IsFormat, is_no_format, HasValues, has_wrong_value}

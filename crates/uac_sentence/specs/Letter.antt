@@ -2,11 +2,11 @@
 use Rattle.std.specs.Prelude.{ℕ, Bool, ◌&&◌, ◌||◌, not, ◌==◌, nat_le, if◌then◌else◌, List, length, slice_index}
 use Rattle.uac_descriptor.specs.declared.context.Context.{Context}
 use Rattle.uac_descriptor.specs.declared.context.Context.TheVariants as context
-use Rattle.uac_descriptor.specs.declared.codes.TheConstants.{DEVICE, CONFIGURATION, INTERFACE, ENDPOINT, INTERFACE_ASSOCIATION, CS_INTERFACE, CS_ENDPOINT, HEADER, EFFECT_UNIT, CLOCK_SOURCE, CLOCK_MULTIPLIER}
+use Rattle.uac_descriptor.specs.Standard.{DEVICE, CONFIGURATION, INTERFACE, ENDPOINT, INTERFACE_ASSOCIATION, CS_INTERFACE, CS_ENDPOINT, HEADER, EFFECT_UNIT, CLOCK_SOURCE, CLOCK_MULTIPLIER}
 use Rattle.uac_descriptor.specs.declared.standard.Interface as interface
 use Rattle.uac_descriptor.specs.declared.block.Block as block
 use Rattle.uac_descriptor.specs.declared.block.Block.TheVariants as variant
-use Rattle.uac_descriptor.specs.declared.classes.TheConstants.{DEVICE_LENGTH}
+use Rattle.uac_descriptor.specs.Standard.{DEVICE_LENGTH}
 use Rattle.uac_descriptor.specs.Classes.{is_audio_association, is_control_interface, is_streaming_interface}
 use Rattle.uac_sentence.specs.declared.letters.Letter.{Letter}
 use Rattle.uac_sentence.specs.declared.letters.Letter.TheVariants.{Device, Configuration, AudioAssociation, ForeignAssociation, ControlInterface, StreamingInterface, ForeignInterface, Endpoint, Header, Entity, General, TypeOne, Extra, ClassEndpoint, Other, UnknownSubtype, Stray}

@@ -8,7 +8,7 @@ use Rattle.uac_descriptor.specs.declared.standard.Endpoint as endpoint
 use Rattle.uac_descriptor.specs.declared.streaming.TypeOne as type_one
 use Rattle.uac_descriptor.specs.declared.block.Block as block
 use Rattle.uac_descriptor.specs.declared.block.Block.TheVariants as variant
-use Rattle.uac_descriptor.specs.declared.classes.TheConstants.{VERSION_02_00}
+use Rattle.uac_descriptor.specs.Standard.{VERSION_02_00}
 use Rattle.uac_descriptor.specs.Endpoints.{transfer_type, packet_size, additional_transactions}
 
 -- the two bits of control n in bmControls, the lowest two being control 0: 00 absent, 01 read-only, 11 host-programmable

@@ -9,7 +9,7 @@ use Rattle.uac_entities.specs.Streams.{named}
 use Rattle.uac_entities.specs.declared.entity.EntityKind.{EntityKind}
 use Rattle.uac_entities.specs.declared.entity.EntityKind.TheVariants as kind
 use Rattle.uac_entities.specs.declared.entity.Entity.{Entity}
-use Rattle.uac_rules.proofs.Sound.{option_or-none}
+use Rattle.uac_topology_rules.proofs.Sound.{option_or-none}
 use Rattle.uac_store.specs.declared.keys.Key.{Key}
 use Rattle.uac_store.specs.Keyed.{value_of}
 use Rattle.uac_store.specs.Controls.{start_of, start_at, start_by, count_of, selectors_of, pins_of, node_start, channel_within, controls_of, initial_controls, has_on, has_control, has_pin, HavePins, takes, takes_on, takes_by, is_switch, IsStoreOf}

@@ -11,8 +11,8 @@ use Rattle.uac_entities.specs.Streams.{named}
 use Rattle.uac_entities.specs.declared.entity.Entity.{Entity}
 use Rattle.uac_entities.specs.declared.entity.EntityKind.{EntityKind}
 use Rattle.uac_entities.specs.declared.entity.EntityKind.TheVariants as kind
-use Rattle.uac_rules.specs.Table.{place_of}
-use Rattle.uac_rules.specs.Links.{clock_sources, clock_links, is_clock}
+use Rattle.uac_topology_rules.specs.Table.{place_of}
+use Rattle.uac_topology_rules.specs.Links.{clock_sources, clock_links, is_clock}
 use Rattle.uac_store.specs.declared.keys.Key.{Key}
 use Rattle.uac_store.specs.Rates.{value_at, chosen, chosen_source, multiplier_rate, rate_by, rate_step, rate_within, rate_of, EndsWithin, IsClockTree}
 

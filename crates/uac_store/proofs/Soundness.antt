@@ -15,11 +15,11 @@ use Rattle.uac_entities.specs.declared.entity.Cluster.{Cluster}
 use Rattle.uac_entities.specs.declared.entity.Entity.{Entity}
 use Rattle.uac_entities.specs.declared.entity.EntityKind.{EntityKind}
 use Rattle.uac_entities.specs.declared.entity.EntityKind.TheVariants as kind
-use Rattle.uac_rules.specs.Table.{at, nothing, place_of, with_cluster}
-use Rattle.uac_rules.specs.Links.{is_clock, signal_sources, clock_sources, signal_links, clock_links}
-use Rattle.uac_rules.specs.Clusters.{takes_over, cluster_step, cluster_within, cluster_of, clustered, pins, inputs}
-use Rattle.uac_rules.specs.Rules.{breaks_u2, breaks_u7, breaks_u14, too_large}
-use Rattle.uac_rules.proofs.Sound.{signal_links-at}
+use Rattle.uac_topology_rules.specs.Table.{at, nothing, place_of, with_cluster}
+use Rattle.uac_topology_rules.specs.Links.{is_clock, signal_sources, clock_sources, signal_links, clock_links}
+use Rattle.uac_topology_rules.specs.Clusters.{takes_over, cluster_step, cluster_within, cluster_of, clustered, pins, inputs}
+use Rattle.uac_topology_rules.specs.Rules.{breaks_u2, breaks_u7, breaks_u14, too_large}
+use Rattle.uac_topology_rules.proofs.Sound.{signal_links-at}
 use Rattle.uac_topology.specs.Function.{FunctionFields}
 use Rattle.uac_topology.specs.Topology.{IsSoundFunction}
 use Rattle.uac_store.specs.Controls.{channels_of, pins_of, IsSmall, IsKeyed}

@@ -4,7 +4,7 @@ use Rattle.uac_entities.specs.Entities as entity
 use Rattle.uac_entities.specs.Streams.{named}
 use Rattle.uac_entities.specs.declared.entity.Cluster.{Cluster}
 use Rattle.uac_entities.specs.declared.entity.Entity.{Entity}
-use Rattle.uac_rules.specs.Table.{with_cluster}
+use Rattle.uac_topology_rules.specs.Table.{with_cluster}
 use Rattle.uac_store.specs.declared.keys.Key.{Key}
 use Rattle.uac_store.specs.declared.keys.Range.{Range}
 use Rattle.uac_store.specs.Keyed.{key_of, value_of, with_value}

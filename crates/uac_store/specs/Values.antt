@@ -8,7 +8,7 @@ use Rattle.uac_entities.specs.Streams.{named}
 use Rattle.uac_entities.specs.declared.entity.Entity.{Entity}
 use Rattle.uac_entities.specs.declared.entity.EntityKind.{EntityKind}
 use Rattle.uac_entities.specs.declared.entity.EntityKind.TheVariants as kind
-use Rattle.uac_rules.specs.Links.{is_clock}
+use Rattle.uac_topology_rules.specs.Links.{is_clock}
 use Rattle.uac_store.specs.declared.keys.Key.{Key}
 use Rattle.uac_store.specs.declared.keys.Range.{Range}
 use Rattle.uac_store.specs.declared.values.Change.{Change}

@@ -16,9 +16,9 @@ use crate::store::Store;
 use arrayvec::ArrayVec;
 use uac_clock::RATES;
 use uac_gain::gain;
-use uac_rules::is_clock;
 use uac_topology::laws::functions_are_sound;
 use uac_topology::{Entity, EntityKind, Function};
+use uac_topology_rules::is_clock;
 
 /// The least volume that isn't silence, in 1/256 decibel (profile).
 const LEAST_VOLUME: i32 = -24576;

@@ -7,9 +7,9 @@ use Rattle.uac_entities.specs.Settings.{alternates_of}
 use Rattle.uac_entities.specs.declared.alternate.Alternate.{Alternate}
 use Rattle.uac_entities.specs.declared.entity.Entity.{Entity}
 use Rattle.uac_entities.specs.declared.stream.StreamInterface.{StreamInterface}
-use Rattle.uac_rules.specs.declared.fault.TopologyFault.{TopologyFault}
-use Rattle.uac_rules.specs.Faults.{broken_names, broken_walks, broken_shapes, broken_ends, broken}
-use Rattle.uac_rules.proofs.Sound.{option_or-none}
+use Rattle.uac_topology_rules.specs.declared.fault.TopologyFault.{TopologyFault}
+use Rattle.uac_topology_rules.specs.Faults.{broken_names, broken_walks, broken_shapes, broken_ends, broken}
+use Rattle.uac_topology_rules.proofs.Sound.{option_or-none}
 use Rattle.uac_topology.specs.Topology.{first_broken, streams_in}
 
 -- the first of four

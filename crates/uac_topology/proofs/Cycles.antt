@@ -5,8 +5,8 @@ use Rattle.uac_walk.specs.Walk.{has_walk, leads}
 use Rattle.uac_walk.proofs.Walks.{no_way_back_lem}
 use Rattle.uac_entities.specs.Entities.{entities_of}
 use Rattle.uac_entities.specs.declared.entity.Entity.{Entity}
-use Rattle.uac_rules.specs.Links.{signal_links, clock_links}
-use Rattle.uac_rules.specs.Rules.{breaks_u6, breaks_u7}
+use Rattle.uac_topology_rules.specs.Links.{signal_links, clock_links}
+use Rattle.uac_topology_rules.specs.Rules.{breaks_u6, breaks_u7}
 use Rattle.uac_topology.specs.Topology.{SoundHasNoCycle}
 use Rattle.uac_topology.proofs.SoundRules.{rules_hold}
 

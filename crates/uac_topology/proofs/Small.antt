@@ -5,12 +5,12 @@ use Rattle.std.proofs.lemmas.List.{length_push, take_all, take_more}
 use Rattle.uac_entities.specs.Entities.{entities_of}
 use Rattle.uac_entities.specs.declared.entity.Entity.{Entity}
 use Rattle.uac_entities.specs.declared.stream.StreamInterface.{StreamInterface}
-use Rattle.uac_rules.specs.Domains.{domains_of, each_once, names_new, noted}
-use Rattle.uac_rules.specs.Faults.{of_interface}
-use Rattle.uac_rules.specs.Rules.{breaks_u14, exceeds, names_ninth}
-use Rattle.uac_rules.specs.Table.{at, nothing}
-use Rattle.uac_rules.proofs.DomainSteps.{domains_of-push}
-use Rattle.uac_rules.proofs.FirstPlace.{interface_breaks}
+use Rattle.uac_topology_rules.specs.Domains.{domains_of, each_once, names_new, noted}
+use Rattle.uac_topology_rules.specs.Faults.{of_interface}
+use Rattle.uac_topology_rules.specs.Rules.{breaks_u14, exceeds, names_ninth}
+use Rattle.uac_topology_rules.specs.Table.{at, nothing}
+use Rattle.uac_topology_rules.proofs.DomainSteps.{domains_of-push}
+use Rattle.uac_topology_rules.proofs.FirstPlace.{interface_breaks}
 use Rattle.uac_topology.specs.Function.{FunctionFields}
 use Rattle.uac_topology.specs.Topology.{IsSoundFunction, streams_in}
 use Rattle.uac_topology.proofs.SoundRules.{rules_hold, streams_within}

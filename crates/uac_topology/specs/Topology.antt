@@ -9,11 +9,11 @@ use Rattle.uac_entities.specs.Entities.{entities_of}
 use Rattle.uac_entities.specs.Settings.{alternates_of}
 use Rattle.uac_entities.specs.Streams.{streams_of}
 use Rattle.uac_entities.specs.declared.stream.StreamInterface.{StreamInterface}
-use Rattle.uac_rules.specs.declared.fault.TopologyFault.{TopologyFault}
-use Rattle.uac_rules.specs.Links.{signal_links, clock_links}
-use Rattle.uac_rules.specs.Clusters.{clustered}
-use Rattle.uac_rules.specs.Domains.{domains_of}
-use Rattle.uac_rules.specs.Faults.{broken}
+use Rattle.uac_topology_rules.specs.declared.fault.TopologyFault.{TopologyFault}
+use Rattle.uac_topology_rules.specs.Links.{signal_links, clock_links}
+use Rattle.uac_topology_rules.specs.Clusters.{clustered}
+use Rattle.uac_topology_rules.specs.Domains.{domains_of}
+use Rattle.uac_topology_rules.specs.Faults.{broken}
 use Rattle.uac_topology.specs.Function.{FunctionFields}
 use Rattle.uac_topology.specs.declared.soundness.CheckStop.{CheckStop}
 use Rattle.uac_topology.specs.declared.soundness.CheckStop.TheVariants as stop

@@ -4,7 +4,7 @@ ghost use Rattle.uac_topology.specs.Function.{FunctionFields};
 
 use std::marker::Model;
 use uac_entities::{Entity, StreamInterface};
-use uac_rules::EntityTable;
+use uac_topology_rules::EntityTable;
 
 /// A sound audio function.
 #[derive(Drop)]
@@ -36,7 +36,7 @@ impl Function {
     }
 
     /// The index of the entity with this id, None exactly where no entity has it.
-    #[tactic(auto, unfolding(uac_rules::specs::Table::found))]
+    #[tactic(auto, unfolding(uac_topology_rules::specs::Table::found))]
     pub fn find(&self, id: u8) -> Option<usize>
         ensures { result ≡ position (λ e. e.id == id) self.now.entities }
     {

@@ -8,7 +8,7 @@ use crate::function::Function;
 use std::alloc::Global;
 use uac_descriptor::{Block, NoMemory};
 use uac_entities::{alternates_of, entities_of, streams_of};
-use uac_rules::{
+use uac_topology_rules::{
     EntityTable, Known, TopologyFault, domains_of, ends_fault, names_fault, shapes_fault, walk,
 };
 

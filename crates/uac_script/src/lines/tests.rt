@@ -4,13 +4,12 @@ ghost use Rattle.uac_script.specs.Lines.{most_of_input};
 
 use super::unread::Unread;
 use super::{LineStop, Lines, Next};
-use crate::edges::Source;
-use crate::sources::MemorySource;
 use arrayvec::ArrayVec;
 use std::alloc::Global;
 use std::process::Abort;
 use std::test::Fail;
 use uac_descriptor::{ByteList, WordList};
+use uac_edges::{MemorySource, Source};
 
 // The next line is this one, of this number.
 fn expect_line<S: Source>(

@@ -1,11 +1,11 @@
 // The bytes that were taken of a source and aren't in a line yet.
 ghost use Rattle.std.specs.Prelude.{◌≡◌, ℕ, ◌+◌, ◌-◌, ◌<◌, ◌≤◌, [], length, take, drop, IfOk, OnErr};
 ghost use Rattle.std.specs.Io.KnownBytes.{Keeps};
-ghost use Rattle.uac_script.specs.Faults.{HasCause};
+ghost use Rattle.uac_edges.specs.Faults.{HasCause};
 ghost use Rattle.uac_script.specs.Taking.{Grows};
 
-use crate::edges::{Failed, Source};
 use std::marker::Model;
+use uac_edges::{Failed, Source};
 
 /// How many bytes may stand unread.
 const SIZE: usize = 8192;

@@ -1,8 +1,8 @@
 use Rattle.std.proofs.Common.{sym, subst}
 use Rattle.std.specs.Io.KnownBytes.{Appends}
 use Rattle.uac_topology.specs.Function.{FunctionFields}
-use Rattle.uac_script.specs.Writing.{AppendsFront}
-use Rattle.uac_play.specs.Text.{ready_line}
+use Rattle.uac_edges.specs.Writing.{AppendsFront}
+use Rattle.uac_running.specs.Text.{ready_line}
 use Rattle.uac_bus.specs.declared.bus.Stage.TheVariants as stages
 use Rattle.uac_bus.specs.World.{Step}
 use Rattle.uac_bus.specs.Kept.{StandsFor, Reaches, IsCut}

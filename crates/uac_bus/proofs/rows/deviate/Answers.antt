@@ -1,8 +1,8 @@
 use Rattle.std.proofs.Common.{ℤ, w32, subst, sym, ◌∙◌}
 use Rattle.std.proofs.KnownBytes.{Appends-nil}
 use Rattle.std.proofs.lemmas.Int.{to_z-of_z}
-use Rattle.uac_play.specs.World.{with_deviation}
-use Rattle.uac_play.specs.Kept.{Stands}
+use Rattle.uac_running.specs.World.{with_deviation}
+use Rattle.uac_running.specs.Kept.{Stands}
 use Rattle.uac_bus.proofs.Rowing.{unless_reached}
 use Rattle.uac_bus.proofs.rows.deviate.Goals as goal
 

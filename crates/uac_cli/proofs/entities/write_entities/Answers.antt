@@ -1,6 +1,6 @@
 use Rattle.std.proofs.Common.{ap}
 use Rattle.uac_cli.specs.Entities.{entity_line}
-use Rattle.uac_script.proofs.WritingLemmas.{front_of_each}
+use Rattle.uac_edges.proofs.WritingLemmas.{front_of_each}
 use Rattle.uac_cli.proofs.entities.write_entities.Goals as goal
 
 pub returns-in-Err-clause-written : goal.returns-in-Err-clause-written

@@ -1,6 +1,6 @@
 use Rattle.std.proofs.Common.{List, ℕ, subst, ◌∙◌}
-use Rattle.uac_script.specs.Writing.{Writes}
-use Rattle.uac_script.proofs.WritingLemmas.{Writes-after}
+use Rattle.uac_edges.specs.Writing.{Writes}
+use Rattle.uac_edges.proofs.WritingLemmas.{Writes-after}
 use Rattle.uac_cli.proofs.Showing.{ids_parts}
 use Rattle.uac_cli.proofs.entities.write_ids.Goals as goal
 

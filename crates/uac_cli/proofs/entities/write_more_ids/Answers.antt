@@ -1,5 +1,5 @@
 use Rattle.std.proofs.Common.{ℕ, ◌++◌, codes, decimal, ◌∙◌}
-use Rattle.uac_script.proofs.WritingLemmas.{front_of_each}
+use Rattle.uac_edges.proofs.WritingLemmas.{front_of_each}
 use Rattle.uac_cli.proofs.entities.write_more_ids.Goals as goal
 
 pub returns-in-Err-clause-written : goal.returns-in-Err-clause-written

@@ -2,7 +2,7 @@ use Rattle.std.proofs.Common.{ℕ, List, ◌<◌, ◌≤◌, length, take, arith
 use Rattle.std.proofs.lemmas.List.{length-take}
 use Rattle.std.specs.Io.KnownBytes.{Consumes}
 use Rattle.uac_cli.specs.Reading.{piece_size}
-use Rattle.uac_script.proofs.Consuming.{Consumes-Consumes}
+use Rattle.uac_edges.proofs.Consuming.{Consumes-Consumes}
 use Rattle.uac_cli.proofs.Composing.{stopped_at, went_on, ended_by}
 use Rattle.uac_cli.proofs.reading.read_descriptor.Goals as goal
 

@@ -1,6 +1,6 @@
 use Rattle.std.proofs.Common.{List, ℕ, subst, ◌∙◌}
 use Rattle.std.specs.Io.KnownBytes.{Appends}
-use Rattle.uac_script.specs.Writing.{AppendsFront}
+use Rattle.uac_edges.specs.Writing.{AppendsFront}
 use Rattle.uac_cli.proofs.Showing.{line-spelling}
 use Rattle.uac_cli.proofs.show.write_block.Goals as goal
 

@@ -1,6 +1,6 @@
 use Rattle.std.proofs.Common.{List, ℕ, ◌++◌, arith, subst}
-use Rattle.uac_script.specs.Writing.{AppendsFront}
-use Rattle.uac_script.proofs.WritingLemmas.{Appends-twice, AppendsFront-after, AppendsFront-longer}
+use Rattle.uac_edges.specs.Writing.{AppendsFront}
+use Rattle.uac_edges.proofs.WritingLemmas.{Appends-twice, AppendsFront-after, AppendsFront-longer}
 use Rattle.uac_cli.specs.Show.{block_line}
 use Rattle.uac_cli.proofs.Showing.{lines_more, bytes_more}
 use Rattle.uac_cli.proofs.show.write_blocks.Goals as goal

@@ -1,9 +1,9 @@
 use Rattle.std.proofs.Common.{◌≡◌, ◌≤◌, ◌∙◌, ap, sym, subst, arith, length, map, eqb, cond, ℕ, Some}
 use Rattle.std.specs.Map.{lookup}
 use Rattle.uac_entities.specs.declared.entity.Entity.{Entity}
-use Rattle.uac_rules.specs.Links.{is_clock}
+use Rattle.uac_topology_rules.specs.Links.{is_clock}
 use Rattle.uac_graph.specs.Wiring.{Frames, silence}
-use Rattle.uac_rules.proofs.TableSteps.{at_read}
+use Rattle.uac_topology_rules.proofs.TableSteps.{at_read}
 use Rattle.uac_graph.proofs.Lookups.{AreSilentBelow, silent_all, silent_clock, silent_wire}
 use Rattle.uac_graph.proofs.frame_table.silent_frames.Goals as goal
 

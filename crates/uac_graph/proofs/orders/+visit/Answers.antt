@@ -2,8 +2,8 @@ use Rattle.std.proofs.Common.{◌≡◌, ◌∙◌, sym, refl, ap, subst, arith,
 use Rattle.std.proofs.Math.Bool.{or-false}
 use Rattle.uac_walk.specs.Walk.{has_walk}
 use Rattle.uac_entities.specs.declared.entity.Entity.{Entity}
-use Rattle.uac_rules.specs.Links.{is_clock, signal_links}
-use Rattle.uac_rules.specs.Table.{place_of}
+use Rattle.uac_topology_rules.specs.Links.{is_clock, signal_links}
+use Rattle.uac_topology_rules.specs.Table.{place_of}
 use Rattle.uac_graph.specs.Meaning.{entity}
 use Rattle.uac_graph.specs.Orders.{holds}
 use Rattle.uac_graph.proofs.Apart.{not_held_yet}

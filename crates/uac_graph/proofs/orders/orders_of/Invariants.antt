@@ -1,7 +1,7 @@
 use Rattle.std.proofs.Common.{◌≡◌, ◌==◌, ℕ, ◌<◌, true}
 use Rattle.std.specs.List.{All, list_any}
-use Rattle.uac_rules.specs.Rules.{is_output}
-use Rattle.uac_rules.specs.Table.{at}
+use Rattle.uac_topology_rules.specs.Rules.{is_output}
+use Rattle.uac_topology_rules.specs.Table.{at}
 use Rattle.uac_graph.specs.Orders.{IsOrderOf}
 use Rattle.uac_graph.proofs.orders.orders_of.Given as goal
 

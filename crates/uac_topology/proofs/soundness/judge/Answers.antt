@@ -4,9 +4,9 @@ use Rattle.uac_entities.specs.Entities.{entities_of}
 use Rattle.uac_entities.specs.Settings.{alternates_of}
 use Rattle.uac_entities.specs.Streams.{streams_of}
 use Rattle.uac_entities.specs.declared.alternate.Alternate.{Alternate}
-use Rattle.uac_rules.specs.Clusters.{clustered}
-use Rattle.uac_rules.specs.Domains.{domains_of}
-use Rattle.uac_rules.specs.Faults.{broken_names, broken_walks}
+use Rattle.uac_topology_rules.specs.Clusters.{clustered}
+use Rattle.uac_topology_rules.specs.Domains.{domains_of}
+use Rattle.uac_topology_rules.specs.Faults.{broken_names, broken_walks}
 use Rattle.uac_topology.specs.Topology.{IsFunctionOf, IsSound, streams_in}
 use Rattle.uac_topology.proofs.Broken.{by_names, by_walks, by_shapes, by_ends}
 use Rattle.uac_topology.proofs.soundness.judge.Goals as goal

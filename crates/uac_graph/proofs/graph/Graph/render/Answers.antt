@@ -1,6 +1,6 @@
 use Rattle.std.proofs.Common.{◌∙◌, ap, sym, subst, List, ◌<◌, length}
 use Rattle.uac_entities.specs.declared.entity.Entity.{Entity}
-use Rattle.uac_rules.specs.Table.{at}
+use Rattle.uac_topology_rules.specs.Table.{at}
 use Rattle.uac_graph.specs.Controls.{held_in}
 use Rattle.uac_graph.specs.Fitness.{IsSignalGraph}
 use Rattle.uac_graph.proofs.InOrder.{fits_at, fitting_at, kept_at, rendered_at, wire_at}

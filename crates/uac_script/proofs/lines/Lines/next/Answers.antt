@@ -1,5 +1,5 @@
 use Rattle.std.proofs.Common.{◌≡◌, ◌<◌, ◌++◌, length, ap, ◌∙◌, arith, length-append}
-use Rattle.uac_script.proofs.Consuming.{Consumes-Consumes}
+use Rattle.uac_edges.proofs.Consuming.{Consumes-Consumes}
 use Rattle.uac_script.proofs.HeadLemmas.{line_end_more}
 use Rattle.uac_script.proofs.SplittingLemmas.{same_more, others_kept, last_line}
 use Rattle.uac_script.proofs.lines.Lines.next.Goals as goal

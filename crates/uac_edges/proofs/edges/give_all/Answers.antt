@@ -1,0 +1,30 @@
+use Rattle.std.proofs.Common.{◌≡◌, ℕ, ◌-◌, ◌<◌, List, [], ◌++◌, length, take, drop, arith, append_assoc, ap, sym, ◌∙◌, length-append, rules}
+use Rattle.std.proofs.lemmas.List.{take_rest, take-append-drop}
+use Rattle.uac_edges.proofs.WritingLemmas.{Appends-twice}
+use Rattle.uac_edges.proofs.edges.give_all.Goals as goal
+
+-- The text is what was given, what this call took of the rest, and what it left.
+given_more : (text given rest : List ℕ) (n : ℕ) → text ≡ given ++ rest → text ≡ (given ++ take n rest) ++ take (length rest - n) (drop n rest)
+given_more text given rest n parts =
+    parts ∙ ap (λ back. given ++ back) (sym (take-append-drop n rest)) ∙ sym (append_assoc given (take n rest) (drop n rest))
+    ∙ ap (λ back. (given ++ take n rest) ++ back) (sym (take_rest rest n))
+
+-- While some of it is left, the text isn't empty.
+some_left : (text given rest : List ℕ) → 0 < length rest → text ≡ given ++ rest → text ≡ [] → ⊥
+some_left text given rest some parts empty =
+    let count : length text ≡ length (given ++ rest) = ap length parts in
+    let none : length text ≡ 0 = ap length empty in
+    omega (arith, length-append given rest)
+
+pub loop-rest-preserved : goal.loop-rest-preserved
+loop-rest-preserved g c =
+    let before = c.loop-rest.invariant in
+    let told = c.in-Ok.ensures in
+    let cause = told.cause.never_falls in
+    record {
+      given = before.given ++ take c.in-Ok.given c.loop-rest.rest.now;
+      parts = given_more c.args.text.now before.given c.loop-rest.rest.now c.in-Ok.given before.parts;
+      appended = Appends-twice _ _ _ _ _ before.appended told.bytes;
+      never_falls = omega (arith, before.never_falls, cause);
+      untouched = λ empty. absurd (some_left c.args.text.now before.given c.loop-rest.rest.now (search rules) before.parts empty);
+    }

@@ -1,0 +1,10 @@
+use Rattle.std.proofs.Common.{arith, ◌+◌, drop}
+use Rattle.std.proofs.lemmas.Grind.{common_steps}
+use Rattle.uac_edges.proofs.MemoryLemmas.{consumes_front}
+use Rattle.uac_edges.proofs.sources.MemorySourceSource.take.Goals as goal
+
+pub returns-clause-bytes : goal.returns-clause-bytes
+returns-clause-bytes c =
+    let called = c.copy_front-count in
+    consumes_front c.args.self.now.left (drop (c.self.inside.at + called.result) c.self.inside.bytes) c.args.into.now called.new.into c.self.inside.cut called.result
+    (grind (arith, common_steps)) (grind (arith, common_steps)) (grind (arith, common_steps)) (omega arith)

@@ -1,0 +1,65 @@
+// The source of the program's bytes and the sink of its text.
+ghost use Rattle.std.specs.Prelude.{◌≡◌, ℕ, ◌<◌, ◌≤◌, List, [], length, Option, IfOk};
+ghost use Rattle.std.specs.Io.KnownBytes.{ReadConsumes, WriteAppends};
+ghost use Rattle.uac_edges.specs.Faults.{HasCause};
+ghost use Rattle.uac_edges.specs.Writing.{Writes};
+
+/// A source or a sink failed in this call.
+#[derive(Debug, Clone, Copy, PartialEq, Eq)]
+pub struct Failed;
+
+/// Where bytes come from. It has the bytes that are left, where it tells them, and a count of
+/// faults that never falls.
+pub trait Source {
+    // The bytes that are left, where the source tells them.
+    ghost left: { Self → Option (List ℕ) };
+
+    // The faults so far. The count stands still at 18446744073709551615.
+    ghost faults: { Self → ℕ };
+
+    /// Moves the next bytes to the front of `into` and answers their number, at most the length of
+    /// `into`. 0 is the end of input: a source that tells its bytes has none left then. `Failed`
+    /// comes only where the count of faults rose in this call, and then no byte is taken.
+    fn take(&mut self, into: &mut [u8]) -> Result<usize, Failed>
+        requires { 0 < length into.old }
+        ensures fits { IfOk result (λ n. n ≤ length into.new) }
+        ensures bytes { ReadConsumes (left self.old) (left self.new) result into.new }
+        ensures cause { HasCause (faults self.old) (faults self.new) result };
+}
+
+/// Where text goes. It has the bytes written, where it tells them, and a count of faults that
+/// never falls.
+pub trait Sink {
+    // The bytes written so far, where the sink tells them.
+    ghost written: { Self → Option (List ℕ) };
+
+    // The faults so far. The count stands still at 18446744073709551615.
+    ghost faults: { Self → ℕ };
+
+    /// Appends bytes from the front of `piece` and answers their number, at least 1 and at most
+    /// the length of `piece`. `Failed` comes only where the count of faults rose in this call, and
+    /// then nothing was appended.
+    fn give(&mut self, piece: &[u8]) -> Result<usize, Failed>
+        requires { 0 < length piece.now }
+        ensures some { IfOk result (λ n. 0 < n) }
+        ensures fits { IfOk result (λ n. n ≤ length piece.now) }
+        ensures bytes { WriteAppends (written self.old) (written self.new) result piece.now }
+        ensures cause { HasCause (faults self.old) (faults self.new) result };
+}
+
+/// Gives the whole text, piece by piece, however little each call takes. After `Failed` a front of
+/// the text was appended. An empty text gives nothing.
+pub fn give_all<K: Sink>(sink: &mut K, text: &[u8]) -> Result<(), Failed>
+    ensures written { Writes (K.written sink.old) (K.written sink.new) result text.now }
+    ensures cause { HasCause (K.faults sink.old) (K.faults sink.new) result }
+    ensures empty { text.now ≡ [] → sink.new ≡ sink.old }
+{
+    let mut rest = text;
+    while !rest.is_empty() {
+        match sink.give(rest) {
+            Ok(given) => rest = &rest[given..],
+            Err(failed) => return Err(failed),
+        }
+    }
+    Ok(())
+}

@@ -1,0 +1,21 @@
+//! The outside of the program: where its bytes come from, and where its text goes.
+#![tactic(auto)]
+
+/// Which calls of an object in memory fail.
+mod calls;
+/// What is asked of a source and of a sink, and the writing of a whole text.
+mod edges;
+/// The sink in memory.
+mod sinks;
+/// The sources in memory.
+mod sources;
+/// A line of text in a buffer of fixed size.
+mod text;
+
+pub use edges::{Failed, Sink, Source, give_all};
+pub use sinks::MemorySink;
+pub use sources::{MemorySource, SteadySource};
+pub use text::TextLine;
+
+#[cfg(test)]
+mod tests;

@@ -1,6 +1,0 @@
-use Rattle.uac_play.specs.Kept.{more_counted}
-use Rattle.uac_device.proofs.Turning.{IsTurnedBelow}
-use Rattle.uac_play.proofs.counts.count_ticks.Given as goal
-
-abbrev pub invariant-loop-count : goal.invariant-loop-count
-invariant-loop-count l = IsTurnedBelow (more_counted l.clock l.ticks) l.counts l.initial.counts l.count-index

@@ -1,6 +1,0 @@
-use Rattle.uac_play.specs.World.{toned}
-use Rattle.uac_device.proofs.Turning.{IsTurnedBelow}
-use Rattle.uac_play.proofs.jacks.set_tone.Given as goal
-
-abbrev pub invariant-loop-jack : goal.invariant-loop-jack
-invariant-loop-jack l = IsTurnedBelow (toned l.terminal l.tone) l.jacks l.initial.jacks l.jack-index

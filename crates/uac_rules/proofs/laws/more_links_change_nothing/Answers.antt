@@ -1,5 +1,0 @@
-use Rattle.uac_rules.proofs.Along.{more_links}
-use Rattle.uac_rules.proofs.laws.more_links_change_nothing.Goals as goal
-
-pub returns : goal.returns
-returns c = more_links

@@ -1,6 +1,0 @@
-use Rattle.uac_rules.proofs.ClusterTable.{table-with}
-use Rattle.uac_rules.proofs.table.EntityTable.with_clusters.Goals as goal
-
-pub invariant_of-result : goal.invariant_of-result
-invariant_of-result c =
-    table-with c.self.inside.entities.items c.args.clusters.now c.self.inside.places c.put_clusters.new.entities.items c.put_clusters.ensures c.self.invariant

@@ -1,0 +1,118 @@
+-- The ticks of the domains, counted.
+use Rattle.std.proofs.Common.{◌≡◌, ◌∙◌, sym, ap, subst, refl, arith, ℕ, ◌+◌, ◌-◌, ◌/◌, ◌≤◌, ◌==◌, eqb, false, ◌&&◌, if◌then◌else◌, ℤ, List, [], ◌∷◌, ◌++◌, length, map, take, sum, inl, inr, length-append}
+use Rattle.std.specs.List.{All, AllByRecursion, IsDistinct, find, list_all}
+use Rattle.std.specs.Option.{option_map_or}
+use Rattle.std.proofs.Math.Bool.{and-true}
+use Rattle.std.proofs.lemmas.Bool.{cases_Bool, eqb-true, eqb-false, ne_eqb}
+use Rattle.std.proofs.lemmas.List.Folds.{list_all-append}
+use Rattle.std.proofs.lemmas.List.Sums.{sum_by_push}
+use Rattle.std.proofs.lemmas.Map.Keys.{IsDistinct-head, IsDistinct-tail}
+use Rattle.uac_clock.specs.Ticks.{ticks_in}
+use Rattle.uac_device.specs.World.{Domain}
+use Rattle.uac_running.specs.declared.counts.TickCount.{TickCount}
+use Rattle.uac_topology.specs.Function.{FunctionFields}
+use Rattle.uac_running.specs.Kept.{HasItsDomains, PlayingFields, counted, more_counted}
+use Rattle.uac_running.specs.World.{is_slight}
+use Rattle.uac_device.proofs.Kept.{all_changed}
+
+-- a domain that is off by other millionths
+abbrev pub off_by : ℕ → ℤ → Domain → Domain
+off_by clock millionths d = if d.clock == clock then record d { deviation = millionths } else d
+
+-- ticks count steps alone
+pub counted-off : (clock : ℕ) (millionths : ℤ) (ds : List Domain) → map counted (map (off_by clock millionths) ds) ≡ map counted ds
+counted-off clock millionths [] = refl
+counted-off clock millionths (d ∷ ds) =
+    elim (cases_Bool (d.clock == clock)) [
+      | inl same ↦ rw same (ap (λ (cs : List TickCount). counted d ∷ cs) (counted-off clock millionths ds))
+      | inr other ↦ rw other (ap (λ (cs : List TickCount). counted d ∷ cs) (counted-off clock millionths ds))
+    ]
+
+sum-push : (steps : List ℕ) (s : ℕ) → sum (steps ++ s ∷ []) ≡ sum steps + s
+sum-push steps s = sum_by_push (λ n. n) steps s
+
+front-push : (steps : List ℕ) (s : ℕ) → take (length (steps ++ s ∷ []) - 1) (steps ++ s ∷ []) ≡ steps
+front-push steps s =
+    let n : length (steps ++ s ∷ []) - 1 ≡ length steps = simp length-append (omega arith) in
+    ap (λ k. take k (steps ++ s ∷ [])) n ∙ front steps s
+  where
+    front : (steps : List ℕ) (s : ℕ) → take (length steps) (steps ++ s ∷ []) ≡ steps
+    front [] s = refl
+    front (x ∷ xs) s = ap (λ ys. x ∷ ys) (front xs s)
+
+-- the ticks so far and those of the step that comes are the ticks behind it
+ticks-push : (steps : List ℕ) (s : ℕ) → sum steps / 65536 + ticks_in (steps ++ s ∷ []) ≡ sum (steps ++ s ∷ []) / 65536
+ticks-push steps s =
+    let parts : ticks_in (steps ++ s ∷ []) ≡ sum (steps ++ s ∷ []) / 65536 - sum steps / 65536 = ap (λ front. sum (steps ++ s ∷ []) / 65536 - sum front / 65536) (front-push steps s) in
+    omega (arith, sum-push steps s)
+
+abbrev counted_of : ℕ → ℕ → TickCount
+counted_of clock ticks = record { clock = clock; ticks = ticks }
+
+-- a domain with one step more
+abbrev pub stepped : ℕ → (Domain → ℕ) → Domain → Domain
+stepped clock step d = if d.clock == clock then record d { steps = d.steps ++ step d ∷ [] } else d
+
+-- the clocks of the counts
+abbrev pub clocks_of : List TickCount → List ℕ
+clocks_of counts = map (λ c. c.clock) counts
+
+others_stay : (clock x n : ℕ) (step : Domain → ℕ) (ds : List Domain) → x ≡ clock → AllByRecursion (λ y. eqb x y ≡ false) (clocks_of (map counted ds))
+    → map (more_counted clock n) (map counted ds) ≡ map counted (map (stepped clock step) ds)
+others_stay clock x n step [] is apart = refl
+others_stay clock x n step (d ∷ ds) is apart =
+    let other : (d.clock == clock) ≡ false = ne_eqb d.clock clock (λ e. eqb-false x d.clock apart.0 (is ∙ sym e)) in
+    rw other (ap (λ (cs : List TickCount). counted d ∷ cs) (others_stay clock x n step ds is apart.1))
+
+-- where a domain goes on by a step, its ticks are counted
+pub counted-stepped : (clock n : ℕ) (step : Domain → ℕ) (ds : List Domain) → IsDistinct eqb (clocks_of (map counted ds))
+    → n ≡ option_map_or (λ d. ticks_in (d.steps ++ step d ∷ [])) (find (λ d. d.clock == clock) ds) 0
+    → map (more_counted clock n) (map counted ds) ≡ map counted (map (stepped clock step) ds)
+counted-stepped clock n step [] once is = refl
+counted-stepped clock n step (d ∷ ds) once is =
+    elim (cases_Bool (d.clock == clock)) [
+      | inl same ↦
+          (let m : n ≡ ticks_in (d.steps ++ step d ∷ []) = is ∙ rw same refl in
+          rw same
+          (ap (λ t. counted_of d.clock t ∷ map (more_counted clock n) (map counted ds)) (ap (λ k. sum d.steps / 65536 + k) m ∙ ticks-push d.steps (step d))
+          ∙ ap (λ (cs : List TickCount). counted_of d.clock (sum (d.steps ++ step d ∷ []) / 65536) ∷ cs)
+          (others_stay clock d.clock n step ds (eqb-true d.clock clock same) (IsDistinct-head eqb d.clock (clocks_of (map counted ds)) once))))
+      | inr other ↦
+          (let m : n ≡ option_map_or (λ (e : Domain). ticks_in (e.steps ++ step e ∷ [])) (find (λ (e : Domain). e.clock == clock) ds) 0 = is ∙ rw other refl in
+          rw other
+          (ap (λ (cs : List TickCount). counted d ∷ cs) (counted-stepped clock n step ds (IsDistinct-tail eqb d.clock (clocks_of (map counted ds)) once) m)))
+    ]
+
+-- the counts keep their clocks
+pub clocks-more : (clock n : ℕ) (counts : List TickCount) → clocks_of (map (more_counted clock n) counts) ≡ clocks_of counts
+clocks-more clock n [] = refl
+clocks-more clock n (c ∷ cs) =
+    elim (cases_Bool (c.clock == clock)) [
+      | inl same ↦ rw same (ap (λ (ys : List ℕ). c.clock ∷ ys) (clocks-more clock n cs))
+      | inr other ↦ rw other (ap (λ (ys : List ℕ). c.clock ∷ ys) (clocks-more clock n cs))
+    ]
+
+-- the counts grow by no more
+pub counts-bound : (clock n most : ℕ) (counts : List TickCount) → All (λ c. c.ticks ≤ most) counts → All (λ c. c.ticks ≤ most + n) (map (more_counted clock n) counts)
+counts-bound clock n most counts all =
+    all_changed (λ c. c.ticks ≤ most) (λ c. c.ticks ≤ most + n) (more_counted clock n) (bound clock n most) counts all
+  where
+    bound : (clock n most : ℕ) (c : TickCount) → c.ticks ≤ most → (more_counted clock n c).ticks ≤ most + n
+    bound clock n most c small = elim (cases_Bool (c.clock == clock)) [ inl same ↦ rw same (omega arith) | inr other ↦ rw other (omega arith) ]
+
+-- one deviation more
+pub slight-push : (deviations : List ℤ) (millionths : ℤ) → list_all is_slight (deviations ++ millionths ∷ []) ≡ (list_all is_slight deviations && is_slight millionths)
+slight-push deviations millionths =
+    list_all-append is_slight deviations (millionths ∷ [])
+    ∙ ap (λ b. list_all is_slight deviations && b) (and-true (is_slight millionths))
+
+-- the domains stay few and counted once
+pub domains_kept : (p q : PlayingFields) → q.device.function ≡ p.device.function → clocks_of q.counts ≡ clocks_of p.counts → HasItsDomains p → HasItsDomains q
+domains_kept p q function clocks h = record {
+  counted = clocks ∙ h.counted ∙ ap (λ (fn : FunctionFields). fn.domains) (sym function);
+  few = subst (λ (fn : FunctionFields). length fn.domains ≤ 8) (sym function) h.few;
+  once = subst (IsDistinct eqb) (sym clocks) h.once;
+}
+
+pub ticks_wider : (most greater : ℕ) (counts : List TickCount) → most ≤ greater → All (λ c. c.ticks ≤ most) counts → All (λ c. c.ticks ≤ greater) counts
+ticks_wider most greater counts le all k d below = let small = all k d below in omega arith

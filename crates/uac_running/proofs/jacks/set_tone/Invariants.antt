@@ -1,0 +1,6 @@
+use Rattle.uac_running.specs.World.{toned}
+use Rattle.uac_device.proofs.Turning.{IsTurnedBelow}
+use Rattle.uac_running.proofs.jacks.set_tone.Given as goal
+
+abbrev pub invariant-loop-jack : goal.invariant-loop-jack
+invariant-loop-jack l = IsTurnedBelow (toned l.terminal l.tone) l.jacks l.initial.jacks l.jack-index

@@ -1,0 +1,8 @@
+use Rattle.std.proofs.Common.{◌≡◌, map, take}
+use Rattle.std.specs.List.{filter}
+use Rattle.uac_device.specs.World.{is_input_jack}
+use Rattle.uac_running.specs.World.{silent_jack}
+use Rattle.uac_running.proofs.jacks.silent_jacks.Given as goal
+
+abbrev pub invariant-loop-entity : goal.invariant-loop-entity
+invariant-loop-entity l = l.jacks.items ≡ map silent_jack (filter is_input_jack (take l.entity-index l.entities))

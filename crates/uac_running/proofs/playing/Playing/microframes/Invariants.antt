@@ -1,0 +1,16 @@
+use Rattle.std.proofs.Common.{[], ℕ, ◌+◌, ◌-◌, ◌*◌, ◌≤◌}
+use Rattle.uac_units.specs.Panel.{readings}
+use Rattle.uac_running.specs.World.{Running}
+use Rattle.uac_running.specs.Events.{microframes}
+use Rattle.uac_running.specs.Kept.{Counts, Stands}
+use Rattle.uac_running.proofs.SoFar.{SoFar}
+use Rattle.uac_running.proofs.playing.Playing.microframes.Given as goal
+
+abbrev pub invariant-loop-passed : goal.invariant-loop-passed
+invariant-loop-passed g l = record {
+  told : (r : Running) → Stands l.initial.self (readings (λ v x. (goal.Meter-dyn g (v, x)).reading_of x) l.initial.meters) r
+      → SoFar (microframes [] l.count r) (microframes [] (l.count - l._passed)) l.self
+      (readings (λ v x. (goal.Meter-dyn g (v, x)).reading_of x) l.meters) (g.K.Sink.written l.fn.sink) (g.K.Sink.written l.sink);
+  never_falls : g.K.Sink.faults l.fn.sink ≤ g.K.Sink.faults l.sink;
+  counts : (most : ℕ) → Counts most l.initial.self → Counts (most + 216 * l._passed) l.self;
+}

@@ -1,0 +1,78 @@
+// What is counted for the report: the ticks of each domain, and what streams met.
+ghost use Rattle.std.specs.Prelude.{◌≡◌, ◌==◌, ◌<◌, ◌≤◌, ◌+◌, ◌^◌, if◌then◌else◌, IfOk, map};
+ghost use Rattle.std.specs.List.{All};
+ghost use Rattle.uac_running.specs.Kept.{none_counted, more_counted};
+ghost use Rattle.uac_running.specs.World.{nothing_met};
+
+use std::alloc::Global;
+use uac_descriptor::NoMemory;
+
+/// A clock domain and how often it ticked since the start.
+#[derive(Clone, Copy, Debug, PartialEq, Eq)]
+pub struct TickCount {
+    pub clock: u8,
+    pub ticks: u64,
+}
+
+/// What the streams of an interface met since the start: rings found empty and full, packets lost, reports missed.
+#[derive(Clone, Copy, Debug, PartialEq, Eq)]
+pub struct StreamCounts {
+    pub under: u64,
+    pub over: u64,
+    pub lost: u64,
+    pub missed: u64,
+}
+
+/// Nothing was met.
+pub(crate) fn nothing_met() -> StreamCounts
+    ensures { result ≡ nothing_met }
+{
+    StreamCounts {
+        under: 0,
+        over: 0,
+        lost: 0,
+        missed: 0,
+    }
+}
+
+/// No ticks of these domains yet.
+pub(crate) fn no_ticks(alloc: Global, domains: &[u8]) -> Result<Vec<TickCount>, NoMemory>
+    ensures { IfOk result (λ counts. counts.items ≡ map none_counted domains.now) }
+{
+    let mut counts = Vec::new(alloc);
+    for clock in domains {
+        let count = TickCount {
+            clock: *clock,
+            ticks: 0,
+        };
+        match counts.push(count) {
+            Ok(()) => {}
+            Err(_) => return Err(NoMemory),
+        }
+    }
+    Ok(counts)
+}
+
+/// A domain ticked so often.
+pub(crate) fn count_ticks(counts: &mut [TickCount], clock: u8, ticks: u32)
+    requires { All (λ c. c.ticks < 2 ^ 63) counts.old }
+    ensures { counts.new ≡ map (more_counted clock ticks) counts.old }
+{
+    for count in counts.iter_mut() {
+        *count = after_ticks(*count, clock, ticks);
+    }
+}
+
+fn after_ticks(count: TickCount, clock: u8, ticks: u32) -> TickCount
+    requires { count.ticks < 2 ^ 63 }
+    ensures { result ≡ more_counted clock ticks count }
+{
+    if count.clock == clock {
+        TickCount {
+            ticks: count.ticks + ticks as u64,
+            ..count
+        }
+    } else {
+        count
+    }
+}

@@ -1,0 +1,144 @@
+// The jacks' tones.
+ghost use Rattle.std.specs.Prelude.{◌≡◌, ◌==◌, ◌≤◌, ◌<◌, ◌^◌, true, IfOk, map, filter};
+ghost use Rattle.std.specs.List.{All, list_any};
+ghost use Rattle.uac_graph.specs.Meaning.{entity};
+ghost use Rattle.uac_device.specs.Kept.{Stands};
+ghost use Rattle.uac_device.specs.World.{DeviceWorld};
+ghost use Rattle.uac_device.specs.World as world;
+ghost use Rattle.uac_running.specs.Events.{after_one, given, given_one, gone_on, next_frame};
+ghost use Rattle.uac_running.specs.World as spec;
+
+use arrayvec::ArrayVec;
+use std::alloc::Global;
+use uac_descriptor::NoMemory;
+use uac_device::{Device, is_input_jack};
+use uac_entities::Entity;
+use uac_pcm::{Frame, Tone};
+
+/// An input jack: its terminal's id, its clock domain and its channels, and the tone that it gives, of which so many frames were
+/// given since it was set.
+#[derive(Clone, Copy, Debug, PartialEq, Eq)]
+pub struct Jack {
+    pub terminal: u8,
+    pub clock: u8,
+    pub channels: u8,
+    pub tone: Tone,
+    pub place: u64,
+}
+
+/// The input jacks among these entities, each silent.
+pub(crate) fn silent_jacks(alloc: Global, entities: &[Entity]) -> Result<Vec<Jack>, NoMemory>
+    ensures { IfOk result (λ jacks. jacks.items ≡ map spec.silent_jack (filter world.is_input_jack entities.now)) }
+{
+    let mut jacks = Vec::new(alloc);
+    for entity in entities {
+        if !is_input_jack(entity) {
+            continue;
+        }
+        match jacks.push(silent_jack(entity)) {
+            Ok(()) => {}
+            Err(_) => return Err(NoMemory),
+        }
+    }
+    Ok(jacks)
+}
+
+fn silent_jack(entity: &Entity) -> Jack
+    ensures { result ≡ spec.silent_jack entity.now }
+{
+    Jack {
+        terminal: entity.id,
+        clock: entity.clock,
+        channels: entity.cluster.channels,
+        tone: Tone::Silent,
+        place: 0,
+    }
+}
+
+/// Whether one of these is the jack with this id.
+pub(crate) fn has_jack(jacks: &[Jack], terminal: u8) -> bool
+    ensures { result ≡ list_any (λ j. j.terminal == terminal) jacks.now }
+{
+    jacks.iter().any(|jack| jack.terminal == terminal)
+}
+
+/// A jack gives this tone from now on, from its first frame.
+pub(crate) fn set_tone(jacks: &mut [Jack], terminal: u8, tone: Tone)
+    ensures { jacks.new ≡ map (spec.toned terminal tone) jacks.old }
+{
+    for jack in jacks.iter_mut() {
+        *jack = with_tone(*jack, terminal, tone);
+    }
+}
+
+fn with_tone(jack: Jack, terminal: u8, tone: Tone) -> Jack
+    ensures { result ≡ spec.toned terminal tone jack }
+{
+    if jack.terminal == terminal {
+        Jack {
+            tone,
+            place: 0,
+            ..jack
+        }
+    } else {
+        jack
+    }
+}
+
+/// The jacks of a domain give the device the next frames of their tones.
+pub(crate) fn give_jacks(device: &mut Device, jacks: &mut [Jack], clock: u8)
+    requires kinds { All (λ j. world.is_input_jack (entity device.old.function.entities j.terminal) ≡ true) jacks.old }
+    requires channels { All (λ j. (entity device.old.function.entities j.terminal).cluster.channels ≡ j.channels) jacks.old }
+    requires most { All (λ j. j.channels ≤ 32) jacks.old }
+    requires room { All (λ j. j.place < 2 ^ 63) jacks.old }
+    ensures stands { (w : DeviceWorld) → Stands device.old w → Stands device.new (given clock jacks.old w) }
+    ensures jacks { jacks.new ≡ gone_on clock jacks.old }
+    ensures function { device.new.function ≡ device.old.function }
+{
+    for jack in jacks.iter_mut() {
+        give_jack(device, jack, clock);
+        *jack = after_frame(*jack, clock);
+    }
+}
+
+/// A jack of the domain gives the device the next frame of its tone.
+fn give_jack(device: &mut Device, jack: &Jack, clock: u8)
+    requires kind { world.is_input_jack (entity device.old.function.entities jack.now.terminal) ≡ true }
+    requires channels { (entity device.old.function.entities jack.now.terminal).cluster.channels ≡ jack.now.channels }
+    requires most { jack.now.channels ≤ 32 }
+    ensures stands { (w : DeviceWorld) → Stands device.old w
+        → Stands device.new (given_one clock jack.now w) }
+    ensures function { device.new.function ≡ device.old.function }
+{
+    if jack.clock == clock {
+        device.jack(jack.terminal, &next_frame(jack));
+    }
+}
+
+/// A jack of the domain after one frame more.
+fn after_frame(jack: Jack, clock: u8) -> Jack
+    requires { jack.place < 2 ^ 63 }
+    ensures { result ≡ after_one clock jack }
+{
+    if jack.clock == clock {
+        Jack {
+            place: jack.place + 1,
+            ..jack
+        }
+    } else {
+        jack
+    }
+}
+
+/// The frame that a jack's tone gives next.
+#[tactic(auto, unfolding(crate::specs::Events::next_frame))]
+fn next_frame(jack: &Jack) -> Frame
+    requires { jack.now.channels ≤ 32 }
+    ensures { result.items ≡ next_frame jack.now }
+{
+    let mut frame = ArrayVec::new();
+    for channel in 0..jack.channels {
+        frame.push(jack.tone.sample(jack.place, channel as u32));
+    }
+    frame
+}

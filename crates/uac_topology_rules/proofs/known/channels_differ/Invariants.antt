@@ -1,0 +1,8 @@
+use Rattle.std.proofs.Common.{◌≡◌, ◌==◌, false, not, map, take}
+use Rattle.std.specs.Prelude.{slice_index_or}
+use Rattle.std.specs.List.{list_any}
+use Rattle.uac_entities.specs.Entities.{no_cluster}
+use Rattle.uac_topology_rules.proofs.known.channels_differ.Given as goal
+
+abbrev pub invariant-loop-place : goal.invariant-loop-place
+invariant-loop-place l = list_any (λ n. not (n == l.channels)) (map (λ p. (slice_index_or l.clusters p no_cluster).channels) (take l.place-index l.sources)) ≡ false

@@ -1,0 +1,23 @@
+-- As much of the clocks behind an entity as tells which clock differs from one of them.
+use Rattle.std.specs.Prelude.{◌≡◌, ◌==◌, ℕ, Bool, true, false, not, if◌then◌else◌, List}
+use Rattle.std.specs.List.{list_any}
+use Rattle.uac_topology_rules.specs.declared.signals.Behind.{Behind}
+use Rattle.uac_topology_rules.specs.declared.signals.Behind.TheVariants as clocks
+
+-- one of the clocks behind is another than this
+abbrev pub differs : Behind → ℕ → Bool
+differs clocks.Nothing clock = false
+differs (clocks.One c) clock = not (c == clock)
+differs clocks.Several clock = true
+
+-- the clocks behind two sources
+abbrev pub joined : Behind → Behind → Behind
+joined clocks.Nothing b = b
+joined (clocks.One c) clocks.Nothing = clocks.One c
+joined (clocks.One c) (clocks.One d) = if c == d then clocks.One c else clocks.Several
+joined (clocks.One c) clocks.Several = clocks.Several
+joined clocks.Several b = clocks.Several
+
+-- this tells which clock differs from one of the list
+abbrev pub Tells : Behind → List ℕ → Type 0
+Tells b list = (clock : ℕ) → list_any (λ c. not (c == clock)) list ≡ differs b clock

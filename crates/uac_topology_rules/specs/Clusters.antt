@@ -1,0 +1,75 @@
+-- The channels that an entity puts out (Audio Class 2.0, 3.7.2.3 and 4.1): an input terminal and a mixer have their own
+-- cluster, a selector that of its first pin, a feature, an effect and an output terminal that of their source.
+use Rattle.std.specs.Prelude.{◌≡◌, ℕ, ◌+◌, zero, suc, Bool, true, false, if◌then◌else◌, List, [], ◌∷◌, map, length, slice_get, sum}
+use Rattle.std.specs.List.{flat_map, range_with_len}
+use Rattle.std.specs.Option.{option_map_or}
+use Rattle.uac_walk.specs.Walk.{links, has_walk}
+use Rattle.uac_entities.specs.Entities.{no_cluster}
+use Rattle.uac_entities.specs.declared.entity.Cluster.{Cluster}
+use Rattle.uac_entities.specs.declared.entity.Entity.{Entity}
+use Rattle.uac_entities.specs.declared.entity.EntityKind.{EntityKind}
+use Rattle.uac_entities.specs.declared.entity.EntityKind.TheVariants as kind
+pub use Rattle.uac_entities.specs.Streams.{is_input}
+use Rattle.uac_topology_rules.specs.Table.{at, with_cluster}
+use Rattle.uac_topology_rules.specs.Links.{signal_links}
+
+-- the cluster is that of the first source
+abbrev pub takes_over : EntityKind → Bool
+takes_over kind.OutputTerminal = true
+takes_over kind.Selector = true
+takes_over kind.Feature = true
+takes_over kind.Effect = true
+takes_over _ = false
+
+-- the cluster of an entity, by those of its sources
+abbrev pub cluster_by : Entity → List ℕ → (ℕ → Cluster) → Cluster
+cluster_by e sources below = if takes_over e.kind then option_map_or below (slice_get sources 0) no_cluster else e.cluster
+
+-- one step: from the clusters of the sources to that of the entity at a place
+unfoldable pub cluster_step : List Entity → (ℕ → Cluster) → ℕ → Cluster
+cluster_step entities below place = cluster_by (at entities place) (links (signal_links entities) place) below
+
+-- the cluster, along fewer than n links
+unfoldable pub cluster_within : ℕ → List Entity → ℕ → Cluster
+cluster_within zero entities place = no_cluster
+cluster_within (suc n) entities place = cluster_step entities (cluster_within n entities) place
+
+-- the cluster of the entity at a place
+unfoldable pub cluster_of : List Entity → ℕ → Cluster
+cluster_of entities place = cluster_within (length entities) entities place
+
+-- the channels of each pin
+unfoldable pub pins : List Entity → ℕ → List ℕ
+pins entities place = map (λ p. (cluster_of entities p).channels) (links (signal_links entities) place)
+
+-- the input channels: those of all pins
+abbrev pub inputs : List Entity → ℕ → ℕ
+inputs entities place = sum (pins entities place)
+
+-- the clocks behind an entity, by those behind its sources
+abbrev pub clocks_by : Entity → List ℕ → (ℕ → List ℕ) → List ℕ
+clocks_by e sources below = if is_input e.kind then e.clock ∷ [] else flat_map below sources
+
+-- one step: from the clocks behind the sources to those behind the entity at a place
+unfoldable pub clocks_step : List Entity → (ℕ → List ℕ) → ℕ → List ℕ
+clocks_step entities below place = clocks_by (at entities place) (links (signal_links entities) place) below
+
+-- the clocks of the input terminals to which a walk of fewer than n signal source links leads
+unfoldable pub clocks_within : ℕ → List Entity → ℕ → List ℕ
+clocks_within zero entities place = []
+clocks_within (suc n) entities place = clocks_step entities (clocks_within n entities) place
+
+-- the clocks of the input terminals to which a walk of signal source links leads
+unfoldable pub clocks_of : List Entity → ℕ → List ℕ
+clocks_of entities place = clocks_within (length entities) entities place
+
+-- the entities in block order, each with the cluster that it puts out
+unfoldable pub clustered : List Entity → List Entity
+clustered entities = map (λ place. with_cluster (at entities place) (cluster_of entities place)) (range_with_len 0 (length entities))
+
+-- where no walk of n signal source links leads on, more links change neither the cluster nor the clocks behind
+abbrev pub MoreLinksChangeNothing : Type 0
+MoreLinksChangeNothing =
+    (entities : List Entity) (n place : ℕ) → has_walk (signal_links entities) n place ≡ false → (more : ℕ) →
+    (cluster_within (more + n) entities place ≡ cluster_within n entities place)
+    × (clocks_within (more + n) entities place ≡ clocks_within n entities place)

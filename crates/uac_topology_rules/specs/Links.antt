@@ -1,0 +1,32 @@
+-- Signal links and clock links (Audio Class 2.0, 3.13, and 4.7.2.1 to 4.7.2.3): a unit or an output terminal names signal
+-- sources, a clock entity names clock sources.
+use Rattle.std.specs.Prelude.{ℕ, Bool, true, false, if◌then◌else◌, List, [], map}
+use Rattle.uac_entities.specs.declared.entity.Entity.{Entity}
+use Rattle.uac_entities.specs.declared.entity.EntityKind.{EntityKind}
+use Rattle.uac_entities.specs.declared.entity.EntityKind.TheVariants as kind
+use Rattle.uac_topology_rules.specs.Table.{place_of}
+
+abbrev pub is_clock : EntityKind → Bool
+is_clock kind.ClockSource = true
+is_clock kind.ClockSelector = true
+is_clock kind.ClockMultiplier = true
+is_clock _ = false
+
+abbrev pub is_terminal : EntityKind → Bool
+is_terminal kind.InputTerminal = true
+is_terminal kind.OutputTerminal = true
+is_terminal _ = false
+
+unfoldable pub signal_sources : Entity → List ℕ
+signal_sources e = if is_clock e.kind then [] else e.sources
+
+unfoldable pub clock_sources : Entity → List ℕ
+clock_sources e = if is_clock e.kind then e.sources else []
+
+-- for each entity, in block order, the places of its signal sources
+abbrev pub signal_links : List Entity → List (List ℕ)
+signal_links entities = map (λ e. map (place_of entities) (signal_sources e)) entities
+
+-- for each entity, in block order, the places of its clock sources
+abbrev pub clock_links : List Entity → List (List ℕ)
+clock_links entities = map (λ e. map (place_of entities) (clock_sources e)) entities

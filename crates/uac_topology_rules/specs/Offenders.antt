@@ -1,0 +1,23 @@
+-- The first offender in block order.
+use Rattle.std.specs.Prelude.{ℕ, Bool, List, Option, length, slice_get}
+use Rattle.std.specs.List.{find, range_with_len}
+use Rattle.std.specs.Option.{option_map, option_map_or}
+use Rattle.uac_entities.specs.declared.entity.Entity.{Entity}
+use Rattle.uac_entities.specs.declared.stream.StreamInterface.{StreamInterface}
+use Rattle.uac_topology_rules.specs.Table.{at}
+
+-- the first place below n that a test finds
+unfoldable pub first_place : (ℕ → Bool) → ℕ → Option ℕ
+first_place breaks n = find breaks (range_with_len 0 n)
+
+-- the id of the first entity that breaks a rule
+unfoldable pub offender : List Entity → (ℕ → Bool) → Option ℕ
+offender entities breaks = option_map (λ place. (at entities place).id) (first_place breaks (length entities))
+
+-- the number of the streaming interface at a place
+unfoldable pub number_at : List StreamInterface → ℕ → ℕ
+number_at streams place = option_map_or (λ s. s.number) (slice_get streams place) 0
+
+-- the number of the first streaming interface that breaks a rule
+unfoldable pub interface_offender : List StreamInterface → (ℕ → Bool) → Option ℕ
+interface_offender streams breaks = option_map (number_at streams) (first_place breaks (length streams))

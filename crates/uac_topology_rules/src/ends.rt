@@ -1,0 +1,253 @@
+// The rules on streaming interfaces, U12, U13 and U14.
+ghost use Rattle.std.specs.Prelude.{◌≡◌, ◌<◌, ◌==◌, ◌&&◌, ◌||◌, not, false, nat_lt, if◌then◌else◌, length};
+ghost use Rattle.uac_topology_rules.specs.Table.{at};
+ghost use Rattle.uac_topology_rules.specs.Links as links;
+ghost use Rattle.std.specs.List.{list_any};
+ghost use Rattle.std.specs.Option.{option_map_or};
+ghost use Rattle.uac_entities.specs.Streams.{links_of};
+ghost use Rattle.uac_topology_rules.specs.Rules as rules;
+ghost use Rattle.uac_topology_rules.specs.Faults.{of_interface, broken_ends};
+ghost use Rattle.uac_topology_rules.specs.Domains.{IsDomains};
+ghost use Rattle.uac_topology_rules.specs.Ending as ending;
+
+use crate::domains::Domains;
+use crate::fault::TopologyFault;
+use crate::kinds::is_terminal;
+use crate::known::Known;
+use crate::shapes::entity_limit;
+use crate::table::EntityTable;
+use uac_descriptor::{Endpoint, EndpointBits};
+use uac_entities::{Alternate, Setting, StreamInterface, USB_STREAMING, link_of};
+
+/// The most streaming interfaces of a function, and the most settings of each (profile).
+const MOST_STREAMS: usize = 8;
+
+const MOST_SETTINGS: usize = 16;
+
+/// A rule on streaming interfaces.
+#[derive(Clone, Copy)]
+pub(crate) enum EndRule {
+    Links,
+    Endpoints,
+    Limits,
+}
+
+/// The first fault by the rules U12 to U14.
+#[tactic(auto, unfolding(crate::specs::Faults::broken_ends))]
+pub fn ends_fault(
+    known: &Known,
+    domains: &Domains,
+    all: &[Alternate],
+    streams: &[StreamInterface],
+) -> Option<TopologyFault>
+    requires { IsDomains known.now domains.now.clocks.items domains.now.counts.items }
+    ensures { result ≡ broken_ends known.now all.now streams.now }
+{
+    if let Some(fault) = judge(EndRule::Links, known.table(), all, streams) {
+        return Some(fault);
+    }
+    if let Some(fault) = judge(EndRule::Endpoints, known.table(), all, streams) {
+        return Some(fault);
+    }
+    if let Some(fault) = entity_limit(known, domains) {
+        return Some(fault);
+    }
+    judge(EndRule::Limits, known.table(), all, streams)
+}
+
+// The first streaming interface that breaks the rule.
+fn judge(
+    rule: EndRule,
+    table: &EntityTable,
+    all: &[Alternate],
+    streams: &[StreamInterface],
+) -> Option<TopologyFault>
+    ensures { result ≡ of_interface (ending.number rule) streams.now (ending.breaks rule table.now all.now) }
+{
+    for (place, stream) in streams.iter().enumerate() {
+        if breaks(rule, table, all, streams, place) {
+            return Some(TopologyFault {
+                rule: number(rule),
+                id: stream.number,
+                interface: true,
+            });
+        }
+    }
+    None
+}
+
+fn number(rule: EndRule) -> u8
+    ensures { result ≡ ending.number rule }
+{
+    match rule {
+        EndRule::Links => 12,
+        EndRule::Endpoints => 13,
+        EndRule::Limits => 14,
+    }
+}
+
+fn breaks(
+    rule: EndRule,
+    table: &EntityTable,
+    all: &[Alternate],
+    streams: &[StreamInterface],
+    place: usize,
+) -> bool
+    requires { place < length streams.now }
+    ensures { result ≡ ending.breaks rule table.now all.now streams.now place }
+{
+    match rule {
+        EndRule::Links => breaks_u12(table, streams, place),
+        EndRule::Endpoints => breaks_u13(all, streams, place),
+        EndRule::Limits => exceeds(streams, place),
+    }
+}
+
+fn breaks_u12(table: &EntityTable, streams: &[StreamInterface], place: usize) -> bool
+    requires { place < length streams.now }
+    ensures { result ≡ rules.breaks_u12 table.now streams.now place }
+{
+    let earlier = &streams[..place];
+    is_wrongly_linked(table, earlier, &streams[place])
+}
+
+// The links of the interface are not to one USB streaming terminal, or an earlier one has it.
+fn is_wrongly_linked(
+    table: &EntityTable,
+    earlier: &[StreamInterface],
+    stream: &StreamInterface,
+) -> bool
+    ensures { result ≡ (list_any (λ l. not (rules.is_usb table.now l && l == stream.now.terminal)) (links_of stream.now.settings)
+        || (not (stream.now.terminal == 0) && list_any (λ d. d.terminal == stream.now.terminal) earlier.now)) }
+{
+    has_wrong_link(table, stream.settings.as_slice(), stream.terminal)
+        || (stream.terminal != 0 && has_terminal(earlier, stream.terminal))
+}
+
+// A setting links to something else than this terminal, or it isn't one of USB streaming.
+fn has_wrong_link(table: &EntityTable, settings: &[Setting], terminal: u8) -> bool
+    ensures { result ≡ list_any (λ l. not (rules.is_usb table.now l && l == terminal)) (links_of settings.now) }
+{
+    for setting in settings {
+        if is_wrong_link(table, link_of(setting), terminal) {
+            return true;
+        }
+    }
+    false
+}
+
+fn is_wrong_link(table: &EntityTable, link: Option<u8>, terminal: u8) -> bool
+    ensures { result ≡ option_map_or (λ l. not (rules.is_usb table.now l && l == terminal)) link false }
+{
+    match link {
+        Some(link) => !(is_usb(table, link) && link == terminal),
+        None => false,
+    }
+}
+
+// A terminal of USB streaming has this id.
+#[tactic(auto, unfolding(crate::specs::Rules::is_usb))]
+fn is_usb(table: &EntityTable, id: u8) -> bool
+    ensures { result ≡ rules.is_usb table.now id }
+{
+    match table.find(id) {
+        Some(place) => is_usb_terminal(table, place),
+        None => false,
+    }
+}
+
+fn has_terminal(streams: &[StreamInterface], terminal: u8) -> bool
+    ensures { result ≡ list_any (λ s. s.terminal == terminal) streams.now }
+{
+    streams.iter().any(|stream| stream.terminal == terminal)
+}
+
+fn breaks_u13(all: &[Alternate], streams: &[StreamInterface], place: usize) -> bool
+    requires { place < length streams.now }
+    ensures { result ≡ rules.breaks_u13 all.now streams.now place }
+{
+    let stream = &streams[place];
+    has_wrong_endpoints(all, stream.number, stream.out)
+}
+
+// A setting of the interface has not the endpoints that it may have.
+fn has_wrong_endpoints(all: &[Alternate], number: u8, out: bool) -> bool
+    ensures { result ≡ list_any (λ a. a.interface == number && rules.is_wrong out a) all.now }
+{
+    all.iter().any(|alternate| alternate.interface == number && is_wrong(out, alternate))
+}
+
+#[tactic(auto, unfolding(crate::specs::Rules::is_wrong))]
+fn is_wrong(out: bool, alternate: &Alternate) -> bool
+    ensures { result ≡ rules.is_wrong out alternate.now }
+{
+    usize::from(alternate.declared) != alternate.endpoints
+        || ((alternate.setting.number == 0 && alternate.endpoints != 0)
+            || (is_wrong_first(out, &alternate.setting.first)
+                || is_wrong_second(out, &alternate.setting.second)))
+}
+
+fn is_wrong_first(out: bool, endpoint: &Option<Endpoint>) -> bool
+    ensures { result ≡ option_map_or (λ e. not (rules.carries_data out e)) endpoint.now false }
+{
+    match endpoint {
+        Some(endpoint) => !carries_data(out, endpoint),
+        None => false,
+    }
+}
+
+fn is_wrong_second(out: bool, endpoint: &Option<Endpoint>) -> bool
+    ensures { result ≡ option_map_or (λ e. not (rules.carries_feedback (not out) e)) endpoint.now false }
+{
+    match endpoint {
+        Some(endpoint) => !carries_feedback(!out, endpoint),
+        None => false,
+    }
+}
+
+fn carries_data(out: bool, endpoint: &Endpoint) -> bool
+    ensures { result ≡ rules.carries_data out endpoint.now }
+{
+    let bits = EndpointBits::of(endpoint.attributes);
+    is_isochronous(out, endpoint) && (bits.is_data() || bits.is_implicit_feedback())
+}
+
+fn carries_feedback(out: bool, endpoint: &Endpoint) -> bool
+    ensures { result ≡ rules.carries_feedback out endpoint.now }
+{
+    is_isochronous(out, endpoint) && EndpointBits::of(endpoint.attributes).is_feedback()
+}
+
+fn is_isochronous(out: bool, endpoint: &Endpoint) -> bool
+    ensures { result ≡ rules.is_isochronous out endpoint.now }
+{
+    EndpointBits::of(endpoint.attributes).is_isochronous() && goes(out, endpoint.address)
+}
+
+// Whether the address is one of this direction.
+fn goes(out: bool, address: u8) -> bool
+    ensures { result ≡ (if out then nat_lt address 128 else not (nat_lt address 128)) }
+{
+    if out { address < 128 } else { address >= 128 }
+}
+
+fn exceeds(streams: &[StreamInterface], place: usize) -> bool
+    requires { place < length streams.now }
+    ensures { result ≡ rules.exceeds streams.now place }
+{
+    place >= MOST_STREAMS || has_too_many(&streams[place])
+}
+
+fn has_too_many(stream: &StreamInterface) -> bool
+    ensures { result ≡ nat_lt 16 (length stream.now.settings) }
+{
+    stream.settings.as_slice().len() > MOST_SETTINGS
+}
+
+fn is_usb_terminal(table: &EntityTable, place: usize) -> bool
+    requires { place < length table.now }
+    ensures { result ≡ rules.is_usb_terminal (at table.now place) }
+{
+    let entity = table.at(place);
+    is_terminal(entity.kind) && entity.terminal_type == USB_STREAMING
+}

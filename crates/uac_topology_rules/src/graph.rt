@@ -1,0 +1,54 @@
+// The links between entities, as graphs of places.
+ghost use Rattle.std.specs.Prelude.{◌≡◌, IfOk, map};
+ghost use Rattle.uac_topology_rules.specs.Table.{place_of};
+ghost use Rattle.uac_topology_rules.specs.Links.{signal_links, clock_links};
+
+use crate::names::{clock_sources, signal_sources};
+use crate::table::EntityTable;
+use std::alloc::Global;
+use uac_descriptor::NoMemory;
+use uac_walk::Links;
+
+/// For each entity the places of its signal sources.
+pub(crate) fn signal_graph(alloc: Global, table: &EntityTable) -> Result<Vec<Links>, NoMemory>
+    ensures { IfOk result (λ graph. graph.items ≡ signal_links table.now) }
+{
+    let mut graph = Vec::new(alloc);
+    for entity in table.as_slice() {
+        let links = links_to(alloc, table, signal_sources(entity))?;
+        match graph.push(links) {
+            Ok(()) => {}
+            Err(_) => return Err(NoMemory),
+        }
+    }
+    Ok(graph)
+}
+
+/// For each entity the places of its clock sources.
+pub(crate) fn clock_graph(alloc: Global, table: &EntityTable) -> Result<Vec<Links>, NoMemory>
+    ensures { IfOk result (λ graph. graph.items ≡ clock_links table.now) }
+{
+    let mut graph = Vec::new(alloc);
+    for entity in table.as_slice() {
+        let links = links_to(alloc, table, clock_sources(entity))?;
+        match graph.push(links) {
+            Ok(()) => {}
+            Err(_) => return Err(NoMemory),
+        }
+    }
+    Ok(graph)
+}
+
+// The places of the entities with these ids.
+fn links_to(alloc: Global, table: &EntityTable, ids: &[u8]) -> Result<Links, NoMemory>
+    ensures { IfOk result (λ links. links ≡ map (place_of table.now) ids.now) }
+{
+    let mut links = Links::new(alloc);
+    for id in ids {
+        match links.push(table.place_of(*id)) {
+            Ok(()) => {}
+            Err(_) => return Err(NoMemory),
+        }
+    }
+    Ok(links)
+}

@@ -1,0 +1,47 @@
+// What kind an entity is of.
+ghost use Rattle.std.specs.Prelude.{◌≡◌};
+ghost use Rattle.uac_topology_rules.specs.Clusters as clusters;
+ghost use Rattle.uac_topology_rules.specs.Links as links;
+ghost use Rattle.uac_topology_rules.specs.Rules as rules;
+
+use uac_entities::EntityKind;
+
+/// Whether it is an entity of the clock domain (Audio Class 2.0, 3.13.2: clock source, clock selector, clock multiplier).
+pub fn is_clock(kind: EntityKind) -> bool
+    ensures { result ≡ links.is_clock kind }
+{
+    match kind {
+        EntityKind::ClockSource | EntityKind::ClockSelector | EntityKind::ClockMultiplier => true,
+        _ => false,
+    }
+}
+
+/// Whether it is an input terminal.
+pub fn is_input(kind: EntityKind) -> bool
+    ensures { result ≡ clusters.is_input kind }
+{
+    match kind {
+        EntityKind::InputTerminal => true,
+        _ => false,
+    }
+}
+
+/// Whether it is an output terminal.
+pub fn is_output(kind: EntityKind) -> bool
+    ensures { result ≡ rules.is_output kind }
+{
+    match kind {
+        EntityKind::OutputTerminal => true,
+        _ => false,
+    }
+}
+
+/// Whether it is a terminal.
+pub(crate) fn is_terminal(kind: EntityKind) -> bool
+    ensures { result ≡ links.is_terminal kind }
+{
+    match kind {
+        EntityKind::InputTerminal | EntityKind::OutputTerminal => true,
+        _ => false,
+    }
+}

@@ -1,0 +1,185 @@
+// The rules on what ids name, U1 to U5.
+ghost use Rattle.std.specs.Prelude.{◌≡◌, ◌<◌, ◌&&◌, not, length};
+ghost use Rattle.std.specs.List.{list_any};
+ghost use Rattle.uac_topology_rules.specs.Table as spec;
+ghost use Rattle.uac_topology_rules.specs.Links as links;
+ghost use Rattle.uac_topology_rules.specs.Rules as rules;
+ghost use Rattle.uac_topology_rules.specs.Faults.{of_entity, broken_names};
+ghost use Rattle.uac_topology_rules.specs.Naming as naming;
+
+use crate::fault::TopologyFault;
+use crate::kinds::{is_clock, is_terminal};
+use crate::table::EntityTable;
+use uac_entities::{Entity, EntityKind};
+
+/// A rule on what ids name.
+#[derive(Clone, Copy)]
+pub(crate) enum NameRule {
+    Zero,
+    Repeated,
+    Unnamed,
+    Silent,
+    Clockless,
+}
+
+/// The first fault by the rules U1 to U5.
+#[tactic(auto, unfolding(crate::specs::Faults::broken_names))]
+pub fn names_fault(table: &EntityTable) -> Option<TopologyFault>
+    ensures { result ≡ broken_names table.now }
+{
+    if let Some(fault) = judge(NameRule::Zero, table) {
+        return Some(fault);
+    }
+    if let Some(fault) = judge(NameRule::Repeated, table) {
+        return Some(fault);
+    }
+    if let Some(fault) = judge(NameRule::Unnamed, table) {
+        return Some(fault);
+    }
+    if let Some(fault) = judge(NameRule::Silent, table) {
+        return Some(fault);
+    }
+    judge(NameRule::Clockless, table)
+}
+
+// The first entity that breaks the rule.
+fn judge(rule: NameRule, table: &EntityTable) -> Option<TopologyFault>
+    ensures { result ≡ of_entity (naming.number rule) table.now (naming.breaks rule) }
+{
+    for (place, entity) in table.as_slice().iter().enumerate() {
+        if breaks(rule, table, place) {
+            return Some(TopologyFault {
+                rule: number(rule),
+                id: entity.id,
+                interface: false,
+            });
+        }
+    }
+    None
+}
+
+fn number(rule: NameRule) -> u8
+    ensures { result ≡ naming.number rule }
+{
+    match rule {
+        NameRule::Zero => 1,
+        NameRule::Repeated => 2,
+        NameRule::Unnamed => 3,
+        NameRule::Silent => 4,
+        NameRule::Clockless => 5,
+    }
+}
+
+fn breaks(rule: NameRule, table: &EntityTable, place: usize) -> bool
+    requires { place < length table.now }
+    ensures { result ≡ naming.breaks rule table.now place }
+{
+    match rule {
+        NameRule::Zero => breaks_u1(table, place),
+        NameRule::Repeated => breaks_u2(table, place),
+        NameRule::Unnamed => breaks_u3(table, place),
+        NameRule::Silent => breaks_u4(table, place),
+        NameRule::Clockless => breaks_u5(table, place),
+    }
+}
+
+#[tactic(auto, unfolding(crate::specs::Rules::breaks_u1))]
+fn breaks_u1(table: &EntityTable, place: usize) -> bool
+    requires { place < length table.now }
+    ensures { result ≡ rules.breaks_u1 table.now place }
+{
+    table.at(place).id == 0
+}
+
+fn breaks_u2(table: &EntityTable, place: usize) -> bool
+    requires { place < length table.now }
+    ensures { result ≡ rules.breaks_u2 table.now place }
+{
+    table.place_of(table.at(place).id) < place
+}
+
+#[tactic(auto, unfolding(crate::specs::Rules::breaks_u3))]
+fn breaks_u3(table: &EntityTable, place: usize) -> bool
+    requires { place < length table.now }
+    ensures { result ≡ rules.breaks_u3 table.now place }
+{
+    signal_sources(table.at(place))
+        .iter()
+        .any(|id| table.kind_of(*id).is_none())
+}
+
+#[tactic(auto, unfolding(crate::specs::Rules::breaks_u4))]
+fn breaks_u4(table: &EntityTable, place: usize) -> bool
+    requires { place < length table.now }
+    ensures { result ≡ rules.breaks_u4 table.now place }
+{
+    signal_sources(table.at(place))
+        .iter()
+        .any(|id| is_silent(table.kind_of(*id)))
+}
+
+#[tactic(auto, unfolding(crate::specs::Rules::breaks_u5))]
+fn breaks_u5(table: &EntityTable, place: usize) -> bool
+    requires { place < length table.now }
+    ensures { result ≡ rules.breaks_u5 table.now place }
+{
+    let entity = table.at(place);
+    lacks_clock(table, entity) || names_no_clock(table, clock_sources(entity))
+}
+
+// The entity is a terminal, and its clock isn't a clock entity.
+fn lacks_clock(table: &EntityTable, entity: &Entity) -> bool
+    ensures { result ≡ (links.is_terminal entity.now.kind && not (rules.is_some_clock (spec.kind_of table.now entity.now.clock))) }
+{
+    is_terminal(entity.kind) && !is_some_clock(table.kind_of(entity.clock))
+}
+
+// One of the ids names no clock entity.
+fn names_no_clock(table: &EntityTable, ids: &[u8]) -> bool
+    ensures { result ≡ list_any (λ id. not (rules.is_some_clock (spec.kind_of table.now id))) ids.now }
+{
+    ids.iter().any(|id| !is_some_clock(table.kind_of(*id)))
+}
+
+fn is_silent(kind: Option<EntityKind>) -> bool
+    ensures { result ≡ rules.is_silent kind }
+{
+    match kind {
+        Some(EntityKind::OutputTerminal) => true,
+        Some(kind) => is_clock(kind),
+        None => false,
+    }
+}
+
+fn is_some_clock(kind: Option<EntityKind>) -> bool
+    ensures { result ≡ rules.is_some_clock kind }
+{
+    match kind {
+        Some(kind) => is_clock(kind),
+        None => false,
+    }
+}
+
+/// The signal sources of an entity.
+#[tactic(auto, unfolding(crate::specs::Links::signal_sources))]
+pub(crate) fn signal_sources(entity: &Entity) -> &[u8]
+    ensures { result.now ≡ links.signal_sources entity.now }
+{
+    if is_clock(entity.kind) {
+        &[]
+    } else {
+        entity.sources.as_slice()
+    }
+}
+
+/// The clock sources of an entity.
+#[tactic(auto, unfolding(crate::specs::Links::clock_sources))]
+pub(crate) fn clock_sources(entity: &Entity) -> &[u8]
+    ensures { result.now ≡ links.clock_sources entity.now }
+{
+    if is_clock(entity.kind) {
+        entity.sources.as_slice()
+    } else {
+        &[]
+    }
+}

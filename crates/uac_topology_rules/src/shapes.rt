@@ -1,0 +1,213 @@
+// The rules on clusters, sizes and clocks, U8 to U11, and the limits of entities, U14.
+ghost use Rattle.std.specs.Prelude.{◌≡◌, ◌<◌, ◌-◌, ◌==◌, ◌&&◌, nat_lt, length, slice_index};
+ghost use Rattle.uac_topology_rules.specs.Clusters as spec;
+ghost use Rattle.uac_topology_rules.specs.Rules as rules;
+ghost use Rattle.uac_topology_rules.specs.Faults.{of_entity, broken_shapes};
+ghost use Rattle.uac_topology_rules.specs.Shaping as shaping;
+ghost use Rattle.uac_topology_rules.specs.Domains.{IsDomains};
+
+use crate::domains::Domains;
+use crate::fault::TopologyFault;
+use crate::kinds::{is_output, is_terminal};
+use crate::known::Known;
+use uac_entities::EntityKind;
+
+/// The most channels of a cluster, input channels and nodes of a unit, and clocks of a function (profile).
+const MOST_CHANNELS: u8 = 32;
+
+const MOST_INPUTS: u128 = 256;
+
+const MOST_NODES: u128 = 256;
+
+const MOST_CLOCKS: usize = 8;
+
+/// A rule on clusters, sizes and clocks.
+#[derive(Clone, Copy)]
+pub(crate) enum ShapeRule {
+    Channels,
+    Sizes,
+    Pins,
+    Clocks,
+}
+
+/// The first fault by the rules U8 to U11.
+#[tactic(auto, unfolding(crate::specs::Faults::broken_shapes))]
+pub fn shapes_fault(known: &Known) -> Option<TopologyFault>
+    ensures { result ≡ broken_shapes known.now }
+{
+    if let Some(fault) = judge(ShapeRule::Channels, known) {
+        return Some(fault);
+    }
+    if let Some(fault) = judge(ShapeRule::Sizes, known) {
+        return Some(fault);
+    }
+    if let Some(fault) = judge(ShapeRule::Pins, known) {
+        return Some(fault);
+    }
+    judge(ShapeRule::Clocks, known)
+}
+
+// The first entity that breaks the rule.
+fn judge(rule: ShapeRule, known: &Known) -> Option<TopologyFault>
+    ensures { result ≡ of_entity (shaping.number rule) known.now (shaping.breaks rule) }
+{
+    for (place, entity) in known.table().as_slice().iter().enumerate() {
+        if breaks(rule, known, place) {
+            return Some(TopologyFault {
+                rule: number(rule),
+                id: entity.id,
+                interface: false,
+            });
+        }
+    }
+    None
+}
+
+/// The first entity that is past a limit, U14.
+pub fn entity_limit(known: &Known, domains: &Domains) -> Option<TopologyFault>
+    requires { IsDomains known.now domains.now.clocks.items domains.now.counts.items }
+    ensures { result ≡ of_entity 14 known.now rules.breaks_u14 }
+{
+    for (place, entity) in known.table().as_slice().iter().enumerate() {
+        if breaks_u14(known, domains, place) {
+            return Some(TopologyFault {
+                rule: 14,
+                id: entity.id,
+                interface: false,
+            });
+        }
+    }
+    None
+}
+
+fn number(rule: ShapeRule) -> u8
+    ensures { result ≡ shaping.number rule }
+{
+    match rule {
+        ShapeRule::Channels => 8,
+        ShapeRule::Sizes => 9,
+        ShapeRule::Pins => 10,
+        ShapeRule::Clocks => 11,
+    }
+}
+
+fn breaks(rule: ShapeRule, known: &Known, place: usize) -> bool
+    requires { place < length known.now }
+    ensures { result ≡ shaping.breaks rule known.now place }
+{
+    match rule {
+        ShapeRule::Channels => breaks_u8(known, place),
+        ShapeRule::Sizes => breaks_u9(known, place),
+        ShapeRule::Pins => breaks_u10(known, place),
+        ShapeRule::Clocks => breaks_u11(known, place),
+    }
+}
+
+#[tactic(auto, unfolding(crate::specs::Rules::breaks_u8))]
+fn breaks_u8(known: &Known, place: usize) -> bool
+    requires { place < length known.now }
+    ensures { result ≡ rules.breaks_u8 known.now place }
+{
+    let entity = known.at(place);
+    let cluster = entity.cluster;
+    let locations = cluster.locations.count_ones();
+    has_own_cluster(entity.kind)
+        && (cluster.channels == 0
+            || (cluster.channels > MOST_CHANNELS || u32::from(cluster.channels) < locations))
+}
+
+#[tactic(auto, unfolding(crate::specs::Rules::breaks_u9))]
+fn breaks_u9(known: &Known, place: usize) -> bool
+    requires { place < length known.now }
+    ensures { result ≡ rules.breaks_u9 known.now place }
+{
+    let entity = known.at(place);
+    let channels = known.channels(place);
+    let inputs = known.inputs(place);
+    let nodes = inputs * u128::from(channels);
+    let words = entity.controls.as_slice().len() as u128;
+    wrong_size(
+        entity.kind,
+        entity.mix_bits.as_slice().len() as u128 == (nodes + 7) / 8,
+        words == u128::from(channels) + 1,
+        words == u128::from(channels) + 2,
+    )
+}
+
+fn wrong_size(kind: EntityKind, bitmap: bool, words: bool, more: bool) -> bool
+    ensures { result ≡ rules.wrong_size kind bitmap words more }
+{
+    match kind {
+        EntityKind::Mixer => !bitmap,
+        EntityKind::Feature => !words,
+        EntityKind::Effect => !(words || more),
+        _ => false,
+    }
+}
+
+#[tactic(auto, unfolding(crate::specs::Rules::breaks_u10))]
+fn breaks_u10(known: &Known, place: usize) -> bool
+    requires { place < length known.now }
+    ensures { result ≡ rules.breaks_u10 known.now place }
+{
+    let channels = known.channels(place);
+    is_selector(known.at(place).kind) && known.pins_differ(place, channels)
+}
+
+#[tactic(auto, unfolding(crate::specs::Rules::breaks_u11))]
+fn breaks_u11(known: &Known, place: usize) -> bool
+    requires { place < length known.now }
+    ensures { result ≡ rules.breaks_u11 known.now place }
+{
+    let entity = known.at(place);
+    is_output(entity.kind) && known.clocks_differ(place, entity.clock)
+}
+
+#[tactic(auto, unfolding(crate::specs::Rules::breaks_u14))]
+fn breaks_u14(known: &Known, domains: &Domains, place: usize) -> bool
+    requires inside { place < length known.now }
+    requires counted { IsDomains known.now domains.now.clocks.items domains.now.counts.items }
+    ensures { result ≡ rules.breaks_u14 known.now place }
+{
+    let entity = known.at(place);
+    let inputs = known.inputs(place);
+    let nodes = inputs * u128::from(known.channels(place));
+    too_large(entity.kind, inputs > MOST_INPUTS, nodes > MOST_NODES)
+        || passes_limit(&domains.counts, place)
+}
+
+// Whether the clocks named before the place are as many as there may be, and with it there is one more.
+fn passes_limit(counts: &[usize], place: usize) -> bool
+    requires { place < length counts.now }
+    ensures { result ≡ (nat_lt 0 place && (slice_index counts.now (place - 1) == 8 && nat_lt 8 (slice_index counts.now place))) }
+{
+    place > 0 && (counts[place - 1] == MOST_CLOCKS && counts[place] > MOST_CLOCKS)
+}
+
+fn too_large(kind: EntityKind, channels: bool, nodes: bool) -> bool
+    ensures { result ≡ rules.too_large kind channels nodes }
+{
+    match kind {
+        EntityKind::Mixer => channels || nodes,
+        EntityKind::Selector => channels,
+        _ => false,
+    }
+}
+
+fn has_own_cluster(kind: EntityKind) -> bool
+    ensures { result ≡ rules.has_own_cluster kind }
+{
+    match kind {
+        EntityKind::InputTerminal | EntityKind::Mixer => true,
+        _ => false,
+    }
+}
+
+fn is_selector(kind: EntityKind) -> bool
+    ensures { result ≡ rules.is_selector kind }
+{
+    match kind {
+        EntityKind::Selector => true,
+        _ => false,
+    }
+}

@@ -1,0 +1,76 @@
+// The rules on walks, U6 and U7.
+ghost use Rattle.std.specs.Prelude.{◌≡◌, ◌==◌, None, IfOk, length};
+ghost use Rattle.std.specs.List.{list_any};
+ghost use Rattle.uac_walk.specs.Order.{IsClosed, IsOrder};
+ghost use Rattle.uac_topology_rules.specs.Faults.{broken_names, of_entity};
+ghost use Rattle.uac_topology_rules.specs.Walks.{IsWalked, goes_on};
+
+use crate::fault::TopologyFault;
+use crate::graph::{clock_graph, signal_graph};
+use crate::table::EntityTable;
+use std::alloc::Global;
+use uac_descriptor::NoMemory;
+use uac_walk::{Links, sources_first};
+
+/// The signal links, an order of the entities in which sources stand first, and the first fault by the
+/// rules U6 and U7.
+#[derive(Drop)]
+pub struct Walked {
+    pub(crate) links: Vec<Links>,
+    pub(crate) order: Vec<usize>,
+    pub fault: Option<TopologyFault>,
+}
+
+/// Follows the links of entities whose names are in order.
+pub fn walk(alloc: Global, table: &EntityTable) -> Result<Walked, NoMemory>
+    requires { broken_names table.now ≡ None }
+    ensures { IfOk result (λ walked. IsWalked table.now walked.links.items walked.order.items walked.fault) }
+{
+    let links = signal_graph(alloc, table)?;
+    let order = ordered(alloc, &links)?;
+    let clock_links = clock_graph(alloc, table)?;
+    let clock_order = ordered(alloc, &clock_links)?;
+    let signal_fault = judge(6, table, &links, &order);
+    let clock_fault = judge(7, table, &clock_links, &clock_order);
+    let fault = signal_fault.or(clock_fault);
+    Ok(Walked {
+        links,
+        order,
+        fault,
+    })
+}
+
+fn ordered(alloc: Global, graph: &[Links]) -> Result<Vec<usize>, NoMemory>
+    requires { IsClosed graph.now }
+    ensures { IfOk result (λ order. IsOrder graph.now order.items) }
+{
+    match sources_first(alloc, graph) {
+        Ok(order) => Ok(order),
+        Err(_) => Err(NoMemory),
+    }
+}
+
+// The first entity from which a walk goes on for ever: it has no place in the order.
+fn judge(rule: u8, table: &EntityTable, graph: &[Links], order: &[usize]) -> Option<TopologyFault>
+    requires sized { length graph.now ≡ length table.now }
+    requires ordered { IsOrder graph.now order.now }
+    ensures { result ≡ of_entity rule table.now (goes_on graph.now) }
+{
+    for (place, entity) in table.as_slice().iter().enumerate() {
+        if !stands(order, place) {
+            return Some(TopologyFault {
+                rule,
+                id: entity.id,
+                interface: false,
+            });
+        }
+    }
+    None
+}
+
+// Whether the place is one of the order.
+fn stands(order: &[usize], place: usize) -> bool
+    ensures { result ≡ list_any (λ u. u == place) order.now }
+{
+    order.contains(&place)
+}
