@@ -16,7 +16,8 @@ use Rattle.uac_topology.specs.Function.{FunctionFields}
 use Rattle.uac_alt.specs.declared.values.Stream.{Stream}
 
 -- what a setting that can run says: its format, the nominal values of its rate, whether it goes to the device, the frames that its
--- endpoint's packet holds at most, and the microframes between two feedback reports, none of which a stream from the device has
+-- endpoint's packet holds at most, the microframes between two feedback reports, none of which a stream from the device has, and the
+-- service interval, which is the microframes from one packet to the next
 pub record StreamFields : Type 0 where
   pub channels : ℕ
   pub subslot : ℕ
@@ -25,6 +26,7 @@ pub record StreamFields : Type 0 where
   pub out : Bool
   pub most : ℕ
   pub period : ℕ
+  pub service : ℕ
 
 -- a stream as the numbers that it holds
 abbrev pub seen : Stream → StreamFields
@@ -37,9 +39,10 @@ seen s =
       out = s.out;
       most = s.most;
       period = s.period;
+      service = s.service;
     }
 
--- the bytes that an endpoint carries in a microframe
+-- the bytes that an endpoint carries in a microframe in which it is served
 abbrev pub packet_room : Endpoint → ℕ
 packet_room e = packet_size e.max_packet * (1 + additional_transactions e.max_packet)
 
@@ -55,34 +58,37 @@ is_pcm g = g.format_type == 1 && g.formats % 2 == 1
 unfoldable pub linked_channels : FunctionFields → StreamInterface → ℕ
 linked_channels function s = option_map_or (λ e. e.cluster.channels) (named function.entities s.terminal) 0
 
--- a first endpoint that is asynchronous, has a packet in each microframe, and carries data, or from the device also data that is feedback
+-- a first endpoint that is asynchronous, has a packet every 1, 2, 4 or 8 microframes, and carries data, or from the device also data
+-- that is feedback
 abbrev pub carries_data : Bool → Endpoint → Bool
 carries_data out e =
-    synchronization_type e.attributes == 1 && (e.interval == 1 && (usage_type e.attributes == 0 || (not out && usage_type e.attributes == 2)))
+    synchronization_type e.attributes == 1
+    && (nat_le 1 e.interval && (nat_le e.interval 4 && (usage_type e.attributes == 0 || (not out && usage_type e.attributes == 2))))
 
--- a second endpoint for feedback: a report of four bytes every 1 to 8 microframes
-abbrev pub carries_feedback : Endpoint → Bool
-carries_feedback e = nat_le 1 e.interval && (nat_le e.interval 4 && nat_le 4 (packet_size e.max_packet))
+-- a second endpoint for feedback: a report of four bytes, as often as the first endpoint has a packet or less often, at most every 8
+-- microframes
+abbrev pub carries_feedback : Endpoint → Endpoint → Bool
+carries_feedback first e = nat_le first.interval e.interval && (nat_le e.interval 4 && nat_le 4 (packet_size e.max_packet))
 
 -- a stream to the device has feedback, and one from it has none
-abbrev pub has_its_feedback : Bool → Option Endpoint → Bool
-has_its_feedback true (Some e) = carries_feedback e
-has_its_feedback true None = false
-has_its_feedback false second = not (is_some second)
+abbrev pub has_its_feedback : Bool → Endpoint → Option Endpoint → Bool
+has_its_feedback true first (Some e) = carries_feedback first e
+has_its_feedback true first None = false
+has_its_feedback false first second = not (is_some second)
 
 -- the numbers of a format: 1 to 32 channels, subslots of 1 to 4 bytes, and bits that fit
 abbrev pub is_format : ℕ → ℕ → ℕ → Bool
 is_format channels subslot bits =
     nat_le 1 channels && (nat_le channels 32 && (nat_le 1 subslot && (nat_le subslot 4 && (nat_le 1 bits && nat_le bits (8 * subslot)))))
 
--- the most frames of a packet at this rate fit the endpoint
+-- the most frames of a packet at this rate, those of a whole service interval, fit the endpoint
 abbrev pub fits : Nominal → General → TypeOne → Endpoint → Bool
-fits nominal g f first = nat_le (nominal.hi * g.channels * f.subslot) (packet_room first)
+fits nominal g f first = nat_le (period_of first * nominal.hi * (g.channels * f.subslot)) (packet_room first)
 
 -- all that is asked of a setting with these parts
 unfoldable pub can_run : FunctionFields → StreamInterface → Setting → Nominal → General → TypeOne → Endpoint → Bool
 can_run function s setting nominal g f first =
-    is_pcm g && (g.channels == linked_channels function s && (is_format g.channels f.subslot f.bits && (carries_data s.out first && (has_its_feedback s.out setting.second
+    is_pcm g && (g.channels == linked_channels function s && (is_format g.channels f.subslot f.bits && (carries_data s.out first && (has_its_feedback s.out first setting.second
     && fits nominal g f first))))
 
 -- the microframes between reports by the second endpoint; 0 where there are none
@@ -101,6 +107,7 @@ stream_with s setting nominal g f first =
       out = s.out;
       most = packet_room first / (g.channels * f.subslot);
       period = report_period s.out setting.second;
+      service = period_of first;
     }
 
 -- the stream of a setting of an interface at these nominal values, where it has all its parts and can run

@@ -1,5 +1,5 @@
 // The stream of a setting, where it can run.
-ghost use Rattle.std.specs.Prelude.{◌≡◌, ◌==◌, ◌*◌, ◌/◌, true, IfSome};
+ghost use Rattle.std.specs.Prelude.{◌≡◌, ◌==◌, ◌≤◌, ◌*◌, ◌/◌, true, IfSome};
 ghost use Rattle.std.specs.Bool.{OnTrue};
 ghost use Rattle.std.specs.List.{find};
 ghost use Rattle.std.specs.Option.{option_map};
@@ -20,7 +20,7 @@ use uac_topology::{Entity, Function, Setting, StreamInterface};
 ///
 /// None comes for setting 0, where there is no such interface or setting, where the rate is none of the twelve, and
 /// where the setting can't run at that rate: it is not Type I PCM, has not its terminal's channels, has other endpoints
-/// than such a stream needs, or the most frames of a packet are too large for its endpoint.
+/// than such a stream needs, or the most frames of a packet, those of a service interval, are too large for its endpoint.
 #[tactic(auto, unfolding(crate::specs::Streams::stream_of))]
 pub fn stream(function: &Function, rate: u32, interface: u8, setting: u8) -> Option<Stream>
     ensures value { option_map seen result ≡ stream_of function.now rate interface setting }
@@ -74,7 +74,8 @@ fn stream_at(
         nominal,
         out: carrier.out,
         most: most_frames(&format, first),
-        period: report_period(carrier.out, &setting.second),
+        period: report_period(carrier.out, first, &setting.second),
+        service: period_of(first),
     })
 }
 
@@ -91,13 +92,14 @@ fn can_run(
 ) -> bool
     ensures value { result ≡ spec.can_run function.now carrier.now setting.now nominal.now general.now type_one.now first.now }
     ensures format { OnTrue result (IsFormat general.now.channels type_one.now.subslot type_one.now.bits) }
-    ensures feedback { OnTrue result (spec.has_its_feedback carrier.now.out setting.now.second ≡ true) }
+    ensures data { OnTrue result (spec.carries_data carrier.now.out first.now ≡ true) }
+    ensures feedback { OnTrue result (spec.has_its_feedback carrier.now.out first.now setting.now.second ≡ true) }
 {
     is_pcm(general)
         && (general.channels == linked_channels(function, carrier)
             && (is_format(general.channels, type_one.subslot, type_one.bits)
                 && (carries_data(carrier.out, first)
-                    && (has_its_feedback(carrier.out, &setting.second)
+                    && (has_its_feedback(carrier.out, first, &setting.second)
                         && fits(nominal, general, type_one, first)))))
 }
 
@@ -137,40 +139,45 @@ fn is_format(channels: u8, subslot: u8, bits: u8) -> bool
         && ((1..=4).contains(&subslot) && (1 <= bits && u16::from(bits) <= 8 * u16::from(subslot)))
 }
 
-/// Whether the first endpoint carries the stream: it is asynchronous, has a packet in each microframe, and its usage is
-/// data, or from the device also data that is feedback (USB 2.0, 9.6.6).
+/// Whether the first endpoint carries the stream: it is asynchronous, has a packet every 1, 2, 4 or 8 microframes, and its
+/// usage is data, or from the device also data that is feedback (USB 2.0, 9.6.6).
 fn carries_data(out: bool, endpoint: &Endpoint) -> bool
     ensures { result ≡ spec.carries_data out endpoint.now }
 {
     let bits = EndpointBits::of(endpoint.attributes);
     bits.is_asynchronous()
-        && (endpoint.interval == 1 && (bits.is_data() || (!out && bits.is_implicit_feedback())))
+        && (1 <= endpoint.interval
+            && (endpoint.interval <= 4
+                && (bits.is_data() || (!out && bits.is_implicit_feedback()))))
 }
 
-/// Whether a second endpoint carries feedback: a report of four bytes, every 1, 2, 4 or 8 microframes (USB 2.0,
-/// 5.12.4.2 and 9.6.6).
-fn carries_feedback(endpoint: &Endpoint) -> bool
-    ensures { result ≡ spec.carries_feedback endpoint.now }
+/// Whether a second endpoint carries feedback: a report of four bytes, as often as the first endpoint has a packet or less
+/// often, at most every 8 microframes (USB 2.0, 5.12.4.2 and 9.6.6).
+fn carries_feedback(first: &Endpoint, endpoint: &Endpoint) -> bool
+    ensures { result ≡ spec.carries_feedback first.now endpoint.now }
 {
-    1 <= endpoint.interval && (endpoint.interval <= 4 && 4 <= endpoint.packet_size())
+    first.interval <= endpoint.interval && (endpoint.interval <= 4 && 4 <= endpoint.packet_size())
 }
 
 /// Whether a stream to the device has its feedback, and one from the device none.
-fn has_its_feedback(out: bool, second: &Option<Endpoint>) -> bool
-    ensures { result ≡ spec.has_its_feedback out second.now }
+fn has_its_feedback(out: bool, first: &Endpoint, second: &Option<Endpoint>) -> bool
+    ensures { result ≡ spec.has_its_feedback out first.now second.now }
 {
     match second {
-        Some(endpoint) => out && carries_feedback(endpoint),
+        Some(endpoint) => out && carries_feedback(first, endpoint),
         None => !out,
     }
 }
 
-/// Whether the most frames of a packet fit the endpoint.
+/// Whether the most frames of a packet, those of a whole service interval, fit the endpoint.
 fn fits(nominal: &Nominal, general: &General, type_one: &TypeOne, first: &Endpoint) -> bool
+    requires least { 1 ≤ first.now.interval }
+    requires most { first.now.interval ≤ 4 }
     ensures { result ≡ spec.fits nominal.now general.now type_one.now first.now }
 {
     let size = frame_size(general.channels, type_one.subslot);
-    u64::from(nominal.hi) * u64::from(size) <= u64::from(packet_room(first))
+    let frames = u64::from(period_of(first)) * u64::from(nominal.hi);
+    u128::from(frames) * u128::from(size) <= u128::from(packet_room(first))
 }
 
 /// The bytes that an endpoint carries in a microframe, additional transactions and all (USB 2.0, 9.6.6).
@@ -195,8 +202,9 @@ fn most_frames(format: &Format, endpoint: &Endpoint) -> u32
 }
 
 /// The microframes between the reports of a second endpoint that carries feedback; 0 for a stream from the device.
-fn report_period(out: bool, second: &Option<Endpoint>) -> u32
-    requires { spec.has_its_feedback out second.now ≡ true }
+fn report_period(out: bool, first: &Endpoint, second: &Option<Endpoint>) -> u32
+    requires least { 1 ≤ first.now.interval }
+    requires feedback { spec.has_its_feedback out first.now second.now ≡ true }
     ensures { result ≡ spec.report_period out second.now }
 {
     match second {
@@ -207,7 +215,8 @@ fn report_period(out: bool, second: &Option<Endpoint>) -> u32
 
 /// The microframes from one packet of an endpoint to the next: `2^(interval - 1)` (USB 2.0, 9.6.6).
 fn period_of(endpoint: &Endpoint) -> u32
-    requires { spec.carries_feedback endpoint.now ≡ true }
+    requires least { 1 ≤ endpoint.now.interval }
+    requires most { endpoint.now.interval ≤ 4 }
     ensures { result ≡ spec.period_of endpoint.now }
 {
     1 << (endpoint.interval - 1)

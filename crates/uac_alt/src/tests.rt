@@ -148,8 +148,8 @@ fn push_entities(blocks: &mut Vec<Block>) -> Result<(), AllocError> {
     push(blocks, output(5, 0x0101, 4))
 }
 
-// The settings 1 to 12 of the stream to the device.
-fn out_rows() -> [Row; 12] {
+// The settings 1 to 15 of the stream to the device.
+fn out_rows() -> [Row; 15] {
     [
         OUT,
         // Two transactions of 75 bytes.
@@ -172,7 +172,7 @@ fn out_rows() -> [Row; 12] {
             attributes: 0x09,
             ..OUT
         },
-        Row { interval: 2, ..OUT },
+        Row { interval: 5, ..OUT },
         // Data that is feedback too.
         Row {
             attributes: 0x25,
@@ -188,6 +188,25 @@ fn out_rows() -> [Row; 12] {
         },
         Row {
             second: Some((3, 4)),
+            ..OUT
+        },
+        // A packet of 336 bytes every eight microframes.
+        Row {
+            max_packet: 336,
+            interval: 4,
+            ..OUT
+        },
+        // Reports more often than packets.
+        Row {
+            max_packet: 336,
+            interval: 4,
+            second: Some((4, 3)),
+            ..OUT
+        },
+        // Two transactions of 600 bytes every eight microframes.
+        Row {
+            max_packet: 0x0a58,
+            interval: 4,
             ..OUT
         },
     ]
@@ -247,14 +266,16 @@ fn each_interface_begins_in_setting_0(rt: HostRuntime) -> Result<(), Fail> {
 fn streams_of_the_settings_that_can_run(rt: HostRuntime) -> Result<(), Fail> {
     let function = function(rt.alloc())?;
     let table = [
-        (48000, 7, 1, (2, 3, 24), 7, true, 25, 8),
-        (192000, 7, 1, (2, 3, 24), 25, true, 25, 8),
-        (192000, 7, 2, (2, 3, 24), 25, true, 25, 8),
-        (176400, 7, 3, (2, 3, 24), 23, true, 24, 8),
-        (8000, 8, 1, (1, 2, 16), 2, false, 25, 0),
-        (192000, 8, 2, (1, 2, 16), 25, false, 25, 0),
+        (48000, 7, 1, (2, 3, 24), 7, true, 25, 8, 1),
+        (192000, 7, 1, (2, 3, 24), 25, true, 25, 8, 1),
+        (192000, 7, 2, (2, 3, 24), 25, true, 25, 8, 1),
+        (176400, 7, 3, (2, 3, 24), 23, true, 24, 8, 1),
+        (48000, 7, 13, (2, 3, 24), 7, true, 56, 8, 8),
+        (192000, 7, 15, (2, 3, 24), 25, true, 200, 8, 8),
+        (8000, 8, 1, (1, 2, 16), 2, false, 25, 0, 1),
+        (192000, 8, 2, (1, 2, 16), 25, false, 25, 0, 1),
     ];
-    for (rate, interface, setting, numbers, hi, out, most, period) in table {
+    for (rate, interface, setting, numbers, hi, out, most, period, service) in table {
         let stream = stream(&function, rate, interface, setting).expect(
             &rt,
             "a setting that can run",
@@ -271,8 +292,8 @@ fn streams_of_the_settings_that_can_run(rt: HostRuntime) -> Result<(), Fail> {
             "{interface} {setting}"
         );
         assert_eq!(rt;
-            (stream.most, stream.period),
-            (most, period),
+            (stream.most, stream.period, stream.service),
+            (most, period, service),
             "{interface} {setting}"
         );
     }
@@ -291,12 +312,15 @@ fn no_stream_elsewhere(rt: HostRuntime) -> Result<(), Fail> {
     let table = [
         // A packet of 25 frames is a byte too long.
         (192000, 7, 3),
+        // 64 frames of a service interval are too many for 336 bytes, and reports come too often.
+        (64000, 7, 13),
+        (48000, 7, 14),
         // A second endpoint beside data from the device.
         (48000, 8, 3),
         // A rate that is none of the twelve.
         (48001, 7, 1),
         (48000, 7, 0),
-        (48000, 7, 13),
+        (48000, 7, 16),
         // The control interface, and one that is not there.
         (48000, 4, 1),
         (48000, 9, 1),
