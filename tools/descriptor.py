@@ -1,0 +1,183 @@
+"""Blocks of a configuration descriptor, for the tools beside: cut, named and read field by field.
+
+The layouts are those of docs/DESCRIPTORS.md, and the sentences of the rules are read from docs/, where they stand once.
+Nothing here decides what is sound: that is the program's."""
+import os, re, subprocess, sys
+
+TOP = os.path.dirname(os.path.dirname(os.path.abspath(__file__)))
+PROGRAM = os.path.join(TOP, "uac_cli")
+
+# The fields of each kind behind length, type and (for class blocks) subtype: a name and a number of bytes. A name that ends in * is a list.
+LAYOUTS = {
+    "device": [("release", 2), ("class", 1), ("subclass", 1), ("protocol", 1), ("packet", 1), ("vendor", 2), ("product", 2), ("version", 2),
+               ("manufacturer", 1), ("product_name", 1), ("serial", 1), ("configurations", 1)],
+    "configuration": [("total", 2), ("interfaces", 1), ("value", 1), ("name", 1), ("attributes", 1), ("power", 1)],
+    "association": [("first", 1), ("count", 1), ("class", 1), ("subclass", 1), ("protocol", 1), ("name", 1)],
+    "interface": [("number", 1), ("setting", 1), ("endpoints", 1), ("class", 1), ("subclass", 1), ("protocol", 1), ("name", 1)],
+    "endpoint": [("address", 1), ("attributes", 1), ("max_packet", 2), ("interval", 1)],
+    "header": [("version", 2), ("category", 1), ("total", 2), ("controls", 1)],
+    "input_terminal": [("id", 1), ("terminal_type", 2), ("assoc", 1), ("clock", 1), ("channels", 1), ("locations", 4), ("names", 1),
+                       ("controls", 2), ("name", 1)],
+    "output_terminal": [("id", 1), ("terminal_type", 2), ("assoc", 1), ("source", 1), ("clock", 1), ("controls", 2), ("name", 1)],
+    "mixer": [("id", 1), ("pins", 1), ("sources*", "pins"), ("channels", 1), ("locations", 4), ("names", 1), ("mix_bits*", -2),
+              ("controls", 1), ("name", 1)],
+    "selector": [("id", 1), ("pins", 1), ("sources*", "pins"), ("controls", 1), ("name", 1)],
+    "feature": [("id", 1), ("source", 1), ("words*4", -1), ("name", 1)],
+    "effect": [("id", 1), ("effect_type", 2), ("source", 1), ("words*4", -1), ("name", 1)],
+    "clock_source": [("id", 1), ("attributes", 1), ("controls", 1), ("assoc", 1), ("name", 1)],
+    "clock_selector": [("id", 1), ("pins", 1), ("sources*", "pins"), ("controls", 1), ("name", 1)],
+    "clock_multiplier": [("id", 1), ("source", 1), ("controls", 1), ("name", 1)],
+    "general": [("link", 1), ("controls", 1), ("format_type", 1), ("formats", 4), ("channels", 1), ("locations", 4), ("names", 1)],
+    "type_one": [("format_type", 1), ("subslot", 1), ("bits", 1)],
+    "class_endpoint": [("attributes", 1), ("controls", 1), ("lock_units", 1), ("lock_delay", 2)],
+}
+CONTROL_SUBTYPES = {1: "header", 2: "input_terminal", 3: "output_terminal", 4: "mixer", 5: "selector", 6: "feature", 7: "effect",
+                    10: "clock_source", 11: "clock_selector", 12: "clock_multiplier"}
+ENTITY_KINDS = [kind for kind in CONTROL_SUBTYPES.values() if kind != "header"]
+FIXED_LENGTHS = {"configuration": 9, "association": 8, "interface": 9, "endpoint": 7, "header": 9, "input_terminal": 17, "output_terminal": 12,
+                 "clock_source": 8, "clock_multiplier": 7, "general": 16, "type_one": 6, "class_endpoint": 8}
+# The spatial locations of a cluster, from bit 0 on (Audio Class 2.0, 4.1).
+LOCATIONS = ("front left, front right, front center, low frequency, back left, back right, front left of center, front right of center, back center, "
+             "side left, side right, top center, top front left, top front center, top front right, top back left, top back center, top back right, "
+             "top front left of center, top front right of center, left low frequency, right low frequency, top side left, top side right, "
+             "bottom center, back left of center, back right of center").split(", ")
+RATES = (8000, 11025, 16000, 22050, 32000, 44100, 48000, 64000, 88200, 96000, 176400, 192000)
+
+
+class Refused(Exception):
+    """What stands in the way, as one sentence."""
+
+
+class Block:
+    def __init__(self, place, data, kind):
+        self.place, self.data, self.kind = place, data, kind
+        self.fields = list(read_fields(kind, data))
+
+    def __getitem__(self, name):
+        return next((value for field, value, _, _ in self.fields if field == name), None)
+
+    @property
+    def sources(self):
+        one = self["source"]
+        return self["sources"] if one is None else [one]
+
+
+def little(data):
+    return int.from_bytes(data, "little")
+
+
+def read_fields(kind, data):
+    """The fields of a block as far as its bytes go: name, value, and where they stand in it."""
+    at, seen = (3 if len(data) > 1 and data[1] in (0x24, 0x25) else 2), {}
+    for name, size in LAYOUTS.get(kind, []):
+        star = name.partition("*")
+        width = int(star[2] or 1)
+        if isinstance(size, str):
+            end = min(at + seen.get(size, 0), len(data))
+        elif size < 0:
+            end = max(at, len(data) + size)
+        else:
+            end = at + size
+        if end > len(data):
+            return
+        if star[1]:
+            value = [little(data[i:i + width]) for i in range(at, end - (end - at) % width, width)]
+        else:
+            value = little(data[at:end])
+        seen[star[0]] = value
+        yield star[0], value, at, end
+        at = end
+
+
+def kind_of(data, context):
+    """The layout's name for a block in this context; None where no layout reads it."""
+    kind, subtype = data[1], data[2] if len(data) > 2 else None
+    parting = {2: "configuration", 0x0B: "association", 4: "interface"}
+    if kind in parting:
+        return parting[kind]
+    if context == "foreign":
+        return None
+    if kind == 5:
+        return "endpoint"
+    if kind == 0x25 and subtype == 1:
+        return "class_endpoint"
+    if kind == 0x24 and context == "control":
+        return CONTROL_SUBTYPES.get(subtype)
+    if kind == 0x24 and context == "stream":
+        if subtype == 2 and len(data) > 3 and data[3] == 1:
+            return "type_one"
+        return "general" if subtype == 1 else None
+    return None
+
+
+def cut(data):
+    """The blocks of these bytes, as far as they can be cut, and what is left behind them."""
+    blocks, place, context = [], 0, None
+    while place + 2 <= len(data) and data[place] >= 2 and place + data[place] <= len(data):
+        piece = data[place:place + data[place]]
+        kind = "device" if place == 0 and len(piece) == 18 and piece[1] == 1 else kind_of(piece, context)
+        block = Block(place, piece, kind)
+        if kind == "interface" and len(piece) == 9:
+            code = (block["class"], block["subclass"], block["protocol"])
+            context = {(1, 1, 0x20): "control", (1, 2, 0x20): "stream"}.get(code, "foreign")
+        elif kind == "association" and not (block["class"] == 1 and block["protocol"] == 0x20):
+            context = "foreign"
+        blocks.append(block)
+        place += len(piece)
+    return blocks, data[place:]
+
+
+def rules():
+    """Each rule's sentence, by its name, from the tables in docs/."""
+    found = {}
+    for page in ("DESCRIPTORS.md", "TOPOLOGY.md"):
+        column = None
+        with open(os.path.join(TOP, "docs", page), encoding="utf-8") as file:
+            for line in file:
+                cells = [cell.strip() for cell in line.strip().strip("|").split("|")]
+                if "In our own words" in cells:
+                    column = cells.index("In our own words")
+                elif column is not None and re.match(r"[GU]\d", cells[0]) and len(cells) > column:
+                    for name in re.findall(r"[GU]\d+", cells[0]):
+                        found[name] = cells[column]
+                elif not line.startswith("|"):
+                    column = None
+    return found
+
+
+def read_input(name):
+    """The bytes of a file, or of standard input for '-'."""
+    try:
+        if name == "-":
+            data = sys.stdin.buffer.read()
+        else:
+            with open(name, "rb") as file:
+                data = file.read()
+    except OSError as why:
+        raise Refused(f"{name} can't be read ({why.strerror}): a configuration descriptor is wanted, as a device's folder of sysfs has it in the file 'descriptors'")
+    if not data:
+        raise Refused(f"{name} is empty: a configuration descriptor is wanted")
+    return data
+
+
+def ask(command, data):
+    """What the program answers: its lines and its status."""
+    done = subprocess.run([PROGRAM, command], input=data, stdout=subprocess.PIPE)
+    if done.returncode == 70:
+        raise Refused("the program could not be built; its own words stand above")
+    return done.stdout.decode("ascii").splitlines(), done.returncode
+
+
+def main_of(main, doc):
+    """Runs a tool: --help, and refusals as one sentence on standard error."""
+    if any(word in ("-h", "--help") for word in sys.argv[1:]):
+        print(doc)
+        return 0
+    try:
+        return main(sys.argv[1:])
+    except Refused as why:
+        print(f"{os.path.basename(sys.argv[0])}: {why}", file=sys.stderr)
+        return 1
+    except BrokenPipeError:
+        sys.stderr.close()
+        return 0
