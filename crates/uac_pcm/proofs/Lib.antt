@@ -2,4 +2,5 @@ pub mod Wrapping
 pub mod Rounding
 pub mod Cutting
 pub mod Packing
+pub mod PacketsLemmas
 mod Worked

@@ -3,6 +3,7 @@ use Rattle.std.proofs.Common.{◌≡◌, pos, negsuc, [], ◌∷◌, refl}
 use Rattle.std.specs.Int.{int_wrap}
 use Rattle.uac_pcm.specs.Words.{cut, word_of, sample_of_word}
 use Rattle.uac_pcm.specs.Frames.{bytes_of_frame, frame_of_bytes}
+use Rattle.uac_pcm.specs.Packets.{packed, unpacked}
 use Rattle.uac_pcm.specs.Tones.{tone_sample}
 use Rattle.uac_pcm.specs.declared.tones.Tone.TheVariants.{Ramp, Noise}
 
@@ -14,6 +15,17 @@ read_24_of_32 = refl
 written_24_of_32 : bytes_of_frame 4 24 (pos 0x12345600 ∷ []) ≡ 0x00 ∷ 0x56 ∷ 0x34 ∷ 0x12 ∷ []
 unfolding cut word_of
 written_24_of_32 = refl
+
+-- two frames of two channels at 16 bits, cut, and a byte behind them that makes no frame
+packed_pair : packed 2 16 ((pos 0x12345678 ∷ negsuc 0 ∷ []) ∷ (pos 0x1ffff ∷ pos 0x7fff0000 ∷ []) ∷ [])
+    ≡ 0x34 ∷ 0x12 ∷ 0xff ∷ 0xff ∷ 0x01 ∷ 0x00 ∷ 0xff ∷ 0x7f ∷ []
+unfolding cut word_of
+packed_pair = refl
+
+unpacked_pair : unpacked 2 2 16 (0x34 ∷ 0x12 ∷ 0xff ∷ 0xff ∷ 0x01 ∷ 0x00 ∷ 0xff ∷ 0x7f ∷ 0x55 ∷ [])
+    ≡ (pos 0x12340000 ∷ negsuc 65535 ∷ []) ∷ (pos 0x10000 ∷ pos 0x7fff0000 ∷ []) ∷ []
+unfolding cut sample_of_word int_wrap
+unpacked_pair = refl
 
 -- a word of 3 bytes has a sign
 read_negative : sample_of_word 3 24 (0xff ∷ 0xff ∷ 0xff ∷ []) ≡ negsuc 255

@@ -1,8 +1,9 @@
 //! How frames stand in packets.
-ghost use Rattle.std.specs.Prelude.{◌≡◌, ◌↔◌, ◌≤◌, ◌+◌, ◌*◌, ◌++◌, length, IsTrue, IsSome, IfSome};
+ghost use Rattle.std.specs.Prelude.{◌≡◌, ◌↔◌, ◌<◌, ◌≤◌, ◌+◌, ◌*◌, ℤ, List, [], ◌∷◌, ◌++◌, length, slice_get, Some, IsTrue, IsSome, IfSome};
 ghost use Rattle.std.specs.Bool.{OnTrue, OnFalse};
 ghost use Rattle.arrayvec.specs.ArrayVec.{array_vec_len};
 ghost use Rattle.uac_pcm.specs.Frames.{IsFormat, bytes_of_frame, frame_of_bytes};
+ghost use Rattle.uac_pcm.specs.Packets.{packed, unpacked, whole_frames};
 
 use crate::words::{sample_of, word};
 use crate::{Frame, Packet};
@@ -50,7 +51,10 @@ impl Format {
     pub fn pack(&self, frame: &Frame, packet: &mut Packet) -> bool
         requires { array_vec_len frame.now ≡ self.now.channels }
         ensures fits { IsTrue result ↔ (array_vec_len packet.old + self.now.channels * self.now.subslot ≤ 3072) }
-        ensures appended { OnTrue result (packet.new.items ≡ packet.old.items ++ bytes_of_frame self.now.subslot self.now.bits frame.now.items) }
+        ensures appended { OnTrue result
+            (packet.new.items ≡ packet.old.items ++ bytes_of_frame self.now.subslot self.now.bits frame.now.items) }
+        ensures packed { (frames : List (List ℤ)) → packet.old.items ≡ packed self.now.subslot self.now.bits frames
+            → OnTrue result (packet.new.items ≡ packed self.now.subslot self.now.bits (frames ++ frame.now.items ∷ [])) }
         ensures len { OnTrue result (array_vec_len packet.new ≡ array_vec_len packet.old + self.now.channels * self.now.subslot) }
         ensures full { OnFalse result (packet.new ≡ packet.old) }
     {
@@ -76,5 +80,31 @@ impl Format {
         for word in bytes.chunks_exact(size) {
             frame.push(sample_of(word, size, self.bits));
         }
+    }
+
+    /// The number of frames that stand whole in the packet; bytes behind them that make no frame do not count.
+    pub fn frames_in(&self, packet: &Packet) -> u32
+        ensures frames { result ≡ whole_frames self.now.channels self.now.subslot packet.now.items }
+        ensures bounded { result ≤ 3072 }
+    {
+        (packet.len() / self.frame_bytes()) as u32
+    }
+
+    /// Makes `frame` the samples of the packet's frame of a number, which counts from 0; false exactly where the packet has no whole
+    /// frame of that number, and then `frame` stays as it was.
+    pub fn frame_at(&self, packet: &Packet, number: u32, frame: &mut Frame) -> bool
+        ensures there { IsTrue result ↔ (number < whole_frames self.now.channels self.now.subslot packet.now.items) }
+        ensures samples { OnTrue result
+            (slice_get (unpacked self.now.channels self.now.subslot self.now.bits packet.now.items) number ≡ Some frame.new.items) }
+        ensures len { OnTrue result (array_vec_len frame.new ≡ self.now.channels) }
+        ensures unchanged { OnFalse result (frame.new ≡ frame.old) }
+    {
+        if number >= self.frames_in(packet) {
+            return false;
+        }
+        let size = self.frame_bytes();
+        let start = number as usize * size;
+        self.unpack(&packet.as_slice()[start..start + size], frame);
+        true
     }
 }

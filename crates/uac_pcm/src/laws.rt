@@ -1,19 +1,53 @@
 //! What holds of samples, words and frames whatever a program does with them.
-ghost use Rattle.std.specs.Prelude.{◌≡◌, ℕ, ◌≤◌, ◌*◌, ◌++◌, ℤ, List, length, map, FitsSigned};
+ghost use Rattle.std.specs.Prelude.{◌≡◌, ℕ, ◌<◌, ◌≤◌, ◌*◌, ◌++◌, ℤ, List, length, slice_get, slice_index_or, Some, map, FitsSigned};
 ghost use Rattle.std.specs.Int.{w32};
 ghost use Rattle.std.specs.List.{All};
 ghost use Rattle.uac_pcm.specs.Frames.{IsFormat, bytes_of_frame, frame_of_bytes};
+ghost use Rattle.uac_pcm.specs.Packets.{IsFrame, packed, bytes_of_frame_at, whole_frames, unpacked};
 ghost use Rattle.uac_pcm.specs.Words.{cut, word_of, sample_of_word};
 
 /// Reading the word of a sample gives the sample, cut to the resolution; and a sample that was cut stays as it is.
 pub fn word_is_read_back()
-    ensures read { (size resolution : ℕ) (sample : ℤ) → 1 ≤ size → size ≤ 4 → 1 ≤ resolution → resolution ≤ 8 * size → FitsSigned w32 sample → sample_of_word size resolution (word_of size resolution sample) ≡ cut resolution sample }
+    ensures read { (size resolution : ℕ) (sample : ℤ) → 1 ≤ size → size ≤ 4 → 1 ≤ resolution → resolution ≤ 8 * size → FitsSigned w32 sample
+        → sample_of_word size resolution (word_of size resolution sample) ≡ cut resolution sample }
     ensures once { (resolution : ℕ) (sample : ℤ) → cut resolution (cut resolution sample) ≡ cut resolution sample }
 {}
 
 /// Reading the bytes of a frame, whatever stands behind them, gives its samples, each cut; and there are as many bytes as
 /// the samples' subslots have.
 pub fn frame_is_read_back()
-    ensures read { (count size resolution : ℕ) (samples : List ℤ) (rest : List ℕ) → IsFormat count size resolution → length samples ≡ count → All (FitsSigned w32) samples → frame_of_bytes count size resolution (bytes_of_frame size resolution samples ++ rest) ≡ map (cut resolution) samples }
+    ensures read { (count size resolution : ℕ) (samples : List ℤ) (rest : List ℕ)
+        → IsFormat count size resolution → length samples ≡ count → All (FitsSigned w32) samples
+        → frame_of_bytes count size resolution (bytes_of_frame size resolution samples ++ rest) ≡ map (cut resolution) samples }
     ensures bytes { (size resolution : ℕ) (samples : List ℤ) → length (bytes_of_frame size resolution samples) ≡ length samples * size }
+{}
+
+/// Frames of a format that are packed one after the other are read back, each sample cut, also where bytes that make no frame stand
+/// behind them; as many are whole. Each has the same number of bytes, its own stand at its number, and two rows are packed row after row.
+pub fn frames_are_read_back()
+    ensures read { (count size resolution : ℕ) (frames : List (List ℤ)) (rest : List ℕ)
+        → IsFormat count size resolution → All (IsFrame count) frames → length rest < count * size
+        → unpacked count size resolution (packed size resolution frames ++ rest) ≡ map (map (cut resolution)) frames }
+    ensures whole { (count size resolution : ℕ) (frames : List (List ℤ)) (rest : List ℕ)
+        → All (λ samples. length samples ≡ count) frames → length rest < count * size
+        → whole_frames count size (packed size resolution frames ++ rest) ≡ length frames }
+    ensures bytes { (count size resolution : ℕ) (frames : List (List ℤ)) → All (λ samples. length samples ≡ count) frames
+        → length (packed size resolution frames) ≡ length frames * (count * size) }
+    ensures numbered { (count size resolution number : ℕ) (frames : List (List ℤ)) (any : List ℤ)
+        → All (λ samples. length samples ≡ count) frames → number < length frames
+        → bytes_of_frame_at count size number (packed size resolution frames)
+        ≡ bytes_of_frame size resolution (slice_index_or frames number any) }
+    ensures rows { (size resolution : ℕ) (frames more : List (List ℤ))
+        → packed size resolution (frames ++ more) ≡ packed size resolution frames ++ packed size resolution more }
+{}
+
+/// Bytes have as many frames as stand whole in them, each with a sample for each channel; the frame of a number is read from its own bytes.
+pub fn unpacked_frames_are_whole()
+    ensures frames { (count size resolution : ℕ) (bytes : List ℕ)
+        → length (unpacked count size resolution bytes) ≡ whole_frames count size bytes }
+    ensures numbered { (count size resolution number : ℕ) (bytes : List ℕ) → number < whole_frames count size bytes
+        → slice_get (unpacked count size resolution bytes) number
+        ≡ Some (frame_of_bytes count size resolution (bytes_of_frame_at count size number bytes)) }
+    ensures channels { (count size resolution : ℕ) (bytes : List ℕ)
+        → All (λ samples. length samples ≡ count) (unpacked count size resolution bytes) }
 {}

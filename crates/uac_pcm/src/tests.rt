@@ -97,6 +97,28 @@ fn a_full_packet_takes_no_more(rt: HostRuntime) {
 }
 
 #[test]
+fn frames_stand_one_after_the_other(rt: HostRuntime) {
+    let format = Format::new(2, 2, 16).expect(&rt, "16 bits in 2 bytes");
+    let mut packet: Packet = ArrayVec::new();
+    for samples in [[0x12345678, -1], [0x1ffff, 0x7fff0000]] {
+        let frame = Frame::try_from(samples.as_slice()).expect(&rt, "two channels");
+        assert_eq!(rt; frame.len(), 2);
+        assert!(rt; format.pack(&frame, &mut packet));
+    }
+    let bytes = [0x34, 0x12, 0xff, 0xff, 0x01, 0x00, 0xff, 0x7f];
+    assert_eq!(rt; packet.as_slice(), bytes.as_slice());
+    assert!(rt; packet.try_push(0x55).is_ok());
+    assert_eq!(rt; format.frames_in(&packet), 2);
+    let mut frame: Frame = ArrayVec::new();
+    assert!(rt; format.frame_at(&packet, 0, &mut frame));
+    assert_eq!(rt; frame.as_slice(), [0x12340000, -65536].as_slice());
+    assert!(rt; format.frame_at(&packet, 1, &mut frame));
+    assert_eq!(rt; frame.as_slice(), [0x10000, 0x7fff0000].as_slice());
+    assert!(rt; !format.frame_at(&packet, 2, &mut frame));
+    assert_eq!(rt; frame.as_slice(), [0x10000, 0x7fff0000].as_slice());
+}
+
+#[test]
 fn formats_at_their_limits(rt: HostRuntime) {
     assert!(rt; Format::new(32, 4, 32).is_some());
     for (channels, subslot, bits) in [

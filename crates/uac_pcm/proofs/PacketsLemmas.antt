@@ -1,0 +1,162 @@
+-- Frames in a row, and the frames of bytes.
+use Rattle.std.proofs.Common.{◌≡◌, ℕ, zero, suc, ◌+◌, ◌-◌, ◌*◌, ◌/◌, ◌<◌, ◌≤◌, ℤ, List, [], ◌∷◌, ◌++◌, length, get_or, take, drop, map, slice_get, Some, arith, ap, ◌∙◌, sym, refl, append_assoc, length-append, zero-add}
+use Rattle.std.proofs.Math.Nat.{suc-mul, zero-mul, mul-le-mul_right, div-mul-le_self, mul-pos}
+use Rattle.std.proofs.Math.Seq.{take-append_seam, drop-append_seam, drop-nil}
+use Rattle.std.specs.List.{All}
+use Rattle.std.specs.Option.{option_map}
+use Rattle.std.specs.Simd.{first_chunks}
+use Rattle.std.proofs.lemmas.List.{append-nil, length-map}
+use Rattle.std.proofs.lemmas.Nat.{div-mul-add}
+use Rattle.std.proofs.lemmas.Option.{slice_get-map}
+use Rattle.uac_pcm.specs.Words.{cut, sample_of_word}
+use Rattle.uac_pcm.specs.Frames.{IsFormat, bytes_of_frame, frame_of_bytes}
+use Rattle.uac_pcm.specs.Packets.{IsFrame, packed, unpacked, whole_frames}
+use Rattle.uac_pcm.proofs.Packing.{length-bytes_of_frame, frame_of_bytes-bytes_of_frame}
+
+-- the front of two lists in a row, where it has that length, and what is behind it
+pub take_front : {X : Type 0} (n : ℕ) (xs ys : List X) → length xs ≡ n → take n (xs ++ ys) ≡ xs
+take_front n xs ys long = ap (λ (k : ℕ). take k (xs ++ ys)) (sym long) ∙ take-append_seam xs ys
+
+pub drop_front : {X : Type 0} (n : ℕ) (xs ys : List X) → length xs ≡ n → drop n (xs ++ ys) ≡ ys
+drop_front n xs ys long = ap (λ (k : ℕ). drop k (xs ++ ys)) (sym long) ∙ drop-append_seam xs ys
+
+-- a part of a part
+pub drop-drop : {X : Type 0} (n k : ℕ) (xs : List X) → drop k (drop n xs) ≡ drop (n + k) xs
+drop-drop zero k xs = ap (λ (m : ℕ). drop m xs) (sym (zero-add k))
+drop-drop (suc n) k [] = drop-nil k ∙ sym (drop-nil (suc n + k))
+drop-drop (suc n) k (x ∷ xs) =
+    let step : suc (n + k) ≡ suc n + k = omega arith in
+    drop-drop n k xs ∙ ap (λ (m : ℕ). drop m (x ∷ xs)) step
+
+-- all of a frame that stands whole is there
+pub whole_room : (n k i : ℕ) → i < n / k → i * k + k ≤ n
+whole_room n k i inside =
+    let more : suc i * k ≤ n / k * k = mul-le-mul_right k (omega arith) in
+    let all : n / k * k ≤ n = div-mul-le_self n k in
+    let step : suc i * k ≡ i * k + k = suc-mul i k in
+    omega arith
+
+-- a format's frame has bytes
+pub frame_bytes-pos : (count size resolution : ℕ) → IsFormat count size resolution → 0 < count * size
+frame_bytes-pos count size resolution format = mul-pos (omega (arith, format.0)) (omega (arith, format.2))
+
+-- the i-th of the first chunks
+pub slice_get-first_chunks : {X : Type 0} (n k i : ℕ) (xs : List X) → i < k → slice_get (first_chunks n k xs) i ≡ Some (take n (drop (i * n) xs))
+slice_get-first_chunks n zero i xs inside = absurd (omega arith)
+slice_get-first_chunks n (suc k) zero xs inside = ap (λ (m : ℕ). Some (take n (drop m xs))) (sym (zero-mul n))
+slice_get-first_chunks {X = X} n (suc k) (suc i) xs inside =
+    let step : n + i * n ≡ suc i * n = omega (arith, suc-mul i n) in
+    slice_get-first_chunks n k i (drop n xs) (omega arith)
+    ∙ ap (λ (ys : List X). Some (take n ys)) (drop-drop n (i * n) xs)
+    ∙ ap (λ (m : ℕ). Some (take n (drop m xs))) step
+
+pub length-first_chunks : {X : Type 0} (n k : ℕ) (xs : List X) → length (first_chunks n k xs) ≡ k
+length-first_chunks n zero xs = refl
+length-first_chunks n (suc k) xs = ap (λ (j : ℕ). suc j) (length-first_chunks n k (drop n xs))
+
+-- each frame has the same number of bytes
+pub length-packed : (count size resolution : ℕ) (frames : List (List ℤ)) → All (λ samples. length samples ≡ count) frames
+    → length (packed size resolution frames) ≡ length frames * (count * size)
+length-packed count size resolution [] even = sym (zero-mul (count * size))
+length-packed count size resolution (f ∷ fs) even =
+    let first : length f ≡ count = even 0 f (omega arith) in
+    let others : length (packed size resolution fs) ≡ length fs * (count * size) =
+    length-packed count size resolution fs (λ k d below. even (suc k) d (omega arith)) in
+    let front : length (bytes_of_frame size resolution f) ≡ count * size = length-bytes_of_frame size resolution f ∙ ap (λ (n : ℕ). n * size) first in
+    length-append (bytes_of_frame size resolution f) (packed size resolution fs) ∙ omega (arith, suc-mul (length fs) (count * size))
+
+-- the bytes of the i-th frame
+pub frame_of_packed : (count size resolution i : ℕ) (frames : List (List ℤ)) (d : List ℤ) → All (λ samples. length samples ≡ count) frames → i < length frames
+    → take (count * size) (drop (i * (count * size)) (packed size resolution frames)) ≡ bytes_of_frame size resolution (get_or frames i d)
+frame_of_packed count size resolution i [] d even inside = absurd (omega arith)
+frame_of_packed count size resolution zero (f ∷ fs) d even inside =
+    let long : length (bytes_of_frame size resolution f) ≡ count * size =
+    length-bytes_of_frame size resolution f ∙ ap (λ (n : ℕ). n * size) (even 0 f (omega arith)) in
+    ap (λ (m : ℕ). take (count * size) (drop m (packed size resolution (f ∷ fs)))) (zero-mul (count * size))
+    ∙ take_front (count * size) (bytes_of_frame size resolution f) (packed size resolution fs) long
+frame_of_packed count size resolution (suc i) (f ∷ fs) d even inside =
+    let long : length (bytes_of_frame size resolution f) ≡ count * size =
+    length-bytes_of_frame size resolution f ∙ ap (λ (n : ℕ). n * size) (even 0 f (omega arith)) in
+    let step : suc i * (count * size) ≡ count * size + i * (count * size) = omega (arith, suc-mul i (count * size)) in
+    ap (λ (m : ℕ). take (count * size) (drop m (packed size resolution (f ∷ fs)))) step
+    ∙ ap (take (count * size)) (sym (drop-drop (count * size) (i * (count * size)) (packed size resolution (f ∷ fs))))
+    ∙ ap (λ (bs : List ℕ). take (count * size) (drop (i * (count * size)) bs)) (drop_front (count * size) (bytes_of_frame size resolution f) (packed size resolution fs) long)
+    ∙ frame_of_packed count size resolution i fs d (λ k e below. even (suc k) e (omega arith)) (omega arith)
+
+-- the frames that are read are those that were packed, cut
+chunks_read : (count size resolution : ℕ) (frames : List (List ℤ)) (rest : List ℕ) → IsFormat count size resolution → All (IsFrame count) frames
+    → map (frame_of_bytes count size resolution) (first_chunks (count * size) (length frames) (packed size resolution frames ++ rest))
+    ≡ map (map (cut resolution)) frames
+chunks_read count size resolution [] rest format framed = refl
+chunks_read count size resolution (f ∷ fs) rest format framed =
+    let is_frame : IsFrame count f = framed 0 f (omega arith) in
+    let bytes : List ℕ = bytes_of_frame size resolution f in
+    let others : List ℕ = packed size resolution fs ++ rest in
+    let long : length bytes ≡ count * size = length-bytes_of_frame size resolution f ∙ ap (λ (n : ℕ). n * size) is_frame.0 in
+    let front : take (count * size) (bytes ++ others) ≡ bytes = take_front (count * size) bytes others long in
+    let back : drop (count * size) (bytes ++ others) ≡ others = drop_front (count * size) bytes others long in
+    let read : frame_of_bytes count size resolution bytes ≡ map (cut resolution) f =
+    ap (frame_of_bytes count size resolution) (sym (append-nil bytes))
+    ∙ ap (λ (n : ℕ). frame_of_bytes n size resolution (bytes ++ [])) (sym is_frame.0)
+    ∙ frame_of_bytes-bytes_of_frame size resolution f [] format.3 format.4 format.5 is_frame.1 in
+    ap (λ (bs : List ℕ). map (frame_of_bytes count size resolution) (first_chunks (count * size) (suc (length fs)) bs)) (append_assoc bytes (packed size resolution fs) rest)
+    ∙ ap (λ (bs : List ℕ). frame_of_bytes count size resolution bs ∷ map (frame_of_bytes count size resolution) (first_chunks (count * size) (length fs) (drop (count * size) (bytes ++ others)))) front
+    ∙ ap (λ (zs : List ℤ). zs ∷ map (frame_of_bytes count size resolution) (first_chunks (count * size) (length fs) (drop (count * size) (bytes ++ others)))) read
+    ∙ ap (λ (bs : List ℕ). map (cut resolution) f ∷ map (frame_of_bytes count size resolution) (first_chunks (count * size) (length fs) bs)) back
+    ∙ ap (λ (zs : List (List ℤ)). map (cut resolution) f ∷ zs)
+    (chunks_read count size resolution fs rest format (λ k d below. framed (suc k) d (omega arith)))
+
+-- as many frames are whole as were packed
+pub whole_frames-packed : (count size resolution : ℕ) (frames : List (List ℤ)) (rest : List ℕ) → All (λ samples. length samples ≡ count) frames
+    → length rest < count * size → whole_frames count size (packed size resolution frames ++ rest) ≡ length frames
+whole_frames-packed count size resolution frames rest even short =
+    let long : length (packed size resolution frames ++ rest) ≡ length frames * (count * size) + length rest =
+    length-append (packed size resolution frames) rest ∙ ap (λ (n : ℕ). n + length rest) (length-packed count size resolution frames even) in
+    ap (λ (n : ℕ). n / (count * size)) long ∙ div-mul-add (length frames) (count * size) (length rest) short
+
+pub unpacked-packed : (count size resolution : ℕ) (frames : List (List ℤ)) (rest : List ℕ) → IsFormat count size resolution → All (IsFrame count) frames
+    → length rest < count * size → unpacked count size resolution (packed size resolution frames ++ rest) ≡ map (map (cut resolution)) frames
+unpacked-packed count size resolution frames rest format framed short =
+    let even : All (λ samples. length samples ≡ count) frames = λ k d below. (framed k d below).0 in
+    let bytes : List ℕ = packed size resolution frames ++ rest in
+    ap (λ (n : ℕ). map (frame_of_bytes count size resolution) (first_chunks (count * size) n bytes))
+    (whole_frames-packed count size resolution frames rest even short)
+    ∙ chunks_read count size resolution frames rest format framed
+
+-- what is read at a place
+pub slice_get-unpacked : (count size resolution i : ℕ) (bytes : List ℕ) → i < whole_frames count size bytes
+    → slice_get (unpacked count size resolution bytes) i ≡ Some (frame_of_bytes count size resolution (take (count * size) (drop (i * (count * size)) bytes)))
+slice_get-unpacked count size resolution i bytes inside =
+    slice_get-map (frame_of_bytes count size resolution) (first_chunks (count * size) (whole_frames count size bytes) bytes) i
+    ∙ ap (option_map (frame_of_bytes count size resolution)) (slice_get-first_chunks (count * size) (whole_frames count size bytes) i bytes inside)
+
+-- a frame that was read from its part of a packet
+pub read_at : (count size resolution number start width : ℕ) (packet part bytes : List ℕ) (samples : List ℤ) → width ≡ count * size → start ≡ number * width
+    → number < whole_frames count size packet → part ≡ packet → bytes ≡ take (start + width - start) (drop start part)
+    → samples ≡ frame_of_bytes count size resolution bytes → slice_get (unpacked count size resolution packet) number ≡ Some samples
+read_at count size resolution number start width packet part bytes samples wide begins inside whole cutting read =
+    let long : start + width - start ≡ count * size = omega arith in
+    let begins_at : start ≡ number * (count * size) = begins ∙ ap (λ (n : ℕ). number * n) wide in
+    let same : bytes ≡ take (count * size) (drop (number * (count * size)) packet) =
+    cutting
+    ∙ ap (λ (n : ℕ). take n (drop start part)) long
+    ∙ ap (λ (n : ℕ). take (count * size) (drop n part)) begins_at
+    ∙ ap (λ (bs : List ℕ). take (count * size) (drop (number * (count * size)) bs)) whole in
+    slice_get-unpacked count size resolution number packet inside
+    ∙ ap (λ (xs : List ℤ). Some xs) (ap (frame_of_bytes count size resolution) (sym same) ∙ sym read)
+
+pub length-unpacked : (count size resolution : ℕ) (bytes : List ℕ) → length (unpacked count size resolution bytes) ≡ whole_frames count size bytes
+length-unpacked count size resolution bytes =
+    length-map (first_chunks (count * size) (whole_frames count size bytes) bytes) (frame_of_bytes count size resolution)
+    ∙ length-first_chunks (count * size) (whole_frames count size bytes) bytes
+
+-- each frame that is read has a sample for each channel
+pub unpacked-even : (count size resolution : ℕ) (bytes : List ℕ) → All (λ samples. length samples ≡ count) (unpacked count size resolution bytes)
+unpacked-even count size resolution bytes = along (first_chunks (count * size) (whole_frames count size bytes) bytes) where
+  one : (bs : List ℕ) → length (frame_of_bytes count size resolution bs) ≡ count
+  one bs = length-map (first_chunks size count bs) (sample_of_word size resolution) ∙ length-first_chunks size count bs
+
+  along : (chunks : List (List ℕ)) → All (λ samples. length samples ≡ count) (map (frame_of_bytes count size resolution) chunks)
+  along [] k d below = absurd (omega arith)
+  along (b ∷ bs) zero d below = one b
+  along (b ∷ bs) (suc k) d below = along bs k d (omega arith)
