@@ -1,0 +1,100 @@
+// A bounded queue of frames over a circular buffer.
+ghost use Rattle.std.specs.Prelude.{◌≡◌, ◌↔◌, ◌≤◌, ◌+◌, ℕ, ℤ, List, [], ◌∷◌, ◌++◌, length, drop, slice_get, IsNone, IsErr, IfOk, OnSome, OnOk, OnErr};
+ghost use Rattle.std.specs.Option.{option_map};
+ghost use Rattle.uac_ring.specs.Rings.{Holds, ring_frames};
+
+use arrayvec::ArrayVec;
+use circular_buffer::HeapCircularBuffer;
+use std::alloc::Global;
+use std::marker::Model;
+use uac_descriptor::NoMemory;
+use uac_pcm::Frame;
+
+/// The most frames that a ring holds.
+pub const RING_FRAMES: u32 = 2048;
+
+/// A ring has no room for one more frame.
+#[derive(Clone, Copy, PartialEq, Eq, Debug)]
+pub struct Full;
+
+/// The frames of a stream that have come and have not gone yet, in the order in which they came.
+///
+/// A frame takes 136 bytes, so a ring takes 278,528 bytes of memory, and eight rings take 2,228,224.
+#[derive(Drop)]
+pub struct Ring {
+    frames: HeapCircularBuffer<Frame>,
+}
+
+impl Model for Ring {
+    ghost use Rattle.std.specs.Prelude.{◌≡◌, ◌≤◌, ℤ, List, length, map};
+    ghost use Rattle.uac_ring.specs.Rings.{ring_frames};
+
+    ghost Value = { List (List ℤ) };
+
+    ghost view = { λ r. map (λ frame. frame.items) r.frames.items };
+
+    ghost invariant = { λ r. (r.frames.capacity ≡ ring_frames) × (length r.frames.items ≤ ring_frames) };
+}
+
+impl Ring {
+    /// An empty ring. The room for all its frames is taken here, and none later.
+    pub fn new(alloc: Global) -> Result<Ring, NoMemory>
+        ensures { IfOk result (λ ring. ring ≡ []) }
+    {
+        match HeapCircularBuffer::with_capacity(alloc, RING_FRAMES as usize) {
+            Ok(frames) => Ok(Ring { frames }),
+            Err(_) => Err(NoMemory),
+        }
+    }
+
+    /// Appends a copy of a frame; `Full` exactly where the ring holds all that it can, and then it stays as it was.
+    pub fn put(&mut self, frame: &Frame) -> Result<(), Full>
+        ensures full { IsErr result ↔ (length self.old ≡ ring_frames) }
+        ensures appended { OnOk result (self.new ≡ self.old ++ frame.now.items ∷ []) }
+        ensures unchanged { OnErr result (self.new ≡ self.old) }
+        ensures holds { (came : List (List ℤ)) (gone : ℕ) → Holds came gone self.old
+            → OnOk result (Holds (came ++ frame.now.items ∷ []) gone self.new) }
+    {
+        match self.frames.try_push_back(copy_of(frame)) {
+            Ok(()) => Ok(()),
+            Err(_) => Err(Full),
+        }
+    }
+
+    /// Takes the oldest frame out; None exactly where there is none.
+    pub fn take(&mut self) -> Option<Frame>
+        ensures none { IsNone result ↔ (length self.old ≡ 0) }
+        ensures oldest { option_map (λ frame. frame.items) result ≡ slice_get self.old 0 }
+        ensures others { self.new ≡ drop 1 self.old }
+        ensures holds { (came : List (List ℤ)) (gone : ℕ) → Holds came gone self.old
+            → (option_map (λ frame. frame.items) result ≡ slice_get came gone) × OnSome result (Holds came (gone + 1) self.new) }
+    {
+        self.frames.pop_front()
+    }
+
+    /// The number of frames that the ring holds.
+    pub fn level(&self) -> u32
+        ensures frames { result ≡ length self.now }
+        ensures bounded { result ≤ ring_frames }
+        ensures holds { (came : List (List ℤ)) (gone : ℕ) → Holds came gone self.now → gone + result ≡ length came }
+    {
+        self.frames.len() as u32
+    }
+
+    /// Lets all frames go.
+    pub fn clear(&mut self)
+        ensures { self.new ≡ [] }
+    {
+        self.frames.clear();
+    }
+}
+
+// The same samples once more.
+fn copy_of(frame: &Frame) -> Frame
+    ensures { result.items ≡ frame.now.items }
+{
+    let mut copy: Frame = ArrayVec::new();
+    // A frame has room for the samples of a frame.
+    let _ = copy.try_extend_from_slice(frame.as_slice());
+    copy
+}
