@@ -9,6 +9,7 @@ pub mod Ends
 pub mod Walking
 pub mod Rows
 pub mod Needed
+pub mod NeedsLemmas
 pub mod OneSource
 pub mod Rendered
 pub mod InOrder

@@ -23,7 +23,10 @@ FitsPins kind.Selector channels pins = (sum pins ≤ 256) × (0 < channels → 0
 FitsPins kind.Feature channels pins = pins ≡ channels ∷ []
 FitsPins kind.Effect channels pins = pins ≡ channels ∷ []
 FitsPins kind.OutputTerminal channels pins = pins ≡ channels ∷ []
-FitsPins _ channels pins = Unit {0}
+FitsPins kind.InputTerminal channels pins = Unit {0}
+FitsPins kind.ClockSource channels pins = Unit {0}
+FitsPins kind.ClockSelector channels pins = Unit {0}
+FitsPins kind.ClockMultiplier channels pins = Unit {0}
 
 -- a signal graph as the rules leave it: an id names one entity, each source has a wire and is no output terminal, no walk goes
 -- on for ever, a wire has at most 32 channels, and pins fit

@@ -1,5 +1,5 @@
 -- What a unit is asked to render, by its controls.
-use Rattle.std.specs.Prelude.{◌≡◌, ◌==◌, ◌≤◌, ℕ, ◌+◌, ◌*◌, ◌/◌, ◌%◌, Bool, true, if◌then◌else◌, ℤ, List, Option, Some, None, map, length}
+use Rattle.std.specs.Prelude.{◌≡◌, ◌==◌, ◌≤◌, ℕ, ◌+◌, ◌*◌, ◌/◌, ◌%◌, Bool, true, false, if◌then◌else◌, ℤ, List, Option, Some, None, map, length}
 use Rattle.std.specs.List.{range_with_len}
 use Rattle.uac_entities.specs.declared.entity.EntityKind.{EntityKind}
 use Rattle.uac_entities.specs.declared.entity.EntityKind.TheVariants as kind
@@ -8,7 +8,6 @@ use Rattle.uac_units.specs.declared.jobs.UnitKind.{UnitKind}
 use Rattle.uac_units.specs.declared.jobs.UnitKind.TheVariants as unit
 use Rattle.uac_graph.specs.Controls.{Controls, feature_gain, node_gain, chosen_pin}
 use Rattle.uac_graph.specs.Fitness.{FitsPins}
-use Rattle.uac_graph.specs.Needs.{is_unit}
 
 -- the unit that renders an entity of this kind, if it is a unit
 abbrev pub unit_of : EntityKind → Option UnitKind
@@ -16,28 +15,45 @@ unit_of kind.Mixer = Some unit.Mixer
 unit_of kind.Selector = Some unit.Selector
 unit_of kind.Feature = Some unit.Feature
 unit_of kind.Effect = Some unit.Effect
-unit_of _ = None
+unit_of kind.InputTerminal = None
+unit_of kind.OutputTerminal = None
+unit_of kind.ClockSource = None
+unit_of kind.ClockSelector = None
+unit_of kind.ClockMultiplier = None
 
 -- a unit or an output terminal, which takes a signal from its sources
 abbrev pub takes_signal : EntityKind → Bool
 takes_signal kind.OutputTerminal = true
-takes_signal k = is_unit k
+takes_signal kind.Mixer = true
+takes_signal kind.Selector = true
+takes_signal kind.Feature = true
+takes_signal kind.Effect = true
+takes_signal kind.InputTerminal = false
+takes_signal kind.ClockSource = false
+takes_signal kind.ClockSelector = false
+takes_signal kind.ClockMultiplier = false
 
 -- how many gains a unit of the kind has
 abbrev pub gain_count : UnitKind → ℕ → ℕ → ℕ
 gain_count unit.Mixer outputs inputs = inputs * outputs
 gain_count unit.Feature outputs inputs = 2 * outputs
-gain_count _ outputs inputs = 0
+gain_count unit.Selector outputs inputs = 0
+gain_count unit.Effect outputs inputs = 0
 
--- the gain of a number: of a mixer that of its node, of a feature in turn that of a channel and that of the master
+-- the gain of a number: of a mixer that of its node, of a feature in turn that of a channel and that of the master; the others
+-- have none
 abbrev pub gain_at : Controls → ℕ → UnitKind → ℕ → ℕ
 gain_at controls id unit.Mixer number = node_gain controls id number
-gain_at controls id _ number = feature_gain controls id (if number % 2 == 0 then number / 2 + 1 else 0)
+gain_at controls id unit.Feature number = feature_gain controls id (if number % 2 == 0 then number / 2 + 1 else 0)
+gain_at controls id unit.Selector number = 0
+gain_at controls id unit.Effect number = 0
 
 -- the pin of a selector's job
 abbrev pub pin_at : Controls → ℕ → UnitKind → ℕ → ℕ
 pin_at controls id unit.Selector count = chosen_pin controls id count
-pin_at controls id _ count = 0
+pin_at controls id unit.Mixer count = 0
+pin_at controls id unit.Feature count = 0
+pin_at controls id unit.Effect count = 0
 
 -- the job of a unit with this id, of so many output channels, pins and input channels
 pub record IsJob (controls : Controls) (id : ℕ) (kind : UnitKind) (channels count inputs : ℕ) (job : Job) : Type 0 where

@@ -27,13 +27,19 @@ mixed controls id outputs inputs channel =
     (map (λ at. scaled (input inputs at) (node_gain controls id (at * outputs + channel))) (range_with_len 0 (length inputs))))
 
 -- the sample of an output channel of the entity with this id, from the frames of its sources, pin by pin. A feature scales by
--- the channel's gain, then by the master's; channels of controls count from 1, the master being 0
+-- the channel's gain, then by the master's; channels of controls count from 1, the master being 0. An effect and an output
+-- terminal pass their one source on; an input terminal and a clock entity take no signal
 abbrev pub sample_of : Controls → ℕ → EntityKind → ℕ → List (List ℤ) → ℕ → ℤ
 sample_of controls id kind.Feature outputs frames channel =
     scaled (scaled (input (pin frames 0) channel) (feature_gain controls id (channel + 1))) (feature_gain controls id 0)
 sample_of controls id kind.Mixer outputs frames channel = mixed controls id outputs (in_a_row frames) channel
 sample_of controls id kind.Selector outputs frames channel = input (pin frames (chosen_pin controls id (length frames))) channel
-sample_of controls id _ outputs frames channel = input (pin frames 0) channel
+sample_of controls id kind.Effect outputs frames channel = input (pin frames 0) channel
+sample_of controls id kind.OutputTerminal outputs frames channel = input (pin frames 0) channel
+sample_of controls id kind.InputTerminal outputs frames channel = pos 0
+sample_of controls id kind.ClockSource outputs frames channel = pos 0
+sample_of controls id kind.ClockSelector outputs frames channel = pos 0
+sample_of controls id kind.ClockMultiplier outputs frames channel = pos 0
 
 -- the samples of all output channels
 unfoldable pub frame_of : Controls → ℕ → EntityKind → ℕ → List (List ℤ) → List ℤ

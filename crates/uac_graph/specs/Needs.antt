@@ -1,5 +1,5 @@
 -- The units that the output terminals of a clock domain need (Audio Class 2.0, 3.13.5: a clock domain).
-use Rattle.std.specs.Prelude.{ℕ, zero, suc, Bool, true, false, ◌==◌, ◌&&◌, ◌||◌, List, map, length, filter}
+use Rattle.std.specs.Prelude.{ℕ, zero, suc, Bool, true, false, ◌==◌, ◌&&◌, ◌||◌, if◌then◌else◌, List, map, length, filter}
 use Rattle.std.specs.List.{list_any}
 use Rattle.uac_entities.specs.declared.entity.Entity.{Entity}
 use Rattle.uac_entities.specs.declared.entity.EntityKind.{EntityKind}
@@ -21,12 +21,21 @@ is_end domain e = is_output e.kind && e.clock == domain
 unfoldable pub depended : List Entity → ℕ → ℕ → Bool
 depended entities domain id = list_any (λ e. is_end domain e && reaches entities (length entities) e.id id) entities
 
+-- a unit; a terminal is none, and a clock entity carries no signal (Audio Class 2.0, 3.13)
 abbrev pub is_unit : EntityKind → Bool
 is_unit kind.Mixer = true
 is_unit kind.Selector = true
 is_unit kind.Feature = true
 is_unit kind.Effect = true
-is_unit _ = false
+is_unit kind.InputTerminal = false
+is_unit kind.OutputTerminal = false
+is_unit kind.ClockSource = false
+is_unit kind.ClockSelector = false
+is_unit kind.ClockMultiplier = false
+
+-- how many units an entity of this kind is
+abbrev pub unit_count : EntityKind → ℕ
+unit_count k = if is_unit k then 1 else 0
 
 -- the ids of the units that the domain needs, in block order
 unfoldable pub needed : List Entity → ℕ → List ℕ

@@ -1,5 +1,5 @@
 // Frames by the ids of their entities.
-ghost use Rattle.std.specs.Prelude.{◌≡◌, ◌==◌, ◌≤◌, ◌^◌, ℕ, if◌then◌else◌, Some, IfOk, List, length, map};
+ghost use Rattle.std.specs.Prelude.{◌≡◌, ◌==◌, ◌≤◌, ◌<◌, ◌+◌, ◌^◌, ℕ, if◌then◌else◌, Some, IfOk, List, length, map};
 ghost use Rattle.std.specs.List.{All};
 ghost use Rattle.uac_entities.specs.declared.entity.Entity.{Entity};
 ghost use Rattle.std.specs.Option.{option_map};
@@ -61,16 +61,26 @@ impl FrameTable {
         self.frames.get(&id)
     }
 
-    /// Renders a job over these inputs onto the frame of an entity, with the rack's unit of the kind.
-    pub(crate) fn render(&mut self, id: u8, rack: &Rack, kind: UnitKind, job: &Job, pins: &Pins)
+    /// Renders a job over these inputs onto the frame of an entity, once, with the rack's unit of the kind.
+    pub(crate) fn render(
+        &mut self,
+        id: u8,
+        rack: &Rack,
+        kind: UnitKind,
+        job: &Job,
+        pins: &Pins,
+        steps: &mut Steps,
+    )
         requires rack { IsFitted (λ v x. (⟦<dyn Unit as Unit>⟧ v).kind_of x) rack.now }
         requires fits { FitsKind kind job.now pins.now.items }
         requires gains { All (λ gain. gain ≤ 2 ^ 30) job.now.gains.items }
         requires there { option_map length (frame_on self.old id) ≡ Some job.now.outputs }
-        ensures { (k : ℕ) → frame_on self.new k ≡ (if id == k then Some (rendered kind job.now pins.now.items) else frame_on self.old k) }
+        requires room { steps.old + 1 < 2 ^ 64 }
+        ensures frames { (k : ℕ) → frame_on self.new k ≡ (if id == k then Some (rendered kind job.now pins.now.items) else frame_on self.old k) }
+        ensures counted { steps.new ≡ steps.old + 1 }
     {
         if let Some(frame) = self.frames.get_mut(&id) {
-            rack.unit(kind).render(job, pins, frame, &mut Steps::new());
+            rack.unit(kind).render(job, pins, frame, steps);
         }
     }
 

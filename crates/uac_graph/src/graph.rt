@@ -1,10 +1,10 @@
 // The signal graph: which unit takes which signals, rendered tick by tick.
-ghost use Rattle.std.specs.Prelude.{◌≡◌, ◌<◌, ℕ, List, false, IfOk, length};
+ghost use Rattle.std.specs.Prelude.{◌≡◌, ◌<◌, ◌+◌, ◌^◌, ℕ, List, false, IfOk, length};
 ghost use Rattle.uac_topology_rules.specs.Links.{is_clock};
 ghost use Rattle.uac_topology_rules.specs.Table.{at};
 ghost use Rattle.uac_units.specs.Fitting.{IsFitted};
 ghost use Rattle.uac_graph.specs.Controls.{held_in};
-ghost use Rattle.uac_graph.specs.Needs.{depended};
+ghost use Rattle.uac_graph.specs.Needs.{depended, needed, unit_count};
 ghost use Rattle.uac_graph.specs.Orders.{frame_after};
 ghost use Rattle.uac_graph.specs.Wiring.{AreRendered, AreWiresOf, frame_on, held};
 
@@ -54,37 +54,35 @@ impl Graph {
     }
 
     /// One tick of a clock domain: every output terminal of the domain, and every unit on which one depends, gets the samples
-    /// of its meaning under the controls held. All other wires stay. It takes no memory, and doesn't count renders yet.
-    pub fn tick(
-        &self,
-        domain: u8,
-        store: &Store,
-        rack: &Rack,
-        wires: &mut Wires,
-        _steps: &mut Steps,
-    )
+    /// of its meaning under the controls held. All other wires stay. Each of these units is rendered once, however many take its
+    /// signal: `steps` rises by their number. It takes no memory.
+    pub fn tick(&self, domain: u8, store: &Store, rack: &Rack, wires: &mut Wires, steps: &mut Steps)
         requires rack { IsFitted (λ v x. (⟦<dyn Unit as Unit>⟧ v).kind_of x) rack.now }
         requires wires { AreWiresOf self.now wires.old }
+        requires room { steps.old + length (needed self.now domain) < 2 ^ 64 }
         ensures rendered { AreRendered self.now (held_in store.now) (held wires.old) (depended self.now domain) wires.old wires.new }
         ensures fitting { AreWiresOf self.now wires.new }
+        ensures once { steps.new ≡ steps.old + length (needed self.now domain) }
     {
         for place in places_for(&self.orders, domain) {
-            self.render(*place, store, rack, wires);
+            self.render(*place, store, rack, wires, steps);
         }
     }
 
     // Renders the entity at a place, where its sources are rendered. An input terminal has its frame.
-    fn render(&self, place: usize, store: &Store, rack: &Rack, wires: &mut Wires)
+    fn render(&self, place: usize, store: &Store, rack: &Rack, wires: &mut Wires, steps: &mut Steps)
         requires rack { IsFitted (λ v x. (⟦<dyn Unit as Unit>⟧ v).kind_of x) rack.now }
         requires inside { place < length self.now }
         requires signal { is_clock (at self.now place).kind ≡ false }
         requires wires { AreWiresOf self.now wires.old }
+        requires room { steps.old + unit_count (at self.now place).kind < 2 ^ 64 }
         ensures rendered { (id : ℕ) → frame_on wires.new id ≡ frame_after self.now (held_in store.now) place wires.old id }
         ensures fitting { AreWiresOf self.now wires.new }
+        ensures counted { steps.new ≡ steps.old + unit_count (at self.now place).kind }
     {
         let entity = self.table.at(place);
         if !is_input(entity.kind) {
-            wires.render(entity, store, rack);
+            wires.render(entity, store, rack, steps);
         }
     }
 }

@@ -6,6 +6,7 @@ ghost use Rattle.uac_units.specs.declared.jobs.UnitKind.TheVariants.{Selector};
 ghost use Rattle.uac_graph.specs.Controls.{held_in};
 ghost use Rattle.uac_graph.specs.Jobs as spec;
 ghost use Rattle.uac_graph.specs.Jobs.{IsJob};
+ghost use Rattle.uac_graph.specs.Needs as needs;
 ghost use Rattle.uac_graph.specs.Wiring.{held};
 
 use crate::controls::{chosen_pin, feature_gain, node_gain};
@@ -24,7 +25,25 @@ pub(crate) fn unit_of(kind: EntityKind) -> Option<UnitKind>
         EntityKind::Selector => Some(UnitKind::Selector),
         EntityKind::Feature => Some(UnitKind::Feature),
         EntityKind::Effect => Some(UnitKind::Effect),
-        _ => None,
+        EntityKind::InputTerminal
+        | EntityKind::OutputTerminal
+        | EntityKind::ClockSource
+        | EntityKind::ClockSelector
+        | EntityKind::ClockMultiplier => None,
+    }
+}
+
+/// Whether an entity of this kind is a unit.
+pub(crate) fn is_unit(kind: EntityKind) -> bool
+    ensures { result ≡ needs.is_unit kind }
+{
+    match kind {
+        EntityKind::Mixer | EntityKind::Selector | EntityKind::Feature | EntityKind::Effect => true,
+        EntityKind::InputTerminal
+        | EntityKind::OutputTerminal
+        | EntityKind::ClockSource
+        | EntityKind::ClockSelector
+        | EntityKind::ClockMultiplier => false,
     }
 }
 
@@ -69,11 +88,11 @@ fn gain_count(kind: UnitKind, outputs: usize, inputs: usize) -> usize
     match kind {
         UnitKind::Mixer => inputs * outputs,
         UnitKind::Feature => 2 * outputs,
-        _ => 0,
+        UnitKind::Selector | UnitKind::Effect => 0,
     }
 }
 
-// A mixer's gains are those of its nodes; a feature's are in turn that of a channel and that of the master.
+// A mixer's gains are those of its nodes; a feature's are in turn that of a channel and that of the master. The others have none.
 fn gain_at(store: &Store, id: u8, kind: UnitKind, number: usize) -> u32
     requires { number < 256 }
     ensures value { result ≡ spec.gain_at (held_in store.now) id kind number }
@@ -81,8 +100,14 @@ fn gain_at(store: &Store, id: u8, kind: UnitKind, number: usize) -> u32
 {
     match kind {
         UnitKind::Mixer => node_gain(store, id, number as u8),
-        _ if number % 2 == 0 => feature_gain(store, id, (number / 2 + 1) as u8),
-        _ => feature_gain(store, id, 0),
+        UnitKind::Feature => {
+            if number % 2 == 0 {
+                feature_gain(store, id, (number / 2 + 1) as u8)
+            } else {
+                feature_gain(store, id, 0)
+            }
+        }
+        UnitKind::Selector | UnitKind::Effect => 0,
     }
 }
 
@@ -92,7 +117,7 @@ fn pin_at(store: &Store, entity: &Entity, kind: UnitKind) -> u16
 {
     match kind {
         UnitKind::Selector => chosen_pin(store, entity.id, entity.sources.as_slice().len()),
-        _ => 0,
+        UnitKind::Mixer | UnitKind::Feature | UnitKind::Effect => 0,
     }
 }
 

@@ -1,25 +1,26 @@
 // The frames on the wires of a signal graph.
-ghost use Rattle.std.specs.Prelude.{◌≡◌, ◌==◌, ℕ, if◌then◌else◌, Some, IfOk, List, length, map};
+ghost use Rattle.std.specs.Prelude.{◌≡◌, ◌==◌, ◌+◌, ◌<◌, ◌^◌, ℕ, if◌then◌else◌, Some, IfOk, List, length, map};
 ghost use Rattle.uac_entities.specs.declared.entity.Entity.{Entity};
 ghost use Rattle.std.specs.Option.{option_map};
 ghost use Rattle.uac_units.specs.Fitting.{IsFitted};
 ghost use Rattle.uac_graph.specs.Controls.{held_in};
 ghost use Rattle.uac_graph.specs.Jobs.{FitsFrames};
 ghost use Rattle.uac_graph.specs.Meaning as spec;
+ghost use Rattle.uac_graph.specs.Needs.{unit_count};
 ghost use Rattle.uac_graph.specs.Wiring.{AreSilent, AreWiresOf, frame_on, held};
 
 use crate::frame_table::FrameTable;
-use crate::jobs::{gather, no_job, set_job, unit_of};
+use crate::jobs::{gather, is_unit, no_job, set_job, unit_of};
 use arrayvec::ArrayVec;
 use std::alloc::Global;
 use std::marker::Model;
 use uac_descriptor::NoMemory;
-use uac_entities::Entity;
+use uac_entities::{Entity, EntityKind};
 use uac_pcm::Frame;
 use uac_store::Store;
 use uac_topology::Function;
 use uac_topology::laws::functions_are_sound;
-use uac_units::{Job, Pins, Rack, Unit};
+use uac_units::{Job, Pins, Rack, Steps, Unit};
 
 /// A frame for each terminal and each unit of an audio function, by the entity's id. Beside them lie the job and the inputs of the
 /// entity that was rendered last, so that no room is made for them anew.
@@ -70,17 +71,20 @@ impl Wires {
         self.frames.get(entity)
     }
 
-    /// Renders an entity: its wire gets the frame that it makes of those on the wires of its sources, under the controls held. Only
-    /// a selector without pins, and what it feeds, has no channels.
-    pub(crate) fn render(&mut self, entity: &Entity, store: &Store, rack: &Rack)
+    /// Renders an entity: its wire gets the frame that it makes of those on the wires of its sources, under the controls held. A
+    /// unit is rendered once. Only a selector without pins, and what it feeds, has no channels.
+    pub(crate) fn render(&mut self, entity: &Entity, store: &Store, rack: &Rack, steps: &mut Steps)
         requires rack { IsFitted (λ v x. (⟦<dyn Unit as Unit>⟧ v).kind_of x) rack.now }
         requires fits { FitsFrames entity.now.kind entity.now.cluster.channels (map (held self.old) entity.now.sources) }
         requires there { option_map length (frame_on self.old entity.now.id) ≡ Some entity.now.cluster.channels }
-        ensures { (id : ℕ) → frame_on self.new id ≡ (if entity.now.id == id
+        requires room { steps.old + unit_count entity.now.kind < 2 ^ 64 }
+        ensures frames { (id : ℕ) → frame_on self.new id ≡ (if entity.now.id == id
             then Some (spec.frame_of (held_in store.now) entity.now.id entity.now.kind entity.now.cluster.channels (map (held self.old) entity.now.sources))
             else frame_on self.old id) }
+        ensures counted { steps.new ≡ steps.old + unit_count entity.now.kind }
     {
         if entity.cluster.channels == 0 {
+            count_empty(entity.kind, steps);
             return;
         }
         gather(&mut self.pins, &self.frames, entity.sources.as_slice());
@@ -88,9 +92,19 @@ impl Wires {
             Some(kind) => {
                 set_job(&mut self.job, store, entity, kind, self.pins.len());
                 self.frames
-                    .render(entity.id, rack, kind, &self.job, &self.pins);
+                    .render(entity.id, rack, kind, &self.job, &self.pins, steps);
             }
             None => self.frames.pass_on(entity.id, &self.pins),
         }
+    }
+}
+
+// Counts an entity whose frame is empty: nobody can be asked for it, and a unit counts as rendered.
+fn count_empty(kind: EntityKind, steps: &mut Steps)
+    requires { steps.old + unit_count kind < 2 ^ 64 }
+    ensures { steps.new ≡ steps.old + unit_count kind }
+{
+    if is_unit(kind) {
+        steps.tick();
     }
 }

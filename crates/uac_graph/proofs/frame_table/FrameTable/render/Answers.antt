@@ -8,8 +8,8 @@ use Rattle.uac_graph.proofs.Lookups.{no_wire, there, written}
 use Rattle.uac_graph.proofs.frame_table.FrameTable.render.Goals as goal
 use Rattle.uac_graph.proofs.frame_table.FrameTable.render.Goals.{in-Some, in_default}
 
-pub returns : goal.returns
-returns g c k =
+pub returns-clause-frames : goal.returns-clause-frames
+returns-clause-frames g c k =
     let id = c.args.id in
     elim c.match-get_mut.branch [
       | in-Some w ↦
@@ -25,4 +25,15 @@ returns g c k =
           no_wire (λ f. f.items) c.self.inside.frames.entries id c.args.job.now.outputs
           (sym c.get_mut.ensures.value ∙ ap option_copied_mut w.in_default.is)
           (ap (λ (frames : Frames). option_map length (frame_on frames id)) c.self.view_is ∙ c.requires.there))
+    ]
+
+pub returns-clause-counted : goal.returns-clause-counted
+returns-clause-counted g c =
+    elim c.match-get_mut.branch [
+      | in-Some w ↦ w.steps-is ∙ w.render.ensures.1
+      | in_default w ↦
+          absurd (
+          no_wire (λ f. f.items) c.self.inside.frames.entries c.args.id c.args.job.now.outputs
+          (sym c.get_mut.ensures.value ∙ ap option_copied_mut w.in_default.is)
+          (ap (λ (frames : Frames). option_map length (frame_on frames c.args.id)) c.self.view_is ∙ c.requires.there))
     ]

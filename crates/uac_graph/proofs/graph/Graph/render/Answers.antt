@@ -22,14 +22,14 @@ render-requires-clause-there g c =
 pub returns-then-not-is_input-clause-rendered : goal.returns-then-not-is_input-clause-rendered
 returns-then-not-is_input-clause-rendered g c =
     rendered_at c.args.self.now (held_in c.args.store.now) c.args.place c.at-entity.result.now c.args.wires.now c.render.new.self
-    (c.at-entity.ensures ∙ ap (λ (table : List Entity). at table c.args.place) c.self.view_is) (sym c.is_input.ensures ∙ c.if-not-is_input.true) c.render.ensures
+    (c.at-entity.ensures ∙ ap (λ (table : List Entity). at table c.args.place) c.self.view_is) (sym c.is_input.ensures ∙ c.if-not-is_input.true) c.render.ensures.frames
 
 pub returns-then-not-is_input-clause-fitting : goal.returns-then-not-is_input-clause-fitting
 returns-then-not-is_input-clause-fitting g c =
     fitting_at c.args.self.now (held_in c.args.store.now) c.at-entity.result.now c.args.wires.now c.render.new.self c.requires.wires
     (wire_at c.args.self.now c.args.wires.now c.args.place c.at-entity.result.now (subst IsSignalGraph c.self.view_is c.self.invariant.0) c.requires.wires c.requires.inside c.requires.signal
     (c.at-entity.ensures ∙ ap (λ (table : List Entity). at table c.args.place) c.self.view_is))
-    c.render.ensures
+    c.render.ensures.frames
 
 pub returns-else-not-is_input-clause-rendered : goal.returns-else-not-is_input-clause-rendered
 returns-else-not-is_input-clause-rendered g c =

@@ -1,16 +1,22 @@
-use Rattle.std.proofs.Common.{subst}
+use Rattle.std.proofs.Common.{◌+◌, ap, arith, subst, ℕ}
 use Rattle.uac_graph.specs.Controls.{held_in}
 use Rattle.uac_graph.specs.Fitness.{IsSignalGraph}
 use Rattle.uac_graph.specs.Wiring.{held}
 use Rattle.uac_graph.proofs.InOrder.{all_rendered, none_rendered, order_for, step_rendered}
+use Rattle.uac_graph.proofs.NeedsLemmas.{all_units, units_end, units_next}
 use Rattle.uac_graph.proofs.Ticking.{given_held}
 use Rattle.uac_graph.proofs.graph.Graph.tick.Goals as goal
 
 pub loop-place-init : goal.loop-place-init
-loop-place-init g c = record {
-  rendered = none_rendered c.args.self.now (held_in c.args.store.now) (held c.args.wires.now) c.places_for-place-items.result.now c.args.wires.now;
-  fitting = c.requires.wires;
-}
+loop-place-init g c =
+    let order = c.places_for-place-items.ensures c.args.self.now (order_for c.args.self.now c.self.inside.table c.self.inside.orders.items c.deref.result.now c.self.view_is c.deref.ensures.value c.self.invariant.1) in
+    record {
+      rendered = none_rendered c.args.self.now (held_in c.args.store.now) (held c.args.wires.now) c.places_for-place-items.result.now c.args.wires.now;
+      fitting = c.requires.wires;
+      counted =
+          ap (λ (n : ℕ). c.args.steps.now + n)
+          (all_units c.args.self.now c.args.domain c.places_for-place-items.result.now (subst IsSignalGraph c.self.view_is c.self.invariant.0) order);
+    }
 
 pub render-requires-clause-inside : goal.render-requires-clause-inside
 render-requires-clause-inside g c =
@@ -25,6 +31,15 @@ render-requires-clause-signal g c =
 pub render-requires-clause-wires : goal.render-requires-clause-wires
 render-requires-clause-wires g c = c.loop-place.invariant.fitting
 
+pub render-requires-clause-room : goal.render-requires-clause-room
+render-requires-clause-room g c =
+    omega (
+      arith,
+      c.requires.room,
+      c.loop-place.invariant.counted,
+      units_next c.args.self.now c.places_for-place-items.result.now c.loop-place.place-index c.loop-place-test.true,
+    )
+
 pub loop-place-preserved : goal.loop-place-preserved
 loop-place-preserved g c =
     let order = c.places_for-place-items.ensures c.args.self.now (order_for c.args.self.now c.self.inside.table c.self.inside.orders.items c.deref.result.now c.self.view_is c.deref.ensures.value c.self.invariant.1) in
@@ -34,6 +49,13 @@ loop-place-preserved g c =
           c.args.wires.now c.loop-place.wires c.render.new.wires (subst IsSignalGraph c.self.view_is c.self.invariant.0) order.order c.loop-place-test.true
           (given_held c.args.self.now c.args.wires.now c.requires.wires) c.loop-place.invariant.rendered c.render.ensures.rendered;
       fitting = c.render.ensures.fitting;
+      counted =
+          omega (
+            arith,
+            c.render.ensures.counted,
+            c.loop-place.invariant.counted,
+            units_next c.args.self.now c.places_for-place-items.result.now c.loop-place.place-index c.loop-place-test.true,
+          );
     }
 
 pub returns-clause-rendered : goal.returns-clause-rendered
@@ -44,3 +66,11 @@ returns-clause-rendered g c =
 
 pub returns-clause-fitting : goal.returns-clause-fitting
 returns-clause-fitting g c = c.loop-place.invariant.fitting
+
+pub returns-clause-once : goal.returns-clause-once
+returns-clause-once g c =
+    omega (
+      arith,
+      c.loop-place.invariant.counted,
+      units_end c.args.self.now c.places_for-place-items.result.now c.loop-place.place-index c.loop-place-test.false,
+    )

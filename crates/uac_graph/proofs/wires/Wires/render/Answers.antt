@@ -10,8 +10,8 @@ use Rattle.uac_graph.proofs.Reaching.{length-frame_of}
 use Rattle.uac_graph.proofs.Rows.{no_samples, same_wire}
 use Rattle.uac_graph.proofs.wires.Wires.render.Goals as goal
 
-pub returns-then-entity-eq0 : goal.returns-then-entity-eq0
-returns-then-entity-eq0 g c id =
+pub returns-then-entity-eq0-clause-frames : goal.returns-then-entity-eq0-clause-frames
+returns-then-entity-eq0-clause-frames g c id =
     let e = c.args.entity.now in
     let now = c.args.self.now in
     same_wire now e.id id _
@@ -83,8 +83,8 @@ pass_on-requires-clause-there g c =
     ap length (row ∙ (passed_on controls e.id e.kind e.cluster.channels frames (sym c.in-None.ensures) c.requires.fits).0)
     ∙ length-frame_of controls e.id e.kind e.cluster.channels frames))
 
-pub returns-in-Some : goal.returns-in-Some
-returns-in-Some g c id =
+pub returns-in-Some-clause-frames : goal.returns-in-Some-clause-frames
+returns-in-Some-clause-frames g c id =
     let controls = held_in c.args.store.now in
     let e = c.args.entity.now in
     let frames = map (held c.args.self.now) e.sources in
@@ -92,14 +92,14 @@ returns-in-Some g c id =
     c.gather.ensures ∙ ap (λ s. in_a_row (map (held c.self.inside.frames) s)) c.as_slice.ensures ∙ ap (λ (w : Frames). in_a_row (map (held w) e.sources)) c.self.view_is in
     let job = job_by controls e.id c.in-Some.kind e.cluster.channels (length e.sources) (length frames) c.len.result (length (in_a_row frames)) c.set_job.new.job
     (sym (length-map e.sources (held c.args.self.now))) (c.len.ensures.value ∙ ap length row) c.set_job.ensures.job in
-    c.render.ensures id
+    c.render.ensures.frames id
     ∙ ap (λ (w : Frames). if eqb e.id id then Some (rendered c.in-Some.kind c.set_job.new.job c.gather.new.pins.items) else frame_on w id) c.self.view_is
     ∙ ap (λ (samples : List ℤ). if eqb e.id id then Some samples else frame_on c.args.self.now id)
     (ap (rendered c.in-Some.kind c.set_job.new.job) row
     ∙ rendered_is controls e.id e.kind c.in-Some.kind e.cluster.channels frames c.set_job.new.job (sym c.in-Some.ensures) job c.requires.fits)
 
-pub returns-in-None : goal.returns-in-None
-returns-in-None g c id =
+pub returns-in-None-clause-frames : goal.returns-in-None-clause-frames
+returns-in-None-clause-frames g c id =
     let controls = held_in c.args.store.now in
     let e = c.args.entity.now in
     let frames = map (held c.args.self.now) e.sources in

@@ -1,0 +1,198 @@
+-- The units that a domain needs are as many as the units in its order: both lists have each of them once.
+use Rattle.std.proofs.Common.{◌≡◌, ◌∙◌, sym, ap, refl, arith, ℕ, suc, ◌+◌, ◌<◌, ◌≤◌, Bool, true, false, ◌&&◌, ◌||◌, eqb, cond, if◌then◌else◌, List, [], ◌∷◌, length, get_or, map, drop, inl, inr}
+use Rattle.std.specs.Prelude.{filter}
+use Rattle.std.specs.List.{All, AllByRecursion, IsDistinct, list_any}
+use Rattle.std.proofs.lemmas.Bool.{cases_Bool, eq-eqb, eqb-true, ne_eqb}
+use Rattle.std.proofs.lemmas.Cmp.{nat_eq_equiv}
+use Rattle.std.proofs.lemmas.List.{drop_all, drop_more, get_or-map, length-map}
+use Rattle.std.proofs.lemmas.List.Folds.{list_any_at}
+use Rattle.std.proofs.lemmas.Map.Keys.{IsDistinct-cons, IsDistinct-from_apart, IsDistinct-head, IsDistinct-tail}
+use Rattle.std.proofs.lemmas.Map.Made.{length-from_same_keys}
+use Rattle.std.proofs.lemmas.Map.Views.{any-filter_same}
+use Rattle.uac_entities.specs.declared.entity.Entity.{Entity}
+use Rattle.uac_entities.specs.declared.entity.EntityKind.{EntityKind}
+use Rattle.uac_entities.specs.declared.entity.EntityKind.TheVariants as kind
+use Rattle.uac_topology_rules.specs.Links.{is_clock}
+use Rattle.uac_topology_rules.specs.Table.{at, nothing, place_of}
+use Rattle.uac_graph.specs.Fitness.{IsSignalGraph}
+use Rattle.uac_graph.specs.Meaning.{entity}
+use Rattle.uac_graph.specs.Needs.{depended, is_unit, needed, unit_count}
+use Rattle.uac_graph.specs.Orders.{IsOrder, IsOrderOf, holds}
+use Rattle.uac_graph.proofs.Lookups.{id_at}
+use Rattle.uac_graph.proofs.Ticking.{entity_itself}
+use Rattle.uac_graph.proofs.Walking.{signal_below}
+
+-- ---- lists of numbers, each once
+
+all_kept : (P : ℕ → Type 0) (p : ℕ → Bool) (ns : List ℕ) → AllByRecursion P ns → AllByRecursion P (filter p ns)
+all_kept P p [] all = tt
+all_kept P p (n ∷ ns) all =
+    elim (cases_Bool (p n)) [ inl passes ↦ rw passes ((all.0, all_kept P p ns all.1)) | inr fails ↦ rw fails (all_kept P p ns all.1) ]
+
+distinct_kept : (p : ℕ → Bool) (ns : List ℕ) → IsDistinct eqb ns → IsDistinct eqb (filter p ns)
+distinct_kept p [] once = once
+distinct_kept p (n ∷ ns) once =
+    let rest = distinct_kept p ns (IsDistinct-tail eqb n ns once) in
+    elim (cases_Bool (p n)) [
+      | inl passes ↦ rw passes (IsDistinct-cons eqb n (filter p ns) (all_kept (λ m. eqb n m ≡ false) p ns (IsDistinct-head eqb n ns once)) rest)
+      | inr fails ↦ rw fails rest
+    ]
+
+-- numbers of things that differ
+distinct_by : {X : Type 0} (f : X → ℕ) (xs : List X) (d : X) → ((i j : ℕ) → i < j → j < length xs → f (get_or xs i d) ≡ f (get_or xs j d) → ⊥)
+    → IsDistinct eqb (map f xs)
+distinct_by f xs d apart =
+    IsDistinct-from_apart eqb (map f xs) (λ i j e before within.
+    let below : j < length xs = omega (arith, within, length-map xs f) in
+    let early : i < length xs = omega (arith, before, below) in
+    ne_eqb (get_or (map f xs) i e) (get_or (map f xs) j e)
+    (λ same. apart i j before below (sym (get_or-map f xs i d e early) ∙ same ∙ get_or-map f xs j d e below)))
+
+-- what passes by its number
+filter_mapped : {X : Type 0} (t : ℕ → Bool) (f : X → ℕ) (u : X → Bool) (xs : List X) → AllByRecursion (λ x. t (f x) ≡ u x) xs
+    → filter t (map f xs) ≡ map f (filter u xs)
+filter_mapped t f u [] same = refl
+filter_mapped t f u (x ∷ xs) same =
+    ap (λ (b : Bool). cond b (f x ∷ filter t (map f xs)) (filter t (map f xs))) same.0
+    ∙ by_test (u x) (filter_mapped t f u xs same.1)
+  where
+    by_test : (b : Bool) → filter t (map f xs) ≡ map f (filter u xs)
+        → cond b (f x ∷ filter t (map f xs)) (filter t (map f xs)) ≡ map f (cond b (x ∷ filter u xs) (filter u xs))
+    by_test true rest = ap (λ ns. f x ∷ ns) rest
+    by_test false rest = rest
+
+any_map : {X : Type 0} (p : ℕ → Bool) (f : X → ℕ) (xs : List X) → list_any p (map f xs) ≡ list_any (λ x. p (f x)) xs
+any_map p f [] = refl
+any_map p f (x ∷ xs) = ap (λ (b : Bool). p (f x) || b) (any_map p f xs)
+
+-- a number is among those that pass
+any_kept : (t : ℕ → Bool) (q : ℕ) (ns : List ℕ) → list_any (eqb q) (filter t ns) ≡ (t q && list_any (eqb q) ns)
+any_kept t q ns = any-filter_same (eqb q) t (t q) (λ n same. ap t (sym (eqb-true q n same))) ns
+
+-- ---- the units of an order
+
+-- how many units stand in the order from a place on
+abbrev pub units_left : List Entity → List ℕ → ℕ → ℕ
+units_left entities places from = length (filter (λ place. is_unit (at entities place).kind) (drop from places))
+
+more : {X : Type 0} (u : X → Bool) (x : X) (xs : List X) → length (filter u (x ∷ xs)) ≡ (if u x then 1 else 0) + length (filter u xs)
+more u x xs = by_test (u x)
+  where
+    by_test : (b : Bool) → length (cond b (x ∷ filter u xs) (filter u xs)) ≡ (if b then 1 else 0) + length (filter u xs)
+    by_test true = omega arith
+    by_test false = omega arith
+
+-- the next of them, and those behind it
+pub units_next : (entities : List Entity) (places : List ℕ) (i : ℕ) → i < length places
+    → units_left entities places i ≡ unit_count (at entities (get_or places i 0)).kind + units_left entities places (i + 1)
+units_next entities places i below =
+    let u : ℕ → Bool = λ place. is_unit (at entities place).kind in
+    ap (λ (ps : List ℕ). length (filter u ps)) (drop_more places i 0 below) ∙ more u (get_or places i 0) (drop (i + 1) places)
+
+-- ---- the ids of both lists
+
+module _ (entities : List Entity) (domain : ℕ) (places : List ℕ) (sound : IsSignalGraph entities) (order : IsOrderOf entities domain places) where
+  abbrev id_of : ℕ → ℕ
+  id_of place = (at entities place).id
+
+  abbrev unit_named : ℕ → Bool
+  unit_named id = is_unit (entity entities id).kind
+
+  abbrev needed_named : ℕ → Bool
+  needed_named id = unit_named id && depended entities domain id
+
+  abbrev ids : List ℕ
+  ids = map (λ (e : Entity). e.id) entities
+
+  abbrev ordered : List ℕ
+  ordered = map id_of places
+
+  ids_once : IsDistinct eqb ids
+  unfolding at
+  ids_once =
+      distinct_by (λ (e : Entity). e.id) entities nothing (λ i j before below same.
+      let one = sym (sound.distinct i (omega (arith, before, below))) ∙ ap (place_of entities) same ∙ sound.distinct j below in
+      absurd (omega (arith, one, before)))
+
+  ordered_once : IsDistinct eqb ordered
+  ordered_once =
+      distinct_by id_of places 0 (λ i j before below same.
+      order.order.apart i j before below
+      (sym (sound.distinct (get_or places i 0) (order.order.inside i 0 (omega (arith, before, below))))
+      ∙ ap (place_of entities) same ∙ sound.distinct (get_or places j 0) (order.order.inside j 0 below)))
+
+  -- a unit is no clock
+  unit_signal : (k : EntityKind) → is_unit k ≡ true → is_clock k ≡ false
+  unit_signal kind.Mixer e = refl
+  unit_signal kind.Selector e = refl
+  unit_signal kind.Feature e = refl
+  unit_signal kind.Effect e = refl
+  unit_signal _ e = absurd (cc)
+
+  -- a unit's id is an entity's
+  unit_there : (id : ℕ) → unit_named id ≡ true → list_any (eqb id) ids ≡ true
+  unfolding at
+  unit_there id unit =
+      let below = signal_below entities id (unit_signal (entity entities id).kind unit) in
+      any_map (eqb id) (λ (e : Entity). e.id) entities
+      ∙ list_any_at (λ (e : Entity). eqb id e.id) entities (place_of entities id) nothing below
+      (eq-eqb id (at entities (place_of entities id)).id (sym (id_at entities id below)))
+
+  -- an id is in the order exactly where the domain depends on it
+  ordered_depended : (id : ℕ) → list_any (eqb id) ordered ≡ depended entities domain id
+  ordered_depended id =
+      any_map (eqb id) id_of places
+      ∙ (λ j. list_any (λ place. nat_eq_equiv.symm id (id_of place) j) places)
+      ∙ order.all id
+
+  same_units : (id : ℕ) → list_any (eqb id) (filter unit_named ordered) ≡ list_any (eqb id) (filter needed_named ids)
+  same_units id =
+      any_kept unit_named id ordered ∙ ap (λ (b : Bool). unit_named id && b) (ordered_depended id)
+      ∙ by_unit (unit_named id) (depended entities domain id) (list_any (eqb id) ids) (unit_there id)
+      ∙ sym (any_kept needed_named id ids)
+    where
+      by_unit : (a b c : Bool) → (a ≡ true → c ≡ true) → (a && b) ≡ ((a && b) && c)
+      by_unit false b c there = refl
+      by_unit true false c there = refl
+      by_unit true true c there = sym (there refl)
+
+  each_place : (xs : List ℕ) → All (λ place. place < length entities) xs → AllByRecursion (λ place. unit_named (id_of place) ≡ is_unit (at entities place).kind) xs
+  each_place [] inside = tt
+  each_place (place ∷ xs) inside = (
+    ap (λ (e : Entity). is_unit e.kind) (entity_itself entities place sound (inside 0 0 (omega arith))),
+    each_place xs (λ k d below. inside (suc k) d (omega arith)),
+  )
+
+  each_entity : (xs : List Entity) → ((k : ℕ) → k < length xs → entity entities (get_or xs k nothing).id ≡ get_or xs k nothing)
+      → AllByRecursion (λ (e : Entity). needed_named e.id ≡ (is_unit e.kind && depended entities domain e.id)) xs
+  each_entity [] itself = tt
+  each_entity (e ∷ xs) itself = (
+    ap (λ (f : Entity). is_unit f.kind && depended entities domain e.id) (itself 0 (omega arith)),
+    each_entity xs (λ k below. itself (suc k) (omega arith)),
+  )
+
+  -- the units in a domain's order are as many as the domain needs
+  needed_count : units_left entities places 0 ≡ length (needed entities domain)
+  unfolding needed at
+  needed_count =
+      let u : ℕ → Bool = λ place. is_unit (at entities place).kind in
+      let n : Entity → Bool = λ e. is_unit e.kind && depended entities domain e.id in
+      sym (length-map (filter u places) id_of)
+      ∙ ap length (sym (filter_mapped unit_named id_of u places (each_place places order.order.inside)))
+      ∙ length-from_same_keys nat_eq_equiv (filter unit_named ordered) (filter needed_named ids) (distinct_kept unit_named ordered ordered_once)
+      (distinct_kept needed_named ids ids_once) same_units
+      ∙ ap length (filter_mapped needed_named (λ (e : Entity). e.id) n entities
+      (each_entity entities (λ k below. entity_itself entities k sound below)))
+
+-- how many units the order has
+pub all_units : (entities : List Entity) (domain : ℕ) (places : List ℕ) → IsSignalGraph entities → IsOrderOf entities domain places
+    → units_left entities places 0 ≡ length (needed entities domain)
+all_units entities domain places sound order = needed_count entities domain places sound order
+
+-- none is left behind its end
+pub units_end : (entities : List Entity) (places : List ℕ) (i : ℕ) → length places ≤ i → units_left entities places i ≡ 0
+units_end entities places i past = ap (λ (ps : List ℕ). length (filter (λ place. is_unit (at entities place).kind) ps)) (drop_all i places past)
+
+-- a unit's kind is counted once, and no other
+pub one_unit : (k : EntityKind) → is_unit k ≡ true → unit_count k ≡ 1
+one_unit k unit = ap (λ (b : Bool). if b then 1 else 0) unit
