@@ -19,7 +19,7 @@ use Rattle.uac_store.specs.declared.keys.Key.{Key}
 use Rattle.uac_graph.specs.Controls.{Controls, held_in}
 use Rattle.uac_graph.specs.Fitness.{IsSignalGraph}
 use Rattle.uac_graph.specs.Meaning.{entity, frame_of, meaning, samples, samples_by}
-use Rattle.uac_graph.specs.Needs.{depended, is_end}
+use Rattle.uac_graph.specs.Needs.{depended, is_end, needed}
 use Rattle.uac_graph.specs.Wiring.{AreGiven, AreRendered, AreSilent, Frames, frame_on, held, silence}
 use Rattle.uac_graph.proofs.Equation.{samples_by-same}
 use Rattle.uac_graph.proofs.Links.{entity_past, place_or_none}
@@ -28,7 +28,7 @@ use Rattle.uac_graph.proofs.Walking.{given_kept, signal_channels}
 use Rattle.uac_alt.specs.Settings.{initial_settings}
 use Rattle.uac_alt.specs.declared.settings.InterfaceSetting.{InterfaceSetting}
 use Rattle.uac_device.specs.declared.clocks.Clock.{Clock}
-use Rattle.uac_device.specs.World.{DeviceWorld, InStream, OutStream, after_putting, after_taking, at_rest, entity_in, fresh, heard_of, input_of, is_input_jack, is_jack, is_on, is_output_jack, next_taken, played_at, played_to, set_jack, stream_to, streamed, ticked}
+use Rattle.uac_device.specs.World.{DeviceWorld, InStream, OutStream, after_putting, after_taking, at_rest, entity_in, fresh, heard_of, input_of, is_input_jack, is_jack, is_on, is_output_jack, next_taken, played_at, played_to, renders_of, set_jack, stream_to, streamed, ticked}
 use Rattle.uac_device.specs.Kept.{DeviceFields, IsDevice, Stands, kept}
 use Rattle.uac_device.specs.Turns.{frames_heard, resting_clock}
 use Rattle.uac_device.proofs.Heard.{heard_told}
@@ -38,6 +38,12 @@ use Rattle.uac_device.proofs.Kept.{no_stream_to}
 apart : (k : EntityKind) → is_input k ≡ true → is_output k ≡ true → ⊥
 apart kind.OutputTerminal input output = cc
 apart _ input output = cc
+
+-- ---- renders
+
+pub renders_here : (device : DeviceFields) (w : DeviceWorld) (domain : ℕ) → Stands device w → length (needed device.function.entities domain) ≡ renders_of domain w
+unfolding renders_of
+renders_here device w domain stands = ap (λ (f : FunctionFields). length (needed f.entities domain)) stands.function
 
 -- ---- the start
 

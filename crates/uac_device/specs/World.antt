@@ -16,7 +16,7 @@ use Rattle.uac_store.specs.Controls.{initial_controls}
 use Rattle.uac_store.specs.Rates.{rate_of}
 use Rattle.uac_graph.specs.Controls.{held_in}
 use Rattle.uac_graph.specs.Meaning.{entity, meaning}
-use Rattle.uac_graph.specs.Needs.{is_end}
+use Rattle.uac_graph.specs.Needs.{is_end, needed}
 use Rattle.uac_graph.specs.Wiring.{silence}
 use Rattle.uac_units.specs.Hearing.{Reading, after_hearing}
 use Rattle.uac_alt.specs.declared.settings.InterfaceSetting.{InterfaceSetting}
@@ -227,6 +227,10 @@ ticked clock w =
       ins = λ interface. option_map (λ i. if is_on w clock interface then after_putting (played_to w played interface) i else i) (w.ins interface);
       played = played;
     }
+
+-- how many renders a tick of a domain counts: one for each unit that the domain needs
+unfoldable pub renders_of : ℕ → DeviceWorld → ℕ
+renders_of clock w = length (needed w.function.entities clock)
 
 -- the frames that the meters hear after a tick of a domain: those of its output jacks, in block order
 unfoldable pub heard_of : ℕ → DeviceWorld → List (List ℤ)

@@ -1,10 +1,11 @@
 // The device and its events.
-ghost use Rattle.std.specs.Prelude.{◌≡◌, ◌≤◌, ◌≤ℤ◌, ℕ, true, pos, negsuc, IfOk, length};
+ghost use Rattle.std.specs.Prelude.{◌≡◌, ◌≤◌, ◌<◌, ◌+◌, ◌^◌, ◌≤ℤ◌, ℕ, true, pos, negsuc, IfOk, length};
 ghost use Rattle.std.specs.Option.{option_map};
 ghost use Rattle.uac_graph.specs.Meaning.{entity};
+ghost use Rattle.uac_graph.specs.Needs.{needed};
 ghost use Rattle.uac_units.specs.Fitting.{IsFitted};
 ghost use Rattle.uac_units.specs.Panel.{readings};
-ghost use Rattle.uac_device.specs.World.{DeviceWorld, advanced, after_frames, deviated, fresh, heard_of, is_input_jack, is_output_jack, level_of, met_of, next_ticks, played_at, set_jack, target_of, ticked};
+ghost use Rattle.uac_device.specs.World.{DeviceWorld, advanced, after_frames, deviated, fresh, heard_of, is_input_jack, is_output_jack, level_of, met_of, next_ticks, played_at, renders_of, set_jack, target_of, ticked};
 ghost use Rattle.uac_device.specs.Kept.{Stands};
 
 use crate::clocks::{Clock, advance, deviate, resting_clocks};
@@ -142,7 +143,8 @@ impl Device {
     }
 
     /// One tick of a domain: its output terminals play the next frame, and the meters hear those of its output jacks, in block
-    /// order. No stream runs yet, so no ring is empty or full.
+    /// order. Each unit that the domain needs is rendered once, and `steps` counts them. No stream runs yet, so no ring is empty or
+    /// full.
     pub fn tick(
         &mut self,
         domain: u8,
@@ -150,8 +152,10 @@ impl Device {
         meters: &mut Meters,
         steps: &mut Steps,
     ) -> Ticked
-        requires { IsFitted (λ v x. (⟦<dyn Unit as Unit>⟧ v).kind_of x) rack.now }
+        requires rack { IsFitted (λ v x. (⟦<dyn Unit as Unit>⟧ v).kind_of x) rack.now }
+        requires room { steps.old + length (needed self.old.function.entities domain) < 2 ^ 64 }
         ensures stands { (w : DeviceWorld) → Stands self.old w → Stands self.new (ticked domain w) }
+        ensures once { (w : DeviceWorld) → Stands self.old w → steps.new ≡ steps.old + renders_of domain w }
         ensures heard { (w : DeviceWorld) → Stands self.old w
             → readings (λ v x. (⟦<dyn Meter as Meter>⟧ v).reading_of x) meters.new
             ≡ after_frames (heard_of domain (ticked domain w)) (readings (λ v x. (⟦<dyn Meter as Meter>⟧ v).reading_of x) meters.old) }

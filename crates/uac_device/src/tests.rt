@@ -2,6 +2,7 @@
 
 ghost use Rattle.std.specs.Prelude.{◌≡◌, IsTrue, length, true};
 ghost use Rattle.uac_graph.specs.Meaning.{entity};
+ghost use Rattle.uac_units.specs.Fitting.{IsFitted};
 ghost use Rattle.uac_device.specs.World.{is_input_jack};
 
 use crate::*;
@@ -10,12 +11,13 @@ use std::alloc::{AllocError, Global};
 use std::test::Fail;
 use uac_descriptor::{Block, ClockSource, Feature, InputTerminal, OutputTerminal, WordList};
 use uac_entities::{Entity, EntityKind, USB_STREAMING};
+use uac_graph::laws::fresh_steps_have_room;
 use uac_pcm::Frame;
 use uac_store::Key;
 use uac_topology::check;
 use uac_units::{
     ClippedMeter, Meter, Meters, PeakMeter, PlainEffect, PlainFeature, PlainMixer, PlainSelector,
-    Rack, Steps, SumMeter,
+    Rack, Steps, SumMeter, Unit,
 };
 
 fn push(blocks: &mut Vec<Block>, block: Block) -> Result<(), AllocError> {
@@ -111,7 +113,14 @@ fn is_taken(entity: &Entity, samples: usize) -> bool
         EntityKind::InputTerminal => {
             entity.terminal_type != USB_STREAMING && samples == entity.cluster.channels as usize
         }
-        _ => false,
+        EntityKind::OutputTerminal
+        | EntityKind::Mixer
+        | EntityKind::Selector
+        | EntityKind::Feature
+        | EntityKind::Effect
+        | EntityKind::ClockSource
+        | EntityKind::ClockSelector
+        | EntityKind::ClockMultiplier => false,
     }
 }
 
@@ -133,6 +142,16 @@ fn played(device: &Device, terminal: u8, samples: &[i32]) -> bool {
     }
 }
 
+/// One tick of a domain: what it met, and how often units were rendered.
+fn tick(device: &mut Device, domain: u8, rack: &Rack, meters: &mut Meters) -> (Ticked, u64)
+    requires { IsFitted (λ v x. (⟦<dyn Unit as Unit>⟧ v).kind_of x) rack.now }
+{
+    let mut steps = Steps::new();
+    fresh_steps_have_room(device.function());
+    let ticked = device.tick(domain, rack, meters, &mut steps);
+    (ticked, steps.count())
+}
+
 #[test]
 fn a_frame_is_played_and_heard(rt: HostRuntime) -> Result<(), Fail> {
     let alloc = rt.alloc();
@@ -147,16 +166,16 @@ fn a_frame_is_played_and_heard(rt: HostRuntime) -> Result<(), Fail> {
     list.push(Box::new(alloc, ClippedMeter::new())?)?;
     list.push(Box::new(alloc, SumMeter::new())?)?;
     let mut meters = Meters::new(list);
-    let mut steps = Steps::new();
     let mut device = device(alloc)?;
 
     assert!(rt; played(&device, 4, &[0, 0, 0]));
     assert!(rt; give(&mut device, 2, &[-3, 100, 2147483647]));
-    device.tick(9, &rack, &mut meters, &mut steps);
+    assert_eq!(rt; tick(&mut device, 9, &rack, &mut meters).1, 0);
     assert!(rt; played(&device, 4, &[0, 0, 0]));
     for _each in 0..2 {
-        let ticked = device.tick(1, &rack, &mut meters, &mut steps);
+        let (ticked, steps) = tick(&mut device, 1, &rack, &mut meters);
         assert_eq!(rt; ticked, Ticked { under: 0, over: 0 });
+        assert_eq!(rt; steps, 1);
     }
     assert!(rt; played(&device, 4, &[-3, 100, 2147483647]));
     assert!(rt; device.played(2).is_none());

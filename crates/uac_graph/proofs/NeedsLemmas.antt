@@ -1,24 +1,30 @@
 -- The units that a domain needs are as many as the units in its order: both lists have each of them once.
-use Rattle.std.proofs.Common.{◌≡◌, ◌∙◌, sym, ap, refl, arith, ℕ, suc, ◌+◌, ◌<◌, ◌≤◌, Bool, true, false, ◌&&◌, ◌||◌, eqb, cond, if◌then◌else◌, List, [], ◌∷◌, length, get_or, map, drop, inl, inr}
+use Rattle.std.proofs.Common.{◌≡◌, ◌∙◌, sym, ap, subst, refl, arith, ℕ, zero, suc, ◌==◌, ◌+◌, ◌<◌, ◌≤◌, Bool, true, false, ◌&&◌, ◌||◌, eqb, cond, if◌then◌else◌, List, [], ◌∷◌, length, get_or, map, drop, inl, inr}
 use Rattle.std.specs.Prelude.{filter}
 use Rattle.std.specs.List.{All, AllByRecursion, IsDistinct, list_any}
+use Rattle.std.proofs.Math.Bool.{or-true}
 use Rattle.std.proofs.lemmas.Bool.{cases_Bool, eq-eqb, eqb-true, ne_eqb}
 use Rattle.std.proofs.lemmas.Cmp.{nat_eq_equiv}
 use Rattle.std.proofs.lemmas.List.{drop_all, drop_more, get_or-map, length-map}
 use Rattle.std.proofs.lemmas.List.Folds.{list_any_at}
+use Rattle.std.proofs.lemmas.List.Sums.{count_by-le-length, length-filter}
 use Rattle.std.proofs.lemmas.Map.Keys.{IsDistinct-cons, IsDistinct-from_apart, IsDistinct-head, IsDistinct-tail}
 use Rattle.std.proofs.lemmas.Map.Made.{length-from_same_keys}
 use Rattle.std.proofs.lemmas.Map.Views.{any-filter_same}
+use Rattle.uac_walk.specs.Walk.{has_walk}
 use Rattle.uac_entities.specs.declared.entity.Entity.{Entity}
 use Rattle.uac_entities.specs.declared.entity.EntityKind.{EntityKind}
 use Rattle.uac_entities.specs.declared.entity.EntityKind.TheVariants as kind
-use Rattle.uac_topology_rules.specs.Links.{is_clock}
+use Rattle.uac_topology_rules.specs.Links.{is_clock, signal_links, signal_sources}
 use Rattle.uac_topology_rules.specs.Table.{at, nothing, place_of}
+use Rattle.uac_topology_rules.proofs.Found.{any_at}
 use Rattle.uac_graph.specs.Fitness.{IsSignalGraph}
 use Rattle.uac_graph.specs.Meaning.{entity}
-use Rattle.uac_graph.specs.Needs.{depended, is_unit, needed, unit_count}
-use Rattle.uac_graph.specs.Orders.{IsOrder, IsOrderOf, holds}
+use Rattle.uac_graph.specs.Needs.{depended, is_unit, needed, reaches, unit_count}
+use Rattle.uac_graph.specs.Orders.{IsOrderOf}
+use Rattle.uac_graph.proofs.Links.{source_ends}
 use Rattle.uac_graph.proofs.Lookups.{id_at}
+use Rattle.uac_graph.proofs.Reaching.{links_some}
 use Rattle.uac_graph.proofs.Ticking.{entity_itself}
 use Rattle.uac_graph.proofs.Walking.{signal_below}
 
@@ -89,12 +95,17 @@ units_next entities places i below =
     let u : ℕ → Bool = λ place. is_unit (at entities place).kind in
     ap (λ (ps : List ℕ). length (filter u ps)) (drop_more places i 0 below) ∙ more u (get_or places i 0) (drop (i + 1) places)
 
--- ---- the ids of both lists
+-- ---- the ids of the needed units
 
-module _ (entities : List Entity) (domain : ℕ) (places : List ℕ) (sound : IsSignalGraph entities) (order : IsOrderOf entities domain places) where
-  abbrev id_of : ℕ → ℕ
-  id_of place = (at entities place).id
+-- a unit is no clock
+unit_signal : (k : EntityKind) → is_unit k ≡ true → is_clock k ≡ false
+unit_signal kind.Mixer e = refl
+unit_signal kind.Selector e = refl
+unit_signal kind.Feature e = refl
+unit_signal kind.Effect e = refl
+unit_signal _ e = absurd (cc)
 
+module _ (entities : List Entity) (domain : ℕ) (sound : IsSignalGraph entities) where
   abbrev unit_named : ℕ → Bool
   unit_named id = is_unit (entity entities id).kind
 
@@ -104,30 +115,12 @@ module _ (entities : List Entity) (domain : ℕ) (places : List ℕ) (sound : Is
   abbrev ids : List ℕ
   ids = map (λ (e : Entity). e.id) entities
 
-  abbrev ordered : List ℕ
-  ordered = map id_of places
-
   ids_once : IsDistinct eqb ids
   unfolding at
   ids_once =
       distinct_by (λ (e : Entity). e.id) entities nothing (λ i j before below same.
       let one = sym (sound.distinct i (omega (arith, before, below))) ∙ ap (place_of entities) same ∙ sound.distinct j below in
       absurd (omega (arith, one, before)))
-
-  ordered_once : IsDistinct eqb ordered
-  ordered_once =
-      distinct_by id_of places 0 (λ i j before below same.
-      order.order.apart i j before below
-      (sym (sound.distinct (get_or places i 0) (order.order.inside i 0 (omega (arith, before, below))))
-      ∙ ap (place_of entities) same ∙ sound.distinct (get_or places j 0) (order.order.inside j 0 below)))
-
-  -- a unit is no clock
-  unit_signal : (k : EntityKind) → is_unit k ≡ true → is_clock k ≡ false
-  unit_signal kind.Mixer e = refl
-  unit_signal kind.Selector e = refl
-  unit_signal kind.Feature e = refl
-  unit_signal kind.Effect e = refl
-  unit_signal _ e = absurd (cc)
 
   -- a unit's id is an entity's
   unit_there : (id : ℕ) → unit_named id ≡ true → list_any (eqb id) ids ≡ true
@@ -138,31 +131,6 @@ module _ (entities : List Entity) (domain : ℕ) (places : List ℕ) (sound : Is
       ∙ list_any_at (λ (e : Entity). eqb id e.id) entities (place_of entities id) nothing below
       (eq-eqb id (at entities (place_of entities id)).id (sym (id_at entities id below)))
 
-  -- an id is in the order exactly where the domain depends on it
-  ordered_depended : (id : ℕ) → list_any (eqb id) ordered ≡ depended entities domain id
-  ordered_depended id =
-      any_map (eqb id) id_of places
-      ∙ (λ j. list_any (λ place. nat_eq_equiv.symm id (id_of place) j) places)
-      ∙ order.all id
-
-  same_units : (id : ℕ) → list_any (eqb id) (filter unit_named ordered) ≡ list_any (eqb id) (filter needed_named ids)
-  same_units id =
-      any_kept unit_named id ordered ∙ ap (λ (b : Bool). unit_named id && b) (ordered_depended id)
-      ∙ by_unit (unit_named id) (depended entities domain id) (list_any (eqb id) ids) (unit_there id)
-      ∙ sym (any_kept needed_named id ids)
-    where
-      by_unit : (a b c : Bool) → (a ≡ true → c ≡ true) → (a && b) ≡ ((a && b) && c)
-      by_unit false b c there = refl
-      by_unit true false c there = refl
-      by_unit true true c there = sym (there refl)
-
-  each_place : (xs : List ℕ) → All (λ place. place < length entities) xs → AllByRecursion (λ place. unit_named (id_of place) ≡ is_unit (at entities place).kind) xs
-  each_place [] inside = tt
-  each_place (place ∷ xs) inside = (
-    ap (λ (e : Entity). is_unit e.kind) (entity_itself entities place sound (inside 0 0 (omega arith))),
-    each_place xs (λ k d below. inside (suc k) d (omega arith)),
-  )
-
   each_entity : (xs : List Entity) → ((k : ℕ) → k < length xs → entity entities (get_or xs k nothing).id ≡ get_or xs k nothing)
       → AllByRecursion (λ (e : Entity). needed_named e.id ≡ (is_unit e.kind && depended entities domain e.id)) xs
   each_entity [] itself = tt
@@ -171,18 +139,83 @@ module _ (entities : List Entity) (domain : ℕ) (places : List ℕ) (sound : Is
     each_entity xs (λ k below. itself (suc k) (omega arith)),
   )
 
+  needed_ids : filter needed_named ids ≡ needed entities domain
+  unfolding needed at
+  needed_ids =
+      filter_mapped needed_named (λ (e : Entity). e.id) (λ e. is_unit e.kind && depended entities domain e.id) entities
+      (each_entity entities (λ k below. entity_itself entities k sound below))
+
+  any_needed : (id : ℕ) → list_any (eqb id) (filter needed_named ids) ≡ needed_named id
+  any_needed id = any_kept needed_named id ids ∙ by_unit (unit_named id) (depended entities domain id) (list_any (eqb id) ids) (unit_there id)
+    where
+      by_unit : (a b c : Bool) → (a ≡ true → c ≡ true) → ((a && b) && c) ≡ (a && b)
+      by_unit false b c there = refl
+      by_unit true false c there = refl
+      by_unit true true c there = there refl
+
+  -- the needed units are those on which the domain depends
+  needed_members : (id : ℕ) → list_any (λ n. n == id) (needed entities domain) ≡ needed_named id
+  needed_members id =
+      (λ j. list_any (λ n. nat_eq_equiv.symm n id j) (needed entities domain))
+      ∙ ap (list_any (eqb id)) (sym needed_ids) ∙ any_needed id
+
+  needed_once : IsDistinct eqb (needed entities domain)
+  needed_once = subst (IsDistinct eqb) needed_ids (distinct_kept needed_named ids ids_once)
+
+pub needed_are : (entities : List Entity) (domain id : ℕ) → IsSignalGraph entities
+    → list_any (λ n. n == id) (needed entities domain) ≡ (is_unit (entity entities id).kind && depended entities domain id)
+needed_are entities domain id sound = needed_members entities domain sound id
+
+pub needed_apart : (entities : List Entity) (domain : ℕ) → IsSignalGraph entities → IsDistinct eqb (needed entities domain)
+needed_apart entities domain sound = needed_once entities domain sound
+
+-- ---- the same along the domain's order
+
+module _ (entities : List Entity) (domain : ℕ) (places : List ℕ) (sound : IsSignalGraph entities) (order : IsOrderOf entities domain places) where
+  abbrev id_of : ℕ → ℕ
+  id_of place = (at entities place).id
+
+  abbrev unit_id : ℕ → Bool
+  unit_id id = is_unit (entity entities id).kind
+
+  abbrev ordered : List ℕ
+  ordered = map id_of places
+
+  ordered_once : IsDistinct eqb ordered
+  ordered_once =
+      distinct_by id_of places 0 (λ i j before below same.
+      order.order.apart i j before below
+      (sym (sound.distinct (get_or places i 0) (order.order.inside i 0 (omega (arith, before, below))))
+      ∙ ap (place_of entities) same ∙ sound.distinct (get_or places j 0) (order.order.inside j 0 below)))
+
+  -- an id is in the order exactly where the domain depends on it
+  ordered_depended : (id : ℕ) → list_any (eqb id) ordered ≡ depended entities domain id
+  ordered_depended id =
+      any_map (eqb id) id_of places
+      ∙ (λ j. list_any (λ place. nat_eq_equiv.symm id (id_of place) j) places)
+      ∙ order.all id
+
+  same_units : (id : ℕ) → list_any (eqb id) (filter unit_id ordered) ≡ list_any (eqb id) (needed entities domain)
+  same_units id =
+      any_kept unit_id id ordered ∙ ap (λ (b : Bool). unit_id id && b) (ordered_depended id)
+      ∙ sym (any_needed entities domain sound id) ∙ ap (list_any (eqb id)) (needed_ids entities domain sound)
+
+  each_place : (xs : List ℕ) → All (λ place. place < length entities) xs
+      → AllByRecursion (λ place. unit_id (id_of place) ≡ is_unit (at entities place).kind) xs
+  each_place [] inside = tt
+  each_place (place ∷ xs) inside = (
+    ap (λ (e : Entity). is_unit e.kind) (entity_itself entities place sound (inside 0 0 (omega arith))),
+    each_place xs (λ k d below. inside (suc k) d (omega arith)),
+  )
+
   -- the units in a domain's order are as many as the domain needs
   needed_count : units_left entities places 0 ≡ length (needed entities domain)
-  unfolding needed at
   needed_count =
       let u : ℕ → Bool = λ place. is_unit (at entities place).kind in
-      let n : Entity → Bool = λ e. is_unit e.kind && depended entities domain e.id in
       sym (length-map (filter u places) id_of)
-      ∙ ap length (sym (filter_mapped unit_named id_of u places (each_place places order.order.inside)))
-      ∙ length-from_same_keys nat_eq_equiv (filter unit_named ordered) (filter needed_named ids) (distinct_kept unit_named ordered ordered_once)
-      (distinct_kept needed_named ids ids_once) same_units
-      ∙ ap length (filter_mapped needed_named (λ (e : Entity). e.id) n entities
-      (each_entity entities (λ k below. entity_itself entities k sound below)))
+      ∙ ap length (sym (filter_mapped unit_id id_of u places (each_place places order.order.inside)))
+      ∙ length-from_same_keys nat_eq_equiv (filter unit_id ordered) (needed entities domain) (distinct_kept unit_id ordered ordered_once)
+      (needed_once entities domain sound) same_units
 
 -- how many units the order has
 pub all_units : (entities : List Entity) (domain : ℕ) (places : List ℕ) → IsSignalGraph entities → IsOrderOf entities domain places
@@ -193,6 +226,44 @@ all_units entities domain places sound order = needed_count entities domain plac
 pub units_end : (entities : List Entity) (places : List ℕ) (i : ℕ) → length places ≤ i → units_left entities places i ≡ 0
 units_end entities places i past = ap (λ (ps : List ℕ). length (filter (λ place. is_unit (at entities place).kind) ps)) (drop_all i places past)
 
--- a unit's kind is counted once, and no other
-pub one_unit : (k : EntityKind) → is_unit k ≡ true → unit_count k ≡ 1
-one_unit k unit = ap (λ (b : Bool). if b then 1 else 0) unit
+-- a domain needs no more units than there are entities
+pub needed_few : (entities : List Entity) (domain : ℕ) → length (needed entities domain) ≤ length entities
+unfolding needed
+needed_few entities domain =
+    let n : Entity → Bool = λ e. is_unit e.kind && depended entities domain e.id in
+    omega (arith, length-map (filter n entities) (λ (e : Entity). e.id), length-filter n entities, count_by-le-length n entities)
+
+-- ---- walks of any number of links
+
+-- a source is no clock
+source_loud : (entities : List Entity) (id k : ℕ) → IsSignalGraph entities → is_clock (entity entities id).kind ≡ false
+    → k < length (signal_sources (entity entities id)) → is_clock (entity entities (get_or (signal_sources (entity entities id)) k 0)).kind ≡ false
+unfolding entity
+source_loud entities id k sound signal below = sound.heard (place_of entities id) (signal_below entities id signal) k 0 below
+
+-- where no walk of so many links leads on, none reaches further
+reached_within : (entities : List Entity) (m n id other : ℕ) → IsSignalGraph entities → is_clock (entity entities id).kind ≡ false
+    → has_walk (signal_links entities) m (place_of entities id) ≡ false → reaches entities n id other ≡ true → reaches entities m id other ≡ true
+unfolding reaches
+reached_within entities zero n id other sound signal ends reached = absurd (let none = links_some (signal_links entities) 0 (place_of entities id) ends in omega arith)
+reached_within entities (suc m) zero id other sound signal ends reached =
+    ap (λ (b : Bool). b || list_any (λ s. reaches entities m s other) (signal_sources (entity entities id))) reached
+reached_within entities (suc m) (suc n) id other sound signal ends reached =
+    elim (cases_Bool (eqb id other)) [
+      | inl same ↦ ap (λ (b : Bool). b || list_any (λ s. reaches entities m s other) (signal_sources (entity entities id))) same
+      | inr differs ↦
+          (let sources = signal_sources (entity entities id) in
+          let later : list_any (λ s. reaches entities n s other) sources ≡ true =
+          ap (λ (b : Bool). b || list_any (λ s. reaches entities n s other) sources) (sym differs) ∙ reached in
+          let found = any_at (λ s. reaches entities n s other) sources later in
+          let source = get_or sources found.0 0 in
+          let heard : is_clock (entity entities source).kind ≡ false = source_loud entities id found.0 sound signal found.1 in
+          let on = reached_within entities m n source other sound heard (source_ends entities m id found.0 ends found.1) found.2 in
+          ap (λ (b : Bool). eqb id other || b) (list_any_at (λ s. reaches entities m s other) sources found.0 0 found.1 on) ∙ or-true (eqb id other))
+    ]
+
+-- a walk of any number of links is found among those of at most as many as there are entities
+pub reached_by_any : (entities : List Entity) (n id other : ℕ) → IsSignalGraph entities → is_clock (entity entities id).kind ≡ false
+    → reaches entities n id other ≡ true → reaches entities (length entities) id other ≡ true
+reached_by_any entities n id other sound signal =
+    reached_within entities (length entities) n id other sound signal (sound.acyclic (place_of entities id) (signal_below entities id signal))

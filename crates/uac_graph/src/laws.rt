@@ -1,15 +1,18 @@
 //! What a user of the graph may rely on. Each function does nothing: its contract is the law.
 
-ghost use Rattle.std.specs.Prelude.{◌≡◌, ◌==◌, ℕ, ℤ, List, true};
-ghost use Rattle.std.specs.List.{list_any};
+ghost use Rattle.std.specs.Prelude.{◌≡◌, ◌==◌, ◌<◌, ◌^◌, ◌&&◌, nat_eq, ℕ, ℤ, List, true, false, length};
+ghost use Rattle.std.specs.List.{IsDistinct, list_any};
 ghost use Rattle.uac_entities.specs.declared.entity.Entity.{Entity};
+ghost use Rattle.uac_topology_rules.specs.Links.{is_clock};
 ghost use Rattle.uac_topology_rules.specs.Rules.{is_output};
 ghost use Rattle.uac_graph.specs.Controls.{Controls};
 ghost use Rattle.uac_graph.specs.Fitness.{IsSignalGraph};
 ghost use Rattle.uac_graph.specs.Meaning.{entity, meaning, samples_by};
-ghost use Rattle.uac_graph.specs.Needs.{depended, is_end, needed};
+ghost use Rattle.uac_graph.specs.Needs.{depended, is_end, is_unit, needed, reaches};
 ghost use Rattle.uac_topology.specs.Function.{FunctionFields};
 ghost use Rattle.uac_topology.specs.Topology.{IsSoundFunction};
+
+use uac_topology::Function;
 
 /// The samples on each wire are those that its entity makes of the samples on the wires of its sources.
 pub fn each_wire_has_its_equation()
@@ -23,11 +26,20 @@ pub fn sound_functions_have_a_graph()
     ensures { (function : FunctionFields) → IsSoundFunction function → IsSignalGraph function.entities }
 {}
 
-/// A unit that a domain needs is one on which an output terminal of the domain depends.
-#[tactic(auto, using(crate::proofs::Needed::needed_depended))]
+/// A domain needs exactly the units on which one of its output terminals depends, each of them once.
+#[tactic(auto, using(crate::proofs::NeedsLemmas::needed_are, crate::proofs::NeedsLemmas::needed_apart))]
 pub fn needed_units_are_depended_on()
-    ensures { (entities : List Entity) (domain id : ℕ) → list_any (λ n. n == id) (needed entities domain) ≡ true
-        → depended entities domain id ≡ true }
+    ensures members { (entities : List Entity) (domain id : ℕ) → IsSignalGraph entities
+        → list_any (λ n. n == id) (needed entities domain) ≡ (is_unit (entity entities id).kind && depended entities domain id) }
+    ensures apart { (entities : List Entity) (domain : ℕ) → IsSignalGraph entities → IsDistinct nat_eq (needed entities domain) }
+{}
+
+/// A walk of signal source links, of any number of links, is one of those that are counted: as many links as there are entities are
+/// never needed.
+#[tactic(auto, using(crate::proofs::NeedsLemmas::reached_by_any))]
+pub fn no_walk_is_too_long()
+    ensures { (entities : List Entity) (n from id : ℕ) → IsSignalGraph entities → is_clock (entity entities from).kind ≡ false
+        → reaches entities n from id ≡ true → reaches entities (length entities) from id ≡ true }
 {}
 
 /// An output terminal of a sound function is no entity's source, so a clock domain renders it exactly where it is an end of the
@@ -37,3 +49,11 @@ pub fn output_terminals_are_ends()
     ensures { (function : FunctionFields) → IsSoundFunction function → (domain id : ℕ) → is_output (entity function.entities id).kind ≡ true
         → depended function.entities domain id ≡ is_end domain (entity function.entities id) }
 {}
+
+/// A domain needs no more units than its function has entities, so a fresh count has room for them.
+#[tactic(auto, using(crate::proofs::NeedsLemmas::needed_few))]
+pub fn fresh_steps_have_room(function: &Function)
+    ensures { (domain : ℕ) → length (needed function.now.entities domain) < 2 ^ 64 }
+{
+    let _entities = function.entities().len();
+}

@@ -1,14 +1,19 @@
-//! A small function, tick by tick: a jack through a feature, and a stereo jack through a mixer, a selector and an effect.
+//! A small function, tick by tick: a jack through a feature, and a stereo jack through a mixer, a selector and an effect. And forty
+//! mixers in a row, rendered by a unit that counts how often it is asked.
 
 ghost use Rattle.std.specs.Prelude.{◌≡◌, IfOk, IsTrue, List, Some, length};
 ghost use Rattle.std.specs.Option.{option_map};
 ghost use Rattle.uac_entities.specs.declared.entity.Entity.{Entity};
 ghost use Rattle.uac_units.specs.Fitting.{IsFitted};
+ghost use Rattle.uac_units.specs.declared.jobs.UnitKind.TheVariants.{Mixer};
 ghost use Rattle.uac_graph.specs.Wiring.{AreWiresOf, frame_on};
 
+use crate::laws::fresh_steps_have_room;
 use crate::*;
 use arrayvec::ArrayVec;
 use std::alloc::{AllocError, Global};
+use std::cell::Cell;
+use std::rc::Rc;
 use std::test::Fail;
 use uac_descriptor::{
     Block, ByteList, ClockSource, Effect, Feature, InputTerminal, Mixer, OutputTerminal, Selector,
@@ -17,7 +22,28 @@ use uac_descriptor::{
 use uac_pcm::Frame;
 use uac_store::{Key, Store};
 use uac_topology::{Function, check};
-use uac_units::{PlainEffect, PlainFeature, PlainMixer, PlainSelector, Rack, Steps, Unit};
+use uac_units::{
+    Job, Pins, PlainEffect, PlainFeature, PlainMixer, PlainSelector, Rack, Steps, Unit, UnitKind,
+};
+
+/// A mixer that hands its job to the plain one and counts how often it is asked.
+#[derive(Drop)]
+struct CountingMixer {
+    renders: Rc<Cell<u64>>,
+}
+
+impl Unit for CountingMixer {
+    ghost kind_of = { λ _. Mixer };
+
+    fn kind(&self) -> UnitKind {
+        UnitKind::Mixer
+    }
+
+    fn render(&self, job: &Job, pins: &Pins, out: &mut Frame, steps: &mut Steps) {
+        PlainMixer.render(job, pins, out, steps);
+        self.renders.set(self.renders.get().saturating_add(1));
+    }
+}
 
 fn bytes(alloc: Global, items: &[u8]) -> Result<ByteList, AllocError>
     ensures { IfOk result (λ list. list ≡ items.now) }
@@ -54,6 +80,30 @@ fn input(id: u8, channels: u8, locations: u32) -> Block {
     })
 }
 
+fn clock() -> Block {
+    Block::ClockSource(ClockSource {
+        id: 1,
+        attributes: 3,
+        controls: 7,
+        assoc: 0,
+        name: 0,
+    })
+}
+
+/// A stereo mixer with two pins on one source.
+fn mixer(alloc: Global, id: u8, source: u8) -> Result<Block, AllocError> {
+    Ok(Block::Mixer(Mixer {
+        id,
+        sources: bytes(alloc, &[source, source])?,
+        channels: 2,
+        locations: 3,
+        names: 0,
+        mix_bits: bytes(alloc, &[255])?,
+        controls: 0,
+        name: 0,
+    }))
+}
+
 fn output(id: u8, source: u8) -> Block {
     Block::OutputTerminal(OutputTerminal {
         id,
@@ -68,16 +118,7 @@ fn output(id: u8, source: u8) -> Block {
 
 /// Jack 2 is stereo, and jack 5 mono. Feature 3 hears jack 2, and feature 6 jack 5. Terminal 4 plays feature 6.
 fn ends(alloc: Global, blocks: &mut Vec<Block>) -> Result<(), AllocError> {
-    push(
-        blocks,
-        Block::ClockSource(ClockSource {
-            id: 1,
-            attributes: 3,
-            controls: 7,
-            assoc: 0,
-            name: 0,
-        }),
-    )?;
+    push(blocks, clock())?;
     push(blocks, input(2, 2, 3))?;
     push(blocks, input(5, 1, 0))?;
     let stereo = words(alloc, &[15, 15, 15])?;
@@ -105,21 +146,7 @@ fn ends(alloc: Global, blocks: &mut Vec<Block>) -> Result<(), AllocError> {
 
 /// Mixer 8 hears jack 2 twice, selector 9 feature 3 and the mixer, effect 10 the selector, and terminal 7 the effect.
 fn chain(alloc: Global, blocks: &mut Vec<Block>) -> Result<(), AllocError> {
-    let pins = bytes(alloc, &[2, 2])?;
-    let mix_bits = bytes(alloc, &[255])?;
-    push(
-        blocks,
-        Block::Mixer(Mixer {
-            id: 8,
-            sources: pins,
-            channels: 2,
-            locations: 3,
-            names: 0,
-            mix_bits,
-            controls: 0,
-            name: 0,
-        }),
-    )?;
+    push(blocks, mixer(alloc, 8, 2)?)?;
     let pins = bytes(alloc, &[3, 8])?;
     push(
         blocks,
@@ -180,36 +207,60 @@ fn function(alloc: Global) -> Result<Function, AllocError> {
     let mut blocks = Vec::new(alloc);
     ends(alloc, &mut blocks)?;
     chain(alloc, &mut blocks)?;
-    match check(alloc, blocks.as_slice()) {
+    checked(alloc, &blocks)
+}
+
+/// Mixer 3 has two pins on jack 2, which is stereo, and each mixer up to 42 two pins on the one before. Terminal 43 plays the last.
+fn mixers_in_a_row(alloc: Global) -> Result<Function, AllocError> {
+    let mut blocks = Vec::new(alloc);
+    push(&mut blocks, clock())?;
+    push(&mut blocks, input(2, 2, 3))?;
+    for before in 2..42u8 {
+        let next = mixer(alloc, before + 1, before)?;
+        push(&mut blocks, next)?;
+    }
+    push(&mut blocks, output(43, 42))?;
+    checked(alloc, &blocks)
+}
+
+fn checked(alloc: Global, blocks: &[Block]) -> Result<Function, AllocError> {
+    match check(alloc, blocks) {
         Ok(function) => Ok(function),
         Err(_) => Err(AllocError),
     }
 }
 
-/// One tick after these changes of controls, with (1, -1) at jack 2 and 65536 at jack 5.
-fn play(alloc: Global, rack: &Rack, changes: &[(u8, u8, u8, i32)]) -> Result<Wires, AllocError>
+/// One tick of a function after these changes of controls, with (1, -1) at jack 2 and 65536 at jack 5, and how often units were
+/// rendered.
+fn play(
+    alloc: Global,
+    function: &Function,
+    rack: &Rack,
+    changes: &[(u8, u8, u8, i32)],
+) -> Result<(Wires, u64), AllocError>
     requires { IsFitted (λ v x. (⟦<dyn Unit as Unit>⟧ v).kind_of x) rack.now }
 {
-    let function = function(alloc)?;
-    let mut store = match Store::new(alloc, &function) {
+    let mut store = match Store::new(alloc, function) {
         Ok(store) => store,
         Err(_) => return Err(AllocError),
     };
     for (entity, selector, channel, value) in changes {
         hold(&mut store, *entity, *selector, *channel, *value);
     }
-    let graph = match Graph::build(alloc, &function) {
+    let graph = match Graph::build(alloc, function) {
         Ok(graph) => graph,
         Err(_) => return Err(AllocError),
     };
-    let mut wires = match Wires::new(alloc, &function) {
+    let mut wires = match Wires::new(alloc, function) {
         Ok(wires) => wires,
         Err(_) => return Err(AllocError),
     };
     give(&mut wires, 2, &[1, -1]);
     give(&mut wires, 5, &[65536]);
-    graph.tick(1, &store, rack, &mut wires, &mut Steps::new());
-    Ok(wires)
+    let mut steps = Steps::new();
+    fresh_steps_have_room(function);
+    graph.tick(1, &store, rack, &mut wires, &mut steps);
+    Ok((wires, steps.count()))
 }
 
 /// Whether the wire of an entity has these samples.
@@ -229,17 +280,42 @@ fn ticks_of_a_small_function(rt: HostRuntime) -> Result<(), Fail> {
         Box::new(alloc, PlainFeature)?,
         Box::new(alloc, PlainEffect)?,
     );
-    let wires = play(alloc, &rack, &[])?;
+    let function = function(alloc)?;
+    let (wires, steps) = play(alloc, &function, &rack, &[])?;
+    assert_eq!(rt; steps, 5);
     assert!(rt; has(&wires, 4, &[65536]));
     assert!(rt; has(&wires, 8, &[2, -2]));
     assert!(rt; has(&wires, 7, &[1, -1]));
     assert!(rt; wires.get(1).is_none());
 
-    let wires = play(alloc, &rack, &[(9, 1, 0, 2)])?;
+    let (wires, _steps) = play(alloc, &function, &rack, &[(9, 1, 0, 2)])?;
     assert!(rt; has(&wires, 7, &[2, -2]));
 
-    let wires = play(alloc, &rack, &[(3, 1, 0, 1), (6, 2, 1, -256)])?;
+    let (wires, _steps) = play(alloc, &function, &rack, &[(3, 1, 0, 1), (6, 2, 1, -256)])?;
     assert!(rt; has(&wires, 7, &[0, 0]));
     assert!(rt; has(&wires, 4, &[58409]));
+    Ok(())
+}
+
+/// Each mixer doubles what the one before gives, so the samples reach full scale on the way. Rendered once for each pin, the first
+/// mixer alone would be asked 2^39 times.
+#[test]
+fn each_of_forty_mixers_is_rendered_once(rt: HostRuntime) -> Result<(), Fail> {
+    let alloc = rt.alloc();
+    let renders = Rc::new(alloc, Cell::new(0u64))?;
+    let counting = CountingMixer {
+        renders: renders.clone()?,
+    };
+    let rack = Rack::new(
+        Box::new(alloc, counting)?,
+        Box::new(alloc, PlainSelector)?,
+        Box::new(alloc, PlainFeature)?,
+        Box::new(alloc, PlainEffect)?,
+    );
+    let (wires, steps) = play(alloc, &mixers_in_a_row(alloc)?, &rack, &[])?;
+    assert_eq!(rt; steps, 40);
+    assert_eq!(rt; renders.get(), 40);
+    assert!(rt; has(&wires, 42, &[2147483647, -2147483648]));
+    assert!(rt; has(&wires, 43, &[2147483647, -2147483648]));
     Ok(())
 }

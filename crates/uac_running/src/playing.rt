@@ -23,6 +23,7 @@ use std::marker::Model;
 use uac_descriptor::NoMemory;
 use uac_device::Device;
 use uac_edges::{Failed, Sink};
+use uac_graph::laws::fresh_steps_have_room;
 use uac_pcm::Tone;
 use uac_topology::Function;
 use uac_topology::laws::{functions_are_sound, sound_functions_are_small};
@@ -330,6 +331,7 @@ impl Playing {
         ensures function { self.new.device.function ≡ self.old.device.function }
     {
         give_jacks(&mut self.device, &mut self.jacks, clock);
+        fresh_steps_have_room(self.device.function());
         let _ticked = self.device.tick(clock, rack, meters, &mut Steps::new());
     }
 

@@ -1,7 +1,7 @@
-use Rattle.std.proofs.Common.{◌∙◌, ap, subst, sym, List}
+use Rattle.std.proofs.Common.{◌∙◌, ◌+◌, ◌<◌, ◌^◌, ap, length, subst, sym, ℕ, List}
 use Rattle.uac_entities.specs.declared.entity.Entity.{Entity}
 use Rattle.uac_graph.specs.Controls.{held_in}
-use Rattle.uac_graph.specs.Needs.{depended}
+use Rattle.uac_graph.specs.Needs.{depended, needed}
 use Rattle.uac_graph.specs.Wiring.{AreRendered, held}
 use Rattle.uac_graph.proofs.Ends.{output_terminals}
 use Rattle.uac_graph.proofs.FromRules.{sound_graph}
@@ -10,7 +10,7 @@ use Rattle.uac_device.specs.World.{after_frames, ticked}
 use Rattle.uac_device.specs.Kept.{DeviceFields, Stands}
 use Rattle.uac_device.specs.Turns.{frames_heard}
 use Rattle.uac_device.specs.contracts.device.Device.{the_view}
-use Rattle.uac_device.proofs.Played.{heard_in, tick_stands}
+use Rattle.uac_device.proofs.Played.{heard_in, renders_here, tick_stands}
 use Rattle.uac_device.proofs.Resting.{none_met}
 use Rattle.uac_device.proofs.device.Device.tick.Goals as goal
 
@@ -40,3 +40,15 @@ returns-clause-heard g c w stands =
 pub returns-clause-met : goal.returns-clause-met
 returns-clause-met g c w stands =
     none_met (the_view c.self.inside) w c.args.domain (subst (λ (device : DeviceFields). Stands device w) (sym c.self.view_is) stands)
+
+pub returns-clause-once : goal.returns-clause-once
+returns-clause-once g c w stands =
+    let here = subst (λ (device : DeviceFields). Stands device w) (sym c.self.view_is) stands in
+    c.tick.ensures.once
+    ∙ ap (λ (graph : List Entity). c.args.steps.now + length (needed graph c.args.domain)) c.self.invariant.1
+    ∙ ap (λ (n : ℕ). c.args.steps.now + n) (renders_here (the_view c.self.inside) w c.args.domain here)
+
+pub tick-requires-clause-room : goal.tick-requires-clause-room
+tick-requires-clause-room g c =
+    subst (λ (graph : List Entity). c.args.steps.now + length (needed graph c.args.domain) < 2 ^ 64) (sym c.self.invariant.1)
+    (subst (λ (device : DeviceFields). c.args.steps.now + length (needed device.function.entities c.args.domain) < 2 ^ 64) (sym c.self.view_is) c.requires.room)
