@@ -29,7 +29,7 @@ no_longer graph zero n v e = rw (zero-add n) e
 no_longer graph (suc i) n v e = rw (suc-add i n) (no_more graph (i + n) v (no_longer graph i n v e))
 
 -- a walk on from where another ends
-joined : (graph : List (List ℕ)) (n m v w : ℕ) → leads graph n v w ≡ true → has_walk graph m w ≡ true → has_walk graph (n + m) v ≡ true
+pub joined : (graph : List (List ℕ)) (n m v w : ℕ) → leads graph n v w ≡ true → has_walk graph m w ≡ true → has_walk graph (n + m) v ≡ true
 unfolding leads has_walk
 joined graph zero m v w e h = rw (zero-add m) (subst (λ (x : ℕ). has_walk graph m x ≡ true) (sym (eqb-true v w e)) h)
 joined graph (suc n) m v w e h =
@@ -44,7 +44,7 @@ joined graph (suc n) m v w e h =
         ]
 
 -- where a walk leads back, walks go on for ever
-for_ever : (graph : List (List ℕ)) (n v : ℕ) → leads graph (suc n) v v ≡ true → (m : ℕ) → has_walk graph m v ≡ true
+pub for_ever : (graph : List (List ℕ)) (n v : ℕ) → leads graph (suc n) v v ≡ true → (m : ℕ) → has_walk graph m v ≡ true
 unfolding has_walk
 for_ever graph n v e zero = refl
 for_ever graph n v e (suc m) =
