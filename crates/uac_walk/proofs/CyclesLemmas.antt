@@ -1,5 +1,6 @@
 -- Where links come round.
-use Rattle.std.proofs.Common.{◌≡◌, ◌⊎◌, ℕ, ◌+◌, ◌<◌, ◌≤◌, Bool, true, false, eqb, List, [], ◌∷◌, zero, suc, length, get_or, refl, sym, ap, ◌∙◌, arith, inl, inr, subst}
+use Rattle.std.proofs.Common.{◌≡◌, ◌↔◌, ◌==◌, not, ◌⊎◌, ℕ, ◌+◌, ◌<◌, ◌≤◌, Bool, true, false, eqb, List, [], ◌∷◌, zero, suc, length, get_or, refl, sym, ap, ◌∙◌, arith, inl, inr, subst}
+use Rattle.std.proofs.Math.Bool.{not-not}
 use Rattle.std.specs.List.{list_any, IsDistinct, AllByRecursion}
 use Rattle.std.proofs.lemmas.Bool.{cases_Bool, cases_lt, both_ways, or_cases, eqb-true, or_parts, eq-eqb}
 use Rattle.std.proofs.lemmas.List.{get_or_past}
@@ -7,7 +8,7 @@ use Rattle.std.proofs.lemmas.List.Folds.{list_any_at, Any-from_list_any}
 use Rattle.std.proofs.lemmas.Grind.{get_or_default_zero}
 use Rattle.std.proofs.lemmas.Map.Steps.{length-le_from_distinct_below}
 use Rattle.uac_walk.specs.Walk.{links, has_walk, leads}
-use Rattle.uac_walk.specs.Order.{IsClosed}
+use Rattle.uac_walk.specs.Order.{IsClosed, IsOrder}
 use Rattle.uac_walk.specs.Cycles.{ComesRound, HasCycle, LongWalksComeRound}
 use Rattle.uac_walk.proofs.Walks.{no_longer, joined, for_ever}
 
@@ -123,3 +124,18 @@ cycle_within graph n v w e =
       | inl below ↦ below
       | inr past ↦ absurd (let none : false ≡ true = ap (list_any (λ t. leads graph n t w)) (sym (get_or_past graph v [] past)) ∙ e in cc)
     ]
+
+-- a node that has no place in the order
+pub absent_walks : (graph : List (List ℕ)) (order : List ℕ) (v : ℕ) → IsOrder graph order → v < length graph →
+    not (list_any (λ u. u == v) order) ≡ has_walk graph (length graph) v
+absent_walks graph order v ordered in' = ap not (ordered.which v in') ∙ not-not (has_walk graph (length graph) v)
+
+pub absent_round : (graph : List (List ℕ)) (order : List ℕ) (v : ℕ) (t : Bool) → IsClosed graph → IsOrder graph order → v < length graph →
+    t ≡ list_any (λ u. u == v) order → not t ≡ true → ComesRound graph v
+absent_round graph order v t closed ordered in' e none =
+    comes_round graph v closed in' (sym (ap not e ∙ absent_walks graph order v ordered in') ∙ none)
+
+pub round_absent : (graph : List (List ℕ)) (order : List ℕ) (v : ℕ) (t : Bool) → IsOrder graph order → v < length graph →
+    t ≡ list_any (λ u. u == v) order → ComesRound graph v → not t ≡ true
+round_absent graph order v t ordered in' e round =
+    ap not e ∙ absent_walks graph order v ordered in' ∙ goes_on graph (length graph) v round

@@ -9,4 +9,4 @@ mod order;
 pub mod laws;
 
 pub use links::Links;
-pub use order::sources_first;
+pub use order::{comes_round, sources_first};

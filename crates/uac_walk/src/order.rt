@@ -1,7 +1,8 @@
 // The order, found by counting for each node the links that still wait for what they name.
-ghost use Rattle.std.specs.Prelude.{◌≡◌, ℕ, ◌+◌, ◌-◌, ◌<◌, ◌≤◌, ◌==◌, [], ◌∷◌, ◌++◌, IfOk, OnOk, length, map, slice_index, slice_index_or, slice_set, if◌then◌else◌};
-ghost use Rattle.uac_walk.specs.Walk.{links};
+ghost use Rattle.std.specs.Prelude.{◌≡◌, ◌↔◌, true, ℕ, ◌+◌, ◌-◌, ◌<◌, ◌≤◌, ◌==◌, [], ◌∷◌, ◌++◌, IfOk, OnOk, length, map, slice_index, slice_index_or, slice_set, if◌then◌else◌};
+ghost use Rattle.uac_walk.specs.Walk.{links, has_walk};
 ghost use Rattle.uac_walk.specs.Order.{IsClosed, IsOrder};
+ghost use Rattle.uac_walk.specs.Cycles.{ComesRound};
 ghost use Rattle.uac_walk.specs.Count.{times};
 ghost use Rattle.uac_walk.specs.Noting.{IsNoted, IsNamedBy};
 ghost use Rattle.uac_walk.specs.Settling.{Settles};
@@ -26,6 +27,18 @@ pub fn sources_first(alloc: Global, graph: &[Links]) -> Result<Vec<usize>, Alloc
         settle(namers[node].as_slice(), &mut waiting, &mut order)?;
     }
     Ok(order)
+}
+
+/// Whether links come round behind a node: it has no place in the order.
+#[tactic(auto, using(crate::proofs::CyclesLemmas::absent_walks))]
+pub fn comes_round(graph: &[Links], order: &[usize], node: usize) -> bool
+    requires closed { IsClosed graph.now }
+    requires ordered { IsOrder graph.now order.now }
+    requires inside { node < length graph.now }
+    ensures round { (result ≡ true) ↔ ComesRound graph.now node }
+    ensures walk { result ≡ has_walk graph.now (length graph.now) node }
+{
+    !order.contains(&node)
 }
 
 // For each node the nodes that name it, each as often as it does.
