@@ -14,8 +14,15 @@ unfoldable pub named : List Entity → ℕ → Option Entity
 named entities id = find (λ e. e.id == id) entities
 
 abbrev pub is_input : EntityKind → Bool
+is_input kind.ClockSource = false
+is_input kind.ClockSelector = false
+is_input kind.ClockMultiplier = false
 is_input kind.InputTerminal = true
-is_input _ = false
+is_input kind.OutputTerminal = false
+is_input kind.Mixer = false
+is_input kind.Selector = false
+is_input kind.Feature = false
+is_input kind.Effect = false
 
 -- the terminal that a setting links to
 unfoldable pub link_of : Setting → Option ℕ

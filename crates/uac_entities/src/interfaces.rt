@@ -126,6 +126,16 @@ fn is_input(kind: Option<EntityKind>) -> bool
 {
     match kind {
         Some(EntityKind::InputTerminal) => true,
-        _ => false,
+        Some(
+            EntityKind::ClockSource
+            | EntityKind::ClockSelector
+            | EntityKind::ClockMultiplier
+            | EntityKind::OutputTerminal
+            | EntityKind::Mixer
+            | EntityKind::Selector
+            | EntityKind::Feature
+            | EntityKind::Effect,
+        ) => false,
+        None => false,
     }
 }

@@ -34,7 +34,7 @@ unfolding first_place
 first_place_none test n none = none_from test 0 n (λ j l h. none j (omega arith))
 
 -- a broken rule, with who breaks it
-abbrev fault_by : ℕ → ℕ → Bool → TopologyFault
+abbrev pub fault_by : ℕ → ℕ → Bool → TopologyFault
 fault_by rule id interface = record { rule = rule; id = id; interface = interface }
 
 -- an entity that breaks a rule, and none before it does

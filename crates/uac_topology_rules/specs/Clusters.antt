@@ -15,11 +15,15 @@ use Rattle.uac_topology_rules.specs.Links.{signal_links}
 
 -- the cluster is that of the first source
 abbrev pub takes_over : EntityKind → Bool
+takes_over kind.ClockSource = false
+takes_over kind.ClockSelector = false
+takes_over kind.ClockMultiplier = false
+takes_over kind.InputTerminal = false
 takes_over kind.OutputTerminal = true
+takes_over kind.Mixer = false
 takes_over kind.Selector = true
 takes_over kind.Feature = true
 takes_over kind.Effect = true
-takes_over _ = false
 
 -- the cluster of an entity, by those of its sources
 abbrev pub cluster_by : Entity → List ℕ → (ℕ → Cluster) → Cluster

@@ -7,7 +7,9 @@ pub mod Domains
 pub mod Offenders
 pub mod Rules
 pub mod Faults
+pub mod RuleNumbers
 pub mod Naming
+pub mod Cycles
 pub mod Walks
 pub mod Behind
 pub mod Signals

@@ -10,12 +10,23 @@ abbrev pub is_clock : EntityKind → Bool
 is_clock kind.ClockSource = true
 is_clock kind.ClockSelector = true
 is_clock kind.ClockMultiplier = true
-is_clock _ = false
+is_clock kind.InputTerminal = false
+is_clock kind.OutputTerminal = false
+is_clock kind.Mixer = false
+is_clock kind.Selector = false
+is_clock kind.Feature = false
+is_clock kind.Effect = false
 
 abbrev pub is_terminal : EntityKind → Bool
+is_terminal kind.ClockSource = false
+is_terminal kind.ClockSelector = false
+is_terminal kind.ClockMultiplier = false
 is_terminal kind.InputTerminal = true
 is_terminal kind.OutputTerminal = true
-is_terminal _ = false
+is_terminal kind.Mixer = false
+is_terminal kind.Selector = false
+is_terminal kind.Feature = false
+is_terminal kind.Effect = false
 
 unfoldable pub signal_sources : Entity → List ℕ
 signal_sources e = if is_clock e.kind then [] else e.sources

@@ -1,20 +1,23 @@
 -- The rules on what ids name, by their names in the code.
-use Rattle.std.specs.Prelude.{ℕ, Bool, List}
+use Rattle.std.specs.Prelude.{ℕ, Bool, false, List}
 use Rattle.uac_entities.specs.declared.entity.Entity.{Entity}
-use Rattle.uac_topology_rules.specs.declared.names.NameRule.{NameRule}
-use Rattle.uac_topology_rules.specs.declared.names.NameRule.TheVariants as rule
+use Rattle.uac_topology_rules.specs.declared.rule.Rule.{Rule}
+use Rattle.uac_topology_rules.specs.declared.rule.Rule.TheVariants as rule
 use Rattle.uac_topology_rules.specs.Rules as rules
 
-abbrev pub number : NameRule → ℕ
-number rule.Zero = 1
-number rule.Repeated = 2
-number rule.Unnamed = 3
-number rule.Silent = 4
-number rule.Clockless = 5
-
-abbrev pub breaks : NameRule → List Entity → ℕ → Bool
-breaks rule.Zero = rules.breaks_u1
-breaks rule.Repeated = rules.breaks_u2
-breaks rule.Unnamed = rules.breaks_u3
-breaks rule.Silent = rules.breaks_u4
-breaks rule.Clockless = rules.breaks_u5
+-- the other rules are none of these
+abbrev pub breaks : Rule → List Entity → ℕ → Bool
+breaks rule.ZeroId entities place = rules.breaks_u1 entities place
+breaks rule.RepeatedId entities place = rules.breaks_u2 entities place
+breaks rule.UnknownSource entities place = rules.breaks_u3 entities place
+breaks rule.SilentSource entities place = rules.breaks_u4 entities place
+breaks rule.UnknownClock entities place = rules.breaks_u5 entities place
+breaks rule.SignalCycle entities place = false
+breaks rule.ClockCycle entities place = false
+breaks rule.WrongCluster entities place = false
+breaks rule.WrongSize entities place = false
+breaks rule.UnequalPins entities place = false
+breaks rule.OtherClock entities place = false
+breaks rule.WrongLink entities place = false
+breaks rule.WrongEndpoints entities place = false
+breaks rule.TooMany entities place = false

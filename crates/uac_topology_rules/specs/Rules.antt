@@ -31,8 +31,15 @@ unfoldable pub breaks_u3 : List Entity → ℕ → Bool
 breaks_u3 entities place = list_any (λ id. is_none (kind_of entities id)) (signal_sources (at entities place))
 
 abbrev pub is_output : EntityKind → Bool
+is_output kind.ClockSource = false
+is_output kind.ClockSelector = false
+is_output kind.ClockMultiplier = false
+is_output kind.InputTerminal = false
 is_output kind.OutputTerminal = true
-is_output _ = false
+is_output kind.Mixer = false
+is_output kind.Selector = false
+is_output kind.Feature = false
+is_output kind.Effect = false
 
 -- a clock entity and an output terminal put out no signal
 abbrev pub is_silent : Option EntityKind → Bool
@@ -63,9 +70,15 @@ breaks_u7 entities place = has_walk (clock_links entities) (length entities) pla
 
 -- an input terminal and a mixer have a cluster of their own
 abbrev pub has_own_cluster : EntityKind → Bool
+has_own_cluster kind.ClockSource = false
+has_own_cluster kind.ClockSelector = false
+has_own_cluster kind.ClockMultiplier = false
 has_own_cluster kind.InputTerminal = true
+has_own_cluster kind.OutputTerminal = false
 has_own_cluster kind.Mixer = true
-has_own_cluster _ = false
+has_own_cluster kind.Selector = false
+has_own_cluster kind.Feature = false
+has_own_cluster kind.Effect = false
 
 -- U8 (Audio Class 2.0, 4.1; profile: at most 32, and all 32 bits count alike): a cluster has channels, and no more
 -- locations than channels
@@ -80,10 +93,15 @@ abbrev pub bytes_for : ℕ → ℕ
 bytes_for bits = (bits + 7) / 8
 
 abbrev pub wrong_size : EntityKind → Bool → Bool → Bool → Bool
+wrong_size kind.ClockSource bitmap words more = false
+wrong_size kind.ClockSelector bitmap words more = false
+wrong_size kind.ClockMultiplier bitmap words more = false
+wrong_size kind.InputTerminal bitmap words more = false
+wrong_size kind.OutputTerminal bitmap words more = false
 wrong_size kind.Mixer bitmap words more = not bitmap
+wrong_size kind.Selector bitmap words more = false
 wrong_size kind.Feature bitmap words more = not words
 wrong_size kind.Effect bitmap words more = not (words || more)
-wrong_size _ bitmap words more = false
 
 -- U9 (Audio Class 2.0, 4.7.2.6, 4.7.2.8; profile: the effect unit): the bitmap of a mixer has the least number of bytes
 -- for its nodes, a feature has a word for the master and each channel, and an effect has one more at most
@@ -95,8 +113,15 @@ breaks_u9 entities place =
     (length e.controls == channels + 1) (length e.controls == channels + 2)
 
 abbrev pub is_selector : EntityKind → Bool
+is_selector kind.ClockSource = false
+is_selector kind.ClockSelector = false
+is_selector kind.ClockMultiplier = false
+is_selector kind.InputTerminal = false
+is_selector kind.OutputTerminal = false
+is_selector kind.Mixer = false
 is_selector kind.Selector = true
-is_selector _ = false
+is_selector kind.Feature = false
+is_selector kind.Effect = false
 
 -- U10 (Audio Class 2.0, 4.7.2.7): the pins of a selector have as many channels as its first
 unfoldable pub breaks_u10 : List Entity → ℕ → Bool
@@ -111,9 +136,15 @@ breaks_u11 entities place =
     && list_any (λ c. not (c == (at entities place).clock)) (clocks_of entities place)
 
 abbrev pub too_large : EntityKind → Bool → Bool → Bool
+too_large kind.ClockSource channels nodes = false
+too_large kind.ClockSelector channels nodes = false
+too_large kind.ClockMultiplier channels nodes = false
+too_large kind.InputTerminal channels nodes = false
+too_large kind.OutputTerminal channels nodes = false
 too_large kind.Mixer channels nodes = channels || nodes
 too_large kind.Selector channels nodes = channels
-too_large _ channels nodes = false
+too_large kind.Feature channels nodes = false
+too_large kind.Effect channels nodes = false
 
 -- the entity at a place is the terminal that first names the ninth different clock: those before it name eight, none
 -- of which is its own

@@ -1,18 +1,23 @@
 -- The rules on clusters, sizes and clocks, by their names in the code.
-use Rattle.std.specs.Prelude.{ℕ, Bool, List}
+use Rattle.std.specs.Prelude.{ℕ, Bool, false, List}
 use Rattle.uac_entities.specs.declared.entity.Entity.{Entity}
-use Rattle.uac_topology_rules.specs.declared.shapes.ShapeRule.{ShapeRule}
-use Rattle.uac_topology_rules.specs.declared.shapes.ShapeRule.TheVariants as rule
+use Rattle.uac_topology_rules.specs.declared.rule.Rule.{Rule}
+use Rattle.uac_topology_rules.specs.declared.rule.Rule.TheVariants as rule
 use Rattle.uac_topology_rules.specs.Rules as rules
 
-abbrev pub number : ShapeRule → ℕ
-number rule.Channels = 8
-number rule.Sizes = 9
-number rule.Pins = 10
-number rule.Clocks = 11
-
-abbrev pub breaks : ShapeRule → List Entity → ℕ → Bool
-breaks rule.Channels = rules.breaks_u8
-breaks rule.Sizes = rules.breaks_u9
-breaks rule.Pins = rules.breaks_u10
-breaks rule.Clocks = rules.breaks_u11
+-- the other rules are none of these
+abbrev pub breaks : Rule → List Entity → ℕ → Bool
+breaks rule.ZeroId entities place = false
+breaks rule.RepeatedId entities place = false
+breaks rule.UnknownSource entities place = false
+breaks rule.SilentSource entities place = false
+breaks rule.UnknownClock entities place = false
+breaks rule.SignalCycle entities place = false
+breaks rule.ClockCycle entities place = false
+breaks rule.WrongCluster entities place = rules.breaks_u8 entities place
+breaks rule.WrongSize entities place = rules.breaks_u9 entities place
+breaks rule.UnequalPins entities place = rules.breaks_u10 entities place
+breaks rule.OtherClock entities place = rules.breaks_u11 entities place
+breaks rule.WrongLink entities place = false
+breaks rule.WrongEndpoints entities place = false
+breaks rule.TooMany entities place = false

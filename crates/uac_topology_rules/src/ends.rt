@@ -8,12 +8,14 @@ ghost use Rattle.uac_entities.specs.Streams.{links_of};
 ghost use Rattle.uac_topology_rules.specs.Rules as rules;
 ghost use Rattle.uac_topology_rules.specs.Faults.{of_interface, broken_ends};
 ghost use Rattle.uac_topology_rules.specs.Domains.{IsDomains};
+ghost use Rattle.uac_topology_rules.specs.RuleNumbers.{number};
 ghost use Rattle.uac_topology_rules.specs.Ending as ending;
 
 use crate::domains::Domains;
 use crate::fault::TopologyFault;
 use crate::kinds::is_terminal;
 use crate::known::Known;
+use crate::rule::Rule;
 use crate::shapes::entity_limit;
 use crate::table::EntityTable;
 use uac_descriptor::{Endpoint, EndpointBits};
@@ -23,14 +25,6 @@ use uac_entities::{Alternate, Setting, StreamInterface, USB_STREAMING, link_of};
 const MOST_STREAMS: usize = 8;
 
 const MOST_SETTINGS: usize = 16;
-
-/// A rule on streaming interfaces.
-#[derive(Clone, Copy)]
-pub(crate) enum EndRule {
-    Links,
-    Endpoints,
-    Limits,
-}
 
 /// The first fault by the rules U12 to U14.
 #[tactic(auto, unfolding(crate::specs::Faults::broken_ends))]
@@ -43,31 +37,31 @@ pub fn ends_fault(
     requires { IsDomains known.now domains.now.clocks.items domains.now.counts.items }
     ensures { result ≡ broken_ends known.now all.now streams.now }
 {
-    if let Some(fault) = judge(EndRule::Links, known.table(), all, streams) {
+    if let Some(fault) = judge(Rule::WrongLink, known.table(), all, streams) {
         return Some(fault);
     }
-    if let Some(fault) = judge(EndRule::Endpoints, known.table(), all, streams) {
+    if let Some(fault) = judge(Rule::WrongEndpoints, known.table(), all, streams) {
         return Some(fault);
     }
     if let Some(fault) = entity_limit(known, domains) {
         return Some(fault);
     }
-    judge(EndRule::Limits, known.table(), all, streams)
+    judge(Rule::TooMany, known.table(), all, streams)
 }
 
 // The first streaming interface that breaks the rule.
 fn judge(
-    rule: EndRule,
+    rule: Rule,
     table: &EntityTable,
     all: &[Alternate],
     streams: &[StreamInterface],
 ) -> Option<TopologyFault>
-    ensures { result ≡ of_interface (ending.number rule) streams.now (ending.breaks rule table.now all.now) }
+    ensures { result ≡ of_interface (number rule) streams.now (ending.breaks rule table.now all.now) }
 {
     for (place, stream) in streams.iter().enumerate() {
         if breaks(rule, table, all, streams, place) {
             return Some(TopologyFault {
-                rule: number(rule),
+                rule: rule.number(),
                 id: stream.number,
                 interface: true,
             });
@@ -76,18 +70,8 @@ fn judge(
     None
 }
 
-fn number(rule: EndRule) -> u8
-    ensures { result ≡ ending.number rule }
-{
-    match rule {
-        EndRule::Links => 12,
-        EndRule::Endpoints => 13,
-        EndRule::Limits => 14,
-    }
-}
-
 fn breaks(
-    rule: EndRule,
+    rule: Rule,
     table: &EntityTable,
     all: &[Alternate],
     streams: &[StreamInterface],
@@ -97,9 +81,20 @@ fn breaks(
     ensures { result ≡ ending.breaks rule table.now all.now streams.now place }
 {
     match rule {
-        EndRule::Links => breaks_u12(table, streams, place),
-        EndRule::Endpoints => breaks_u13(all, streams, place),
-        EndRule::Limits => exceeds(streams, place),
+        Rule::WrongLink => breaks_u12(table, streams, place),
+        Rule::WrongEndpoints => breaks_u13(all, streams, place),
+        Rule::TooMany => exceeds(streams, place),
+        Rule::ZeroId
+        | Rule::RepeatedId
+        | Rule::UnknownSource
+        | Rule::SilentSource
+        | Rule::UnknownClock
+        | Rule::SignalCycle
+        | Rule::ClockCycle
+        | Rule::WrongCluster
+        | Rule::WrongSize
+        | Rule::UnequalPins
+        | Rule::OtherClock => false,
     }
 }
 

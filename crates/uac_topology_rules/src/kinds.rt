@@ -12,7 +12,12 @@ pub fn is_clock(kind: EntityKind) -> bool
 {
     match kind {
         EntityKind::ClockSource | EntityKind::ClockSelector | EntityKind::ClockMultiplier => true,
-        _ => false,
+        EntityKind::InputTerminal
+        | EntityKind::OutputTerminal
+        | EntityKind::Mixer
+        | EntityKind::Selector
+        | EntityKind::Feature
+        | EntityKind::Effect => false,
     }
 }
 
@@ -22,7 +27,14 @@ pub fn is_input(kind: EntityKind) -> bool
 {
     match kind {
         EntityKind::InputTerminal => true,
-        _ => false,
+        EntityKind::ClockSource
+        | EntityKind::ClockSelector
+        | EntityKind::ClockMultiplier
+        | EntityKind::OutputTerminal
+        | EntityKind::Mixer
+        | EntityKind::Selector
+        | EntityKind::Feature
+        | EntityKind::Effect => false,
     }
 }
 
@@ -32,7 +44,14 @@ pub fn is_output(kind: EntityKind) -> bool
 {
     match kind {
         EntityKind::OutputTerminal => true,
-        _ => false,
+        EntityKind::ClockSource
+        | EntityKind::ClockSelector
+        | EntityKind::ClockMultiplier
+        | EntityKind::InputTerminal
+        | EntityKind::Mixer
+        | EntityKind::Selector
+        | EntityKind::Feature
+        | EntityKind::Effect => false,
     }
 }
 
@@ -42,6 +61,12 @@ pub(crate) fn is_terminal(kind: EntityKind) -> bool
 {
     match kind {
         EntityKind::InputTerminal | EntityKind::OutputTerminal => true,
-        _ => false,
+        EntityKind::ClockSource
+        | EntityKind::ClockSelector
+        | EntityKind::ClockMultiplier
+        | EntityKind::Mixer
+        | EntityKind::Selector
+        | EntityKind::Feature
+        | EntityKind::Effect => false,
     }
 }

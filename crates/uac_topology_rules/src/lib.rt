@@ -1,6 +1,8 @@
 //! The rules of an audio function's topology: which entity or streaming interface breaks which rule.
 #![tactic(auto)]
 
+/// The rules by name.
+mod rule;
 /// A broken rule, with who breaks it.
 mod fault;
 /// The entities by their place and by their id.

@@ -5,51 +5,43 @@ ghost use Rattle.uac_topology_rules.specs.Table as spec;
 ghost use Rattle.uac_topology_rules.specs.Links as links;
 ghost use Rattle.uac_topology_rules.specs.Rules as rules;
 ghost use Rattle.uac_topology_rules.specs.Faults.{of_entity, broken_names};
+ghost use Rattle.uac_topology_rules.specs.RuleNumbers.{number};
 ghost use Rattle.uac_topology_rules.specs.Naming as naming;
 
 use crate::fault::TopologyFault;
 use crate::kinds::{is_clock, is_terminal};
+use crate::rule::Rule;
 use crate::table::EntityTable;
 use uac_entities::{Entity, EntityKind};
-
-/// A rule on what ids name.
-#[derive(Clone, Copy)]
-pub(crate) enum NameRule {
-    Zero,
-    Repeated,
-    Unnamed,
-    Silent,
-    Clockless,
-}
 
 /// The first fault by the rules U1 to U5.
 #[tactic(auto, unfolding(crate::specs::Faults::broken_names))]
 pub fn names_fault(table: &EntityTable) -> Option<TopologyFault>
     ensures { result ≡ broken_names table.now }
 {
-    if let Some(fault) = judge(NameRule::Zero, table) {
+    if let Some(fault) = judge(Rule::ZeroId, table) {
         return Some(fault);
     }
-    if let Some(fault) = judge(NameRule::Repeated, table) {
+    if let Some(fault) = judge(Rule::RepeatedId, table) {
         return Some(fault);
     }
-    if let Some(fault) = judge(NameRule::Unnamed, table) {
+    if let Some(fault) = judge(Rule::UnknownSource, table) {
         return Some(fault);
     }
-    if let Some(fault) = judge(NameRule::Silent, table) {
+    if let Some(fault) = judge(Rule::SilentSource, table) {
         return Some(fault);
     }
-    judge(NameRule::Clockless, table)
+    judge(Rule::UnknownClock, table)
 }
 
 // The first entity that breaks the rule.
-fn judge(rule: NameRule, table: &EntityTable) -> Option<TopologyFault>
-    ensures { result ≡ of_entity (naming.number rule) table.now (naming.breaks rule) }
+fn judge(rule: Rule, table: &EntityTable) -> Option<TopologyFault>
+    ensures { result ≡ of_entity (number rule) table.now (naming.breaks rule) }
 {
     for (place, entity) in table.as_slice().iter().enumerate() {
         if breaks(rule, table, place) {
             return Some(TopologyFault {
-                rule: number(rule),
+                rule: rule.number(),
                 id: entity.id,
                 interface: false,
             });
@@ -58,28 +50,25 @@ fn judge(rule: NameRule, table: &EntityTable) -> Option<TopologyFault>
     None
 }
 
-fn number(rule: NameRule) -> u8
-    ensures { result ≡ naming.number rule }
-{
-    match rule {
-        NameRule::Zero => 1,
-        NameRule::Repeated => 2,
-        NameRule::Unnamed => 3,
-        NameRule::Silent => 4,
-        NameRule::Clockless => 5,
-    }
-}
-
-fn breaks(rule: NameRule, table: &EntityTable, place: usize) -> bool
+fn breaks(rule: Rule, table: &EntityTable, place: usize) -> bool
     requires { place < length table.now }
     ensures { result ≡ naming.breaks rule table.now place }
 {
     match rule {
-        NameRule::Zero => breaks_u1(table, place),
-        NameRule::Repeated => breaks_u2(table, place),
-        NameRule::Unnamed => breaks_u3(table, place),
-        NameRule::Silent => breaks_u4(table, place),
-        NameRule::Clockless => breaks_u5(table, place),
+        Rule::ZeroId => breaks_u1(table, place),
+        Rule::RepeatedId => breaks_u2(table, place),
+        Rule::UnknownSource => breaks_u3(table, place),
+        Rule::SilentSource => breaks_u4(table, place),
+        Rule::UnknownClock => breaks_u5(table, place),
+        Rule::SignalCycle
+        | Rule::ClockCycle
+        | Rule::WrongCluster
+        | Rule::WrongSize
+        | Rule::UnequalPins
+        | Rule::OtherClock
+        | Rule::WrongLink
+        | Rule::WrongEndpoints
+        | Rule::TooMany => false,
     }
 }
 

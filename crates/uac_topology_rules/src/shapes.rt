@@ -3,6 +3,7 @@ ghost use Rattle.std.specs.Prelude.{◌≡◌, ◌<◌, ◌-◌, ◌==◌, ◌&&
 ghost use Rattle.uac_topology_rules.specs.Clusters as spec;
 ghost use Rattle.uac_topology_rules.specs.Rules as rules;
 ghost use Rattle.uac_topology_rules.specs.Faults.{of_entity, broken_shapes};
+ghost use Rattle.uac_topology_rules.specs.RuleNumbers.{number};
 ghost use Rattle.uac_topology_rules.specs.Shaping as shaping;
 ghost use Rattle.uac_topology_rules.specs.Domains.{IsDomains};
 
@@ -10,6 +11,7 @@ use crate::domains::Domains;
 use crate::fault::TopologyFault;
 use crate::kinds::{is_output, is_terminal};
 use crate::known::Known;
+use crate::rule::Rule;
 use uac_entities::EntityKind;
 
 /// The most channels of a cluster, input channels and nodes of a unit, and clocks of a function (profile).
@@ -21,40 +23,31 @@ const MOST_NODES: u128 = 256;
 
 const MOST_CLOCKS: usize = 8;
 
-/// A rule on clusters, sizes and clocks.
-#[derive(Clone, Copy)]
-pub(crate) enum ShapeRule {
-    Channels,
-    Sizes,
-    Pins,
-    Clocks,
-}
-
 /// The first fault by the rules U8 to U11.
 #[tactic(auto, unfolding(crate::specs::Faults::broken_shapes))]
 pub fn shapes_fault(known: &Known) -> Option<TopologyFault>
     ensures { result ≡ broken_shapes known.now }
 {
-    if let Some(fault) = judge(ShapeRule::Channels, known) {
+    if let Some(fault) = judge(Rule::WrongCluster, known) {
         return Some(fault);
     }
-    if let Some(fault) = judge(ShapeRule::Sizes, known) {
+    if let Some(fault) = judge(Rule::WrongSize, known) {
         return Some(fault);
     }
-    if let Some(fault) = judge(ShapeRule::Pins, known) {
+    if let Some(fault) = judge(Rule::UnequalPins, known) {
         return Some(fault);
     }
-    judge(ShapeRule::Clocks, known)
+    judge(Rule::OtherClock, known)
 }
 
 // The first entity that breaks the rule.
-fn judge(rule: ShapeRule, known: &Known) -> Option<TopologyFault>
-    ensures { result ≡ of_entity (shaping.number rule) known.now (shaping.breaks rule) }
+fn judge(rule: Rule, known: &Known) -> Option<TopologyFault>
+    ensures { result ≡ of_entity (number rule) known.now (shaping.breaks rule) }
 {
     for (place, entity) in known.table().as_slice().iter().enumerate() {
         if breaks(rule, known, place) {
             return Some(TopologyFault {
-                rule: number(rule),
+                rule: rule.number(),
                 id: entity.id,
                 interface: false,
             });
@@ -71,7 +64,7 @@ pub fn entity_limit(known: &Known, domains: &Domains) -> Option<TopologyFault>
     for (place, entity) in known.table().as_slice().iter().enumerate() {
         if breaks_u14(known, domains, place) {
             return Some(TopologyFault {
-                rule: 14,
+                rule: Rule::TooMany.number(),
                 id: entity.id,
                 interface: false,
             });
@@ -80,26 +73,25 @@ pub fn entity_limit(known: &Known, domains: &Domains) -> Option<TopologyFault>
     None
 }
 
-fn number(rule: ShapeRule) -> u8
-    ensures { result ≡ shaping.number rule }
-{
-    match rule {
-        ShapeRule::Channels => 8,
-        ShapeRule::Sizes => 9,
-        ShapeRule::Pins => 10,
-        ShapeRule::Clocks => 11,
-    }
-}
-
-fn breaks(rule: ShapeRule, known: &Known, place: usize) -> bool
+fn breaks(rule: Rule, known: &Known, place: usize) -> bool
     requires { place < length known.now }
     ensures { result ≡ shaping.breaks rule known.now place }
 {
     match rule {
-        ShapeRule::Channels => breaks_u8(known, place),
-        ShapeRule::Sizes => breaks_u9(known, place),
-        ShapeRule::Pins => breaks_u10(known, place),
-        ShapeRule::Clocks => breaks_u11(known, place),
+        Rule::WrongCluster => breaks_u8(known, place),
+        Rule::WrongSize => breaks_u9(known, place),
+        Rule::UnequalPins => breaks_u10(known, place),
+        Rule::OtherClock => breaks_u11(known, place),
+        Rule::ZeroId
+        | Rule::RepeatedId
+        | Rule::UnknownSource
+        | Rule::SilentSource
+        | Rule::UnknownClock
+        | Rule::SignalCycle
+        | Rule::ClockCycle
+        | Rule::WrongLink
+        | Rule::WrongEndpoints
+        | Rule::TooMany => false,
     }
 }
 
@@ -141,7 +133,12 @@ fn wrong_size(kind: EntityKind, bitmap: bool, words: bool, more: bool) -> bool
         EntityKind::Mixer => !bitmap,
         EntityKind::Feature => !words,
         EntityKind::Effect => !(words || more),
-        _ => false,
+        EntityKind::ClockSource
+        | EntityKind::ClockSelector
+        | EntityKind::ClockMultiplier
+        | EntityKind::InputTerminal
+        | EntityKind::OutputTerminal
+        | EntityKind::Selector => false,
     }
 }
 
@@ -190,7 +187,13 @@ fn too_large(kind: EntityKind, channels: bool, nodes: bool) -> bool
     match kind {
         EntityKind::Mixer => channels || nodes,
         EntityKind::Selector => channels,
-        _ => false,
+        EntityKind::ClockSource
+        | EntityKind::ClockSelector
+        | EntityKind::ClockMultiplier
+        | EntityKind::InputTerminal
+        | EntityKind::OutputTerminal
+        | EntityKind::Feature
+        | EntityKind::Effect => false,
     }
 }
 
@@ -199,7 +202,13 @@ fn has_own_cluster(kind: EntityKind) -> bool
 {
     match kind {
         EntityKind::InputTerminal | EntityKind::Mixer => true,
-        _ => false,
+        EntityKind::ClockSource
+        | EntityKind::ClockSelector
+        | EntityKind::ClockMultiplier
+        | EntityKind::OutputTerminal
+        | EntityKind::Selector
+        | EntityKind::Feature
+        | EntityKind::Effect => false,
     }
 }
 
@@ -208,6 +217,13 @@ fn is_selector(kind: EntityKind) -> bool
 {
     match kind {
         EntityKind::Selector => true,
-        _ => false,
+        EntityKind::ClockSource
+        | EntityKind::ClockSelector
+        | EntityKind::ClockMultiplier
+        | EntityKind::InputTerminal
+        | EntityKind::OutputTerminal
+        | EntityKind::Mixer
+        | EntityKind::Feature
+        | EntityKind::Effect => false,
     }
 }

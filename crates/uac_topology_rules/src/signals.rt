@@ -101,7 +101,11 @@ fn takes_over(kind: EntityKind) -> bool
         | EntityKind::Selector
         | EntityKind::Feature
         | EntityKind::Effect => true,
-        _ => false,
+        EntityKind::ClockSource
+        | EntityKind::ClockSelector
+        | EntityKind::ClockMultiplier
+        | EntityKind::InputTerminal
+        | EntityKind::Mixer => false,
     }
 }
 

@@ -1,16 +1,17 @@
 // The rules on walks, U6 and U7.
-ghost use Rattle.std.specs.Prelude.{◌≡◌, ◌==◌, None, IfOk, length};
-ghost use Rattle.std.specs.List.{list_any};
+ghost use Rattle.std.specs.Prelude.{◌≡◌, None, IfOk, length};
 ghost use Rattle.uac_walk.specs.Order.{IsClosed, IsOrder};
 ghost use Rattle.uac_topology_rules.specs.Faults.{broken_names, of_entity};
+ghost use Rattle.uac_topology_rules.specs.RuleNumbers.{number};
 ghost use Rattle.uac_topology_rules.specs.Walks.{IsWalked, goes_on};
 
 use crate::fault::TopologyFault;
 use crate::graph::{clock_graph, signal_graph};
+use crate::rule::Rule;
 use crate::table::EntityTable;
 use std::alloc::Global;
 use uac_descriptor::NoMemory;
-use uac_walk::{Links, sources_first};
+use uac_walk::{Links, comes_round, sources_first};
 
 /// The signal links, an order of the entities in which sources stand first, and the first fault by the
 /// rules U6 and U7.
@@ -30,8 +31,8 @@ pub fn walk(alloc: Global, table: &EntityTable) -> Result<Walked, NoMemory>
     let order = ordered(alloc, &links)?;
     let clock_links = clock_graph(alloc, table)?;
     let clock_order = ordered(alloc, &clock_links)?;
-    let signal_fault = judge(6, table, &links, &order);
-    let clock_fault = judge(7, table, &clock_links, &clock_order);
+    let signal_fault = judge(Rule::SignalCycle, table, &links, &order);
+    let clock_fault = judge(Rule::ClockCycle, table, &clock_links, &clock_order);
     let fault = signal_fault.or(clock_fault);
     Ok(Walked {
         links,
@@ -50,27 +51,21 @@ fn ordered(alloc: Global, graph: &[Links]) -> Result<Vec<usize>, NoMemory>
     }
 }
 
-// The first entity from which a walk goes on for ever: it has no place in the order.
-fn judge(rule: u8, table: &EntityTable, graph: &[Links], order: &[usize]) -> Option<TopologyFault>
+// The first entity from which links come round.
+fn judge(rule: Rule, table: &EntityTable, graph: &[Links], order: &[usize]) -> Option<TopologyFault>
     requires sized { length graph.now ≡ length table.now }
+    requires closed { IsClosed graph.now }
     requires ordered { IsOrder graph.now order.now }
-    ensures { result ≡ of_entity rule table.now (goes_on graph.now) }
+    ensures { result ≡ of_entity (number rule) table.now (goes_on graph.now) }
 {
     for (place, entity) in table.as_slice().iter().enumerate() {
-        if !stands(order, place) {
+        if comes_round(graph, order, place) {
             return Some(TopologyFault {
-                rule,
+                rule: rule.number(),
                 id: entity.id,
                 interface: false,
             });
         }
     }
     None
-}
-
-// Whether the place is one of the order.
-fn stands(order: &[usize], place: usize) -> bool
-    ensures { result ≡ list_any (λ u. u == place) order.now }
-{
-    order.contains(&place)
 }

@@ -139,3 +139,11 @@ pub round_absent : (graph : List (List ℕ)) (order : List ℕ) (v : ℕ) (t : B
     t ≡ list_any (λ u. u == v) order → ComesRound graph v → not t ≡ true
 round_absent graph order v t ordered in' e round =
     ap not e ∙ absent_walks graph order v ordered in' ∙ goes_on graph (length graph) v round
+
+-- a node on a cycle comes round, and behind one that comes round there is a cycle
+pub round_of : {graph : List (List ℕ)} (cycle : HasCycle graph) → ComesRound graph cycle.node
+unfolding leads
+round_of cycle = record { node = cycle.node; before = 0; within = cycle.within; reached = eq-eqb cycle.node cycle.node refl; again = cycle.again }
+
+pub cycle_of : {graph : List (List ℕ)} (v : ℕ) → ComesRound graph v → HasCycle graph
+cycle_of v round = record { node = round.node; within = round.within; again = round.again }

@@ -1,4 +1,4 @@
-use Rattle.std.proofs.Common.{◌≡◌, ◌<◌, false, List, length, get_or, arith, refl, ap, sym, ◌∙◌, subst}
+use Rattle.std.proofs.Common.{◌≡◌, ◌<◌, false, List, length, get_or, arith, ap, sym, ◌∙◌, subst}
 use Rattle.uac_entities.specs.declared.entity.Entity.{Entity}
 use Rattle.uac_topology_rules.specs.Table.{at}
 use Rattle.uac_topology_rules.specs.Rules.{breaks_u14}
@@ -13,7 +13,7 @@ returns-then-breaks_u14 c =
     let v : c.as_slice-entity-items.result.now ≡ es = c.as_slice-entity-items.ensures ∙ c.table.ensures in
     let below : k < length es = subst (λ (xs : List Entity). k < length xs) v c.loop-place-test.true in
     let e = at_read es k c.entity-item.result below (c.entity-item.is ∙ ap (λ (xs : List Entity). get_or xs k c.entity-item.result) v) in
-    same_fault 14 14 c.entity-item.result.id (at es k).id false refl (ap (λ (x : Entity). x.id) e)
+    same_fault c.number.result 14 c.entity-item.result.id (at es k).id false c.number.ensures (ap (λ (x : Entity). x.id) e)
     ∙ sym (entity_breaks 14 es breaks_u14 k below c.loop-place.invariant (sym c.if-breaks_u14.ensures))
 
 pub returns : goal.returns

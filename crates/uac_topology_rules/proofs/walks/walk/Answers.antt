@@ -28,3 +28,13 @@ returns c =
           ∙ walks_are es c.deref-3.result.now c.deref-5.result.now e f c.judge-signal_fault.result c.judge-clock_fault.result
           c.judge-signal_fault.ensures c.judge-clock_fault.ensures;
     }
+
+pub judge-signal_fault-requires-clause-closed : goal.judge-signal_fault-requires-clause-closed
+judge-signal_fault-requires-clause-closed c =
+    let e : c.deref-3.result.now ≡ signal_links c.args.table.now = c.deref-3.ensures.value ∙ c.in_ok-links.ensures in
+    subst IsClosed (sym e) (signal_closed c.args.table.now c.requires)
+
+pub judge-clock_fault-requires-clause-closed : goal.judge-clock_fault-requires-clause-closed
+judge-clock_fault-requires-clause-closed c =
+    let e : c.deref-5.result.now ≡ clock_links c.args.table.now = c.deref-5.ensures.value ∙ c.in_ok-clock_links.ensures in
+    subst IsClosed (sym e) (clock_closed c.args.table.now c.requires)
