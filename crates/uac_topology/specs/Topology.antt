@@ -1,19 +1,20 @@
 -- The function that the blocks describe, and whether it is sound.
-use Rattle.std.specs.Prelude.{◌≡◌, ℕ, ◌<◌, suc, false, cond, List, Option, Some, None, slice_get, unwrap_or, length}
+use Rattle.std.specs.Prelude.{◌≡◌, ◌↔◌, ℕ, cond, List, Option, Some, None, slice_get, unwrap_or}
 use Rattle.std.specs.List.{filter_map}
 use Rattle.uac_descriptor.specs.Classes.{is_control_interface}
 use Rattle.uac_descriptor.specs.declared.block.Block as block
 use Rattle.uac_descriptor.specs.declared.block.Block.TheVariants as row
-use Rattle.uac_walk.specs.Walk.{leads}
+use Rattle.uac_walk.specs.Cycles.{HasCycle}
 use Rattle.uac_entities.specs.Entities.{entities_of}
 use Rattle.uac_entities.specs.Settings.{alternates_of}
 use Rattle.uac_entities.specs.Streams.{streams_of}
 use Rattle.uac_entities.specs.declared.stream.StreamInterface.{StreamInterface}
 use Rattle.uac_topology_rules.specs.declared.fault.TopologyFault.{TopologyFault}
 use Rattle.uac_topology_rules.specs.Links.{signal_links, clock_links}
+use Rattle.uac_topology_rules.specs.Cycles.{HasNoCycle}
 use Rattle.uac_topology_rules.specs.Clusters.{clustered}
 use Rattle.uac_topology_rules.specs.Domains.{domains_of}
-use Rattle.uac_topology_rules.specs.Faults.{broken}
+use Rattle.uac_topology_rules.specs.Faults.{broken, broken_names}
 use Rattle.uac_topology.specs.Function.{FunctionFields}
 use Rattle.uac_topology.specs.declared.soundness.CheckStop.{CheckStop}
 use Rattle.uac_topology.specs.declared.soundness.CheckStop.TheVariants as stop
@@ -61,10 +62,22 @@ abbrev pub Tells : CheckStop → Option TopologyFault → Type 0
 Tells (stop.Fault fault) first = first ≡ Some fault
 Tells stop.NoMemory first = Unit {0}
 
--- no entity of a sound function has a walk of signal source links, or of clock source links, back to itself
-pub record HasNoCycle (blocks : List block.Block) : Type 0 where
-  pub signals : (place n : ℕ) → place < length (entities_of blocks) → leads (signal_links (entities_of blocks)) (suc n) place place ≡ false
-  pub clocks : (place n : ℕ) → place < length (entities_of blocks) → leads (clock_links (entities_of blocks)) (suc n) place place ≡ false
-
+-- soundness leaves no cycle
 abbrev pub SoundHasNoCycle : Type 0
-SoundHasNoCycle = (blocks : List block.Block) → IsSound blocks → HasNoCycle blocks
+SoundHasNoCycle = (blocks : List block.Block) → IsSound blocks → HasNoCycle (entities_of blocks)
+
+-- the least broken rule is this one
+abbrev pub IsRefusedBy : ℕ → List block.Block → Type 0
+IsRefusedBy rule blocks = (fault : TopologyFault) × (first_broken blocks ≡ Some fault) × (fault.rule ≡ rule)
+
+-- where names are in order, U6 refuses exactly the blocks whose signal links have a cycle, and U7 exactly those whose
+-- clock links alone have one
+pub record RefusesCycles (blocks : List block.Block) : Type 0 where
+  pub signals : IsRefusedBy 6 blocks ↔ ((broken_names (entities_of blocks) ≡ None) × HasCycle (signal_links (entities_of blocks)))
+  pub clocks :
+      IsRefusedBy 7 blocks
+      ↔ ((broken_names (entities_of blocks) ≡ None) × (HasCycle (signal_links (entities_of blocks)) → ⊥)
+      × HasCycle (clock_links (entities_of blocks)))
+
+abbrev pub CyclesAreRefused : Type 0
+CyclesAreRefused = (blocks : List block.Block) → RefusesCycles blocks

@@ -1,13 +1,19 @@
 // Laws of sound functions, each the contract of a function that does nothing.
 ghost use Rattle.std.specs.Prelude.{◌≤◌, length};
 ghost use Rattle.uac_topology.specs.Function.{FunctionFields};
-ghost use Rattle.uac_topology.specs.Topology.{IsSoundFunction, SoundHasNoCycle};
+ghost use Rattle.uac_topology.specs.Topology.{IsSoundFunction, SoundHasNoCycle, CyclesAreRefused};
 
 use crate::function::Function;
 
 /// No entity of a sound function has a walk of source links back to itself.
 pub fn no_cycle()
     ensures { SoundHasNoCycle }
+{}
+
+/// Blocks are refused by U6 exactly where their names are in order and their signal links have a cycle, by U7 exactly
+/// where no signal links have one and clock links have one.
+pub fn cycles_are_refused()
+    ensures { CyclesAreRefused }
 {}
 
 /// Every function that there is breaks no rule.

@@ -1,0 +1,5 @@
+use Rattle.uac_topology.proofs.Cycles as cycles
+use Rattle.uac_topology.proofs.laws.cycles_are_refused.Goals as goal
+
+pub returns : goal.returns
+returns c = cycles.cycles_are_refused
