@@ -13,6 +13,7 @@ use Rattle.uac_entities.specs.declared.alternate.Alternate.{Alternate}
 unfoldable pub named : List Entity → ℕ → Option Entity
 named entities id = find (λ e. e.id == id) entities
 
+-- Audio Class 2.0, 3.13.1
 abbrev pub is_input : EntityKind → Bool
 is_input kind.ClockSource = false
 is_input kind.ClockSelector = false

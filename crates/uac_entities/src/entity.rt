@@ -4,21 +4,30 @@ use uac_descriptor::{ByteList, WordList};
 /// USB Terminal Types 2.0, 2.1: a terminal that carries the data of a streaming interface.
 pub const USB_STREAMING: u16 = 0x0101;
 
-/// What an entity is (Audio Class 2.0, 3.13).
+/// What an entity is.
 #[derive(Clone, Copy, PartialEq, Eq, Debug)]
 pub enum EntityKind {
+    /// Audio Class 2.0, 3.13.10
     ClockSource,
+    /// 3.13.11
     ClockSelector,
+    /// 3.13.12
     ClockMultiplier,
+    /// 3.13.1
     InputTerminal,
+    /// 3.13.2
     OutputTerminal,
+    /// 3.13.3
     Mixer,
+    /// 3.13.4
     Selector,
+    /// 3.13.5
     Feature,
+    /// 3.13.7
     Effect,
 }
 
-/// The channels that an entity puts out (Audio Class 2.0, 3.7.2.3 and 4.1).
+/// The channels that an entity puts out (Audio Class 2.0, 4.1, the cluster descriptor).
 #[derive(Clone, Copy, PartialEq, Eq, Debug)]
 pub struct Cluster {
     /// bNrChannels

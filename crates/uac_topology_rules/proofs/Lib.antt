@@ -13,3 +13,4 @@ pub mod DomainSteps
 pub mod StreamSteps
 pub mod ClusterTable
 pub mod Headset
+pub mod OneRuleBroken

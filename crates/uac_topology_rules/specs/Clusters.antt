@@ -1,5 +1,6 @@
--- The channels that an entity puts out (Audio Class 2.0, 3.7.2.3 and 4.1): an input terminal and a mixer have their own
--- cluster, a selector that of its first pin, a feature, an effect and an output terminal that of their source.
+-- The channels that an entity puts out (Audio Class 2.0, 4.1, the cluster descriptor): an input terminal (3.13.1) and a
+-- mixer (3.13.3) have their own cluster, a selector (3.13.4) that of its first pin, a feature (3.13.5), an effect (3.13.7)
+-- and an output terminal (3.13.2) that of their source.
 use Rattle.std.specs.Prelude.{◌≡◌, ℕ, ◌+◌, zero, suc, Bool, true, false, if◌then◌else◌, List, [], ◌∷◌, map, length, slice_get, sum}
 use Rattle.std.specs.List.{flat_map, range_with_len}
 use Rattle.std.specs.Option.{option_map_or}

@@ -1,11 +1,12 @@
--- Signal links and clock links (Audio Class 2.0, 3.13, and 4.7.2.1 to 4.7.2.3): a unit or an output terminal names signal
--- sources, a clock entity names clock sources.
+-- Signal links and clock links: a unit or an output terminal names signal sources (Audio Class 2.0, 3.13.2 to 3.13.7), a
+-- clock entity names clock sources (3.13.10 to 3.13.12).
 use Rattle.std.specs.Prelude.{ℕ, Bool, true, false, if◌then◌else◌, List, [], map}
 use Rattle.uac_entities.specs.declared.entity.Entity.{Entity}
 use Rattle.uac_entities.specs.declared.entity.EntityKind.{EntityKind}
 use Rattle.uac_entities.specs.declared.entity.EntityKind.TheVariants as kind
 use Rattle.uac_topology_rules.specs.Table.{place_of}
 
+-- 3.13.10 to 3.13.12
 abbrev pub is_clock : EntityKind → Bool
 is_clock kind.ClockSource = true
 is_clock kind.ClockSelector = true
@@ -17,6 +18,7 @@ is_clock kind.Selector = false
 is_clock kind.Feature = false
 is_clock kind.Effect = false
 
+-- 3.13.1 and 3.13.2
 abbrev pub is_terminal : EntityKind → Bool
 is_terminal kind.ClockSource = false
 is_terminal kind.ClockSelector = false

@@ -46,7 +46,7 @@ abbrev pub is_silent : Option EntityKind → Bool
 is_silent None = false
 is_silent (Some k) = is_clock k || is_output k
 
--- U4 (Audio Class 2.0, 3.13): a signal source is neither a clock entity nor an output terminal
+-- U4 (Audio Class 2.0, 3.13.2 and 3.13.10 to 3.13.12): a signal source is neither a clock entity nor an output terminal
 unfoldable pub breaks_u4 : List Entity → ℕ → Bool
 breaks_u4 entities place = list_any (λ id. is_silent (kind_of entities id)) (signal_sources (at entities place))
 
@@ -60,7 +60,8 @@ breaks_u5 entities place =
     (is_terminal (at entities place).kind && not (is_some_clock (kind_of entities (at entities place).clock)))
     || list_any (λ id. not (is_some_clock (kind_of entities id))) (clock_sources (at entities place))
 
--- U6 (profile): no walk of as many signal source links as there are entities leads on
+-- U6 (profile): signal source links come round from no entity. A walk of as many links as there are entities is the
+-- test; the law `WalkRulesNameCycles` says that it finds this and nothing else
 unfoldable pub breaks_u6 : List Entity → ℕ → Bool
 breaks_u6 entities place = has_walk (signal_links entities) (length entities) place
 
@@ -68,7 +69,7 @@ breaks_u6 entities place = has_walk (signal_links entities) (length entities) pl
 unfoldable pub breaks_u7 : List Entity → ℕ → Bool
 breaks_u7 entities place = has_walk (clock_links entities) (length entities) place
 
--- an input terminal and a mixer have a cluster of their own
+-- an input terminal (Audio Class 2.0, 3.13.1) and a mixer (3.13.3) have a cluster of their own
 abbrev pub has_own_cluster : EntityKind → Bool
 has_own_cluster kind.ClockSource = false
 has_own_cluster kind.ClockSelector = false
@@ -103,7 +104,7 @@ wrong_size kind.Selector bitmap words more = false
 wrong_size kind.Feature bitmap words more = not words
 wrong_size kind.Effect bitmap words more = not (words || more)
 
--- U9 (Audio Class 2.0, 4.7.2.6, 4.7.2.8; profile: the effect unit): the bitmap of a mixer has the least number of bytes
+-- U9 (Audio Class 2.0, 4.7.2.6 and 4.7.2.8; profile: the effect unit): the bitmap of a mixer has the least number of bytes
 -- for its nodes, a feature has a word for the master and each channel, and an effect has one more at most
 unfoldable pub breaks_u9 : List Entity → ℕ → Bool
 breaks_u9 entities place =
@@ -123,7 +124,7 @@ is_selector kind.Selector = true
 is_selector kind.Feature = false
 is_selector kind.Effect = false
 
--- U10 (Audio Class 2.0, 4.7.2.7): the pins of a selector have as many channels as its first
+-- U10 (Audio Class 2.0, 3.13.4 and 4.7.2.7): the pins of a selector have as many channels as its first
 unfoldable pub breaks_u10 : List Entity → ℕ → Bool
 breaks_u10 entities place =
     is_selector (at entities place).kind
