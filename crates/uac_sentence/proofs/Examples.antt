@@ -172,6 +172,16 @@ total_differs : verdict (bytes_of (with_total 20 1 headset)) ≡ fault 5 293
 unfolding verdict
 total_differs = refl
 
+-- the total has the configuration alone, and the next block passes it
+total_passed : verdict (bytes_of (with_total 9 0 headset)) ≡ fault 5 27
+unfolding verdict
+total_passed = refl
+
+-- the total ends within the last block
+total_passed_last : verdict (bytes_of (with_total 18 1 headset)) ≡ fault 5 286
+unfolding verdict
+total_passed_last = refl
+
 -- the last block runs past the end
 last_byte_missing : verdict (take 292 (bytes_of headset)) ≡ fault 1 286
 unfolding verdict

@@ -8,7 +8,7 @@ use Rattle.uac_sentence.specs.Fault.{GrammarFault, Rules, at_place, rest_rule, f
 use Rattle.uac_sentence.proofs.CuttingLaw.{chop_is_cut, chop_piece, chop_rest}
 
 -- a fault at a place stands there, and has its rule
-at_place_is : (fault : GrammarFault) (place : ℕ) (o : Option ℕ) → at_place place o ≡ Some fault → (o ≡ Some fault.rule) × (fault.at ≡ place)
+pub at_place_is : (fault : GrammarFault) (place : ℕ) (o : Option ℕ) → at_place place o ≡ Some fault → (o ≡ Some fault.rule) × (fault.at ≡ place)
 at_place_is fault place None e = cc
 at_place_is fault place (Some rule) e =
     let h : record { rule = rule; at = place } ≡ fault = cc in (ap (λ (f : GrammarFault). Some f.rule) h, sym (ap (λ (f : GrammarFault). f.at) h))
@@ -19,7 +19,7 @@ short_is_no_block x y rest h =
     and_left (leb 2 x) (leb x (length (x ∷ y ∷ rest))) (lt-leb 2 x (ltb-true x 2 h))
 
 -- the first of two, where it is there or not
-option_or_some : {T : Type 0} (o p : Option T) (x : T) → option_or o p ≡ Some x → (o ≡ Some x) ⊎ ((o ≡ None) × (p ≡ Some x))
+pub option_or_some : {T : Type 0} (o p : Option T) (x : T) → option_or o p ≡ Some x → (o ≡ Some x) ⊎ ((o ≡ None) × (p ≡ Some x))
 option_or_some None p x e = inr (refl, e)
 option_or_some (Some y) p x e = inl e
 

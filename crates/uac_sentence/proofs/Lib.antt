@@ -12,5 +12,7 @@ pub mod TurnLaw
 pub mod SentenceLaw
 pub mod ProgressLaw
 pub mod ReachLaw
-pub mod EarlierLaw
-pub mod RulesLaw
+pub mod EarlierLemmas
+pub mod FirstFaultOrderLemmas
+pub mod FirstFaultTotalLemmas
+pub mod FirstFaultLemmas

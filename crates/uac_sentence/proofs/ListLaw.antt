@@ -14,9 +14,8 @@ use Rattle.uac_sentence.specs.declared.letters.Letter.TheVariants as letter
 use Rattle.uac_sentence.specs.declared.stages.Stage.{Stage}
 use Rattle.uac_sentence.specs.declared.stages.Stage.TheVariants.{Start, Due, Opening, Before, Announced, Headless, Listing, Quiet, Setting, Formats, Formatted, FirstEndpoint, FirstDone, SecondEndpoint, Closing, Behind}
 use Rattle.uac_descriptor.specs.Classes.{is_audio_association, is_control_interface, is_streaming_interface}
-use Rattle.uac_sentence.specs.Letter.{letter_of, whole_letter, interface_letter, interface_context, context_after, is_device, has_unknown_subtype, has_place, type_of}
+use Rattle.uac_sentence.specs.Letter.{letter_of, whole_letter, interface_letter, interface_context, context_after, is_device, has_unknown_subtype, has_place, type_of, is_listed}
 use Rattle.uac_sentence.specs.Steps.{step}
-use Rattle.uac_sentence.specs.Grammar.{is_listed}
 use Rattle.uac_sentence.specs.Sentence.{EachIn, Stands, size, is_entity, HasListTotal}
 use Rattle.uac_sentence.proofs.OrderLaw.{Goes}
 

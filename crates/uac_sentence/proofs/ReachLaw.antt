@@ -85,12 +85,12 @@ device_size (variant.Interface i) e =
     ])
 device_size b e = cc
 
-start_step : (k : Letter) → is_none (step Start k) ≡ false → (k ≡ letter.Configuration → ⊥) → (k ≡ letter.Device) × (step Start k ≡ Some Due)
+pub start_step : (k : Letter) → is_none (step Start k) ≡ false → (k ≡ letter.Configuration → ⊥) → (k ≡ letter.Device) × (step Start k ≡ Some Due)
 start_step letter.Device allowed other = (refl, refl)
 start_step letter.Configuration allowed other = absurd (other refl)
 start_step k allowed other = absurd (true≢false allowed)
 
-due_step : (k : Letter) → is_none (step Due k) ≡ false → k ≡ letter.Configuration
+pub due_step : (k : Letter) → is_none (step Due k) ≡ false → k ≡ letter.Configuration
 due_step letter.Configuration allowed = refl
 due_step k allowed = absurd (true≢false allowed)
 

@@ -68,7 +68,7 @@ record HasBlocks (s : State) (place : ℕ) (pieces : List (List ℕ)) (rest : Li
   clear : Clear s place blocks
   nothing_left : rest ≡ []
 
-at_place_none : (place : ℕ) (o : Option ℕ) → at_place place o ≡ None → o ≡ None
+pub at_place_none : (place : ℕ) (o : Option ℕ) → at_place place o ≡ None → o ≡ None
 at_place_none place None e = refl
 at_place_none place (Some rule) e = cc
 

@@ -6,8 +6,8 @@ use Rattle.uac_descriptor.specs.declared.block.Block as block
 use Rattle.uac_descriptor.specs.declared.block.Block.TheVariants as variant
 use Rattle.uac_descriptor.specs.Spelling.{spelling}
 use Rattle.uac_sentence.specs.declared.states.Listing.TheVariants as state
-use Rattle.uac_sentence.specs.Letter.{letter_of}
-use Rattle.uac_sentence.specs.Grammar.{ends_before, is_listed, list_end}
+use Rattle.uac_sentence.specs.Letter.{letter_of, is_listed}
+use Rattle.uac_sentence.specs.Grammar.{ends_before, list_end}
 use Rattle.uac_sentence.specs.Sentence.{spellings, size, HasWholeTotal}
 use Rattle.uac_sentence.proofs.ListLaw.{ListedTotal}
 use Rattle.uac_sentence.proofs.Parts.{bytes_in, EndRun, ListRun}

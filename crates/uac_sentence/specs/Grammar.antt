@@ -14,7 +14,7 @@ use Rattle.uac_sentence.specs.declared.states.Listing.{Listing}
 use Rattle.uac_sentence.specs.declared.states.Listing.TheVariants as listing
 use Rattle.uac_sentence.specs.declared.states.State.{State}
 use Rattle.uac_descriptor.specs.Classes.{is_control_interface, is_streaming_interface}
-use Rattle.uac_sentence.specs.Letter.{letter_of, context_after}
+use Rattle.uac_sentence.specs.Letter.{letter_of, context_after, is_listed}
 use Rattle.uac_sentence.specs.Steps.{step, may_end, is_before_association}
 use Rattle.uac_sentence.specs.Values.{has_wrong_value}
 use Rattle.uac_sentence.specs.Fault.{GrammarFault, Rules, faults_from}
@@ -38,12 +38,6 @@ ends_behind (Some end) place = nat_lt place end
 ends_behind None place = false
 
 -- ---- the header's total: wTotalLength, Audio Class 2.0, 4.7.2
-
--- the list has entities, and for the totals the class blocks of an unknown subtype
-abbrev pub is_listed : Letter → Bool
-is_listed letter.Entity = true
-is_listed letter.UnknownSubtype = true
-is_listed _ = false
 
 abbrev pub listing_after : Listing → ℕ → block.Block → Listing
 listing_after listing.Awaited place (variant.Header h) = listing.Open (place + h.total)

@@ -1,5 +1,5 @@
 -- What a block is to the order: USB 2.0, 9.4 and 9.6.5; Audio Class 2.0, A.1 to A.9.
-use Rattle.std.specs.Prelude.{ℕ, Bool, ◌&&◌, ◌||◌, not, ◌==◌, nat_le, if◌then◌else◌, List, length, slice_index}
+use Rattle.std.specs.Prelude.{ℕ, Bool, true, false, ◌&&◌, ◌||◌, not, ◌==◌, nat_le, if◌then◌else◌, List, length, slice_index}
 use Rattle.uac_descriptor.specs.declared.context.Context.{Context}
 use Rattle.uac_descriptor.specs.declared.context.Context.TheVariants as context
 use Rattle.uac_descriptor.specs.Standard.{DEVICE, CONFIGURATION, INTERFACE, ENDPOINT, INTERFACE_ASSOCIATION, CS_INTERFACE, CS_ENDPOINT, HEADER, EFFECT_UNIT, CLOCK_SOURCE, CLOCK_MULTIPLIER}
@@ -72,6 +72,12 @@ letter_of (variant.TypeOne _) = TypeOne
 letter_of (variant.Extra _) = Extra
 letter_of (variant.ClassEndpoint _) = ClassEndpoint
 letter_of (variant.Foreign bytes) = whole_letter bytes
+
+-- the list behind the header has entities, and for its total the class blocks of an unknown subtype
+abbrev pub is_listed : Letter → Bool
+is_listed Entity = true
+is_listed UnknownSubtype = true
+is_listed _ = false
 
 -- what an interface makes the context of the blocks behind it
 unfoldable pub interface_context : interface.Interface → Context

@@ -10,3 +10,4 @@ pub mod Grammar
 pub mod Sentence
 pub mod Progress
 pub mod Earlier
+pub mod FirstFault

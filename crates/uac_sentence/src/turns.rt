@@ -1,11 +1,10 @@
 // What each part of the state becomes behind a block.
 ghost use Rattle.std.specs.Prelude.{◌≡◌, ◌≤◌, length};
-ghost use Rattle.uac_sentence.specs.Letter.{context_after, interface_context, letter_of};
+ghost use Rattle.uac_sentence.specs.Letter.{context_after, interface_context, is_listed, letter_of};
 ghost use Rattle.uac_sentence.specs.Grammar.{
   continues,
   end_after,
   is_in_turn,
-  is_listed,
   latest_after,
   listing_after,
   used_after,

@@ -1,28 +1,41 @@
--- What the stage says of the letters before it, and the flags and the latest setting of the interfaces before them.
-use Rattle.std.proofs.Common.{◌≡◌, ℕ, ◌+◌, Bool, true, false, ◌&&◌, ◌||◌, not, List, [], ◌∷◌, ◌++◌, get_or, map, reverse, filter_map, Option, Some, None, is_none, refl, sym, ap, ◌∙◌, subst, append_assoc, append-nil}
+-- What the stage says of the letters before it, by which the rules name a block.
+use Rattle.std.proofs.Common.{◌≡◌, ℕ, ◌+◌, Bool, true, false, ◌&&◌, ◌||◌, not, List, [], ◌∷◌, ◌++◌, get_or, map, Option, Some, None, refl, sym, ap, ◌∙◌, subst}
 use Rattle.std.specs.List.{list_all}
-use Rattle.std.proofs.lemmas.Grind.{reverse_onto}
 use Rattle.std.proofs.Math.Bool.{or_comm, or_assoc, and-or_distrib_right, and_assoc}
-use Rattle.std.proofs.lemmas.Bool.{or_parts, or_from, not-false, not_from_true}
-use Rattle.uac_descriptor.specs.declared.standard.Interface as interface
+use Rattle.std.proofs.lemmas.Bool.{and_left}
 use Rattle.uac_descriptor.specs.declared.block.Block as block
-use Rattle.uac_descriptor.specs.declared.block.Block.TheVariants as variant
-use Rattle.uac_descriptor.specs.Reading.{AreBytes}
 use Rattle.uac_sentence.specs.declared.letters.Letter.{Letter}
 use Rattle.uac_sentence.specs.declared.letters.Letter.TheVariants as letter
 use Rattle.uac_sentence.specs.declared.stages.Stage.{Stage}
 use Rattle.uac_sentence.specs.declared.stages.Stage.TheVariants.{Start, Due, Opening, Before, Announced, Headless, Listing, Quiet, Setting, Formats, Formatted, FirstEndpoint, FirstDone, SecondEndpoint, Closing, Behind}
 use Rattle.uac_sentence.specs.declared.states.State.{State}
-use Rattle.uac_sentence.specs.Letter.{letter_of}
+use Rattle.uac_sentence.specs.Letter.{letter_of, is_listed}
 use Rattle.uac_sentence.specs.Steps.{step, may_end, is_before_association}
-use Rattle.uac_sentence.specs.Grammar.{start, state_after, stage_after, is_in_turn, is_refused, is_due, is_announced, is_headless, is_listing, is_past_control, lacks_association, lists_unknown, comes_again, is_audio_interface, is_control, is_unknown, is_association}
-use Rattle.uac_sentence.specs.Sentence.{spellings, interface_of}
+use Rattle.uac_sentence.specs.Grammar.{start, state_after, stage_after, is_due, is_announced, is_headless, is_listing, is_past_control, lacks_association, lists_unknown, comes_again, is_audio_interface, is_control, is_unknown, is_association}
 use Rattle.uac_sentence.specs.Progress.{state_behind, BreakNone, HasRead}
-use Rattle.uac_sentence.specs.Earlier.{lead, stage_behind, is_same, has, latest_is, is_header_list, is_in_list, is_unknown_in_list, stands_without_association, is_second, interfaces_before, IsInTurn, IsAllowedBehind}
+use Rattle.uac_sentence.specs.Earlier.{is_same, has, latest_is, is_header_list, is_in_list, is_unknown_in_list, stands_without_association, is_second}
 use Rattle.uac_sentence.proofs.Parts.{bytes_in, broken_passes, step_there}
-use Rattle.uac_sentence.proofs.TurnLaw.{HasSmallNumbers, IsUsed, latest_of, flags_after, turn_of, of_turn, at_start}
-use Rattle.uac_sentence.proofs.SentenceLaw.{small_numbers}
-use Rattle.uac_sentence.proofs.EarlierLaw.{led_first, first_led, lead-push, lead_none}
+
+-- the stage to which letters lead, one after the other
+abbrev pub lead : Option Stage → List Letter → Option Stage
+lead s [] = s
+lead None (k ∷ ks) = None
+lead (Some s) (k ∷ ks) = lead (step s k) ks
+
+-- the stage behind the first blocks of a descriptor
+abbrev pub stage_behind : List Letter → Option Stage
+stage_behind ks = lead (Some Start) ks
+
+pub lead_none : (ks : List Letter) → lead None ks ≡ None
+lead_none [] = refl
+lead_none (k ∷ ks) = refl
+
+-- one letter more
+pub lead-push : (o : Option Stage) (ks : List Letter) (s : Stage) (k : Letter) → lead o ks ≡ Some s → lead o (ks ++ k ∷ []) ≡ step s k
+lead-push None [] s k e = cc
+lead-push (Some t) [] s k e = (let same : t ≡ s = cc in ap (λ u. step u k) same)
+lead-push None (j ∷ ks) s k e = cc
+lead-push (Some t) (j ∷ ks) s k e = lead-push (step t j) ks s k e
 
 -- ---- the stage
 
@@ -40,7 +53,7 @@ tells (Some t) s k =
     ∷ (is_same letter.Configuration k || not (is_due s))
     ∷ is_same letter.AudioAssociation k
     ∷ is_same letter.ControlInterface k
-    ∷ (is_headless s && is_same letter.Header k || is_listing s && is_same letter.Entity k) ∷ []
+    ∷ (is_headless s && is_same letter.Header k || is_listing s && is_listed k) ∷ []
 
 told_behind : (s : Stage) (k : Letter) → told (step s k) ≡ tells (step s k) s k
 told_behind Start letter.Device = refl
@@ -80,7 +93,7 @@ told_at : (n : ℕ) (s t : Stage) (k : Letter) → step s k ≡ Some t → get_o
 told_at n s t k e = ap (λ bits. get_or bits n false) (subst (λ o. told o ≡ tells o s k) e (told_behind s k))
 
 -- the first step of a lead
-first_step : (o : Option Stage) (ks : List Letter) (t : Stage) → lead o ks ≡ Some t → (u : Stage) × (o ≡ Some u)
+pub first_step : (o : Option Stage) (ks : List Letter) (t : Stage) → lead o ks ≡ Some t → (u : Stage) × (o ≡ Some u)
 first_step None ks t e = (let none : None ≡ Some t = sym (lead_none ks) ∙ e in cc)
 first_step (Some u) ks t e = (u, refl)
 
@@ -115,7 +128,7 @@ arrange x c l hk e a =
     ∙ sym (or_assoc (c && l || x) (hk && a) (e && a))
 
 listed_along : (s t : Stage) (ks : List Letter) → lead (Some s) ks ≡ Some t
-    → is_listing t ≡ (is_in_list ks || is_headless s && is_header_list ks || is_listing s && list_all (is_same letter.Entity) ks)
+    → is_listing t ≡ (is_in_list ks || is_headless s && is_header_list ks || is_listing s && list_all is_listed ks)
 listed_along s t [] e = (let same : s ≡ t = cc in ap is_listing (sym same) ∙ at_end (is_headless s) (is_listing s))
   where
     at_end : (h l : Bool) → l ≡ (false || h && false || l && true)
@@ -125,9 +138,9 @@ listed_along s t [] e = (let same : s ≡ t = cc in ap is_listing (sym same) ∙
     at_end false false = refl
 listed_along s t (k ∷ ks) e =
     let (u, is) = first_step (step s k) ks t e in
-    let all : Bool = list_all (is_same letter.Entity) ks in
+    let all : Bool = list_all is_listed ks in
     let header : Bool = is_same letter.Header k in
-    let entity : Bool = is_same letter.Entity k in
+    let entity : Bool = is_listed k in
     listed_along u t ks (subst (λ o. lead o ks ≡ Some t) is e)
     ∙ ap (λ h. is_in_list ks || h && is_header_list ks || is_listing u && all) (told_at 4 s u k is)
     ∙ ap (λ l. is_in_list ks || is_same letter.ControlInterface k && is_header_list ks || l && all) (told_at 5 s u k is)
@@ -211,6 +224,12 @@ module _ (ks : List Letter) (s : Stage) (e : stage_behind ks ≡ Some s) where
     ends_behind_control s ∙ ap (λ b. b && not (is_headless s)) control_came ∙ ap (λ b. has letter.ControlInterface ks && not b) control_is_latest,
   )
 
+  -- with no audio association before it the input may not end
+  pub no_association_no_end : has letter.AudioAssociation ks ≡ false → may_end s ≡ false
+  no_association_no_end none =
+      ends_behind_control s
+      ∙ and_left (is_past_control s) (not (is_headless s)) (and_left (not (is_before_association s)) (not (is_announced s)) (association_came ∙ none))
+
 -- ---- the state
 
 stage_along : (s : State) (place : ℕ) (blocks : List block.Block) → BreakNone s place blocks
@@ -225,66 +244,3 @@ stage_along s place (b ∷ blocks) (here, unbroken) =
 pub read_stage : (blocks : List block.Block) (s : State) (place : ℕ) → HasRead blocks s place → stage_behind (map letter_of blocks) ≡ Some s.stage
 unfolding start
 read_stage blocks s place read = stage_along start 0 blocks read.unbroken ∙ ap (λ u. Some u.stage) (sym read.state_is)
-
--- the flags and the latest setting are those of the interfaces before
-record IsBehind (s : State) (earlier : List interface.Interface) : Type 0 where
-  used : IsUsed s.used earlier
-  latest : s.latest ≡ latest_of earlier
-
-behind_along : (s : State) (place : ℕ) (blocks : List block.Block) (earlier : List interface.Interface) → HasSmallNumbers blocks
-    → IsBehind s earlier → IsBehind (state_behind s place blocks) (reverse (filter_map interface_of blocks) ++ earlier)
-unfolding state_after latest_of
-behind_along s place [] earlier small is = is
-behind_along s place (variant.Interface i ∷ blocks) earlier (small, rest) is =
-    subst (IsBehind (state_behind (state_after s place (variant.Interface i)) (place + bytes_in (variant.Interface i)) blocks))
-    (sym (ap (λ xs. xs ++ earlier) (reverse_onto (filter_map interface_of blocks) i []) ∙ append_assoc (reverse (filter_map interface_of blocks)) (i ∷ []) earlier))
-    (behind_along (state_after s place (variant.Interface i)) (place + bytes_in (variant.Interface i)) blocks (i ∷ earlier) rest
-    (record { used = flags_after s.used i earlier small is.used; latest = refl }))
-behind_along s place (b ∷ blocks) earlier small is =
-    behind_along (state_after s place b) (place + bytes_in b) blocks earlier small (record { used = is.used; latest = is.latest })
-
-small_front : (blocks : List block.Block) (b : block.Block) → HasSmallNumbers (blocks ++ b ∷ []) → HasSmallNumbers blocks × HasSmallNumbers (b ∷ [])
-small_front [] b small = (tt, small)
-small_front (variant.Interface i ∷ blocks) b (small, rest) = (let (front, last) = small_front blocks b rest in ((small, front), last))
-small_front (a ∷ blocks) b small = small_front blocks b small
-
-turn_is : (used : List Bool) (earlier : List interface.Interface) (b : block.Block) → HasSmallNumbers (b ∷ []) → IsUsed used earlier
-    → is_in_turn used (latest_of earlier) b ≡ true → IsInTurn earlier b
-turn_is used earlier (variant.Interface i) (small, rest) is h = turn_of used earlier i small is h
-turn_is used earlier b small is h = tt
-
-is_turn : (used : List Bool) (earlier : List interface.Interface) (b : block.Block) → HasSmallNumbers (b ∷ []) → IsUsed used earlier
-    → IsInTurn earlier b → is_in_turn used (latest_of earlier) b ≡ true
-unfolding is_in_turn
-is_turn used earlier (variant.Interface i) (small, rest) is h = of_turn used earlier i small is h
-is_turn used earlier b small is h = refl
-
-module _ (blocks : List block.Block) (s : State) (place : ℕ) (b : block.Block) (read : HasRead blocks s place) (are : AreBytes (spellings (blocks ++ b ∷ []))) where
-  numbers : HasSmallNumbers blocks × HasSmallNumbers (b ∷ [])
-  numbers = small_front blocks b (small_numbers (blocks ++ b ∷ []) are)
-
-  is_behind : IsBehind s (interfaces_before blocks)
-  unfolding start latest_of
-  is_behind =
-      subst (λ u. IsBehind u (interfaces_before blocks)) (sym read.state_is)
-      (subst (IsBehind (state_behind start 0 blocks)) (append-nil (interfaces_before blocks))
-      (behind_along start 0 blocks [] numbers.0 (record { used = at_start; latest = refl })))
-
-  pub taken_is_allowed : is_refused s b ≡ false → IsAllowedBehind blocks b
-  unfolding is_refused
-  taken_is_allowed h =
-      let (order, turn) = or_parts (is_none (step s.stage (letter_of b))) (not (is_in_turn s.used s.latest b)) h in
-      let (t, e) = step_there (step s.stage (letter_of b)) order in (
-        led_first (map letter_of blocks ++ letter_of b ∷ []) t (lead-push (Some Start) (map letter_of blocks) s.stage (letter_of b) (read_stage blocks s place read) ∙ e),
-        turn_is s.used (interfaces_before blocks) b numbers.1 is_behind.used
-            (subst (λ l. is_in_turn s.used l b ≡ true) is_behind.latest (not-false (is_in_turn s.used s.latest b) turn)),
-      )
-
-  pub allowed_is_taken : IsAllowedBehind blocks b → is_refused s b ≡ false
-  unfolding is_refused
-  allowed_is_taken (first, turn) =
-      let (t, led) = first_led (map letter_of blocks ++ letter_of b ∷ []) first in
-      or_from (is_none (step s.stage (letter_of b))) (not (is_in_turn s.used s.latest b))
-      (ap is_none (sym (lead-push (Some Start) (map letter_of blocks) s.stage (letter_of b) (read_stage blocks s place read)) ∙ led))
-      (not_from_true (is_in_turn s.used s.latest b)
-      (subst (λ l. is_in_turn s.used l b ≡ true) (sym is_behind.latest) (is_turn s.used (interfaces_before blocks) b numbers.1 is_behind.used turn)))
