@@ -16,3 +16,4 @@ pub mod EarlierLemmas
 pub mod FirstFaultOrderLemmas
 pub mod FirstFaultTotalLemmas
 pub mod FirstFaultLemmas
+pub mod FirstFaultExamples

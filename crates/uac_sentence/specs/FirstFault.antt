@@ -65,41 +65,44 @@ pub record HasNoLayout (before : List block.Block) (bytes : List ℕ) : Type 0 w
 
 -- ---- G4: the values of fields
 
+-- G4: a block is there whose fields have a value that is not allowed
 abbrev pub HasWrongValue : List block.Block → List ℕ → Type 0
 HasWrongValue before bytes = NextBlock before bytes (λ b. HasValues (context_of before) b → ⊥)
 
 -- ---- G5: the two totals
 
+-- n bytes pass a total, or are short of it
 abbrev pub IsPast : ℕ → ℕ → Type 0
 IsPast n total = total < n
 
 abbrev pub IsShort : ℕ → ℕ → Type 0
 IsShort n total = n < total
 
--- so are to one another the number of bytes from the first configuration on, and its total
+-- it is so of the number of bytes from the first configuration on, and of its total
 abbrev pub ConfigurationTotal : (ℕ → ℕ → Type 0) → List block.Block → Type 0
 ConfigurationTotal IsSo [] = ⊥
 ConfigurationTotal IsSo (variant.Configuration c ∷ blocks) = IsSo (size (variant.Configuration c ∷ blocks)) c.total
 ConfigurationTotal IsSo (_ ∷ blocks) = ConfigurationTotal IsSo blocks
 
--- the blocks end with the list of the first header, and so are to one another the number of its bytes and the header's total
+-- the blocks end with the list of the first header, and it is so of the number of its bytes and of the header's total
 abbrev pub HeaderTotal : (ℕ → ℕ → Type 0) → List block.Block → Type 0
 HeaderTotal IsSo [] = ⊥
 HeaderTotal IsSo (variant.Header h ∷ blocks) =
     AllByRecursion (λ b. IsTrue (is_listed (letter_of b))) blocks × IsSo (size (variant.Header h ∷ blocks)) h.total
 HeaderTotal IsSo (_ ∷ blocks) = HeaderTotal IsSo blocks
 
--- a block ends past the configuration's total, or one of the header's list past the header's, or the list ends before it short of that
+-- the block ends past the configuration's total, or in the header's list past the header's, or the list ends before it, short of that
 abbrev pub MissesTotal : List block.Block → block.Block → Type 0
 MissesTotal before b =
     ConfigurationTotal IsPast (before ++ b ∷ [])
     ⊎ HeaderTotal IsPast (before ++ b ∷ [])
     ⊎ ((is_listed (letter_of b) ≡ false) × HeaderTotal IsShort before)
 
--- all blocks end, and with them the list, short of a total
+-- where the bytes end: all blocks are short of the configuration's total, or the list of the header's
 abbrev pub FallsShort : List block.Block → Type 0
 FallsShort before = ConfigurationTotal IsShort before ⊎ HeaderTotal IsShort before
 
+-- G5: at a block, or where the bytes end
 abbrev pub HasWrongTotal : List block.Block → List ℕ → Type 0
 HasWrongTotal before bytes = NextBlock before bytes (MissesTotal before) ⊎ ((bytes ≡ []) × FallsShort before)
 
@@ -116,20 +119,21 @@ pub record IsMisplaced (before : List block.Block) (b : block.Block) : Type 0 wh
   pub refused : MayBegin (before ++ b ∷ []) → ⊥
   pub unnamed : is_named (map letter_of before) (letter_of b) ≡ false
 
--- G6: such a block, or at the end the control interface with its header still missing
+-- G6: such a block, or the bytes end behind the control interface, with its header still missing
 abbrev pub IsOutOfOrder : List block.Block → List ℕ → Type 0
 IsOutOfOrder before bytes =
     NextBlock before bytes (IsMisplaced before) ⊎ ((bytes ≡ []) × IsTrue (latest_is letter.ControlInterface (map letter_of before)))
 
--- at the end the audio association is missing, or the control interface
+-- the audio association is missing, or the control interface
 abbrev pub LacksPart : List block.Block → Type 0
 LacksPart before =
     (has letter.AudioAssociation (map letter_of before) ≡ false) ⊎ (has letter.ControlInterface (map letter_of before) ≡ false)
 
--- G7: an audio interface before the audio association, or another block than the control interface behind it; or one is missing
+-- G7: an audio interface before the audio association, or another block than the control interface behind it; or at the end one is missing
 abbrev pub LacksAssociation : List block.Block → List ℕ → Type 0
 LacksAssociation before bytes =
-    NextBlock before bytes (λ b. IsTrue (stands_without_association (map letter_of before) (letter_of b))) ⊎ ((bytes ≡ []) × LacksPart before)
+    NextBlock before bytes (λ b. IsTrue (stands_without_association (map letter_of before) (letter_of b)))
+    ⊎ ((bytes ≡ []) × LacksPart before)
 
 -- G8: in the list of entities a class block of an unknown subtype
 abbrev pub HasUnknownSubtype : List block.Block → List ℕ → Type 0
