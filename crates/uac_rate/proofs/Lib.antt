@@ -1,0 +1,2 @@
+pub mod SteadinessLemmas
+mod Worked

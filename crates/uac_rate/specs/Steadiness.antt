@@ -1,0 +1,73 @@
+-- profile: clocks that keep within a thousandth, and feedback of which at most three reports are lost in succession.
+use Rattle.std.specs.Prelude.{◌≡◌, ℕ, suc, ◌<◌, ◌==◌, ◌&&◌, ◌||◌, not, Bool, true, false, if◌then◌else◌, nat_lt, min, ℤ, pos, negsuc, int_le, List, [], ◌∷◌, length, get_or}
+use Rattle.std.specs.List.{list_all}
+
+-- what was given: the deviations, in millionths, the latest first; and by stream a list for each start, the latest first, of whether
+-- each feedback report since then was lost, the latest first
+pub record Given : Type 0 where
+  pub deviations : List ℤ
+  pub feedback : ℕ → List (List Bool)
+
+abbrev pub nothing_given : Given
+nothing_given = record { deviations = []; feedback = λ stream. [] }
+
+-- the reports of each start with one more in the latest start
+abbrev pub one_more : Bool → List (List Bool) → List (List Bool)
+one_more lost [] = (lost ∷ []) ∷ []
+one_more lost (latest ∷ earlier) = (lost ∷ latest) ∷ earlier
+
+abbrev pub deviated : ℤ → Given → Given
+deviated millionths given = record given { deviations = millionths ∷ given.deviations }
+
+abbrev pub reported : ℕ → Bool → Given → Given
+reported stream lost given =
+    record given { feedback = λ k. if k == stream then one_more lost (given.feedback k) else given.feedback k }
+
+abbrev pub restarted : ℕ → Given → Given
+restarted stream given = record given { feedback = λ k. if k == stream then [] ∷ given.feedback k else given.feedback k }
+
+-- a clock is off by at most a thousandth
+abbrev pub is_slight : ℤ → Bool
+is_slight millionths = int_le (negsuc 999) millionths && int_le millionths (pos 1000)
+
+-- how many reports were lost since one came
+abbrev pub run : List Bool → ℕ
+run [] = 0
+run (false ∷ older) = 0
+run (true ∷ older) = suc (run older)
+
+-- four in succession of these feedback reports were lost
+abbrev pub has_four_lost : List Bool → Bool
+has_four_lost [] = false
+has_four_lost (lost ∷ older) = nat_lt 3 (run (lost ∷ older)) || has_four_lost older
+
+-- no stream of these lost four feedback reports in succession
+abbrev pub keeps_feedback : (ℕ → List (List Bool)) → List ℕ → Bool
+keeps_feedback feedback streams = list_all (λ stream. list_all (λ reports. not (has_four_lost reports)) (feedback stream)) streams
+
+abbrev pub eight_streams : List ℕ
+eight_streams = 0 ∷ 1 ∷ 2 ∷ 3 ∷ 4 ∷ 5 ∷ 6 ∷ 7 ∷ []
+
+-- no deviation passed a thousandth, and no stream lost four feedback reports in succession
+abbrev pub is_steady : Given → Bool
+is_steady given = list_all is_slight given.deviations && keeps_feedback given.feedback eight_streams
+
+-- the same as a fact
+abbrev pub IsSteady : Given → Type 0
+IsSteady given = is_steady given ≡ true
+
+-- what is kept of that
+pub record SteadyFields : Type 0 where
+  pub holds : Bool
+  pub runs : List ℕ
+
+-- how many reports of the latest start were lost since one came
+abbrev pub latest_run : List (List Bool) → ℕ
+latest_run [] = 0
+latest_run (latest ∷ earlier) = run latest
+
+-- it is kept of what was given
+pub record Stands (kept : SteadyFields) (given : Given) : Type 0 where
+  pub holds : kept.holds ≡ is_steady given
+  pub eight : length kept.runs ≡ 8
+  pub runs : (stream : ℕ) → stream < 8 → get_or kept.runs stream 0 ≡ min (latest_run (given.feedback stream)) 4
