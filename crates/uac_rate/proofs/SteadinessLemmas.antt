@@ -1,10 +1,10 @@
 -- A report more is steady where the reports before were and it isn't the fourth in succession that was lost.
-use Rattle.std.proofs.Common.{arith, ◌≡◌, ℕ, suc, zero, ◌+◌, ◌<◌, ◌==◌, ◌&&◌, ◌||◌, not, nat_lt, min, if◌then◌else◌, Bool, true, false, List, [], ◌∷◌, length, get_or, slice_set, length-set, refl, ap, sym, ◌∙◌, rules}
-use Rattle.std.proofs.lemmas.Bool.{eqb-true, eqb-false, eq-eqb}
+use Rattle.std.proofs.Common.{arith, ◌≡◌, ◌↔◌, ℕ, suc, zero, ◌+◌, ◌<◌, ◌==◌, ◌&&◌, ◌||◌, not, nat_lt, min, if◌then◌else◌, Bool, true, false, List, [], ◌∷◌, ◌++◌, length, get_or, slice_set, length-set, refl, ap, sym, ◌∙◌, rules}
+use Rattle.std.proofs.lemmas.Bool.{eqb-true, eqb-false, eq-eqb, false≢true}
 use Rattle.std.proofs.lemmas.Grind.{common_steps, get_or-set_at}
 use Rattle.std.proofs.lemmas.List.{get_or-set_other}
 use Rattle.std.specs.List.{list_all, list_any}
-use Rattle.uac_rate.specs.Steadiness.{Given, SteadyFields, Stands, one_more, reported, is_slight, run, has_four_lost, keeps_feedback, eight_streams, is_steady, latest_run}
+use Rattle.uac_rate.specs.Steadiness.{Given, SteadyFields, Stands, one_more, reported, is_slight, run, has_four_lost, keeps_feedback, eight_streams, is_steady, latest_run, HasFourInARow}
 
 here : (p ok a n : Bool) → ((p && ok) && (a && (if n then ok else true))) ≡ ((p && a) && ok)
 here false ok a n = refl
@@ -138,3 +138,38 @@ pub after_one : (lists : List (List Bool)) (lost : Bool) (run_now : ℕ) → los
     → run_now ≡ min (latest_run (one_more lost lists)) 4
 after_one lists lost run_now is_not run_is =
     run_is ∙ ap (λ (n : ℕ). min n 4) (sym (came_one lists)) ∙ ap (λ b. min (latest_run (one_more b lists)) 4) (sym is_not)
+
+in_a_row_first : (lost : Bool) (older : List Bool) → nat_lt 3 (run (lost ∷ older)) ≡ true → HasFourInARow (lost ∷ older)
+in_a_row_first false older h = absurd (false≢true h)
+in_a_row_first true [] h = absurd (false≢true h)
+in_a_row_first true (false ∷ older) h = absurd (false≢true h)
+in_a_row_first true (true ∷ []) h = absurd (false≢true h)
+in_a_row_first true (true ∷ false ∷ older) h = absurd (false≢true h)
+in_a_row_first true (true ∷ true ∷ []) h = absurd (false≢true h)
+in_a_row_first true (true ∷ true ∷ false ∷ older) h = absurd (false≢true h)
+in_a_row_first true (true ∷ true ∷ true ∷ older) h = record { newer = []; older = older; are = refl }
+
+in_a_row : (reports : List Bool) → has_four_lost reports ≡ true → HasFourInARow reports
+in_a_row [] h = absurd (false≢true h)
+in_a_row (lost ∷ older) h = from (nat_lt 3 (run (lost ∷ older))) refl h (in_a_row older) where
+  from : (b : Bool) → nat_lt 3 (run (lost ∷ older)) ≡ b → (b || has_four_lost older) ≡ true
+      → (has_four_lost older ≡ true → HasFourInARow older) → HasFourInARow (lost ∷ older)
+  from true first h others = in_a_row_first lost older first
+  from false other h others = let rest = others h in
+      record { newer = lost ∷ rest.newer; older = rest.older; are = ap (λ (xs : List Bool). lost ∷ xs) rest.are }
+
+or_true : (b : Bool) → (b || true) ≡ true
+or_true false = refl
+or_true true = refl
+
+four_here : (r : ℕ) → nat_lt 3 (suc (suc (suc (suc r)))) ≡ true
+four_here r = search rules
+
+lost_in_a_row : (newer older : List Bool) → has_four_lost (newer ++ true ∷ true ∷ true ∷ true ∷ older) ≡ true
+lost_in_a_row [] older = ap (λ b. b || has_four_lost (true ∷ true ∷ true ∷ older)) (four_here (run older))
+lost_in_a_row (lost ∷ newer) older =
+    let reports = newer ++ true ∷ true ∷ true ∷ true ∷ older in
+    ap (λ b. nat_lt 3 (run (lost ∷ reports)) || b) (lost_in_a_row newer older) ∙ or_true (nat_lt 3 (run (lost ∷ reports)))
+
+pub four_in_a_row : (reports : List Bool) → (has_four_lost reports ≡ true) ↔ HasFourInARow reports
+four_in_a_row reports = (in_a_row reports, λ h. ap has_four_lost h.are ∙ lost_in_a_row h.newer h.older)

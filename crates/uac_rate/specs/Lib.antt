@@ -1,3 +1,5 @@
+pub mod LevelLaws
+pub mod Levels
 pub mod Packets
 pub mod Reports
 pub mod Steadiness

@@ -1,5 +1,5 @@
 -- profile: clocks that keep within a thousandth, and feedback of which at most three reports are lost in succession.
-use Rattle.std.specs.Prelude.{◌≡◌, ℕ, suc, ◌<◌, ◌==◌, ◌&&◌, ◌||◌, not, Bool, true, false, if◌then◌else◌, nat_lt, min, ℤ, pos, negsuc, int_le, List, [], ◌∷◌, length, get_or}
+use Rattle.std.specs.Prelude.{◌≡◌, ◌↔◌, ℕ, suc, ◌<◌, ◌==◌, ◌&&◌, ◌||◌, not, Bool, true, false, if◌then◌else◌, nat_lt, min, ℤ, pos, negsuc, int_le, List, [], ◌∷◌, ◌++◌, length, get_or}
 use Rattle.std.specs.List.{list_all}
 
 -- what was given: the deviations, in millionths, the latest first; and by stream a list for each start, the latest first, of whether
@@ -40,6 +40,15 @@ run (true ∷ older) = suc (run older)
 abbrev pub has_four_lost : List Bool → Bool
 has_four_lost [] = false
 has_four_lost (lost ∷ older) = nat_lt 3 (run (lost ∷ older)) || has_four_lost older
+
+-- the same by the list: four in a row
+pub record HasFourInARow (reports : List Bool) : Type 0 where
+  pub newer : List Bool
+  pub older : List Bool
+  pub are : reports ≡ newer ++ true ∷ true ∷ true ∷ true ∷ older
+
+abbrev pub FourLostAreInARow : Type 0
+FourLostAreInARow = (reports : List Bool) → (has_four_lost reports ≡ true) ↔ HasFourInARow reports
 
 -- no stream of these lost four feedback reports in succession
 abbrev pub keeps_feedback : (ℕ → List (List Bool)) → List ℕ → Bool

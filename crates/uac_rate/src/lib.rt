@@ -1,6 +1,7 @@
-//! The pace of packets, feedback reports, and when clocks and reports are steady.
+//! The pace of packets, feedback reports, when clocks and reports are steady, and the bands in which rings stay.
 #![tactic(auto)]
 
+pub mod laws;
 mod pace;
 mod reports;
 mod steadiness;

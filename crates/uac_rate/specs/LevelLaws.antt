@@ -1,0 +1,108 @@
+-- profile: what keeps the level of a primed stream's ring in its bands. The laws speak of numbers alone.
+use Rattle.std.specs.Prelude.{◌≡◌, ℕ, suc, ◌+◌, ◌-◌, ◌*◌, ◌%◌, ◌<◌, ◌≤◌, ◌/◌, Bool, true, false, ℤ, List, [], ◌∷◌, ◌++◌, length, sum}
+use Rattle.std.specs.List.{AllByRecursion}
+use Rattle.uac_clock.specs.declared.values.Nominal.{Nominal}
+use Rattle.uac_clock.specs.Nominal.{IsNominal, HasRoom, step_of}
+use Rattle.uac_rate.specs.Packets.{frames_in_packet}
+use Rattle.uac_rate.specs.Steadiness.{is_slight}
+use Rattle.uac_rate.specs.Levels.{HasBand, AreIntervals, Point, Within, stored, owed, Interval, Reported, IsTarget, IsRobust, Mark, mark_of, aged, mark_after, HasDrifted, IsTight, IsJustPrimed, IsPriming, Fills, Moment, IsHeld, FallsDue}
+
+-- each of the twelve rates has room, and a band of 65 frames
+abbrev pub RatesHaveBands : Type 0
+RatesHaveBands = (values : Nominal) → IsNominal values → HasRoom values × HasBand values 65
+
+-- a packet of one microframe more has that microframe's frames more
+abbrev pub PacketsAddUp : Type 0
+PacketsAddUp =
+    (service : ℕ) (values : List ℕ) (value : ℕ) → service ≤ length values
+    → frames_in_packet (suc service) (values ++ value ∷ []) ≡ frames_in_packet service values + frames_in_packet 1 (values ++ value ∷ [])
+
+-- the same by the remainder: what the values before left, and what those of the packet give
+abbrev pub PacketsFollowRemainders : Type 0
+PacketsFollowRemainders =
+    (values packet : List ℕ)
+    → (frames_in_packet (length packet) (values ++ packet) ≡ (sum values % 65536 + sum packet) / 65536)
+    × (sum (values ++ packet) % 65536 ≡ (sum values % 65536 + sum packet) % 65536)
+
+-- a clock that is steady is off by at most a thousandth of its rate, and so are the steps of an interval in sum
+abbrev pub SteadyClocksAreSlight : Type 0
+SteadyClocksAreSlight =
+    (values : Nominal) (millionths : ℤ) → IsNominal values → is_slight millionths ≡ true → Within values.e (step_of values millionths) values.f
+
+abbrev pub SlightStepsAddUp : Type 0
+SlightStepsAddUp =
+    (values : Nominal) (steps : List ℕ) → AllByRecursion (λ step. Within values.e step values.f) steps
+    → Within (length steps * values.e) (sum steps) (length steps * values.f)
+
+-- by the count of a stream's microframes at the end of an interval
+abbrev pub ReportsFallDue : Type 0
+ReportsFallDue = (service period count : ℕ) → AreIntervals service period → count % service ≡ 0 → FallsDue service period count
+
+-- an interval keeps a robust stream robust, whether its packet came or was lost
+abbrev pub IntervalsKeepRobust : Type 0
+IntervalsKeepRobust =
+    (values : Nominal) (band service period : ℕ) (packet_lost : Bool) (p q : Point) → HasBand values band
+    → Interval values service period packet_lost p q → IsRobust values band service period p → IsRobust values band service period q
+
+-- so does a report, whether it came or was lost, where it isn't the fourth in succession
+abbrev pub ReportsKeepRobust : Type 0
+ReportsKeepRobust =
+    (values : Nominal) (band service period : ℕ) (report_lost : Bool) (p q : Point) → HasBand values band → AreIntervals service period
+    → Reported values period report_lost p q → IsRobust values band service period p → IsRobust values band service period q
+
+-- where the report of the mark isn't held at either end: in 64ths, each microframe since the mark takes one of its error, and leaves the
+-- remainders of the mark and at most what the clock deviated
+abbrev pub FreeFormula : Type 0
+FreeFormula =
+    (values : Nominal) (mark : Mark) (p : Point) → mark.age ≤ 64 → p.value + 1024 * mark.level ≡ values.f + 1024 * p.target
+    → HasDrifted values mark p
+    → Within (64 * (mark.age * values.e))
+    (64 * stored p.level p.host + (64 - mark.age) * owed p.target mark.clock + mark.age * mark.clock)
+    (64 * owed p.target p.clock + (64 - mark.age) * stored mark.level mark.host + mark.age * mark.host)
+
+-- an interval whose packet came keeps a tight stream tight
+abbrev pub IntervalsKeepTight : Type 0
+IntervalsKeepTight =
+    (values : Nominal) (service period : ℕ) (mark : Mark) (p q : Point) → Interval values service period false p q
+    → IsTight values period mark p → IsTight values period (aged service mark) q
+
+-- so does a report, whether it came, which makes a new mark, or was lost
+abbrev pub ReportsKeepTight : Type 0
+ReportsKeepTight =
+    (values : Nominal) (band service period : ℕ) (report_lost : Bool) (mark : Mark) (p q : Point) → HasBand values band
+    → AreIntervals service period → Reported values period report_lost p q → IsTight values period mark p
+    → IsTight values period (mark_after report_lost mark p) q
+
+-- a robust stream is within 130 frames of its target at the end of an interval, and a tight one within 3
+abbrev pub RobustIsNear : Type 0
+RobustIsNear =
+    (values : Nominal) (service period : ℕ) (p : Point) → AreIntervals service period → IsRobust values 65 service period p
+    → Within 130 p.level p.target
+
+abbrev pub TightIsNear : Type 0
+TightIsNear =
+    (values : Nominal) (service period : ℕ) (mark : Mark) (p : Point) → HasRoom values → HasBand values 65 → AreIntervals service period
+    → IsTight values period mark p → Within 3 p.level p.target
+
+-- what a primed ring holds at every moment
+abbrev pub RingsHoldEnough : Type 0
+RingsHoldEnough =
+    (values : Nominal) (service period : ℕ) (p : Point) (held : ℕ) → HasRoom values → AreIntervals service period
+    → IsRobust values 65 service period p → Moment values service p held → IsHeld service held
+
+-- a stream is primed at a level in its range: it was below the least one until a packet came at the nominal value, or an interval's zeros
+abbrev pub PrimedInRange : Type 0
+PrimedInRange =
+    (values : Nominal) (service period least before after : ℕ) → HasRoom values → AreIntervals service period → IsPriming service least
+    → before < least → least ≤ after → Fills values service before after → IsTarget service after
+
+-- and it is robust and tight then
+abbrev pub PrimedIsRobust : Type 0
+PrimedIsRobust =
+    (values : Nominal) (band service period : ℕ) (p : Point) → HasBand values band → IsJustPrimed values service period p
+    → IsRobust values band service period p
+
+abbrev pub PrimedIsTight : Type 0
+PrimedIsTight =
+    (values : Nominal) (band service period : ℕ) (p : Point) → HasBand values band → IsJustPrimed values service period p
+    → IsTight values period (mark_of p) p
