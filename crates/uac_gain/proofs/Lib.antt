@@ -1,3 +1,4 @@
 pub mod Ladder
 pub mod Listening
+pub mod Rising
 pub mod Worked

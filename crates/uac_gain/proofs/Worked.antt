@@ -1,6 +1,6 @@
 -- The definitions at the values that were worked out by hand.
 use Rattle.std.proofs.Common.{◌≡◌, refl, pos, negsuc, Some, None}
-use Rattle.uac_gain.specs.Gain.{decibel_gain, gain_of, scaled, saturated}
+use Rattle.uac_gain.specs.Gain.{decibel_gain, raised_gain, gain_of, scaled, saturated}
 
 gain-0 : decibel_gain 0 ≡ 1073741824
 unfolding decibel_gain
@@ -14,9 +14,21 @@ gain-2 : decibel_gain 2 ≡ 852903447
 unfolding decibel_gain
 gain-2 = refl
 
+raised-0 : raised_gain 0 ≡ 1073741824
+unfolding raised_gain
+raised-0 = refl
+
+raised-1 : raised_gain 1 ≡ 1204758141
+unfolding raised_gain
+raised-1 = refl
+
 one_decibel_down : gain_of (negsuc 255) ≡ Some 956973408
 unfolding decibel_gain
 one_decibel_down = refl
+
+half_a_decibel_down : gain_of (negsuc 127) ≡ Some 1013677647
+unfolding decibel_gain
+half_a_decibel_down = refl
 
 silence : gain_of (negsuc 32767) ≡ Some 0
 silence = refl
@@ -24,8 +36,11 @@ silence = refl
 off_grid : gain_of (negsuc 254) ≡ None
 off_grid = refl
 
-above_0 : gain_of (pos 256) ≡ None
-above_0 = refl
+no_half_at_32_down : gain_of (negsuc 8319) ≡ None
+no_half_at_32_down = refl
+
+above_the_grid : gain_of (pos 3200) ≡ None
+above_the_grid = refl
 
 below_the_grid : gain_of (negsuc 24831) ≡ None
 below_the_grid = refl
@@ -38,6 +53,30 @@ scaled-1 = refl
 
 scaled-minus-1 : scaled (negsuc 0) 956973408 ≡ negsuc 0
 scaled-minus-1 = refl
+
+-- half a decibel up, then twelve decibels up
+half_up : gain_of (pos 128) ≡ Some 1137365026
+unfolding raised_gain
+half_up = refl
+
+half_up-half_full : scaled (pos 1073741824) 1137365026 ≡ pos 1137365026
+half_up-half_full = refl
+
+half_up-full : scaled (pos 2147483647) 1137365026 ≡ pos 2147483647
+half_up-full = refl
+
+highest : gain_of (pos 3072) ≡ Some 4274643155
+unfolding raised_gain
+highest = refl
+
+highest-1 : scaled (pos 1) 4274643155 ≡ pos 3
+highest-1 = refl
+
+highest-minus-1 : scaled (negsuc 0) 4274643155 ≡ negsuc 3
+highest-minus-1 = refl
+
+highest-least : scaled (negsuc 2147483647) 4274643155 ≡ negsuc 2147483647
+highest-least = refl
 
 two_full_inputs : saturated (pos 4294967294) ≡ pos 2147483647
 two_full_inputs = refl

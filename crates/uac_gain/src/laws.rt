@@ -1,12 +1,14 @@
 //! What a listener may rely on. Each function does nothing: its contract is the law.
 
-ghost use Rattle.std.specs.Prelude.{◌≡◌, ℕ, ◌+◌, ◌*◌, ◌^◌, ◌<◌, ◌≤◌, ℤ, pos, negsuc, neg_ℤ, ◌+ℤ◌, ◌-ℤ◌, ◌*ℤ◌, ◌≤ℤ◌, ◌<ℤ◌, unsigned_abs, FitsSigned, Some};
+ghost use Rattle.std.specs.Prelude.{◌≡◌, ℕ, ◌+◌, ◌*◌, ◌^◌, ◌<◌, ◌≤◌, Some};
+ghost use Rattle.std.specs.Prelude.{ℤ, pos, negsuc, neg_ℤ, ◌+ℤ◌, ◌-ℤ◌, ◌*ℤ◌, ◌≤ℤ◌, ◌<ℤ◌, unsigned_abs, FitsSigned};
 ghost use Rattle.std.specs.Int.{w32};
-ghost use Rattle.uac_gain.specs.Gain.{decibel_gain, gain_of, floor_div, scaled, saturated};
+ghost use Rattle.uac_gain.specs.Gain.{decibel_gain, raised_gain, half_below, half_above, gain_of, floored, scaled, saturated, unity};
 
-/// A gain of 0 decibels changes nothing.
+/// A gain of 0 decibels changes no sample of 32 bits.
 pub fn unity_changes_nothing()
-    ensures { (sample : ℤ) → scaled sample (decibel_gain 0) ≡ sample }
+    ensures gain { gain_of (pos 0) ≡ Some unity }
+    ensures sample { (sample : ℤ) → FitsSigned w32 sample → scaled sample unity ≡ sample }
 {}
 
 /// A lesser gain never makes a sample larger in size, and no gain up to 2^30 makes it larger than it was.
@@ -17,6 +19,11 @@ pub fn lesser_gain_is_no_louder()
         → unsigned_abs (scaled sample gain) ≤ unsigned_abs sample }
 {}
 
+/// Scaling keeps the order of samples.
+pub fn scaling_keeps_the_order()
+    ensures { (lower upper : ℤ) (gain : ℕ) → lower ≤ℤ upper → scaled lower gain ≤ℤ scaled upper gain }
+{}
+
 /// Scaling never turns a sample's sign: what isn't negative stays so, and what is negative stays at -1 or below, as the
 /// floor says, unless the gain is 0.
 pub fn scaling_keeps_the_sign()
@@ -25,21 +32,39 @@ pub fn scaling_keeps_the_sign()
     ensures silent { (sample : ℤ) → scaled sample 0 ≡ pos 0 }
 {}
 
-/// The scaled sample is the true product rounded towards minus infinity: the product lies from it to less than one above.
+/// Before it is held to 32 bits, the scaled sample is the true product rounded towards minus infinity: the product lies
+/// from it to less than one above.
 pub fn scaling_rounds_down()
     ensures from { (sample : ℤ) (gain : ℕ)
-        → (scaled sample gain *ℤ pos (2 ^ 30)) ≤ℤ (sample *ℤ pos gain) }
+        → (floored sample gain *ℤ pos (2 ^ 30)) ≤ℤ (sample *ℤ pos gain) }
     ensures below { (sample : ℤ) (gain : ℕ)
-        → (sample *ℤ pos gain) <ℤ ((scaled sample gain +ℤ pos 1) *ℤ pos (2 ^ 30)) }
+        → (sample *ℤ pos gain) <ℤ ((floored sample gain +ℤ pos 1) *ℤ pos (2 ^ 30)) }
 {}
 
-/// Each decibel down has a gain, those gains fall strictly, and the last is more than silence.
-pub fn gains_fall_strictly()
-    ensures each { (decibels : ℕ) → decibels ≤ 96
+/// A scaled sample has 32 bits, and is exact wherever that suffices.
+pub fn scaling_saturates()
+    ensures fits { (sample : ℤ) (gain : ℕ) → FitsSigned w32 (scaled sample gain) }
+    ensures exact { (sample : ℤ) (gain : ℕ) → FitsSigned w32 (floored sample gain) → scaled sample gain ≡ floored sample gain }
+{}
+
+/// The volumes that have a gain: whole decibels from -96 to 12, halves from -31.5 to 11.5, and silence.
+pub fn each_decibel_has_its_gain()
+    ensures down { (decibels : ℕ) → decibels ≤ 96
         → gain_of (neg_ℤ (pos (256 * decibels))) ≡ Some (decibel_gain decibels) }
-    ensures falls { (louder softer : ℕ) → louder < softer → softer ≤ 96
-        → decibel_gain softer < decibel_gain louder }
-    ensures audible { 0 < decibel_gain 96 }
+    ensures half_down { (decibels : ℕ) → decibels ≤ 31
+        → gain_of (neg_ℤ (pos (256 * decibels + 128))) ≡ Some (half_below (decibel_gain decibels)) }
+    ensures up { (decibels : ℕ) → decibels ≤ 12 → gain_of (pos (256 * decibels)) ≡ Some (raised_gain decibels) }
+    ensures half_up { (decibels : ℕ) → decibels ≤ 11
+        → gain_of (pos (256 * decibels + 128)) ≡ Some (half_above (raised_gain decibels)) }
+    ensures silence { gain_of (negsuc 32767) ≡ Some 0 }
+{}
+
+/// Every gain has 32 bits, a louder volume has a greater gain, and only silence has the gain 0.
+pub fn gains_rise_strictly()
+    ensures fits { (volume : ℤ) (gain : ℕ) → gain_of volume ≡ Some gain → gain < 2 ^ 32 }
+    ensures rises { (less more : ℤ) (low high : ℕ) → less <ℤ more
+        → gain_of less ≡ Some low → gain_of more ≡ Some high → low < high }
+    ensures audible { (volume : ℤ) → gain_of volume ≡ Some 0 → volume ≡ negsuc 32767 }
 {}
 
 /// A lesser volume never makes a sample larger in size.

@@ -4,41 +4,84 @@
 pub mod laws;
 mod table;
 
-ghost use Rattle.std.specs.Prelude.{◌≡◌, ◌≤◌, ◌^◌};
-ghost use Rattle.uac_gain.specs.Gain.{gain_of, scaled, saturated};
+ghost use Rattle.std.specs.Prelude.{◌≡◌, ◌*◌, ◌/◌, ◌^◌, ◌<◌, ◌≤◌};
+ghost use Rattle.uac_gain.specs.Gain.{gain_above, gain_below, gain_of, scaled, saturated};
 
 /// The volume that means silence (Audio Class 2.0, 5.2.5.7.2).
 const SILENCE: i16 = -32768;
 
-/// How far below 0 the least volume lies that isn't silence: 96 decibels.
-const DEEPEST: u16 = 24576;
-
 /// One decibel, in parts of 1/256 decibel.
 const DECIBEL: u16 = 256;
+
+/// Half a decibel, in the same parts.
+const HALF: u16 = 128;
+
+/// How far below 0 the least volume lies that isn't silence: 96 decibels (profile).
+const DEEPEST: u16 = 24576;
+
+/// How far below 0 volumes still come in halves: 31.5 decibels (profile).
+const DEEPEST_HALF: u16 = 8064;
+
+/// How far above 0 the greatest volume lies: 12 decibels (profile).
+const HIGHEST: u16 = 3072;
+
+/// How far above 0 the greatest half lies: 11.5 decibels (profile).
+const HIGHEST_HALF: u16 = 2944;
+
+/// Half a decibel down and up, in parts of 2^30.
+const HALF_DOWN: u64 = 1013677647;
+
+const HALF_UP: u64 = 1137365026;
 
 /// The gain of a volume, in parts of 2^30.
 ///
 /// The volume is in parts of 1/256 decibel (Audio Class 2.0, 5.2.5.7.2). `None` comes exactly where it is neither
-/// -32768, which is silence, nor a multiple of 256 in -24576 to 0.
+/// -32768, which is silence, nor a multiple of 256 in -24576 to -8448 or of 128 in -8192 to 3072.
 pub fn gain(value: i16) -> Option<u32>
     ensures { result ≡ gain_of value }
 {
     if value == SILENCE {
-        return Some(0);
+        Some(0)
+    } else if value < 0 {
+        below(value.unsigned_abs())
+    } else {
+        above(value.unsigned_abs())
     }
-    let below = value.unsigned_abs();
-    if value > 0 || below > DEEPEST || below % DECIBEL != 0 {
-        return None;
-    }
-    Some(table::gain_at((below / DECIBEL) as usize))
 }
 
-/// The sample scaled by a gain in parts of 2^30, rounded towards minus infinity.
+/// The gain that many parts of 1/256 decibel below 0.
+fn below(parts: u16) -> Option<u32>
+    ensures { result ≡ gain_below parts }
+{
+    let decibels = (parts / DECIBEL) as usize;
+    if parts % DECIBEL == 0 && parts <= DEEPEST {
+        Some(table::gain_down(decibels))
+    } else if parts % DECIBEL == HALF && parts <= DEEPEST_HALF {
+        Some(((table::gain_down(decibels) as u64 * HALF_DOWN) >> 30) as u32)
+    } else {
+        None
+    }
+}
+
+/// The gain that many parts of 1/256 decibel above 0.
+fn above(parts: u16) -> Option<u32>
+    ensures { result ≡ gain_above parts }
+{
+    let decibels = (parts / DECIBEL) as usize;
+    if parts % DECIBEL == 0 && parts <= HIGHEST {
+        Some(table::gain_up(decibels))
+    } else if parts % DECIBEL == HALF && parts <= HIGHEST_HALF {
+        Some(((table::gain_up(decibels) as u64 * HALF_UP) >> 30) as u32)
+    } else {
+        None
+    }
+}
+
+/// The sample scaled by a gain in parts of 2^30, rounded towards minus infinity and held to 32 bits.
 pub fn scale(sample: i32, gain: u32) -> i32
-    requires { gain ≤ 2 ^ 30 }
     ensures { result ≡ scaled sample gain }
 {
-    ((sample as i64 * gain as i64) >> 30) as i32
+    saturate((sample as i64 * gain as i64) >> 30)
 }
 
 /// The nearest number of 32 bits.
@@ -58,15 +101,30 @@ mod tests {
             (0, Some(1073741824)),
             (-256, Some(956973408)),
             (-512, Some(852903447)),
+            (256, Some(1204758141)),
+            (-128, Some(1013677647)),
             (-32768, Some(0)),
+            (-8192, Some(26971170)),
+            (-8320, None),
             (-255, None),
+            (-64, None),
             (-24832, None),
-            (256, None),
+            (3200, None),
         ] {
             assert_eq!(rt; gain(value), want, "at {value}");
         }
-        for (sample, want) in [(1073741824, 956973408), (1, 0), (-1, -1)] {
-            assert_eq!(rt; scale(sample, 956973408), want, "at {sample}");
+        for (volume, sample, want) in [
+            (-256, 1073741824, 956973408),
+            (-256, 1, 0),
+            (-256, -1, -1),
+            (128, 1073741824, 1137365026),
+            (128, 2147483647, 2147483647),
+            (3072, 1, 3),
+            (3072, -1, -4),
+            (3072, -2147483648, -2147483648),
+        ] {
+            let scaled = gain(volume).map(|gain| scale(sample, gain));
+            assert_eq!(rt; scaled, Some(want), "at {volume} of {sample}");
         }
         assert_eq!(rt; saturate(2 * 2147483647), 2147483647);
         assert_eq!(rt; saturate(2 * -2147483648), -2147483648);

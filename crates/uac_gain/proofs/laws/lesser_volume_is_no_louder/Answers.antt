@@ -1,4 +1,4 @@
-use Rattle.uac_gain.proofs.Listening.{scaled-lesser_volume}
+use Rattle.uac_gain.proofs.Rising.{scaled-lesser_volume}
 use Rattle.uac_gain.proofs.laws.lesser_volume_is_no_louder.Goals as goal
 
 pub returns : goal.returns

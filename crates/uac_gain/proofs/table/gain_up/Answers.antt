@@ -1,0 +1,5 @@
+use Rattle.uac_gain.proofs.Ladder.{up-at}
+use Rattle.uac_gain.proofs.table.gain_up.Goals as goal
+
+pub returns : goal.returns
+returns c = up-at c.args.decibels c.requires
