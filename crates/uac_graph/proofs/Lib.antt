@@ -2,7 +2,6 @@ pub mod Links
 pub mod Equation
 pub mod Lookups
 pub mod FromRules
-pub mod Loudness
 pub mod Reaching
 pub mod Ticking
 pub mod Ends

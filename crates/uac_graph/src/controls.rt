@@ -1,13 +1,10 @@
 // What the held controls make of a signal.
-ghost use Rattle.std.specs.Prelude.{◌≡◌, ◌≤◌, ◌<◌, ◌^◌, ◌%◌, ◌+◌, ◌/◌};
+ghost use Rattle.std.specs.Prelude.{◌≡◌, ◌≤◌, ◌<◌, ◌%◌, ◌+◌, ◌/◌};
 ghost use Rattle.uac_graph.specs.Controls as spec;
 ghost use Rattle.uac_graph.specs.Controls.{held_in};
 
 use uac_gain::gain;
 use uac_store::{Key, Store};
-
-/// The volume that means silence (Audio Class 2.0, 5.2.5.7.2).
-const SILENCE: i32 = -32768;
 
 /// A gain of 0 decibels.
 const UNITY: u32 = 1073741824;
@@ -23,8 +20,7 @@ const ONLY: u8 = 1;
 
 /// The gain of a feature unit's channel, 0 being the master; none where it is muted.
 pub(crate) fn feature_gain(store: &Store, id: u8, channel: u8) -> u32
-    ensures value { result ≡ spec.feature_gain (held_in store.now) id channel }
-    ensures bound { result ≤ 2 ^ 30 }
+    ensures { result ≡ spec.feature_gain (held_in store.now) id channel }
 {
     if control_value(store, id, MUTE, channel) != 0 {
         0
@@ -35,8 +31,7 @@ pub(crate) fn feature_gain(store: &Store, id: u8, channel: u8) -> u32
 
 /// The gain of a mixer's node.
 pub(crate) fn node_gain(store: &Store, id: u8, node: u8) -> u32
-    ensures value { result ≡ spec.node_gain (held_in store.now) id node }
-    ensures bound { result ≤ 2 ^ 30 }
+    ensures { result ≡ spec.node_gain (held_in store.now) id node }
 {
     volume_gain(store, id, ONLY, node)
 }
@@ -55,16 +50,12 @@ pub(crate) fn chosen_pin(store: &Store, id: u8, pins: usize) -> u16
 }
 
 fn volume_gain(store: &Store, id: u8, selector: u8, channel: u8) -> u32
-    ensures value { result ≡ spec.volume_gain (held_in store.now) id selector channel }
-    ensures bound { result ≤ 2 ^ 30 }
+    ensures { result ≡ spec.volume_gain (held_in store.now) id selector channel }
 {
     let volume = control_value(store, id, selector, channel);
-    if volume < SILENCE || volume > 0 {
-        return UNITY;
-    }
-    match gain(volume as i16) {
-        Some(gain) => gain,
-        None => UNITY,
+    match i16::try_from(volume) {
+        Ok(volume) => gain(volume).unwrap_or(UNITY),
+        Err(_) => UNITY,
     }
 }
 

@@ -1,6 +1,5 @@
 // Frames by the ids of their entities.
 ghost use Rattle.std.specs.Prelude.{◌≡◌, ◌==◌, ◌≤◌, ◌<◌, ◌+◌, ◌^◌, ℕ, if◌then◌else◌, Some, IfOk, List, length, map};
-ghost use Rattle.std.specs.List.{All};
 ghost use Rattle.uac_entities.specs.declared.entity.Entity.{Entity};
 ghost use Rattle.std.specs.Option.{option_map};
 ghost use Rattle.uac_units.specs.Fitting.{IsFitted};
@@ -73,7 +72,6 @@ impl FrameTable {
     )
         requires rack { IsFitted (λ v x. (⟦<dyn Unit as Unit>⟧ v).kind_of x) rack.now }
         requires fits { FitsKind kind job.now pins.now.items }
-        requires gains { All (λ gain. gain ≤ 2 ^ 30) job.now.gains.items }
         requires there { option_map length (frame_on self.old id) ≡ Some job.now.outputs }
         requires room { steps.old + 1 < 2 ^ 64 }
         ensures frames { (k : ℕ) → frame_on self.new k ≡ (if id == k then Some (rendered kind job.now pins.now.items) else frame_on self.old k) }

@@ -1,6 +1,6 @@
 // What a unit is asked to render, and over which inputs.
-ghost use Rattle.std.specs.Prelude.{◌≡◌, ◌≤◌, ◌<◌, ◌^◌, ◌*◌, map, length};
-ghost use Rattle.std.specs.List.{All, range_with_len};
+ghost use Rattle.std.specs.Prelude.{◌≡◌, ◌≤◌, ◌<◌, ◌*◌, map, length};
+ghost use Rattle.std.specs.List.{range_with_len};
 ghost use Rattle.uac_units.specs.Rendering.{in_a_row};
 ghost use Rattle.uac_units.specs.declared.jobs.UnitKind.TheVariants.{Selector};
 ghost use Rattle.uac_graph.specs.Controls.{held_in};
@@ -61,7 +61,6 @@ pub(crate) fn set_job(job: &mut Job, store: &Store, entity: &Entity, kind: UnitK
     requires pins { kind ≡ Selector → length entity.now.sources ≤ 256 }
     requires gains { spec.gain_count kind entity.now.cluster.channels inputs ≤ 256 }
     ensures job { IsJob (held_in store.now) entity.now.id kind entity.now.cluster.channels (length entity.now.sources) inputs job.new }
-    ensures bound { All (λ gain. gain ≤ 2 ^ 30) job.new.gains.items }
 {
     job.outputs = entity.cluster.channels;
     job.pin = pin_at(store, entity, kind);
@@ -72,8 +71,7 @@ pub(crate) fn set_job(job: &mut Job, store: &Store, entity: &Entity, kind: UnitK
 // Makes them the first gains of a unit, so many.
 fn set_gains(gains: &mut ArrayVec<u32, 256>, store: &Store, id: u8, kind: UnitKind, count: usize)
     requires { count ≤ 256 }
-    ensures made { gains.new.items ≡ map (spec.gain_at (held_in store.now) id kind) (range_with_len 0 count) }
-    ensures bound { All (λ gain. gain ≤ 2 ^ 30) gains.new.items }
+    ensures { gains.new.items ≡ map (spec.gain_at (held_in store.now) id kind) (range_with_len 0 count) }
 {
     gains.clear();
     for number in 0..count {
@@ -95,8 +93,7 @@ fn gain_count(kind: UnitKind, outputs: usize, inputs: usize) -> usize
 // A mixer's gains are those of its nodes; a feature's are in turn that of a channel and that of the master. The others have none.
 fn gain_at(store: &Store, id: u8, kind: UnitKind, number: usize) -> u32
     requires { number < 256 }
-    ensures value { result ≡ spec.gain_at (held_in store.now) id kind number }
-    ensures bound { result ≤ 2 ^ 30 }
+    ensures { result ≡ spec.gain_at (held_in store.now) id kind number }
 {
     match kind {
         UnitKind::Mixer => node_gain(store, id, number as u8),

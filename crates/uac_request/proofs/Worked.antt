@@ -6,7 +6,7 @@ use Rattle.uac_entities.specs.declared.entity.EntityKind.TheVariants as kind
 use Rattle.uac_entities.specs.declared.stream.Setting.{Setting}
 use Rattle.uac_entities.specs.Streams.{named}
 use Rattle.uac_clock.specs.Nominal.{nominal_of, values_of}
-use Rattle.uac_gain.specs.Gain.{decibel_gain}
+use Rattle.uac_gain.specs.Gain.{decibel_gain, raised_gain}
 use Rattle.uac_topology.specs.Function.{FunctionFields}
 use Rattle.uac_store.specs.Keyed.{value_of, with_value}
 use Rattle.uac_store.specs.Controls.{channels_at, controls_of, count_of, first_channels, has_on, initial_controls, start_of, takes, takes_on}
@@ -108,11 +108,16 @@ unfolding first reply_of headset broken_by owner_of entities named set_broken le
 one_byte = refl
 
 -- the range of a volume, cut at the length that is asked for
-range_cut : first (161 ∷ 2 ∷ 1 ∷ 2 ∷ 0 ∷ 3 ∷ 2 ∷ 0 ∷ []) [] ≡ with_bytes (1 ∷ 0 ∷ [])
+range_cut : first (161 ∷ 2 ∷ 1 ∷ 2 ∷ 0 ∷ 3 ∷ 2 ∷ 0 ∷ []) [] ≡ with_bytes (2 ∷ 0 ∷ [])
 unfolding first reply_of headset broken_by owner_of entities named get_broken least count_of answered range_bytes ranges_of has_on little_bytes value_bytes
 range_cut = refl
 
-range_whole : first (161 ∷ 2 ∷ 1 ∷ 2 ∷ 0 ∷ 3 ∷ 8 ∷ 0 ∷ []) [] ≡ with_bytes (1 ∷ 0 ∷ 0 ∷ 160 ∷ 0 ∷ 0 ∷ 0 ∷ 1 ∷ [])
+range_half : first (161 ∷ 2 ∷ 1 ∷ 2 ∷ 0 ∷ 3 ∷ 8 ∷ 0 ∷ []) [] ≡ with_bytes (2 ∷ 0 ∷ 0 ∷ 160 ∷ 0 ∷ 223 ∷ 0 ∷ 1 ∷ [])
+unfolding first reply_of headset broken_by owner_of entities named get_broken least count_of answered range_bytes ranges_of has_on little_bytes value_bytes
+range_half = refl
+
+range_whole : first (161 ∷ 2 ∷ 1 ∷ 2 ∷ 0 ∷ 3 ∷ 14 ∷ 0 ∷ []) []
+    ≡ with_bytes (2 ∷ 0 ∷ 0 ∷ 160 ∷ 0 ∷ 223 ∷ 0 ∷ 1 ∷ 0 ∷ 224 ∷ 0 ∷ 12 ∷ 128 ∷ 0 ∷ [])
 unfolding first reply_of headset broken_by owner_of entities named get_broken least count_of answered range_bytes ranges_of has_on little_bytes value_bytes
 range_whole = refl
 
@@ -134,10 +139,14 @@ interface : first (129 ∷ 10 ∷ 0 ∷ 0 ∷ 1 ∷ 0 ∷ 1 ∷ 0 ∷ []) [] ≡
 unfolding first at_start reply_of headset broken_by least answered setting_of initial_settings
 interface = refl
 
--- a volume between two steps isn't legal, and silence is
-between_steps : first (33 ∷ 1 ∷ 1 ∷ 2 ∷ 0 ∷ 3 ∷ 2 ∷ 0 ∷ []) (128 ∷ 0 ∷ []) ≡ is_stalled 9
+-- a volume between two steps isn't legal, half a decibel and silence are
+between_steps : first (33 ∷ 1 ∷ 1 ∷ 2 ∷ 0 ∷ 3 ∷ 2 ∷ 0 ∷ []) (64 ∷ 0 ∷ []) ≡ is_stalled 9
 unfolding first at_start reply_of headset broken_by owner_of entities named set_broken least count_of value_from little_number is_legal takes takes_on decibel_gain
 between_steps = refl
+
+half_a_decibel : first (33 ∷ 1 ∷ 1 ∷ 2 ∷ 0 ∷ 3 ∷ 2 ∷ 0 ∷ []) (128 ∷ 0 ∷ []) ≡ is_done
+unfolding first at_start reply_of headset broken_by owner_of entities named set_broken least count_of value_from little_number is_legal takes takes_on decibel_gain raised_gain answered
+half_a_decibel = refl
 
 silenced : first (33 ∷ 1 ∷ 1 ∷ 2 ∷ 0 ∷ 3 ∷ 2 ∷ 0 ∷ []) (0 ∷ 128 ∷ []) ≡ is_done
 unfolding first at_start reply_of headset broken_by owner_of entities named set_broken least count_of value_from little_number is_legal takes takes_on decibel_gain answered

@@ -266,8 +266,8 @@ fn rules_by_number(rt: HostRuntime) -> Result<(), Fail> {
         // The validity of a clock.
         ([0x21, 1, 0, 2, 0, 1, 1, 0], &[1], 7),
         ([0x21, 1, 1, 2, 0, 3, 2, 0], &[0], 8),
-        // A volume off the grid, and a frequency past 31 bits.
-        ([0x21, 1, 1, 2, 0, 3, 2, 0], &[1, 0], 9),
+        // A quarter of a decibel, and a frequency past 31 bits.
+        ([0x21, 1, 1, 2, 0, 3, 2, 0], &[0x40, 0], 9),
         ([0x21, 1, 0, 1, 0, 1, 4, 0], &[0x80, 0xbb, 0, 0x80], 9),
         ([0x01, 0x0b, 2, 0, 1, 0, 0, 0], &[], 11),
         // The number of an interface has two bytes.
@@ -282,10 +282,14 @@ fn rules_by_number(rt: HostRuntime) -> Result<(), Fail> {
 #[test]
 fn bytes_by_control(rt: HostRuntime) -> Result<(), Fail> {
     let mut headset = Headset::new(rt.alloc(), 150)?;
-    let table: [([u8; 8], &[u8]); 8] = [
+    let table: [([u8; 8], &[u8]); 9] = [
         // A volume's range, cut and whole.
-        ([0xa1, 2, 1, 2, 0, 3, 2, 0], &[1, 0]),
-        ([0xa1, 2, 1, 2, 0, 3, 8, 0], &[1, 0, 0, 160, 0, 0, 0, 1]),
+        ([0xa1, 2, 1, 2, 0, 3, 2, 0], &[2, 0]),
+        ([0xa1, 2, 1, 2, 0, 3, 8, 0], &[2, 0, 0, 0xa0, 0, 0xdf, 0, 1]),
+        (
+            [0xa1, 2, 1, 2, 0, 3, 14, 0],
+            &[2, 0, 0, 0xa0, 0, 0xdf, 0, 1, 0, 0xe0, 0, 0x0c, 0x80, 0],
+        ),
         // The frequency, the validity, and a connector.
         ([0xa1, 1, 0, 1, 0, 1, 4, 0], &[0x80, 0xbb, 0, 0]),
         ([0xa1, 1, 0, 2, 0, 1, 1, 0], &[1]),
@@ -311,6 +315,9 @@ fn what_is_set_is_held(rt: HostRuntime) -> Result<(), Fail> {
     // Six decibels down on the left.
     assert!(rt; is_done(&headset.ask([0x21, 1, 1, 2, 0, 3, 2, 0], &[0, 0xfa])));
     assert!(rt; has_bytes(&headset.ask([0xa1, 1, 1, 2, 0, 3, 2, 0], &[]), &[0, 0xfa]));
+    // Half a decibel up.
+    assert!(rt; is_done(&headset.ask([0x21, 1, 1, 2, 0, 3, 2, 0], &[0x80, 0])));
+    assert!(rt; has_bytes(&headset.ask([0xa1, 1, 1, 2, 0, 3, 2, 0], &[]), &[0x80, 0]));
     // The stream runs, and its clock stays.
     assert!(rt; is_done(&headset.ask([0x01, 0x0b, 1, 0, 1, 0, 0, 0], &[])));
     assert!(rt; has_bytes(&headset.ask([0xa1, 1, 0, 1, 1, 0, 1, 0], &[]), &[1]));

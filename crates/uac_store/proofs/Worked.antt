@@ -45,7 +45,7 @@ kept : initial_controls headset
 unfolding headset initial_controls controls_of channels_at first_channels count_of start_of node_start pins_of channels_of named
 kept = refl
 
--- there is a volume of the second channel, and none of a third; it takes -1 decibel and no half
+-- there is a volume of the second channel, and none of a third; it takes a half decibel and 12 decibels, and no quarter
 second_volume : has_control headset (key_of 3 2 2) ≡ true
 unfolding headset has_control has_on count_of named
 second_volume = refl
@@ -58,9 +58,21 @@ one_down : takes headset (key_of 3 2 2) (negsuc 255) ≡ true
 unfolding headset takes takes_on named
 one_down = refl
 
-half_down : takes headset (key_of 3 2 2) (negsuc 127) ≡ false
+half_down : takes headset (key_of 3 2 2) (negsuc 127) ≡ true
 unfolding headset takes takes_on named
 half_down = refl
+
+quarter_down : takes headset (key_of 3 2 2) (negsuc 63) ≡ false
+unfolding headset takes takes_on named
+quarter_down = refl
+
+half_below_32 : takes headset (key_of 3 2 2) (negsuc 8319) ≡ false
+unfolding headset takes takes_on named
+half_below_32 = refl
+
+twelve_up : takes headset (key_of 3 2 2) (pos 3072) ≡ true
+unfolding headset takes takes_on named
+twelve_up = refl
 
 -- two sources, a selector over them, and a multiplier of what it chooses
 clocks : List Entity
@@ -107,14 +119,14 @@ unfolding clocks rate_of rate_within rate_step source_rate named value_of
 off_the_list = refl
 
 -- the second volume's range; its mute has none, and neither has a third volume or what is no control
-abbrev volumes : Option (List Range)
-volumes = Some (record { min = negsuc 24575; max = pos 0; res = pos 256 } ∷ [])
+abbrev told : Option (List Range)
+told = Some (record { min = negsuc 24575; max = negsuc 8447; res = pos 256 } ∷ record { min = negsuc 8191; max = pos 3072; res = pos 128 } ∷ [])
 
-volume_range : ranges_of headset (key_of 3 2 2) ≡ volumes
+volume_range : ranges_of headset (key_of 3 2 2) ≡ told
 unfolding headset ranges_of has_on count_of named
 volume_range = refl
 
-node_range : ranges_of headset (key_of 8 1 8) ≡ volumes
+node_range : ranges_of headset (key_of 8 1 8) ≡ told
 unfolding headset ranges_of has_on count_of pins_of channels_of named
 node_range = refl
 

@@ -34,14 +34,18 @@ frequencies attributes = if nat_lt (attributes % 4) 2 then 48000 ∷ [] else twe
 abbrev pub choices : ℕ → ℕ
 choices pins = if nat_lt pins 256 then pins else 255
 
+-- the volumes but for silence, in 1/256 decibel: whole decibels from -96 to -33, and halves from -32 to 12
+abbrev pub volumes : List Range
+volumes = record { min = negsuc 24575; max = negsuc 8447; res = pos 256 } ∷ record { min = negsuc 8191; max = pos 3072; res = pos 128 } ∷ []
+
 -- the subranges of an entity's control, in the control's own units; mutes and enables have none
 abbrev pub ranges_by : EntityKind → ℕ → ℕ → ℕ → Option (List Range)
 ranges_by kind.ClockSource pins attributes selector = Some (map alone (frequencies attributes))
 ranges_by kind.ClockSelector pins attributes selector = one_range (pos 1) (pos (choices pins)) (pos 1)
 ranges_by kind.ClockMultiplier pins attributes selector = one_range (pos 1) (pos 8) (pos 1)
-ranges_by kind.Mixer pins attributes selector = one_range (negsuc 24575) (pos 0) (pos 256)
+ranges_by kind.Mixer pins attributes selector = Some volumes
 ranges_by kind.Selector pins attributes selector = one_range (pos 1) (pos (choices pins)) (pos 1)
-ranges_by kind.Feature pins attributes selector = if selector == 2 then one_range (negsuc 24575) (pos 0) (pos 256) else None
+ranges_by kind.Feature pins attributes selector = if selector == 2 then Some volumes else None
 ranges_by _ pins attributes selector = None
 
 -- the subranges of the control of this key; none where there is no such control, or it has no ranges

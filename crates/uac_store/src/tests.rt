@@ -255,12 +255,20 @@ fn controls_have_ranges(rt: HostRuntime) -> Result<(), Fail> {
         (key(12, 1, 0), (1, 2, 1)),
         (key(13, 1, 0), (1, 8, 1)),
         (key(13, 2, 0), (1, 8, 1)),
-        (key(8, 1, 8), (-24576, 0, 256)),
         (key(9, 1, 0), (1, 2, 1)),
-        (key(6, 2, 0), (-24576, 0, 256)),
-        (key(6, 2, 1), (-24576, 0, 256)),
     ] {
         assert_eq!(rt; only_range(&function, key), Some(want));
+    }
+    let volumes = [(-24576, -8448, 256), (-8192, 3072, 128)];
+    for key in [key(8, 1, 8), key(6, 2, 0), key(6, 2, 1)] {
+        let told = match ranges(&function, key) {
+            Some(told) => told,
+            None => return Err(Fail::from(AllocError)),
+        };
+        assert_eq!(rt; told.len(), 2);
+        for (range, want) in told.as_slice().iter().zip(volumes.iter()) {
+            assert_eq!(rt; (range.min, range.max, range.res), *want);
+        }
     }
     for key in [
         key(6, 1, 0),
@@ -306,11 +314,14 @@ fn legal_values_of_units(rt: HostRuntime) -> Result<(), Fail> {
     let blocks = boxes(rt.alloc())?;
     let (function, store) = store_of(rt.alloc(), &blocks)?;
     for volume in [key(6, 2, 1), key(8, 1, 5)] {
-        for value in [0, -256, -24576, -32768] {
+        for value in [
+            0, -256, -24576, -32768, -128, -8192, -8064, -8448, 128, 256, 3072,
+        ] {
             assert_eq!(rt; may_hold(&store, &function, volume, value), true, "{value}");
         }
         for value in [
-            256, -1, -24575, -24577, -24832, -32767, -32769, -65536, 32768,
+            -64, -1, -8320, -24448, -24575, -24577, -24832, -32767, -32769, -65536, 64, 3071, 3200,
+            32768,
         ] {
             assert_eq!(rt;
                 may_hold(&store, &function, volume, value),

@@ -20,11 +20,19 @@ use uac_topology::laws::functions_are_sound;
 use uac_topology::{Entity, EntityKind, Function};
 use uac_topology_rules::is_clock;
 
-/// The least volume that isn't silence, in 1/256 decibel (profile).
-const LEAST_VOLUME: i32 = -24576;
+/// The volumes that come by whole decibels, in 1/256 decibel: -96 to -33 decibels (profile).
+const WHOLE_DECIBELS: Range = Range {
+    min: -24576,
+    max: -8448,
+    res: 256,
+};
 
-/// The step between two volumes, in 1/256 decibel (profile).
-const DECIBEL: i32 = 256;
+/// The volumes that come by half decibels, in 1/256 decibel: -32 to 12 decibels (profile).
+const HALF_DECIBELS: Range = Range {
+    min: -8192,
+    max: 3072,
+    res: 128,
+};
 
 /// The frequency in Hz of a clock source that is external or fixed (profile).
 const FIXED: u32 = 48000;
@@ -96,9 +104,12 @@ fn choices(sources: &[u8]) -> i32
 
 // The volumes but for silence, in 1/256 decibel.
 fn volumes() -> Ranges
-    ensures { Some result.items ≡ spec.one_range (negsuc 24575) (pos 0) (pos 256) }
+    ensures { result.items ≡ spec.volumes }
 {
-    one_range(LEAST_VOLUME, 0, DECIBEL)
+    let mut ranges = ArrayVec::new();
+    ranges.push(WHOLE_DECIBELS);
+    ranges.push(HALF_DECIBELS);
+    ranges
 }
 
 fn one_range(min: i32, max: i32, res: i32) -> Ranges
@@ -201,7 +212,7 @@ fn is_switch(value: i32) -> bool
     value == 0 || value == 1
 }
 
-// Whether it is silence or a whole number of decibels from -96 to 0, in 1/256 decibel.
+// Whether it is silence, a whole number of decibels from -96 to -33 or a half number from -32 to 12, in 1/256 decibel.
 fn is_volume(value: i32) -> bool
     ensures { result ≡ is_some (gain_of value) }
 {

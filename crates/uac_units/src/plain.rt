@@ -1,7 +1,6 @@
 //! The units as they stand in the definitions, one sample after the other.
 
-ghost use Rattle.std.specs.Prelude.{◌≡◌, ◌+◌, ◌^◌, ◌<◌, ◌≤◌, length};
-ghost use Rattle.std.specs.List.{All};
+ghost use Rattle.std.specs.Prelude.{◌≡◌, ◌+◌, ◌^◌, ◌<◌, length};
 ghost use Rattle.uac_units.specs.declared.jobs.UnitKind.TheVariants.{Mixer, Selector, Feature, Effect};
 ghost use Rattle.uac_units.specs.Rendering.{FitsKind, gained, pins_sample, rendered};
 
@@ -78,7 +77,6 @@ impl Unit for PlainEffect {
 /// Makes `out` the samples of a unit of that kind, and counts one render.
 fn render_as(kind: UnitKind, job: &Job, pins: &Pins, out: &mut Frame, steps: &mut Steps)
     requires fits { FitsKind kind job.now pins.now.items }
-    requires gains { All (λ gain. gain ≤ 2 ^ 30) job.now.gains.items }
     requires room { steps.old + 1 < 2 ^ 64 }
     ensures samples { out.new.items ≡ rendered kind job.now pins.now.items }
     ensures counted { steps.new ≡ steps.old + 1 }
@@ -93,7 +91,6 @@ fn render_as(kind: UnitKind, job: &Job, pins: &Pins, out: &mut Frame, steps: &mu
 /// The sample of one output channel of a unit of that kind.
 fn sample_of(kind: UnitKind, job: &Job, pins: &Pins, channel: usize) -> i32
     requires fits { FitsKind kind job.now pins.now.items }
-    requires gains { All (λ gain. gain ≤ 2 ^ 30) job.now.gains.items }
     requires inside { channel < job.now.outputs }
     ensures { result ≡ pins_sample kind job.now pins.now.items channel }
 {
@@ -111,7 +108,6 @@ fn sample_of(kind: UnitKind, job: &Job, pins: &Pins, channel: usize) -> i32
 /// The saturated sum of all inputs, each scaled by the gain of its node with this output.
 fn mix(job: &Job, pins: &Pins, channel: usize) -> i32
     requires fits { FitsKind Mixer job.now pins.now.items }
-    requires gains { All (λ gain. gain ≤ 2 ^ 30) job.now.gains.items }
     requires inside { channel < job.now.outputs }
     ensures { result ≡ pins_sample Mixer job.now pins.now.items channel }
 {
@@ -127,7 +123,6 @@ fn mix(job: &Job, pins: &Pins, channel: usize) -> i32
 fn gained(job: &Job, pins: &Pins, at: usize, gain: usize) -> i32
     requires input { at < length pins.now.items }
     requires gain { gain < length job.now.gains.items }
-    requires gains { All (λ gain. gain ≤ 2 ^ 30) job.now.gains.items }
     ensures { result ≡ gained job.now pins.now.items at gain }
 {
     scale(pins[at], job.gains[gain])

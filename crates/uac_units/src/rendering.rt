@@ -1,7 +1,6 @@
 //! What every unit does, boxed or not.
 
-ghost use Rattle.std.specs.Prelude.{◌≡◌, ◌+◌, ◌^◌, ◌<◌, ◌≤◌};
-ghost use Rattle.std.specs.List.{All};
+ghost use Rattle.std.specs.Prelude.{◌≡◌, ◌+◌, ◌^◌, ◌<◌};
 ghost use Rattle.uac_units.specs.declared.jobs.UnitKind.{UnitKind};
 ghost use Rattle.uac_units.specs.Rendering.{FitsKind, rendered};
 
@@ -20,7 +19,6 @@ pub trait Unit: Drop {
     /// Makes `out` the samples of the unit's kind for this job over these inputs, and counts one render.
     fn render(&self, job: &Job, pins: &Pins, out: &mut Frame, steps: &mut Steps)
         requires fits { FitsKind (kind_of self.now) job.now pins.now.items }
-        requires gains { All (λ gain. gain ≤ 2 ^ 30) job.now.gains.items }
         requires room { steps.old + 1 < 2 ^ 64 }
         ensures samples { out.new.items ≡ rendered (kind_of self.now) job.now pins.now.items }
         ensures counted { steps.new ≡ steps.old + 1 };

@@ -1,7 +1,6 @@
 //! Worked rows through boxes, and a unit that counts how often it is asked.
 
 ghost use Rattle.std.specs.Prelude.{◌≡◌, ◌+◌, ◌^◌, ◌<◌, ◌≤◌, length};
-ghost use Rattle.std.specs.List.{All};
 ghost use Rattle.uac_units.specs.Fitting.{IsFitted};
 ghost use Rattle.uac_units.specs.Rendering.{FitsKind, rendered};
 
@@ -66,7 +65,6 @@ fn make_pins(samples: &[i32]) -> Pins
 /// What a unit makes of the job.
 fn play(unit: &dyn Unit, job: &Job, pins: &Pins, steps: &mut Steps) -> Frame
     requires fits { FitsKind (kind_of unit.now) job.now pins.now.items }
-    requires gains { All (λ gain. gain ≤ 2 ^ 30) job.now.gains.items }
     requires room { steps.old + 1 < 2 ^ 64 }
     ensures samples { result.items ≡ rendered (kind_of unit.now) job.now pins.now.items }
     ensures counted { steps.new ≡ steps.old + 1 }
@@ -80,7 +78,6 @@ fn play(unit: &dyn Unit, job: &Job, pins: &Pins, steps: &mut Steps) -> Frame
 fn play_on(rack: &Rack, kind: UnitKind, job: &Job, pins: &Pins, steps: &mut Steps) -> Frame
     requires rack { IsFitted (λ v x. (⟦<dyn Unit as Unit>⟧ v).kind_of x) rack.now }
     requires fits { FitsKind kind job.now pins.now.items }
-    requires gains { All (λ gain. gain ≤ 2 ^ 30) job.now.gains.items }
     requires room { steps.old + 1 < 2 ^ 64 }
     ensures samples { result.items ≡ rendered kind job.now pins.now.items }
     ensures counted { steps.new ≡ steps.old + 1 }
