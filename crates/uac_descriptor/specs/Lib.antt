@@ -6,5 +6,9 @@ pub mod Spelling
 pub mod Rows
 pub mod Endpoints
 pub mod Classes
+pub mod Contexts
+pub mod Fields
+pub mod Turns
+pub mod WellFormed
 pub mod Reading
 pub mod Laws

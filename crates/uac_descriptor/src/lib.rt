@@ -16,6 +16,8 @@ mod streaming;
 mod context;
 /// The bits of an endpoint's attributes.
 mod endpoint_bits;
+/// The values of an endpoint's and of a format's fields.
+pub mod fields;
 /// The class codes of an audio function and of its interfaces, and which blocks have them.
 pub mod classes;
 /// One block of a configuration descriptor.

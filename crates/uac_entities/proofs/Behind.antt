@@ -5,13 +5,13 @@ use Rattle.std.specs.List.{filter_map, cons_option, find}
 use Rattle.std.specs.Option.{option_to_list, is_some}
 use Rattle.std.proofs.lemmas.List.{drop_more, drop_all}
 use Rattle.uac_descriptor.specs.declared.block.Block as block
-use Rattle.uac_entities.specs.Settings.{is_interface, own_blocks, own, alternate_at, alternates_of}
+use Rattle.uac_entities.specs.Settings.{ends_setting, own_blocks, own, alternate_at, alternates_of}
 
-own-stop : {X : Type 0} (r : block.Block → Option X) (b : block.Block) (bs : List block.Block) → is_interface b ≡ true → own r (b ∷ bs) ≡ []
+own-stop : {X : Type 0} (r : block.Block → Option X) (b : block.Block) (bs : List block.Block) → ends_setting b ≡ true → own r (b ∷ bs) ≡ []
 unfolding own_blocks
 own-stop r b bs e = ap (λ (t : Bool). filter_map r (cond t [] (b ∷ own_blocks bs))) e
 
-own-next : {X : Type 0} (r : block.Block → Option X) (b : block.Block) (bs : List block.Block) → is_interface b ≡ false →
+own-next : {X : Type 0} (r : block.Block → Option X) (b : block.Block) (bs : List block.Block) → ends_setting b ≡ false →
     own r (b ∷ bs) ≡ cons_option (r b) (own r bs)
 unfolding own_blocks
 own-next r b bs e = ap (λ (t : Bool). filter_map r (cond t [] (b ∷ own_blocks bs))) e
@@ -22,13 +22,13 @@ own-nil r = refl
 
 -- at an interface nothing more is its own
 pub own_at_stop : {X : Type 0} (r : block.Block → Option X) (xs : List block.Block) (j : ℕ) (b : block.Block) → j < length xs →
-    b ≡ get_or xs j b → true ≡ is_interface b → own r (drop j xs) ≡ []
+    b ≡ get_or xs j b → true ≡ ends_setting b → own r (drop j xs) ≡ []
 own_at_stop r xs j b below is e =
     ap (own r) (drop_more xs j b below) ∙ ap (λ c. own r (c ∷ drop (j + 1) xs)) (sym is) ∙ own-stop r b (drop (j + 1) xs) (sym e)
 
 -- another block gives what its row gives
 pub own_at_next : {X : Type 0} (r : block.Block → Option X) (xs : List block.Block) (j : ℕ) (b : block.Block) → j < length xs →
-    b ≡ get_or xs j b → false ≡ is_interface b → own r (drop j xs) ≡ cons_option (r b) (own r (drop (j + 1) xs))
+    b ≡ get_or xs j b → false ≡ ends_setting b → own r (drop j xs) ≡ cons_option (r b) (own r (drop (j + 1) xs))
 own_at_next r xs j b below is e =
     ap (own r) (drop_more xs j b below) ∙ ap (λ c. own r (c ∷ drop (j + 1) xs)) (sym is) ∙ own-next r b (drop (j + 1) xs) (sym e)
 

@@ -10,9 +10,11 @@ use Rattle.uac_descriptor.specs.declared.block.Block as block
 use Rattle.uac_descriptor.specs.declared.block.Block.TheVariants as row
 use Rattle.uac_entities.specs.declared.alternate.Alternate.{Alternate}
 
-unfoldable pub is_interface : block.Block → Bool
-is_interface (row.Interface i) = true
-is_interface _ = false
+-- another interface, or the association in front of another function's blocks
+unfoldable pub ends_setting : block.Block → Bool
+ends_setting (row.Interface i) = true
+ends_setting (row.Association a) = true
+ends_setting _ = false
 
 unfoldable pub general_of : block.Block → Option General
 general_of (row.General g) = Some g
@@ -26,10 +28,10 @@ unfoldable pub endpoint_of : block.Block → Option Endpoint
 endpoint_of (row.Endpoint e) = Some e
 endpoint_of _ = None
 
--- the blocks up to the next interface
+-- the blocks up to the next interface or association
 unfoldable pub own_blocks : List block.Block → List block.Block
 own_blocks [] = []
-own_blocks (b ∷ blocks) = cond (is_interface b) [] (b ∷ own_blocks blocks)
+own_blocks (b ∷ blocks) = cond (ends_setting b) [] (b ∷ own_blocks blocks)
 
 -- what the blocks of an interface's own give by a row, in their order
 abbrev pub own : {X : Type 0} → (block.Block → Option X) → List block.Block → List X

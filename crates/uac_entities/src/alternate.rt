@@ -66,12 +66,12 @@ fn alternate_of(interface: &Interface, behind: &[Block]) -> Alternate
     }
 }
 
-// The first general block up to the next interface.
+// The first general block of the setting.
 fn general_behind(blocks: &[Block]) -> Option<General>
     ensures { result ≡ slice_get (spec.own spec.general_of blocks.now) 0 }
 {
     for block in blocks {
-        if is_interface(block) {
+        if ends_setting(block) {
             return None;
         }
         if let Some(general) = general_of(block) {
@@ -81,12 +81,12 @@ fn general_behind(blocks: &[Block]) -> Option<General>
     None
 }
 
-// The first Type I format up to the next interface.
+// The first Type I format of the setting.
 fn format_behind(blocks: &[Block]) -> Option<TypeOne>
     ensures { result ≡ slice_get (spec.own spec.format_of blocks.now) 0 }
 {
     for block in blocks {
-        if is_interface(block) {
+        if ends_setting(block) {
             return None;
         }
         if let Some(format) = format_of(block) {
@@ -96,13 +96,13 @@ fn format_behind(blocks: &[Block]) -> Option<TypeOne>
     None
 }
 
-// The endpoint behind so many others, up to the next interface.
+// The endpoint behind so many others, of the setting.
 fn endpoint_behind(blocks: &[Block], others: usize) -> Option<Endpoint>
     ensures { result ≡ slice_get (spec.own spec.endpoint_of blocks.now) others }
 {
     let mut left = others;
     for block in blocks {
-        if is_interface(block) {
+        if ends_setting(block) {
             return None;
         }
         if let Some(endpoint) = endpoint_of(block) {
@@ -115,13 +115,13 @@ fn endpoint_behind(blocks: &[Block], others: usize) -> Option<Endpoint>
     None
 }
 
-// How many endpoints there are up to the next interface.
+// How many endpoints there are of the setting.
 fn endpoints_behind(blocks: &[Block]) -> usize
     ensures { result ≡ length (spec.own spec.endpoint_of blocks.now) }
 {
     let mut count = 0;
     for block in blocks {
-        if is_interface(block) {
+        if ends_setting(block) {
             return count;
         }
         if endpoint_of(block).is_some() {
@@ -131,12 +131,13 @@ fn endpoints_behind(blocks: &[Block]) -> usize
     count
 }
 
-#[tactic(auto, unfolding(crate::specs::Settings::is_interface))]
-fn is_interface(block: &Block) -> bool
-    ensures { result ≡ spec.is_interface block.now }
+// Another interface, or the association in front of another function's blocks.
+#[tactic(auto, unfolding(crate::specs::Settings::ends_setting))]
+fn ends_setting(block: &Block) -> bool
+    ensures { result ≡ spec.ends_setting block.now }
 {
     match block {
-        Block::Interface(_) => true,
+        Block::Interface(_) | Block::Association(_) => true,
         _ => false,
     }
 }

@@ -17,3 +17,4 @@ pub mod FirstFaultOrderLemmas
 pub mod FirstFaultTotalLemmas
 pub mod FirstFaultLemmas
 pub mod FirstFaultExamples
+pub mod WellFormedLaw

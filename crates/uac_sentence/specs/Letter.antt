@@ -1,7 +1,7 @@
 -- What a block is to the order: USB 2.0, 9.4 and 9.6.5; Audio Class 2.0, A.1 to A.9.
 use Rattle.std.specs.Prelude.{ℕ, Bool, true, false, ◌&&◌, ◌||◌, not, ◌==◌, nat_le, if◌then◌else◌, List, length, slice_index}
-use Rattle.uac_descriptor.specs.declared.context.Context.{Context}
-use Rattle.uac_descriptor.specs.declared.context.Context.TheVariants as context
+pub use Rattle.uac_descriptor.specs.Contexts.{context_after}
+unfoldable pub use Rattle.uac_descriptor.specs.Contexts.{interface_context}
 use Rattle.uac_descriptor.specs.Standard.{DEVICE, CONFIGURATION, INTERFACE, ENDPOINT, INTERFACE_ASSOCIATION, CS_INTERFACE, CS_ENDPOINT, HEADER, EFFECT_UNIT, CLOCK_SOURCE, CLOCK_MULTIPLIER}
 use Rattle.uac_descriptor.specs.declared.standard.Interface as interface
 use Rattle.uac_descriptor.specs.declared.block.Block as block
@@ -78,15 +78,3 @@ abbrev pub is_listed : Letter → Bool
 is_listed Entity = true
 is_listed UnknownSubtype = true
 is_listed _ = false
-
--- what an interface makes the context of the blocks behind it
-unfoldable pub interface_context : interface.Interface → Context
-interface_context i =
-    if is_control_interface i then context.ControlInterface else if is_streaming_interface i then context.StreamingInterface else context.ForeignInterface
-
--- the context behind a block: the latest interface decides, and what follows a foreign association counts as
--- standing in a foreign interface
-abbrev pub context_after : Context → block.Block → Context
-context_after place (variant.Interface i) = interface_context i
-context_after place (variant.Association a) = if is_audio_association a then place else context.ForeignInterface
-context_after place _ = place

@@ -3,7 +3,6 @@ use Rattle.std.specs.Prelude.{true, false, ◌≡◌, ◌≢◌, ℕ, ◌+◌, B
 use Rattle.std.specs.List.{AllByRecursion}
 use Rattle.uac_descriptor.specs.declared.context.Context.{Context}
 use Rattle.uac_descriptor.specs.declared.context.Context.TheVariants as context
-use Rattle.uac_descriptor.specs.declared.standard.Interface as interface
 use Rattle.uac_descriptor.specs.declared.block.Block as block
 use Rattle.uac_descriptor.specs.declared.block.Block.TheVariants as variant
 use Rattle.uac_descriptor.specs.Rows.{Spells}
@@ -11,15 +10,11 @@ use Rattle.uac_descriptor.specs.Spelling.{spelling}
 use Rattle.uac_sentence.specs.declared.letters.Letter.{Letter}
 use Rattle.uac_sentence.specs.declared.letters.Letter.TheVariants as letter
 use Rattle.uac_sentence.specs.Production.{Allows}
-use Rattle.uac_descriptor.specs.Classes.{is_control_interface, is_streaming_interface}
-use Rattle.uac_sentence.specs.Letter.{letter_of, context_after}
+pub use Rattle.uac_descriptor.specs.Contexts.{EachIn}
+pub use Rattle.uac_descriptor.specs.Turns.{is_of_function, Begins, Continues, InTurn, interface_of}
+use Rattle.uac_sentence.specs.Letter.{letter_of}
 use Rattle.uac_sentence.specs.Order.{input}
 use Rattle.uac_sentence.specs.Values.{HasValues}
-
--- the fact holds of each block in the context in which it stands
-abbrev pub EachIn : (Context → block.Block → Type 0) → Context → List block.Block → Type 0
-EachIn P place [] = Unit {0}
-EachIn P place (b ∷ blocks) = P place b × EachIn P (context_after place b) blocks
 
 -- the block may stand in this context: there its row reads its bytes
 abbrev pub Stands : Context → block.Block → Type 0
@@ -49,30 +44,6 @@ HasListTotal [] = Unit {0}
 HasListTotal (variant.Header h ∷ blocks) =
     size (variant.Header h ∷ take_while (λ b. is_entity (letter_of b)) blocks) ≡ h.total
 HasListTotal (_ ∷ blocks) = HasListTotal blocks
-
--- an interface of the audio function
-abbrev pub is_of_function : interface.Interface → Bool
-is_of_function i = is_control_interface i || is_streaming_interface i
-
--- setting 0 of a new streaming interface: its number is neither the control interface's nor an earlier streaming interface's
-pub record Begins (earlier : List interface.Interface) (i : interface.Interface) : Type 0 where
-  pub setting : i.setting ≡ 0
-  pub new : AllByRecursion (λ j. IsTrue (is_of_function j) → j.number ≢ i.number) earlier
-
--- a setting above 0: the latest interface is the same streaming interface in the setting before
-abbrev pub Continues : List interface.Interface → interface.Interface → Type 0
-Continues [] i = ⊥
-Continues (j ∷ earlier) i = IsTrue (is_streaming_interface j) × (i.number ≡ j.number) × (i.setting ≡ j.setting + 1)
-
--- each streaming interface begins or continues, behind earlier interfaces, the latest first
-abbrev pub InTurn : List interface.Interface → List interface.Interface → Type 0
-InTurn earlier [] = Unit {0}
-InTurn earlier (i ∷ interfaces) =
-    (IsTrue (is_streaming_interface i) → Begins earlier i ⊎ Continues earlier i) × InTurn (i ∷ earlier) interfaces
-
-abbrev pub interface_of : block.Block → Option interface.Interface
-interface_of (variant.Interface i) = Some i
-interface_of _ = None
 
 -- these blocks are what the bytes say, in the standard's order, with the totals and the values that they must have
 pub record IsSentence (bytes : List ℕ) (blocks : List block.Block) : Type 0 where

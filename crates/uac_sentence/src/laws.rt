@@ -2,6 +2,7 @@
 ghost use Rattle.std.specs.Prelude.{◌≡◌, ℕ, ◌+◌, ◌↔◌, List, [], ◌∷◌, ◌++◌, length, Some, None};
 ghost use Rattle.uac_descriptor.specs.declared.block.Block.{Block};
 ghost use Rattle.uac_descriptor.specs.Reading.{block_of};
+ghost use Rattle.uac_descriptor.specs.WellFormed.{AreWellFormed};
 ghost use Rattle.uac_sentence.specs.declared.faults.GrammarFault.{GrammarFault};
 ghost use Rattle.uac_sentence.specs.declared.states.State.{State};
 ghost use Rattle.uac_sentence.specs.Cutting.{IsCut, chop};
@@ -46,4 +47,10 @@ pub fn state_judges_what_follows(bytes: &[u8])
 pub fn first_fault_is_the_least_of_all(bytes: &[u8])
     ensures found { (fault : GrammarFault) → (first_fault bytes.now ≡ Some fault) ↔ IsFirstFault bytes.now fault }
     ensures none { (first_fault bytes.now ≡ None) ↔ ((rule place : ℕ) → IsFault bytes.now rule place → ⊥) }
+{}
+
+/// The blocks of a sentence are well-formed: what chooses or mixes has a pin, formats and endpoints have numbers in range, the
+/// control interface comes first, and streaming interfaces and their settings are numbered in turn.
+pub fn sentences_are_well_formed()
+    ensures { (bytes : List ℕ) (blocks : List Block) → IsSentence bytes blocks → AreWellFormed blocks }
 {}

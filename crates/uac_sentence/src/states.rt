@@ -1,7 +1,7 @@
 // What the blocks so far leave to be remembered.
 use crate::letters::Letter;
 use crate::stages::Stage;
-use crate::turns::{context_after, end_after, latest_after, listing_after, use_number};
+use crate::turns::{end_after, latest_after, listing_after, use_number};
 use uac_descriptor::{Block, Context};
 
 /// The bytes of a device descriptor and of the longest configuration: no block that breaks no rule ends behind this place.
@@ -69,7 +69,7 @@ impl State {
         if let Some(next) = self.stage.after(Letter::of(block)) {
             self.stage = next;
         }
-        self.context = context_after(self.context, block);
+        self.context = self.context.after(block);
         self.end = end_after(self.end, place, block);
         self.listing = listing_after(self.listing, place, block);
         self.latest = latest_after(self.latest, block);

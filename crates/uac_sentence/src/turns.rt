@@ -1,6 +1,6 @@
 // What each part of the state becomes behind a block.
 ghost use Rattle.std.specs.Prelude.{◌≡◌, ◌≤◌, length};
-ghost use Rattle.uac_sentence.specs.Letter.{context_after, interface_context, is_listed, letter_of};
+ghost use Rattle.uac_sentence.specs.Letter.{is_listed, letter_of};
 ghost use Rattle.uac_sentence.specs.Grammar.{
   continues,
   end_after,
@@ -12,38 +12,8 @@ ghost use Rattle.uac_sentence.specs.Grammar.{
 
 use crate::letters::Letter;
 use crate::states::{FURTHEST, Latest, Listing};
-use uac_descriptor::classes::{is_audio_association, is_control_interface, is_streaming_interface};
-use uac_descriptor::{Block, Context, Interface};
-
-/// The context behind a block.
-pub fn context_after(context: Context, block: &Block) -> Context
-    ensures { result ≡ context_after context block.now }
-{
-    match block {
-        Block::Interface(interface) => interface_context(interface),
-        Block::Association(association) => {
-            if is_audio_association(association) {
-                context
-            } else {
-                Context::ForeignInterface
-            }
-        }
-        _ => context,
-    }
-}
-
-#[tactic(auto, unfolding(crate::specs::Letter::interface_context))]
-fn interface_context(interface: &Interface) -> Context
-    ensures { result ≡ interface_context interface.now }
-{
-    if is_control_interface(interface) {
-        Context::ControlInterface
-    } else if is_streaming_interface(interface) {
-        Context::StreamingInterface
-    } else {
-        Context::ForeignInterface
-    }
-}
+use uac_descriptor::classes::{is_control_interface, is_streaming_interface};
+use uac_descriptor::{Block, Interface};
 
 /// Where the configuration's total ends, once the configuration was read.
 pub fn end_after(end: Option<u32>, place: u32, block: &Block) -> Option<u32>

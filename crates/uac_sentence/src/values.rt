@@ -1,17 +1,11 @@
 // The values of single fields that the standard allows (rule G4).
 ghost use Rattle.std.specs.Prelude.{◌≡◌, ◌||◌};
 ghost use Rattle.std.specs.List.{list_any};
-ghost use Rattle.uac_sentence.specs.Values.{
-  has_wrong_value,
-  is_audio,
-  is_barred,
-  is_isochronous,
-  is_no_format,
-  is_no_high_speed,
-};
+ghost use Rattle.uac_sentence.specs.Values.{has_wrong_value, is_barred};
 
 use uac_descriptor::classes::VERSION_02_00;
-use uac_descriptor::{Block, Context, Endpoint, EndpointBits, TypeOne};
+use uac_descriptor::fields::{is_isochronous, is_no_format, is_no_high_speed};
+use uac_descriptor::{Block, Context};
 
 /// Whether a field of the block has a value that is not allowed there. Of the controls only those are judged that
 /// are played (Audio Class 2.0, bmControls of 4.7.2 and of the descriptors behind it: bits 10 are not allowed).
@@ -21,7 +15,7 @@ pub fn has_wrong_value(context: Context, block: &Block) -> bool
 {
     match block {
         Block::Endpoint(endpoint) => {
-            is_audio(context) && is_isochronous(endpoint) && is_no_high_speed(endpoint)
+            context.is_audio() && is_isochronous(endpoint) && is_no_high_speed(endpoint)
         }
         Block::Header(header) => header.version != VERSION_02_00,
         Block::InputTerminal(terminal) => second_is_barred(terminal.controls as u32),
@@ -77,43 +71,4 @@ fn has_barred_enable(words: &[u32]) -> bool
     ensures { result ≡ list_any (λ word. is_barred 0 word) words.now }
 {
     words.iter().any(|word| first_is_barred(*word))
-}
-
-/// A control interface or a streaming one.
-fn is_audio(context: Context) -> bool
-    ensures { result ≡ is_audio context }
-{
-    match context {
-        Context::DeviceFront => false,
-        Context::ControlInterface => true,
-        Context::StreamingInterface => true,
-        Context::ForeignInterface => false,
-    }
-}
-
-/// Bits 1..0 of bmAttributes are 01 (USB 2.0, 9.6.6).
-fn is_isochronous(endpoint: &Endpoint) -> bool
-    ensures { result ≡ is_isochronous endpoint.now }
-{
-    EndpointBits::of(endpoint.attributes).is_isochronous()
-}
-
-/// An isochronous endpoint that high speed does not allow (USB 2.0, 9.6.6): no interval of 1 to 16, additional
-/// transactions 11, or more than 1024 bytes.
-#[tactic(auto, unfolding(crate::specs::Values::is_no_high_speed))]
-fn is_no_high_speed(endpoint: &Endpoint) -> bool
-    ensures { result ≡ is_no_high_speed endpoint.now }
-{
-    endpoint.interval < 1
-        || 16 < endpoint.interval
-        || endpoint.additional_transactions() == 3
-        || 1024 < endpoint.packet_size()
-}
-
-/// No Type I format (Audio Data Formats 2.0, 2.3.1.6): not 1 to 4 bytes a sample, or not 1 bit up to all of theirs.
-#[tactic(auto, unfolding(crate::specs::Values::is_no_format))]
-fn is_no_format(format: &TypeOne) -> bool
-    ensures { result ≡ is_no_format format.now }
-{
-    format.subslot < 1 || 4 < format.subslot || format.bits < 1 || 8 * format.subslot < format.bits
 }

@@ -7,22 +7,22 @@ use Rattle.uac_entities.specs.Settings.{own, endpoint_of}
 use Rattle.uac_entities.proofs.alternate.endpoint_behind.Goals as goal
 use Rattle.uac_entities.proofs.alternate.endpoint_behind.Goals.{in-Some+else-left-eq0, in_default}
 
-pub returns-then-is_interface : goal.returns-then-is_interface
-returns-then-is_interface c =
-    let here = own_at_stop endpoint_of c.args.blocks.now c.loop-block.block-index c.block-item.result c.loop-block-test.true c.block-item.is c.if-is_interface.ensures in
+pub returns-then-ends_setting : goal.returns-then-ends_setting
+returns-then-ends_setting c =
+    let here = own_at_stop endpoint_of c.args.blocks.now c.loop-block.block-index c.block-item.result c.loop-block-test.true c.block-item.is c.if-ends_setting.ensures in
     ap (λ (xs : List Endpoint). slice_get xs c.loop-block.left) (sym here) ∙ c.loop-block.invariant
 
 pub returns-then-left-eq0 : goal.returns-then-left-eq0
 returns-then-left-eq0 c =
     let rest = own endpoint_of (drop (c.loop-block.block-index + 1) c.args.blocks.now) in
-    let here = own_at_next endpoint_of c.args.blocks.now c.loop-block.block-index c.block-item.result c.loop-block-test.true c.block-item.is c.if-is_interface.ensures in
+    let here = own_at_next endpoint_of c.args.blocks.now c.loop-block.block-index c.block-item.result c.loop-block-test.true c.block-item.is c.if-ends_setting.ensures in
     get_first (endpoint_of c.block-item.result) c.in-Some.endpoint c.loop-block.left rest c.in-Some.ensures c.if-left-eq0.true
     ∙ ap (λ (xs : List Endpoint). slice_get xs c.loop-block.left) (sym here) ∙ c.loop-block.invariant
 
 pub loop-block-preserved : goal.loop-block-preserved
 loop-block-preserved c =
     let rest = own endpoint_of (drop (c.loop-block.block-index + 1) c.args.blocks.now) in
-    let here = own_at_next endpoint_of c.args.blocks.now c.loop-block.block-index c.block-item.result c.loop-block-test.true c.block-item.is c.if-is_interface.ensures in
+    let here = own_at_next endpoint_of c.args.blocks.now c.loop-block.block-index c.block-item.result c.loop-block-test.true c.block-item.is c.if-ends_setting.ensures in
     let was : slice_get (cons_option (endpoint_of c.block-item.result) rest) c.loop-block.left ≡ slice_get (own endpoint_of c.args.blocks.now) c.args.others =
     ap (λ (xs : List Endpoint). slice_get xs c.loop-block.left) (sym here) ∙ c.loop-block.invariant in
     elim c.match-endpoint_of.branch [

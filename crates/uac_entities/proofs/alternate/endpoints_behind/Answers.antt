@@ -6,15 +6,15 @@ use Rattle.uac_entities.specs.Settings.{own, endpoint_of}
 use Rattle.uac_entities.proofs.alternate.endpoints_behind.Goals as goal
 use Rattle.uac_entities.proofs.alternate.endpoints_behind.Goals.{then-is_some, else-is_some}
 
-pub returns-then-is_interface : goal.returns-then-is_interface
-returns-then-is_interface c =
-    let here = own_at_stop endpoint_of c.args.blocks.now c.loop-block.block-index c.block-item.result c.loop-block-test.true c.block-item.is c.if-is_interface.ensures in
+pub returns-then-ends_setting : goal.returns-then-ends_setting
+returns-then-ends_setting c =
+    let here = own_at_stop endpoint_of c.args.blocks.now c.loop-block.block-index c.block-item.result c.loop-block-test.true c.block-item.is c.if-ends_setting.ensures in
     omega (arith, c.loop-block.invariant.0, ap (λ (xs : List Endpoint). length xs) here)
 
 pub loop-block-preserved : goal.loop-block-preserved
 loop-block-preserved c =
     let rest = own endpoint_of (drop (c.loop-block.block-index + 1) c.args.blocks.now) in
-    let here = own_at_next endpoint_of c.args.blocks.now c.loop-block.block-index c.block-item.result c.loop-block-test.true c.block-item.is c.if-is_interface.ensures in
+    let here = own_at_next endpoint_of c.args.blocks.now c.loop-block.block-index c.block-item.result c.loop-block-test.true c.block-item.is c.if-ends_setting.ensures in
     let more = ap (λ (xs : List Endpoint). length xs) here in
     let known : c.is_some.result ≡ is_some (endpoint_of c.block-item.result) = c.is_some.ensures ∙ ap is_some c.endpoint_of.ensures in
     elim c.if-is_some.branch [

@@ -6,21 +6,21 @@ use Rattle.uac_entities.proofs.Behind.{own_at_stop, own_at_next, own_at_end}
 use Rattle.uac_entities.specs.Settings.{own, general_of}
 use Rattle.uac_entities.proofs.alternate.general_behind.Goals as goal
 
-pub returns-then-is_interface : goal.returns-then-is_interface
-returns-then-is_interface c =
-    let here = own_at_stop general_of c.args.blocks.now c.loop-block.block-index c.block-item.result c.loop-block-test.true c.block-item.is c.if-is_interface.ensures in
+pub returns-then-ends_setting : goal.returns-then-ends_setting
+returns-then-ends_setting c =
+    let here = own_at_stop general_of c.args.blocks.now c.loop-block.block-index c.block-item.result c.loop-block-test.true c.block-item.is c.if-ends_setting.ensures in
     ap (λ (xs : List General). slice_get xs 0) (sym here ∙ c.loop-block.invariant)
 
 pub returns-in-Some : goal.returns-in-Some
 returns-in-Some c =
     let rest = own general_of (drop (c.loop-block.block-index + 1) c.args.blocks.now) in
-    let here = own_at_next general_of c.args.blocks.now c.loop-block.block-index c.block-item.result c.loop-block-test.true c.block-item.is c.if-is_interface.ensures in
+    let here = own_at_next general_of c.args.blocks.now c.loop-block.block-index c.block-item.result c.loop-block-test.true c.block-item.is c.if-ends_setting.ensures in
     ap (λ (xs : List General). slice_get xs 0) (ap (λ (o : Option General). cons_option o rest) c.in-Some.ensures ∙ sym here ∙ c.loop-block.invariant)
 
 pub loop-block-preserved : goal.loop-block-preserved
 loop-block-preserved c =
     let rest = own general_of (drop (c.loop-block.block-index + 1) c.args.blocks.now) in
-    let here = own_at_next general_of c.args.blocks.now c.loop-block.block-index c.block-item.result c.loop-block-test.true c.block-item.is c.if-is_interface.ensures in
+    let here = own_at_next general_of c.args.blocks.now c.loop-block.block-index c.block-item.result c.loop-block-test.true c.block-item.is c.if-ends_setting.ensures in
     ap (λ (o : Option General). cons_option o rest) c.in_default.ensures ∙ sym here ∙ c.loop-block.invariant
 
 pub returns : goal.returns

@@ -1,0 +1,39 @@
+-- What the layers above the grammar rely on of the blocks that they are given: Audio Class 2.0, 4.7.2 (bNrInPins); Audio Data
+-- Formats 2.0, 2.3.1.6 (bSubslotSize, bBitResolution); USB 2.0, 9.6.5 and 9.6.6 (the numbers of interfaces, and endpoints).
+use Rattle.std.specs.Prelude.{◌≢◌, List, [], length, IsTrue}
+use Rattle.uac_descriptor.specs.Contexts.{EachIn, is_audio}
+use Rattle.uac_descriptor.specs.Fields.{is_isochronous, IsHighSpeed, IsFormat}
+use Rattle.uac_descriptor.specs.Turns.{BeginsWithControl, InTurn, interfaces_in}
+use Rattle.uac_descriptor.specs.declared.context.Context.{Context}
+use Rattle.uac_descriptor.specs.declared.context.Context.TheVariants as context
+use Rattle.uac_descriptor.specs.declared.block.Block as block
+use Rattle.uac_descriptor.specs.declared.block.Block.TheVariants as variant
+
+-- what chooses or mixes has a pin, a format's numbers are in range, and an isochronous endpoint of an audio interface is one of high speed
+abbrev pub IsWellFormed : Context → block.Block → Type 0
+IsWellFormed place (variant.Configuration _) = Unit {0}
+IsWellFormed place (variant.Association _) = Unit {0}
+IsWellFormed place (variant.Interface _) = Unit {0}
+IsWellFormed place (variant.Endpoint e) = IsTrue (is_audio place) → IsTrue (is_isochronous e) → IsHighSpeed e
+IsWellFormed place (variant.Header _) = Unit {0}
+IsWellFormed place (variant.InputTerminal _) = Unit {0}
+IsWellFormed place (variant.OutputTerminal _) = Unit {0}
+IsWellFormed place (variant.Mixer m) = length m.sources ≢ 0
+IsWellFormed place (variant.Selector s) = length s.sources ≢ 0
+IsWellFormed place (variant.Feature _) = Unit {0}
+IsWellFormed place (variant.Effect _) = Unit {0}
+IsWellFormed place (variant.ClockSource _) = Unit {0}
+IsWellFormed place (variant.ClockSelector c) = length c.sources ≢ 0
+IsWellFormed place (variant.ClockMultiplier _) = Unit {0}
+IsWellFormed place (variant.General _) = Unit {0}
+IsWellFormed place (variant.TypeOne t) = IsFormat t
+IsWellFormed place (variant.Extra _) = Unit {0}
+IsWellFormed place (variant.ClassEndpoint _) = Unit {0}
+IsWellFormed place (variant.Foreign _) = Unit {0}
+
+-- the blocks are so, the control interface comes first, and the settings of each streaming interface are numbered 0, 1, .. in
+-- turn, under a number of its own
+pub record AreWellFormed (blocks : List block.Block) : Type 0 where
+  pub fields : EachIn IsWellFormed context.DeviceFront blocks
+  pub control : BeginsWithControl (interfaces_in blocks)
+  pub in_turn : InTurn [] (interfaces_in blocks)
