@@ -154,9 +154,9 @@ def read_input(name):
             with open(name, "rb") as file:
                 data = file.read()
     except OSError as why:
-        raise Refused(f"{name} can't be read ({why.strerror}): a configuration descriptor is wanted, as a device's folder of sysfs has it in the file 'descriptors'")
+        raise Refused(f"{name} can't be read ({why.strerror}): a file with its bytes is wanted, as a device's folder of sysfs has it in the file 'descriptors'")
     if not data:
-        raise Refused(f"{name} is empty: a configuration descriptor is wanted")
+        raise Refused(f"{name} is empty")
     return data
 
 
