@@ -1,17 +1,15 @@
 -- A fault of each rule, by the definitions alone: the blocks in front of it, the bytes at its place, and how the rule is broken there.
-use Rattle.std.proofs.Common.{◌≡◌, ℕ, ◌≤◌, List, [], ◌∷◌, ◌++◌, Option, Some, None, refl, sym, ◌∙◌, inl, inr, arith}
-use Rattle.uac_descriptor.specs.declared.context.Context.{Context}
+use Rattle.std.proofs.Common.{◌≡◌, ℕ, [], ◌∷◌, Some, None, refl, inl, inr, arith}
 use Rattle.uac_descriptor.specs.declared.context.Context.TheVariants as context
 use Rattle.uac_descriptor.specs.declared.block.Block as block
 use Rattle.uac_descriptor.specs.declared.block.Block.TheVariants as variant
 use Rattle.uac_descriptor.specs.Classes.{is_audio_association, is_control_interface, is_streaming_interface}
-use Rattle.uac_descriptor.specs.Layout.{IsWhole}
 use Rattle.uac_descriptor.specs.Reading.{block_of, is_whole, has_length}
-use Rattle.uac_descriptor.specs.Rows.{Spells, row_in, row_of}
+use Rattle.uac_descriptor.specs.Rows.{row_in, row_of}
 use Rattle.uac_descriptor.specs.Spelling.{spelling}
 use Rattle.uac_descriptor.proofs.ReadBack.{block_of-Spells}
 use Rattle.uac_sentence.specs.Letter.{interface_context, interface_letter, whole_letter, is_device, has_unknown_subtype}
-use Rattle.uac_sentence.specs.FirstFault.{IsFault, NextBlock, g1, g2, g3, g4, g5, g6, g7, g8, g9}
+use Rattle.uac_sentence.specs.FirstFault.{IsFault, g1, g2, g3, g4, g5, g6, g7, g8, g9}
 
 abbrev configuration : block.Block
 configuration = variant.Configuration (record { total = 9; interfaces = 1; value = 1; name = 0; attributes = 128; power = 50 })
