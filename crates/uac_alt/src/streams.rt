@@ -4,7 +4,6 @@ ghost use Rattle.std.specs.Bool.{OnTrue};
 ghost use Rattle.std.specs.List.{find};
 ghost use Rattle.std.specs.Option.{option_map};
 ghost use Rattle.uac_clock.specs.Nominal.{IsNominal};
-ghost use Rattle.uac_entities.specs.Streams.{named};
 ghost use Rattle.uac_pcm.specs.Frames.{IsFormat};
 ghost use Rattle.uac_alt.specs.Streams as spec;
 ghost use Rattle.uac_alt.specs.Streams.{seen, stream_of};
@@ -13,7 +12,7 @@ use crate::values::Stream;
 use uac_clock::{Nominal, nominal};
 use uac_descriptor::{Endpoint, EndpointBits, General, TypeOne};
 use uac_pcm::Format;
-use uac_topology::{Entity, Function, Setting, StreamInterface};
+use uac_topology::{Function, Setting, StreamInterface};
 
 /// The stream of an interface in a setting, at a rate in Hz (USB 2.0, 9.6.6; Audio Class 2.0, 4.9; Audio Data Formats
 /// 2.0, 2.3.1). It takes no memory.
@@ -29,17 +28,10 @@ pub fn stream(function: &Function, rate: u32, interface: u8, setting: u8) -> Opt
     if setting == 0 {
         return None;
     }
-    let carrier = interface_of(function.streams(), interface)?;
+    let carrier = function.interface(interface)?;
     let chosen = setting_at(carrier.settings.as_slice(), setting)?;
     let nominal = nominal(rate)?;
     stream_at(function, carrier, chosen, nominal)
-}
-
-/// The streaming interface with a number.
-fn interface_of(streams: &[StreamInterface], number: u8) -> Option<&StreamInterface>
-    ensures { option_map (λ s. s.now) result ≡ find (λ s. s.number == number) streams.now }
-{
-    streams.iter().find(|stream| stream.number == number)
 }
 
 /// The setting with a number.
@@ -116,18 +108,10 @@ fn is_pcm(general: &General) -> bool
 fn linked_channels(function: &Function, carrier: &StreamInterface) -> u8
     ensures { result ≡ spec.linked_channels function.now carrier.now }
 {
-    match entity_named(function.entities(), carrier.terminal) {
+    match function.entity(carrier.terminal) {
         Some(terminal) => terminal.cluster.channels,
         None => 0,
     }
-}
-
-/// The entity with an id.
-#[tactic(auto, unfolding(uac_entities::specs::Streams::named))]
-fn entity_named(entities: &[Entity], id: u8) -> Option<&Entity>
-    ensures { option_map (λ e. e.now) result ≡ named entities.now id }
-{
-    entities.iter().find(|entity| entity.id == id)
 }
 
 /// Whether these are the numbers of a format (Audio Data Formats 2.0, 2.3.1.6).

@@ -5,6 +5,7 @@ use std::test::Fail;
 use uac_descriptor::{
     Block, ClockSource, Endpoint, General, InputTerminal, Interface, OutputTerminal, TypeOne,
 };
+use uac_sentence::are_well_formed;
 use uac_topology::{Function, check};
 
 fn push(blocks: &mut Vec<Block>, block: Block) -> Result<(), AllocError> {
@@ -238,6 +239,9 @@ fn function(alloc: Global) -> Result<Function, AllocError> {
     push(&mut blocks, interface(8, 2, 0, 0))?;
     for (place, row) in in_rows().iter().enumerate() {
         push_setting(&mut blocks, false, place as u8 + 1, *row)?;
+    }
+    if !are_well_formed(blocks.as_slice()) {
+        return Err(AllocError);
     }
     match check(alloc, blocks.as_slice()) {
         Ok(function) => Ok(function),

@@ -13,6 +13,7 @@ use std::alloc::Global;
 use uac_edges::Sink;
 use uac_grammar::{ReadStop, Reader};
 use uac_running::Playing;
+use uac_sentence::laws::sentences_are_well_formed;
 use uac_topology::{CheckStop, Function, check};
 
 /// Takes more bytes of the descriptor.
@@ -42,6 +43,7 @@ fn stopped(stop: ReadStop) -> BusFault
 fn described(alloc: Global, reader: Reader) -> Result<Function, BusFault>
     ensures { Describes reader.taken result }
 {
+    sentences_are_well_formed();
     match reader.finish() {
         Ok(blocks) => match check(alloc, blocks.as_slice()) {
             Ok(function) => Ok(function),

@@ -2,6 +2,7 @@
 ghost use Rattle.std.specs.Prelude.{◌≡◌, ◌⊎◌, flat_map, map, string_bytes};
 ghost use Rattle.std.specs.Io.KnownBytes.{IsAtEnd};
 ghost use Rattle.uac_descriptor.specs.Spelling.{spelling};
+ghost use Rattle.uac_descriptor.specs.WellFormed.{AreWellFormed};
 ghost use Rattle.uac_edges.specs.Faults.{Rose, HasCause};
 ghost use Rattle.uac_edges.specs.Writing.{Writes};
 ghost use Rattle.uac_units.specs.Fitting.{IsFitted};
@@ -21,6 +22,7 @@ use std::alloc::Global;
 use uac_descriptor::{Block, NoMemory};
 use uac_edges::{Failed, Sink, Source, give_all};
 use uac_grammar::ReadStop;
+use uac_sentence::laws::sentences_are_well_formed;
 use uac_topology::{CheckStop, Function, check};
 use uac_units::{Meter, Meters, Rack, Unit};
 
@@ -80,7 +82,10 @@ fn describe<S: Source, K: Sink>(
     ensures ok { result ≡ Status.Ok → IsAtEnd (S.left source.new) }
 {
     match read_descriptor(alloc, source) {
-        Reading::Whole(blocks) => judge(alloc, description, &blocks, sink),
+        Reading::Whole(blocks) => {
+            sentences_are_well_formed();
+            judge(alloc, description, &blocks, sink)
+        }
         Reading::Stopped(stop) => refuse(stop, sink),
         Reading::Failed => close(sink, READ_FAULT, Status::ReadFault),
     }
@@ -88,6 +93,7 @@ fn describe<S: Source, K: Sink>(
 
 /// Judges the function of the blocks, and prints what is said of it.
 fn judge<K: Sink>(alloc: Global, description: Description, blocks: &[Block], sink: &mut K) -> Status
+    requires { AreWellFormed blocks.now }
     ensures { Judges description blocks.now (K.written sink.old) (K.written sink.new) (K.faults sink.old) (K.faults sink.new) result }
 {
     match check(alloc, blocks) {

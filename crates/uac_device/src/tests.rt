@@ -9,16 +9,32 @@ use crate::*;
 use arrayvec::ArrayVec;
 use std::alloc::{AllocError, Global};
 use std::test::Fail;
-use uac_descriptor::{Block, ClockSource, Feature, InputTerminal, OutputTerminal, WordList};
+use uac_descriptor::{
+    Block, ClockSource, Feature, InputTerminal, Interface, OutputTerminal, WordList,
+};
 use uac_entities::{Entity, EntityKind, USB_STREAMING};
 use uac_graph::laws::fresh_steps_have_room;
 use uac_pcm::Frame;
+use uac_sentence::are_well_formed;
 use uac_store::Key;
 use uac_topology::check;
 use uac_units::{
     ClippedMeter, Meter, Meters, PeakMeter, PlainEffect, PlainFeature, PlainMixer, PlainSelector,
     Rack, Steps, SumMeter, Unit,
 };
+
+// The control interface, with which blocks begin.
+fn control() -> Block {
+    Block::Interface(Interface {
+        number: 0,
+        setting: 0,
+        endpoints: 0,
+        class: 1,
+        subclass: 1,
+        protocol: 0x20,
+        name: 0,
+    })
+}
 
 fn push(blocks: &mut Vec<Block>, block: Block) -> Result<(), AllocError> {
     match blocks.push(block) {
@@ -42,6 +58,7 @@ fn output(id: u8, terminal_type: u16) -> Block {
 /// Clock 1; jack 2 of three channels feeds feature 3, which feeds jack 4 and the terminal 5 of the bus.
 fn blocks(alloc: Global) -> Result<Vec<Block>, AllocError> {
     let mut blocks = Vec::new(alloc);
+    push(&mut blocks, control())?;
     push(
         &mut blocks,
         Block::ClockSource(ClockSource {
@@ -83,6 +100,9 @@ fn blocks(alloc: Global) -> Result<Vec<Block>, AllocError> {
 
 fn device(alloc: Global) -> Result<Device, AllocError> {
     let blocks = blocks(alloc)?;
+    if !are_well_formed(blocks.as_slice()) {
+        return Err(AllocError);
+    }
     let function = match check(alloc, blocks.as_slice()) {
         Ok(function) => function,
         Err(_) => return Err(AllocError),

@@ -16,10 +16,11 @@ use std::cell::Cell;
 use std::rc::Rc;
 use std::test::Fail;
 use uac_descriptor::{
-    Block, ByteList, ClockSource, Effect, Feature, InputTerminal, Mixer, OutputTerminal, Selector,
-    WordList,
+    Block, ByteList, ClockSource, Effect, Feature, InputTerminal, Interface, Mixer, OutputTerminal,
+    Selector, WordList,
 };
 use uac_pcm::Frame;
+use uac_sentence::are_well_formed;
 use uac_store::{Key, Store};
 use uac_topology::{Function, check};
 use uac_units::{
@@ -43,6 +44,19 @@ impl Unit for CountingMixer {
         PlainMixer.render(job, pins, out, steps);
         self.renders.set(self.renders.get().saturating_add(1));
     }
+}
+
+// The control interface, with which blocks begin.
+fn control() -> Block {
+    Block::Interface(Interface {
+        number: 0,
+        setting: 0,
+        endpoints: 0,
+        class: 1,
+        subclass: 1,
+        protocol: 0x20,
+        name: 0,
+    })
 }
 
 fn bytes(alloc: Global, items: &[u8]) -> Result<ByteList, AllocError>
@@ -205,6 +219,7 @@ fn hold(store: &mut Store, entity: u8, selector: u8, channel: u8, value: i32) {
 /// The sound function of the two groups of blocks.
 fn function(alloc: Global) -> Result<Function, AllocError> {
     let mut blocks = Vec::new(alloc);
+    push(&mut blocks, control())?;
     ends(alloc, &mut blocks)?;
     chain(alloc, &mut blocks)?;
     checked(alloc, &blocks)
@@ -213,6 +228,7 @@ fn function(alloc: Global) -> Result<Function, AllocError> {
 /// Mixer 3 has two pins on jack 2, which is stereo, and each mixer up to 42 two pins on the one before. Terminal 43 plays the last.
 fn mixers_in_a_row(alloc: Global) -> Result<Function, AllocError> {
     let mut blocks = Vec::new(alloc);
+    push(&mut blocks, control())?;
     push(&mut blocks, clock())?;
     push(&mut blocks, input(2, 2, 3))?;
     for before in 2..42u8 {
@@ -224,6 +240,9 @@ fn mixers_in_a_row(alloc: Global) -> Result<Function, AllocError> {
 }
 
 fn checked(alloc: Global, blocks: &[Block]) -> Result<Function, AllocError> {
+    if !are_well_formed(blocks) {
+        return Err(AllocError);
+    }
     match check(alloc, blocks) {
         Ok(function) => Ok(function),
         Err(_) => Err(AllocError),

@@ -2,7 +2,6 @@
 ghost use Rattle.std.specs.Prelude.{◌≡◌, ◌==◌, None, Some, if◌then◌else◌};
 ghost use Rattle.std.specs.List.{list_any};
 ghost use Rattle.std.specs.Option.{option_map};
-ghost use Rattle.uac_entities.specs.Streams.{named};
 ghost use Rattle.uac_request.specs.Owners as owners;
 ghost use Rattle.uac_request.specs.Requests as spec;
 
@@ -23,20 +22,12 @@ pub(crate) fn owner_of(function: &Function, index: u16) -> Option<Owner<'_>>
     ensures { option_map owners.owned result ≡ spec.owner_of function.now index }
 {
     if low_byte(index) == function.control_interface() {
-        entity_with(function, high_byte(index)).map(Owner::Entity)
+        function.entity(high_byte(index)).map(Owner::Entity)
     } else if high_byte(index) == 0 {
-        stream_in(function, u16::from(low_byte(index))).map(Owner::Stream)
+        function.interface(low_byte(index)).map(Owner::Stream)
     } else {
         None
     }
-}
-
-/// The entity with an id.
-#[tactic(auto, unfolding(uac_entities::specs::Streams::named))]
-pub(crate) fn entity_with(function: &Function, id: u8) -> Option<&Entity>
-    ensures { option_map (λ e. e.now) result ≡ named function.now.entities id }
-{
-    function.entities().iter().find(|entity| entity.id == id)
 }
 
 /// The streaming interface with a number.
@@ -78,7 +69,7 @@ pub(crate) fn setting_named(function: &Function, interface: u8, number: u16) -> 
     if interface == function.control_interface() {
         return if number == 0 { Some(0) } else { None };
     }
-    let stream = stream_in(function, u16::from(interface))?;
+    let stream = function.interface(interface)?;
     number_among(stream.settings.as_slice(), number)
 }
 

@@ -10,7 +10,7 @@ ghost use Rattle.uac_request.specs.Requests.{AreSettingsOf, Held, held_by, kept_
 ghost use Rattle.uac_request.specs.declared.request.Request.TheVariants as ask;
 
 use crate::current::{cur_bytes, key_of, one_byte};
-use crate::owner::{Owner, has_interface, interface_named, owner_of, setting_named, stream_in};
+use crate::owner::{Owner, has_interface, interface_named, owner_of, setting_named};
 use crate::ranging::ranges_now;
 use crate::rules::{get_broken, value_to_set};
 use crate::setup::{Setup, low_byte};
@@ -168,7 +168,7 @@ pub(crate) fn set_interface(
 fn can_hold(function: &Function, store: &Store, interface: u8, setting: u8) -> bool
     ensures { result ≡ spec.can_hold function.now store.now interface setting }
 {
-    match stream_in(function, u16::from(interface)) {
+    match function.interface(interface) {
         Some(stream) => is_valid(function, store, stream, setting),
         None => true,
     }

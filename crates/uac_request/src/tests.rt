@@ -1,8 +1,5 @@
 // The answers of a headset, byte by byte, with ample memory.
-ghost use Rattle.std.specs.Prelude.{◌≡◌, IfOk, length};
-ghost use Rattle.std.specs.Bool.{OnTrue};
-ghost use Rattle.uac_store.specs.Controls as controls;
-ghost use Rattle.uac_store.specs.Controls.{HavePins};
+ghost use Rattle.std.specs.Prelude.{◌≡◌, IfOk};
 
 use super::*;
 use std::alloc::{AllocError, Global};
@@ -13,8 +10,9 @@ use uac_descriptor::{
     Block, ClockSource, Configuration, Endpoint, Feature, General, InputTerminal, Interface,
     OutputTerminal, TypeOne, WordList,
 };
+use uac_sentence::are_well_formed;
 use uac_store::{Key, Store};
-use uac_topology::{Entity, EntityKind, Function, check};
+use uac_topology::{Function, check};
 
 /// A function with its controls and its settings.
 #[derive(Drop)]
@@ -39,9 +37,6 @@ impl Model for Headset {
 impl Headset {
     fn new(alloc: Global, most: u16) -> Result<Headset, AllocError> {
         let function = function(alloc, most)?;
-        if !have_pins(&function) {
-            return Err(AllocError);
-        }
         laws::each_interface_starts_with_a_setting();
         let settings = Settings::new(&function);
         match Store::new(alloc, &function) {
@@ -63,21 +58,6 @@ impl Headset {
             &setup,
             sent,
         )
-    }
-}
-
-fn have_pins(function: &Function) -> bool
-    ensures { OnTrue result (HavePins function.now.entities) }
-{
-    function.entities().iter().all(|entity| has_pin(entity))
-}
-
-fn has_pin(entity: &Entity) -> bool
-    ensures { result ≡ controls.has_pin entity.now.kind (length entity.now.sources) }
-{
-    match entity.kind {
-        EntityKind::ClockSelector | EntityKind::Selector => entity.sources.as_slice().len() >= 1,
-        _ => true,
     }
 }
 
@@ -227,6 +207,9 @@ fn function(alloc: Global, most: u16) -> Result<Function, AllocError> {
     push(&mut blocks, interface(0, 1, 0, 0))?;
     push_entities(alloc, &mut blocks)?;
     push_streams(&mut blocks, most)?;
+    if !are_well_formed(blocks.as_slice()) {
+        return Err(AllocError);
+    }
     match check(alloc, blocks.as_slice()) {
         Ok(function) => Ok(function),
         Err(_) => Err(AllocError),

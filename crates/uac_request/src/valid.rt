@@ -4,7 +4,6 @@ ghost use Rattle.std.specs.Option.{option_map_or};
 ghost use Rattle.uac_alt.specs.Streams.{stream_of};
 ghost use Rattle.uac_request.specs.Requests as spec;
 
-use crate::owner::entity_with;
 use uac_store::Store;
 use uac_topology::{Function, StreamInterface};
 
@@ -35,7 +34,7 @@ fn can_run(function: &Function, store: &Store, stream: &StreamInterface, number:
 fn rate_at(function: &Function, store: &Store, stream: &StreamInterface) -> Option<u32>
     ensures { result ≡ spec.rate_at function.now store.now stream.now }
 {
-    let terminal = entity_with(function, stream.terminal)?;
+    let terminal = function.entity(stream.terminal)?;
     store.rate(function, terminal.clock)
 }
 

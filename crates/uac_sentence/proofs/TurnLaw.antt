@@ -9,6 +9,7 @@ use Rattle.uac_descriptor.specs.declared.block.Block.TheVariants as variant
 use Rattle.uac_sentence.specs.declared.states.Latest.{Latest}
 use Rattle.uac_descriptor.specs.Classes.{is_streaming_interface}
 use Rattle.uac_sentence.specs.Grammar.{used_after, latest_after, continues, is_in_turn}
+pub use Rattle.uac_sentence.specs.Sentence.{HasSmallNumbers}
 use Rattle.uac_sentence.specs.Sentence.{is_of_function, Begins, Continues, InTurn, interface_of}
 use Rattle.uac_sentence.proofs.Parts.{TurnRun}
 
@@ -141,12 +142,6 @@ of_turn used earlier i small is h =
     above_zero : (earlier : List interface.Interface) (i : interface.Interface) → Continues earlier i → i.setting ≢ 0
     above_zero [] i h = absurd h
     above_zero (j ∷ earlier) i (streaming, number, setting) = λ e. omega arith
-
--- each number is a byte
-abbrev pub HasSmallNumbers : List block.Block → Type 0
-HasSmallNumbers [] = Unit {0}
-HasSmallNumbers (variant.Interface i ∷ blocks) = (i.number < 256) × HasSmallNumbers blocks
-HasSmallNumbers (_ ∷ blocks) = HasSmallNumbers blocks
 
 turns : (used : List Bool) (latest : Option Latest) (earlier : List interface.Interface) (blocks : List block.Block)
     → HasSmallNumbers blocks → IsUsed used earlier → latest ≡ latest_of earlier → TurnRun used latest blocks → InTurn earlier (filter_map interface_of blocks)

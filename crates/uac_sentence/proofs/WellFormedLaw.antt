@@ -1,5 +1,5 @@
 -- The blocks of a sentence are well-formed.
-use Rattle.std.proofs.Common.{◌≡◌, ℕ, Bool, true, false, ◌&&◌, ◌||◌, not, List, [], ◌∷◌, Option, Some, None, IsTrue, if◌then◌else◌, ◌⊎◌, refl, sym, ap, ◌∙◌, subst, inl, inr}
+use Rattle.std.proofs.Common.{◌≡◌, ℕ, ◌+◌, ◌<◌, ◌≤◌, length, get_or, drop, replicate, Bool, true, false, ◌&&◌, ◌||◌, not, List, [], ◌∷◌, Option, Some, None, IsTrue, if◌then◌else◌, ◌⊎◌, refl, sym, ap, ◌∙◌, subst, inl, inr}
 use Rattle.std.proofs.lemmas.Bool.{cases_Bool, cond-true, cond-false, true≢false}
 use Rattle.uac_descriptor.specs.declared.context.Context.{Context}
 use Rattle.uac_descriptor.specs.declared.context.Context.TheVariants as context
@@ -8,19 +8,24 @@ use Rattle.uac_descriptor.specs.declared.standard.Association as association
 use Rattle.uac_descriptor.specs.declared.block.Block as block
 use Rattle.uac_descriptor.specs.declared.block.Block.TheVariants as variant
 use Rattle.uac_descriptor.specs.Classes.{is_audio_association, is_control_interface, is_streaming_interface}
-use Rattle.uac_descriptor.specs.Turns.{BeginsWithControl, interface_of, interfaces_in}
+use Rattle.std.proofs.lemmas.List.{drop_more, drop_all}
+use Rattle.uac_descriptor.specs.Contexts.{EachIn, context_after}
+use Rattle.uac_descriptor.specs.Turns.{BeginsWithControl, InTurn, interface_of, interfaces_in}
 use Rattle.uac_descriptor.specs.WellFormed.{IsWellFormed, AreWellFormed}
 use Rattle.uac_sentence.specs.declared.letters.Letter.{Letter}
 use Rattle.uac_sentence.specs.declared.letters.Letter.TheVariants as letter
 use Rattle.uac_sentence.specs.declared.stages.Stage.{Stage}
 use Rattle.uac_sentence.specs.declared.stages.Stage.TheVariants.{Start, Due, Opening, Before, Announced, Headless, Listing, Quiet, Setting, Formats, Formatted, FirstEndpoint, FirstDone, SecondEndpoint, Closing, Behind}
-use Rattle.uac_sentence.specs.Grammar.{is_control, is_audio_interface}
+use Rattle.uac_sentence.specs.Grammar.{is_control, is_audio_interface, is_in_turn, used_after, latest_after}
 use Rattle.uac_sentence.specs.Letter.{letter_of, whole_letter, interface_letter, is_device, has_unknown_subtype, has_place, type_of}
-use Rattle.uac_sentence.specs.Sentence.{IsSentence}
+use Rattle.uac_sentence.specs.Sentence.{HasSmallNumbers, IsSentence}
+use Rattle.uac_sentence.specs.declared.states.Latest.{Latest}
 use Rattle.uac_sentence.specs.Steps.{step, may_end}
-use Rattle.uac_sentence.specs.Values.{HasValues}
+use Rattle.uac_sentence.specs.Values.{HasValues, has_wrong_value}
 use Rattle.uac_sentence.proofs.OrderLaw.{Goes, allows_goes}
-use Rattle.uac_sentence.proofs.ValuesLaw.{EachIn-weaker}
+use Rattle.uac_sentence.proofs.Parts.{TurnRun}
+use Rattle.uac_sentence.proofs.TurnLaw.{in_turn}
+use Rattle.uac_sentence.proofs.ValuesLaw.{EachIn-weaker, right_values}
 
 -- allowed values are well-formed ones
 keeps : (place : Context) (b : block.Block) → HasValues place b → IsWellFormed place b
@@ -120,3 +125,70 @@ sentence_is_well_formed bytes blocks h =
       control = begins Start blocks refl (allows_goes letter_of Start blocks h.order);
       in_turn = h.in_turn;
     }
+
+-- ---- the test, block by block
+
+step_on : (P : Context → block.Block → Type 0) (place : Context) (xs : List block.Block) (i : ℕ) (b : block.Block) → i < length xs → b ≡ get_or xs i b → P place b
+    → EachIn P (context_after place b) (drop (i + 1) xs) → EachIn P place (drop i xs)
+step_on P place xs i b below is here rest =
+    subst (EachIn P place) (sym (drop_more xs i b below ∙ ap (λ x. x ∷ drop (i + 1) xs) (sym is))) (here, rest)
+
+pub fields_on : (place : Context) (xs : List block.Block) (i : ℕ) (b : block.Block) → i < length xs → b ≡ get_or xs i b → has_wrong_value place b ≡ false
+    → EachIn IsWellFormed (context_after place b) (drop (i + 1) xs) → EachIn IsWellFormed place (drop i xs)
+fields_on place xs i b below is right rest = step_on IsWellFormed place xs i b below is (keeps place b (right_values place b right)) rest
+
+control_by : (c r : Bool) → is_control (letter_by c r) ≡ true → c ≡ true
+control_by true r e = refl
+control_by false true e = cc
+control_by false false e = cc
+
+no_stream_by : (c r : Bool) → is_audio_interface (letter_by c r) ≡ false → not r ≡ true
+no_stream_by true r e = cc
+no_stream_by false true e = cc
+no_stream_by false false e = refl
+
+begins_here : (b : block.Block) (bs : List block.Block) → is_control (letter_of b) ≡ true → BeginsWithControl (interfaces_in (b ∷ bs))
+begins_here (variant.Interface i) bs e =
+    inl (control_by (is_control_interface i) (is_streaming_interface i) (subst (λ k. is_control k ≡ true) (letter_is i) e))
+begins_here b bs e = absurd (true≢false (sym e ∙ no_control b refl))
+
+begins_later : (b : block.Block) (bs : List block.Block) → is_audio_interface (letter_of b) ≡ false → BeginsWithControl (interfaces_in bs)
+    → BeginsWithControl (interfaces_in (b ∷ bs))
+begins_later (variant.Interface i) bs e rest =
+    inr (no_stream_by (is_control_interface i) (is_streaming_interface i) (subst (λ k. is_audio_interface k ≡ false) (letter_is i) e), rest)
+begins_later b bs e rest = rest
+
+pub control_at : (xs : List block.Block) (i : ℕ) (b : block.Block) → i < length xs → b ≡ get_or xs i b → is_control (letter_of b) ≡ true
+    → BeginsWithControl (interfaces_in (drop i xs))
+control_at xs i b below is e =
+    subst (λ bs. BeginsWithControl (interfaces_in bs)) (sym (drop_more xs i b below ∙ ap (λ x. x ∷ drop (i + 1) xs) (sym is))) (begins_here b (drop (i + 1) xs) e)
+
+pub control_on : (xs : List block.Block) (i : ℕ) (b : block.Block) → i < length xs → b ≡ get_or xs i b → is_audio_interface (letter_of b) ≡ false
+    → BeginsWithControl (interfaces_in (drop (i + 1) xs)) → BeginsWithControl (interfaces_in (drop i xs))
+control_on xs i b below is e rest =
+    subst (λ bs. BeginsWithControl (interfaces_in bs)) (sym (drop_more xs i b below ∙ ap (λ x. x ∷ drop (i + 1) xs) (sym is))) (begins_later b (drop (i + 1) xs) e rest)
+
+small_on : (b : block.Block) (bs : List block.Block) → HasSmallNumbers (b ∷ []) → HasSmallNumbers bs → HasSmallNumbers (b ∷ bs)
+small_on (variant.Interface i) bs h rest = (h.0, rest)
+small_on b bs h rest = rest
+
+-- numbers are bytes, and the turn was kept
+pub Runs : List Bool → Option Latest → List block.Block → Type 0
+Runs used latest blocks = HasSmallNumbers blocks × TurnRun used latest blocks
+
+pub turn_on : (used : List Bool) (latest : Option Latest) (xs : List block.Block) (i : ℕ) (b : block.Block) → i < length xs → b ≡ get_or xs i b
+    → is_in_turn used latest b ≡ true → HasSmallNumbers (b ∷ []) → Runs (used_after used b) (latest_after latest b) (drop (i + 1) xs) → Runs used latest (drop i xs)
+unfolding Runs
+turn_on used latest xs i b below is turn small (smalls, run) =
+    subst (Runs used latest) (sym (drop_more xs i b below ∙ ap (λ x. x ∷ drop (i + 1) xs) (sym is))) (small_on b (drop (i + 1) xs) small smalls, (turn, run))
+
+pub runs_in_turn : (blocks : List block.Block) → Runs (replicate 256 false) None blocks → InTurn [] (interfaces_in blocks)
+unfolding Runs
+runs_in_turn blocks (small, run) = in_turn blocks small run
+
+pub none_left : (P : List block.Block → Type 0) → P [] → (xs : List block.Block) (i : ℕ) → length xs ≤ i → P (drop i xs)
+none_left P base xs i past = subst P (sym (drop_all i xs past)) base
+
+pub runs_nil : (used : List Bool) (latest : Option Latest) → Runs used latest []
+unfolding Runs
+runs_nil used latest = (tt, tt)

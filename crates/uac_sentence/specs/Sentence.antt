@@ -1,5 +1,5 @@
 -- The sentence: which blocks the bytes of a descriptor are. USB 2.0, 9.4.3, 9.6.3 and 9.6.5; Audio Class 2.0, 4.
-use Rattle.std.specs.Prelude.{true, false, ◌≡◌, ◌≢◌, ℕ, ◌+◌, Bool, ◌||◌, ◌⊎◌, List, [], ◌∷◌, length, flat_map, filter_map, take_while, Option, Some, None, IsTrue}
+use Rattle.std.specs.Prelude.{true, false, ◌≡◌, ◌≢◌, ℕ, ◌+◌, ◌<◌, Bool, ◌||◌, ◌⊎◌, List, [], ◌∷◌, length, flat_map, filter_map, take_while, Option, Some, None, IsTrue}
 use Rattle.std.specs.List.{AllByRecursion}
 use Rattle.uac_descriptor.specs.declared.context.Context.{Context}
 use Rattle.uac_descriptor.specs.declared.context.Context.TheVariants as context
@@ -44,6 +44,12 @@ HasListTotal [] = Unit {0}
 HasListTotal (variant.Header h ∷ blocks) =
     size (variant.Header h ∷ take_while (λ b. is_entity (letter_of b)) blocks) ≡ h.total
 HasListTotal (_ ∷ blocks) = HasListTotal blocks
+
+-- the number of each interface is a byte
+abbrev pub HasSmallNumbers : List block.Block → Type 0
+HasSmallNumbers [] = Unit {0}
+HasSmallNumbers (variant.Interface i ∷ blocks) = (i.number < 256) × HasSmallNumbers blocks
+HasSmallNumbers (_ ∷ blocks) = HasSmallNumbers blocks
 
 -- these blocks are what the bytes say, in the standard's order, with the totals and the values that they must have
 pub record IsSentence (bytes : List ℕ) (blocks : List block.Block) : Type 0 where

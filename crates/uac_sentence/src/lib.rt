@@ -15,6 +15,8 @@ mod turns;
 mod rules;
 /// The laws of the grammar.
 pub mod laws;
+/// Whether blocks are well-formed.
+mod well_formed;
 /// The first fault of a descriptor.
 mod faults;
 
@@ -24,3 +26,4 @@ pub use stages::Stage;
 pub use states::{FURTHEST, Latest, Listing, State};
 pub use uac_descriptor::classes;
 pub use values::has_wrong_value;
+pub use well_formed::are_well_formed;

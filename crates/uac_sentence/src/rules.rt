@@ -253,7 +253,7 @@ fn may_end(stage: Stage) -> bool
 }
 
 /// A control interface or a streaming one.
-fn is_audio_interface(letter: Letter) -> bool
+pub(crate) fn is_audio_interface(letter: Letter) -> bool
     ensures { result ≡ is_audio_interface letter }
 {
     match letter {
@@ -263,7 +263,7 @@ fn is_audio_interface(letter: Letter) -> bool
     }
 }
 
-fn is_control(letter: Letter) -> bool
+pub(crate) fn is_control(letter: Letter) -> bool
     ensures { result ≡ is_control letter }
 {
     matches!(letter, Letter::ControlInterface)

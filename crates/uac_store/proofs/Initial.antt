@@ -1,8 +1,8 @@
 -- The controls at the start are exactly those that the entities have, each with a value that it takes.
-use Rattle.std.proofs.Common.{◌≡◌, ℕ, suc, ◌/◌, ◌%◌, ◌==◌, ◌&&◌, nat_lt, nat_le, nat_eq, ℤ, pos, negsuc, List, [], ◌∷◌, map, length, Option, None, Some, is_some, if◌then◌else◌, Bool, true, false, refl, ap, sym, subst, ◌∙◌, arith}
+use Rattle.std.proofs.Common.{◌≡◌, ℕ, suc, ◌/◌, ◌%◌, ◌==◌, ◌&&◌, ◌≤◌, nat_lt, nat_le, nat_eq, ℤ, pos, negsuc, List, [], ◌∷◌, map, length, Option, None, Some, is_some, if◌then◌else◌, Bool, true, false, refl, ap, sym, subst, ◌∙◌, arith}
 use Rattle.std.specs.Option.{option_or, option_and_then, option_map_or}
 use Rattle.std.specs.List.{flat_map, All, AllByRecursion, IsDistinct}
-use Rattle.std.proofs.lemmas.Bool.{eqb-true, eqb-false, ltb-true, ltb-false, leb-true, leb-false}
+use Rattle.std.proofs.lemmas.Bool.{eqb-true, eqb-false, ltb-true, ltb-false, le-leb, leb-true, leb-false}
 use Rattle.uac_clock.specs.Nominal.{is_listed}
 use Rattle.uac_gain.specs.Gain.{gain_of}
 use Rattle.uac_entities.specs.Streams.{named}
@@ -10,9 +10,10 @@ use Rattle.uac_entities.specs.declared.entity.EntityKind.{EntityKind}
 use Rattle.uac_entities.specs.declared.entity.EntityKind.TheVariants as kind
 use Rattle.uac_entities.specs.declared.entity.Entity.{Entity}
 use Rattle.uac_topology_rules.proofs.Sound.{option_or-none}
+use Rattle.uac_topology.specs.Kept.{has_pins, HavePins}
 use Rattle.uac_store.specs.declared.keys.Key.{Key}
 use Rattle.uac_store.specs.Keyed.{value_of}
-use Rattle.uac_store.specs.Controls.{start_of, start_at, start_by, count_of, selectors_of, pins_of, node_start, channel_within, controls_of, initial_controls, has_on, has_control, has_pin, HavePins, takes, takes_on, takes_by, is_switch, IsStoreOf}
+use Rattle.uac_store.specs.Controls.{start_of, start_at, start_by, count_of, selectors_of, pins_of, node_start, channel_within, controls_of, initial_controls, has_on, has_control, takes, takes_on, takes_by, is_one_to, is_switch, IsStoreOf}
 use Rattle.uac_store.proofs.Keeping.{value_of-append, controls_miss_channel, controls_miss_entity, selectors_miss, selectors_have, entities_miss}
 
 -- what one entity gives a key
@@ -100,16 +101,20 @@ no_selector selector has there = from (nat_lt 0 selector) (nat_le selector 0) re
   from true false l h there = cc
   from false high l h there = cc
 
+-- the first pin is there
+first_pin : (pins : ℕ) → 1 ≤ pins → is_one_to pins (pos 1) ≡ true
+first_pin pins some = le-leb 1 pins some
+
 -- what an entity's control has at the start is a value that it takes
 start_taken : (k : EntityKind) (pins : List ℕ) (outputs sources attributes selector channel : ℕ) (has : Bool)
-    → has_pin k sources ≡ true → (nat_lt 0 selector && nat_le selector (selectors_of k) && has) ≡ true
+    → (has_pins k ≡ true → 1 ≤ sources) → (nat_lt 0 selector && nat_le selector (selectors_of k) && has) ≡ true
     → takes_by k sources attributes selector (start_by k (node_start pins outputs channel)) ≡ true
 unfolding node_start
 start_taken kind.ClockSource pins outputs sources attributes selector channel has pin there = from (nat_lt (attributes % 4) 2) where
   from : (b : Bool) → (if b then 48000 == 48000 else is_listed 48000) ≡ true
   from true = refl
   from false = refl
-start_taken kind.ClockSelector pins outputs sources attributes selector channel has pin there = pin
+start_taken kind.ClockSelector pins outputs sources attributes selector channel has pin there = first_pin sources (pin refl)
 start_taken kind.ClockMultiplier pins outputs sources attributes selector channel has pin there = refl
 start_taken kind.InputTerminal pins outputs sources attributes selector channel has pin there = absurd (no_selector selector has there)
 start_taken kind.OutputTerminal pins outputs sources attributes selector channel has pin there = absurd (no_selector selector has there)
@@ -118,7 +123,7 @@ start_taken kind.Mixer pins outputs sources attributes selector channel has pin 
       from : (b : Bool) → is_some (gain_of (if b then pos 0 else negsuc 32767)) ≡ true
       from true = refl
       from false = refl
-start_taken kind.Selector pins outputs sources attributes selector channel has pin there = pin
+start_taken kind.Selector pins outputs sources attributes selector channel has pin there = first_pin sources (pin refl)
 start_taken kind.Feature pins outputs sources attributes selector channel has pin there = from (selector == 1) where
   from : (b : Bool) → (if b then is_switch (pos 0) else is_some (gain_of (pos 0))) ≡ true
   from true = refl
@@ -141,5 +146,5 @@ initial_is_store all distinct have = record {
         let i : start_of all e k.channel ≡ v = cc in
         subst (λ w. takes_on k.selector w e ≡ true) i
         (start_taken e.kind (pins_of all e) e.cluster.channels (length e.sources) e.attributes k.selector k.channel (nat_lt k.channel (count_of all e))
-        (named_has (λ x. has_pin x.kind (length x.sources) ≡ true) all k.entity e have is) there)
+        (named_has (λ x. has_pins x.kind ≡ true → 1 ≤ length x.sources) all k.entity e have is) there)
     given false other starts = cc

@@ -1,4 +1,3 @@
-pub mod Finding
 pub mod Initial
 pub mod Keeping
 pub mod Setting

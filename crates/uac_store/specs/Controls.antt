@@ -141,12 +141,6 @@ pub record IsStoreOf (entities : List Entity) (controls : List (Key × ℤ)) : T
   pub keys : (k : Key) → is_some (value_of controls k) ≡ has_control entities k
   pub values : (k : Key) (v : ℤ) → value_of controls k ≡ Some v → takes entities k v ≡ true
 
--- a selector has a pin to choose
-abbrev pub has_pin : EntityKind → ℕ → Bool
-has_pin kind.ClockSelector pins = nat_le 1 pins
-has_pin kind.Selector pins = nat_le 1 pins
-has_pin _ pins = true
-
 -- profile: a mixer has at most 256 input channels and at most 256 nodes
 abbrev pub IsSmall : EntityKind → ℕ → ℕ → Type 0
 IsSmall kind.Mixer inputs outputs = (inputs ≤ 256) × (inputs * outputs ≤ 256)
@@ -156,7 +150,3 @@ IsSmall _ inputs outputs = Unit {0}
 pub record IsKeyed (entities : List Entity) : Type 0 where
   pub apart : IsDistinct nat_eq (map (λ e. e.id) entities)
   pub small : All (λ e. IsSmall e.kind (sum (pins_of entities e)) e.cluster.channels) entities
-
--- each selector has a pin to choose
-abbrev pub HavePins : List Entity → Type 0
-HavePins entities = All (λ e. has_pin e.kind (length e.sources) ≡ true) entities

@@ -6,7 +6,6 @@ ghost use Rattle.uac_store.specs.Rates as spec;
 ghost use Rattle.uac_store.specs.Values.{changed};
 
 use crate::keys::Key;
-use crate::start::entity_with;
 use crate::store::Store;
 use crate::values::Change;
 use uac_clock::RATES;
@@ -27,7 +26,7 @@ pub(crate) fn rate_within(
     if steps == 0 {
         return None;
     }
-    let entity = entity_with(function, id)?;
+    let entity = function.entity(id)?;
     match entity.kind {
         EntityKind::ClockSource => source_rate(store, change, entity.id),
         EntityKind::ClockSelector => {

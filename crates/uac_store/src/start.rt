@@ -1,7 +1,5 @@
 // The values at the start.
 ghost use Rattle.std.specs.Prelude.{◌≡◌, ℕ, ◌+◌, ◌*◌, ◌<◌, ◌≤◌, ◌++◌, None, IfOk, OnOk, sum};
-ghost use Rattle.std.specs.Option.{option_copied};
-ghost use Rattle.uac_entities.specs.Streams.{named};
 ghost use Rattle.uac_store.specs.Keyed.{key_of, value_of};
 ghost use Rattle.uac_store.specs.Controls as spec;
 ghost use Rattle.uac_store.specs.Controls.{IsKeyed, IsSmall, initial_controls, controls_of, channels_at};
@@ -173,19 +171,8 @@ fn pins_of(alloc: Global, function: &Function, entity: &Entity) -> Result<Vec<u8
 fn channels_of(function: &Function, id: u8) -> u8
     ensures { result ≡ spec.channels_of function.now.entities id }
 {
-    match entity_with(function, id) {
+    match function.entity(id) {
         Some(entity) => entity.cluster.channels,
         None => 0,
-    }
-}
-
-/// The entity with this id.
-#[tactic(auto, using(crate::proofs::Finding::named_at, crate::proofs::Finding::named_nowhere))]
-pub(crate) fn entity_with(function: &Function, id: u8) -> Option<&Entity>
-    ensures { option_copied result ≡ named function.now.entities id }
-{
-    match function.find(id) {
-        Some(place) => function.entities().get(place),
-        None => None,
     }
 }

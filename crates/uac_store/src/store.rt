@@ -2,7 +2,7 @@
 ghost use Rattle.std.specs.Prelude.{◌≡◌, true, IfOk, IsSome, List, if◌then◌else◌};
 ghost use Rattle.uac_entities.specs.declared.entity.Entity.{Entity};
 ghost use Rattle.uac_store.specs.Keyed.{same_key, value_of, with_value};
-ghost use Rattle.uac_store.specs.Controls.{HavePins, IsStoreOf, initial_controls, takes};
+ghost use Rattle.uac_store.specs.Controls.{IsStoreOf, initial_controls, takes};
 ghost use Rattle.uac_store.specs.Rates.{rate_of};
 ghost use Rattle.uac_store.specs.Values.{is_legal};
 
@@ -15,7 +15,7 @@ use std::alloc::Global;
 use std::marker::Model;
 use uac_descriptor::NoMemory;
 use uac_topology::Function;
-use uac_topology::laws::functions_are_sound;
+use uac_topology::laws::{entities_have_pins, functions_are_sound};
 
 /// A value for each control of an audio function that keeps one, present or absent: frequencies in Hz, selectors' pins
 /// from 1, numerators and denominators, mixer nodes and volumes in 1/256 decibel, mutes and enables as 0 or 1.
@@ -38,9 +38,10 @@ impl Store {
     #[tactic(auto, using(crate::proofs::Initial::initial_is_store, crate::proofs::Soundness::keyed))]
     pub fn new(alloc: Global, function: &Function) -> Result<Store, NoMemory>
         ensures starts { IfOk result (λ store. store ≡ initial_controls function.now.entities) }
-        ensures of_function { IfOk result (λ store. HavePins function.now.entities → IsStoreOf function.now.entities store) }
+        ensures of_function { IfOk result (λ store. IsStoreOf function.now.entities store) }
     {
         functions_are_sound(function);
+        entities_have_pins();
         let values = start_values(alloc, function)?;
         Ok(Store { values })
     }

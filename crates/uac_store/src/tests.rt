@@ -6,8 +6,9 @@ use std::alloc::{AllocError, Global};
 use std::test::Fail;
 use uac_descriptor::{
     Block, ByteList, ClockMultiplier, ClockSelector, ClockSource, Effect, Feature, InputTerminal,
-    Mixer, NoMemory, Selector, WordList,
+    Interface, Mixer, NoMemory, Selector, WordList,
 };
+use uac_sentence::are_well_formed;
 use uac_topology::{Function, check};
 
 fn push(blocks: &mut Vec<Block>, block: Block) -> Result<(), AllocError> {
@@ -33,6 +34,19 @@ fn words(alloc: Global, items: &[u32]) -> Result<WordList, AllocError>
         Ok(items) => Ok(WordList::from_vec(items)),
         Err(_) => Err(AllocError),
     }
+}
+
+// The control interface, with which blocks begin.
+fn control() -> Block {
+    Block::Interface(Interface {
+        number: 0,
+        setting: 0,
+        endpoints: 0,
+        class: 1,
+        subclass: 1,
+        protocol: 0x20,
+        name: 0,
+    })
 }
 
 fn clock(id: u8, attributes: u8) -> Block {
@@ -61,6 +75,9 @@ fn input(id: u8, channels: u8) -> Block {
 
 // The store of the function that the blocks describe.
 fn store_of(alloc: Global, blocks: &[Block]) -> Result<(Function, Store), Fail> {
+    if !are_well_formed(blocks) {
+        return Err(Fail::from(AllocError));
+    }
     match check(alloc, blocks) {
         Ok(function) => match Store::new(alloc, &function) {
             Ok(store) => Ok((function, store)),
@@ -88,6 +105,7 @@ fn hold(store: &mut Store, key: Key, value: i32) {
 // The headset's clock, microphone feature, and a mixer of two inputs and three outputs on both terminals.
 fn headset(alloc: Global) -> Result<Vec<Block>, AllocError> {
     let mut blocks = Vec::new(alloc);
+    push(&mut blocks, control())?;
     push(&mut blocks, clock(1, 3))?;
     push(&mut blocks, input(2, 2))?;
     push(&mut blocks, input(5, 1))?;
@@ -207,6 +225,7 @@ fn push_clock_units(
 // Two sources, a selector over them, and a multiplier of what it chooses.
 fn clocks(alloc: Global) -> Result<Vec<Block>, AllocError> {
     let mut blocks = Vec::new(alloc);
+    push(&mut blocks, control())?;
     push(&mut blocks, clock(1, 3))?;
     push(&mut blocks, clock(2, 3))?;
     push_clock_units(alloc, &mut blocks, &[1, 2], 3, 4)?;

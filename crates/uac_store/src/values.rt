@@ -11,7 +11,7 @@ ghost use Rattle.uac_store.specs.Values as spec;
 
 use crate::keys::{Key, Range, Ranges};
 use crate::rates::rate_within;
-use crate::start::{count_of, entity_with, selectors_of};
+use crate::start::{count_of, selectors_of};
 use crate::store::Store;
 use arrayvec::ArrayVec;
 use uac_clock::RATES;
@@ -57,7 +57,7 @@ pub fn ranges(function: &Function, key: Key) -> Option<Ranges>
     ensures { option_map (λ ranges. ranges.items) result ≡ spec.ranges_of function.now.entities key }
 {
     functions_are_sound(function);
-    let entity = entity_with(function, key.entity)?;
+    let entity = function.entity(key.entity)?;
     if has_on(function, entity, key) {
         ranges_on(entity, key.selector)
     } else {
@@ -163,7 +163,7 @@ pub(crate) fn is_legal(function: &Function, store: &Store, change: Change) -> bo
     requires { IsSome (value_of store.now change.key) }
     ensures { result ≡ spec.is_legal function.now.entities store.now change.key change.value }
 {
-    match entity_with(function, change.key.entity) {
+    match function.entity(change.key.entity) {
         Some(entity) => {
             takes(entity, change.key.selector, change.value)
                 && (!is_clock(entity.kind) || are_clocked(function, store, change))

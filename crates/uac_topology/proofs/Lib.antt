@@ -2,3 +2,9 @@ pub mod Broken
 pub mod SoundRules
 pub mod Cycles
 pub mod Small
+pub mod Clustered
+pub mod PinLemmas
+pub mod ChannelLemmas
+pub mod RangeLemmas
+pub mod NumberLemmas
+pub mod EntityLemmas

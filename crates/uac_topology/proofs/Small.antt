@@ -10,10 +10,9 @@ use Rattle.uac_topology_rules.specs.Faults.{of_interface}
 use Rattle.uac_topology_rules.specs.Rules.{breaks_u14, exceeds, names_ninth}
 use Rattle.uac_topology_rules.specs.Table.{at, nothing}
 use Rattle.uac_topology_rules.proofs.DomainSteps.{domains_of-push}
-use Rattle.uac_topology_rules.proofs.FirstPlace.{interface_breaks}
 use Rattle.uac_topology.specs.Function.{FunctionFields}
 use Rattle.uac_topology.specs.Topology.{IsSoundFunction, streams_in}
-use Rattle.uac_topology.proofs.SoundRules.{rules_hold, streams_within}
+use Rattle.uac_topology.proofs.SoundRules.{no_interface, rules_hold, streams_within}
 
 -- a clock more, where it is not the ninth
 one_more : (new : Bool) (clocks : List ℕ) (clock : ℕ) → length clocks ≤ 8 → (new && length clocks == 8) ≡ false
@@ -37,22 +36,11 @@ few_domains es (suc k) ninth within =
     subst (λ (clocks : List ℕ). length clocks ≤ 8) (sym grown)
     (one_more (names_new before (at es k)) before (at es k).clock (few_domains es k ninth (omega arith)) (ninth k below))
 
--- no streaming interface exceeds the limits
-none_exceeds : (ss : List StreamInterface) → of_interface 14 ss exceeds ≡ None → (n k : ℕ) → k < n → k < length ss → exceeds ss k ≡ false
-none_exceeds ss none zero k before below = absurd (omega arith)
-none_exceeds ss none (suc n) k before below =
-    elim (cases_Bool (exceeds ss k)) [
-      | inl breaks ↦
-          absurd (
-          let fault = sym (interface_breaks 14 ss exceeds k below (λ j less. none_exceeds ss none n j (omega arith) (omega arith)) breaks) ∙ none in cc)
-      | inr holds ↦ holds
-    ]
-
 few_streams : (ss : List StreamInterface) → of_interface 14 ss exceeds ≡ None → length ss ≤ 8
 unfolding exceeds
 few_streams ss none =
     elim (cases_lt 8 (length ss)) [
-      | inl ninth ↦ absurd (let e : true ≡ false = none_exceeds ss none 9 8 (omega arith) ninth in cc)
+      | inl ninth ↦ absurd (let e : true ≡ false = no_interface 14 ss exceeds none 8 ninth in cc)
       | inr few ↦ few
     ]
 

@@ -2,3 +2,4 @@
 pub mod Function
 pub mod Topology
 pub mod Judged
+pub mod Kept

@@ -2,6 +2,7 @@
 use Rattle.std.specs.Prelude.{◌≡◌, ◌↔◌, ℕ, cond, List, Option, Some, None, slice_get, unwrap_or}
 use Rattle.std.specs.List.{filter_map}
 use Rattle.uac_descriptor.specs.Classes.{is_control_interface}
+use Rattle.uac_descriptor.specs.WellFormed.{AreWellFormed}
 use Rattle.uac_descriptor.specs.declared.block.Block as block
 use Rattle.uac_descriptor.specs.declared.block.Block.TheVariants as row
 use Rattle.uac_walk.specs.Cycles.{HasCycle}
@@ -53,9 +54,9 @@ pub record IsFunctionOf (function : FunctionFields) (blocks : List block.Block) 
   pub control_interface : function.control_interface ≡ first_given control_number blocks
   pub total : function.total ≡ first_given total_length blocks
 
--- the function is that of blocks that break no rule
+-- the function is that of well-formed blocks that break no rule
 abbrev pub IsSoundFunction : FunctionFields → Type 0
-IsSoundFunction function = (blocks : List block.Block) × IsSound blocks × IsFunctionOf function blocks
+IsSoundFunction function = (blocks : List block.Block) × IsSound blocks × IsFunctionOf function blocks × AreWellFormed blocks
 
 -- a stop tells the fault, where it isn't want of memory
 abbrev pub Tells : CheckStop → Option TopologyFault → Type 0

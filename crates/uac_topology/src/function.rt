@@ -1,5 +1,8 @@
 // A sound function.
 ghost use Rattle.std.specs.Prelude.{◌≡◌, ◌==◌, position};
+ghost use Rattle.std.specs.List.{find};
+ghost use Rattle.std.specs.Option.{option_map};
+ghost use Rattle.uac_entities.specs.Streams.{named};
 ghost use Rattle.uac_topology.specs.Function.{FunctionFields};
 
 use std::marker::Model;
@@ -43,6 +46,17 @@ impl Function {
         self.table.find(id)
     }
 
+    /// The entity with this id, None exactly where no entity has it.
+    #[tactic(auto, using(crate::proofs::EntityLemmas::named_at, crate::proofs::EntityLemmas::named_nowhere))]
+    pub fn entity(&self, id: u8) -> Option<&Entity>
+        ensures { option_map (λ e. e.now) result ≡ named self.now.entities id }
+    {
+        match self.find(id) {
+            Some(place) => self.entities().get(place),
+            None => None,
+        }
+    }
+
     /// The clocks that terminals name, each once, in the order in which they are first named.
     pub fn domains(&self) -> &[u8]
         ensures { result.now ≡ self.now.domains }
@@ -64,6 +78,13 @@ impl Function {
         self.streams()
             .iter()
             .position(|stream| stream.number == interface)
+    }
+
+    /// The streaming interface with this number, None exactly where none has it.
+    pub fn interface(&self, number: u8) -> Option<&StreamInterface>
+        ensures { option_map (λ s. s.now) result ≡ find (λ s. s.number == number) self.now.streams }
+    {
+        self.streams().iter().find(|stream| stream.number == number)
     }
 
     /// The number of the control interface.

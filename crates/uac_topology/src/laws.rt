@@ -1,6 +1,7 @@
 // Laws of sound functions, each the contract of a function that does nothing.
 ghost use Rattle.std.specs.Prelude.{◌≤◌, length};
 ghost use Rattle.uac_topology.specs.Function.{FunctionFields};
+ghost use Rattle.uac_topology.specs.Kept.{AreInRange, AreNumbered, HaveChannels, HavePins};
 ghost use Rattle.uac_topology.specs.Topology.{IsSoundFunction, SoundHasNoCycle, CyclesAreRefused};
 
 use crate::function::Function;
@@ -26,4 +27,24 @@ pub fn functions_are_sound(function: &Function)
 /// A sound function has at most eight clock domains and at most eight streaming interfaces.
 pub fn sound_functions_are_small()
     ensures { (function : FunctionFields) → IsSoundFunction function → (length function.domains ≤ 8) × (length function.streams ≤ 8) }
+{}
+
+/// Each entity of a sound function that takes a clock or a signal from others has a pin.
+pub fn entities_have_pins()
+    ensures { (function : FunctionFields) → IsSoundFunction function → HavePins function.entities }
+{}
+
+/// Each entity of a sound function that is no clock puts out 1 to 32 channels.
+pub fn entities_have_channels()
+    ensures { (function : FunctionFields) → IsSoundFunction function → HaveChannels function.entities }
+{}
+
+/// In each setting of a sound function a Type I format has numbers in range, and the endpoints are of high speed.
+pub fn settings_are_in_range()
+    ensures { (function : FunctionFields) → IsSoundFunction function → AreInRange function.streams }
+{}
+
+/// The interfaces of a sound function have different numbers, and the settings of each are numbered from 0.
+pub fn interfaces_are_numbered()
+    ensures { (function : FunctionFields) → IsSoundFunction function → AreNumbered function }
 {}

@@ -1,5 +1,6 @@
 // The rules one after the other.
 ghost use Rattle.std.specs.Prelude.{IfOk, IfErr};
+ghost use Rattle.uac_descriptor.specs.WellFormed.{AreWellFormed};
 ghost use Rattle.uac_topology.specs.Topology.{first_broken, IsSound, IsFunctionOf, Tells};
 ghost use Rattle.uac_topology.specs.Judged.{IsJudged};
 
@@ -27,8 +28,10 @@ enum Judged {
 }
 
 /// The audio function of the blocks, exactly where every rule holds; else the least broken rule with its first
-/// offender in block order, or want of memory.
+/// offender in block order, or want of memory. The blocks that a reader gives are well-formed
+/// (`uac_sentence::laws::sentences_are_well_formed`), and of others `uac_sentence::are_well_formed` tells.
 pub fn check(alloc: Global, blocks: &[Block]) -> Result<Function, CheckStop>
+    requires { AreWellFormed blocks.now }
     ensures sound { IfOk result (λ function. IsSound blocks.now × IsFunctionOf function blocks.now) }
     ensures broken { IfErr result (λ stop. Tells stop (first_broken blocks.now)) }
 {
@@ -40,6 +43,7 @@ pub fn check(alloc: Global, blocks: &[Block]) -> Result<Function, CheckStop>
 }
 
 fn judge(alloc: Global, blocks: &[Block]) -> Result<Judged, NoMemory>
+    requires { AreWellFormed blocks.now }
     ensures { IfOk result (IsJudged blocks.now) }
 {
     let table = EntityTable::new(alloc, entities_of(alloc, blocks)?)?;

@@ -3,6 +3,7 @@ use super::*;
 use std::alloc::{AllocError, Global};
 use std::test::Fail;
 use uac_descriptor::{Block, ClockSource, Configuration, InputTerminal, Interface, OutputTerminal};
+use uac_sentence::are_well_formed;
 
 fn interface(number: u8, subclass: u8) -> Block {
     Block::Interface(Interface {
@@ -78,15 +79,25 @@ fn blocks(alloc: Global, source: u8) -> Result<Vec<Block>, AllocError> {
     Ok(blocks)
 }
 
+// What `check` says of well-formed blocks.
+fn judged(alloc: Global, blocks: &[Block]) -> Result<Result<Function, CheckStop>, AllocError> {
+    if !are_well_formed(blocks) {
+        return Err(AllocError);
+    }
+    Ok(check(alloc, blocks))
+}
+
 #[test]
 fn tells_the_parts_of_a_small_function(rt: HostRuntime) -> Result<(), Fail> {
     let blocks = blocks(rt.alloc(), 2)?;
-    match check(rt.alloc(), blocks.as_slice()) {
+    match judged(rt.alloc(), blocks.as_slice())? {
         Ok(function) => {
             assert_eq!(rt; function.entities().len(), 3);
             assert_eq!(rt; function.entities()[2].cluster.channels, 2);
             assert_eq!(rt; function.find(3), Some(2));
             assert_eq!(rt; function.find(9), None);
+            assert!(rt; function.entity(3).is_some() && function.entity(9).is_none());
+            assert!(rt; function.interface(7).is_some() && function.interface(4).is_none());
             assert_eq!(rt; function.domains(), [1].as_slice());
             assert_eq!(rt; function.streams().len(), 1);
             assert_eq!(rt; function.stream_at(7), Some(0));
@@ -102,7 +113,7 @@ fn tells_the_parts_of_a_small_function(rt: HostRuntime) -> Result<(), Fail> {
 #[test]
 fn tells_the_terminal_that_names_no_entity(rt: HostRuntime) -> Result<(), Fail> {
     let blocks = blocks(rt.alloc(), 9)?;
-    match check(rt.alloc(), blocks.as_slice()) {
+    match judged(rt.alloc(), blocks.as_slice())? {
         Ok(_) => assert!(rt; false),
         Err(stop) => assert_eq!(rt;
             stop,

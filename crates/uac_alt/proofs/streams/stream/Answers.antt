@@ -1,8 +1,9 @@
 -- The stream is that of what was found.
+use Rattle.std.proofs.Common.{refl}
 use Rattle.uac_alt.proofs.Found.{stream_of_found}
 use Rattle.uac_alt.proofs.streams.stream.Goals as goal
 
 pub returns-clause-value : goal.returns-clause-value
 returns-clause-value c =
     stream_of_found c.args.function.now c.args.rate c.args.interface c.args.setting
-    c.if-setting-eq0.false c.streams.ensures c.in_ok-carrier.ensures c.as_slice.ensures c.in_ok-chosen.ensures c.in_ok-nominal.ensures c.stream_at.ensures.value
+    c.if-setting-eq0.false refl c.in_ok-carrier.ensures c.as_slice.ensures c.in_ok-chosen.ensures c.in_ok-nominal.ensures c.stream_at.ensures.value

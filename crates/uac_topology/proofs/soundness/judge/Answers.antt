@@ -79,7 +79,7 @@ made c =
     )
 
 pub invariant_of-result : goal.invariant_of-result
-invariant_of-result c = let sound = made (goal.at.invariant_of-result c).After-total_of in (c.args.blocks.now, sound.0, sound.1)
+invariant_of-result c = let sound = made (goal.at.invariant_of-result c).After-total_of in (c.args.blocks.now, sound.0, sound.1, c.requires)
 
 pub returns : goal.returns
 returns c = made (goal.at.returns c).After-total_of

@@ -1,6 +1,6 @@
 -- The entity with an id, by its place.
 use Rattle.std.proofs.Common.{◌≡◌, ℕ, ◌<◌, ◌==◌, nat_lt, Bool, true, false, cond, List, length, position, slice_get, get_or, is_some, IfSome, Bor, Option, Some, None, refl, sym, ap, ◌∙◌}
-use Rattle.std.specs.Option.{option_and_then, option_copied}
+use Rattle.std.specs.Option.{option_and_then, option_map}
 use Rattle.std.specs.List.{position_or_len}
 use Rattle.std.proofs.lemmas.Bool.{ltb-false, ltb-true}
 use Rattle.std.proofs.lemmas.List.Folds.{find_at}
@@ -29,7 +29,7 @@ named_nowhere entities id is = ap (option_and_then (slice_get entities)) (sym is
 
 -- an element that is looked up, behind its reference
 pub looked_up : (r : Option (Bor Entity)) (xs : List Entity) (i : ℕ) → is_some r ≡ nat_lt i (length xs) → IfSome r (λ x. x.now ≡ get_or xs i x.now)
-    → option_copied r ≡ slice_get xs i
+    → option_map (λ e. e.now) r ≡ slice_get xs i
 looked_up None xs i there at = sym (slice_get_past xs i (ltb-false i (length xs) (sym there)))
 looked_up (Some x) xs i there at =
     let within : i < length xs = ltb-true i (length xs) (sym there) in

@@ -1,7 +1,7 @@
 use Rattle.std.proofs.Common.{List, slice_get, ◌∙◌, sym, ap}
 use Rattle.uac_entities.specs.declared.entity.Entity.{Entity}
-use Rattle.uac_store.proofs.Finding.{named_at, looked_up}
-use Rattle.uac_store.proofs.start.entity_with.Goals as goal
+use Rattle.uac_topology.proofs.EntityLemmas.{named_at, looked_up}
+use Rattle.uac_topology.proofs.function.Function.entity.Goals as goal
 
 pub returns-in-Some : goal.returns-in-Some
 returns-in-Some c =

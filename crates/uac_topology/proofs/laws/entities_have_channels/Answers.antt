@@ -1,0 +1,5 @@
+use Rattle.uac_topology.proofs.ChannelLemmas.{have_channels}
+use Rattle.uac_topology.proofs.laws.entities_have_channels.Goals as goal
+
+pub returns : goal.returns
+returns c = have_channels

@@ -1,0 +1,5 @@
+use Rattle.uac_topology.proofs.PinLemmas.{have_pins}
+use Rattle.uac_topology.proofs.laws.entities_have_pins.Goals as goal
+
+pub returns : goal.returns
+returns c = have_pins

@@ -1,0 +1,5 @@
+use Rattle.uac_topology.proofs.NumberLemmas.{are_numbered}
+use Rattle.uac_topology.proofs.laws.interfaces_are_numbered.Goals as goal
+
+pub returns : goal.returns
+returns c = are_numbered
