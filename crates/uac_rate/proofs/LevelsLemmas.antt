@@ -496,3 +496,16 @@ slight_step values (negsuc n) h slight =
     let part = part_of values.f values.e (suc n) (by_formula values h).e (few n slight) in (omega arith, omega arith) where
       few : (n : ℕ) → is_slight (negsuc n) ≡ true → suc n ≤ 1000
       few n slight = omega (arith, leb-true n 999 (sym (and-true (leb n 999)) ∙ slight))
+
+pub whole_packets : (values : Nominal) (microframes host value : ℕ) → host < 65536 → values.lo * 65536 ≤ value → value ≤ values.hi * 65536
+    → (microframes * values.lo ≤ (host + microframes * value) / 65536) × ((host + microframes * value) / 65536 ≤ microframes * values.hi)
+whole_packets values microframes host value below least most =
+    (paced_least microframes host value values.lo least, paced_most microframes host value values.hi below most)
+
+pub whole_ticks : (values : Nominal) (microframes clock steps : ℕ) → HasRoom values → clock < 65536
+    → Within (microframes * values.e) steps (microframes * values.f)
+    → (microframes * values.lo ≤ (clock + steps) / 65536) × ((clock + steps) / 65536 ≤ microframes * values.hi)
+whole_ticks values microframes clock steps room below slight = (
+  ticked_least microframes clock steps values.f values.e values.lo slight.1 room.below,
+  ticked_most microframes clock steps values.f values.e values.hi below slight.0 room.above,
+)

@@ -27,12 +27,25 @@ PacketsFollowRemainders =
 -- a clock that is steady is off by at most a thousandth of its rate, and so are the steps of an interval in sum
 abbrev pub SteadyClocksAreSlight : Type 0
 SteadyClocksAreSlight =
-    (values : Nominal) (millionths : ℤ) → IsNominal values → is_slight millionths ≡ true → Within values.e (step_of values millionths) values.f
+    (values : Nominal) (millionths : ℤ) → IsNominal values → is_slight millionths ≡ true
+    → Within values.e (step_of values millionths) values.f
 
 abbrev pub SlightStepsAddUp : Type 0
 SlightStepsAddUp =
     (values : Nominal) (steps : List ℕ) → AllByRecursion (λ step. Within values.e step values.f) steps
     → Within (length steps * values.e) (sum steps) (length steps * values.f)
+
+-- so many microframes have the least whole frames to the greatest each: at a rate value between these, and by a slight clock's ticks
+abbrev pub PacketsAreWhole : Type 0
+PacketsAreWhole =
+    (values : Nominal) (microframes host value : ℕ) → host < 65536 → values.lo * 65536 ≤ value → value ≤ values.hi * 65536
+    → (microframes * values.lo ≤ (host + microframes * value) / 65536) × ((host + microframes * value) / 65536 ≤ microframes * values.hi)
+
+abbrev pub TicksAreWhole : Type 0
+TicksAreWhole =
+    (values : Nominal) (microframes clock steps : ℕ) → HasRoom values → clock < 65536
+    → Within (microframes * values.e) steps (microframes * values.f)
+    → (microframes * values.lo ≤ (clock + steps) / 65536) × ((clock + steps) / 65536 ≤ microframes * values.hi)
 
 -- by the count of a stream's microframes at the end of an interval
 abbrev pub ReportsFallDue : Type 0

@@ -1,6 +1,6 @@
 // Laws of levels, each the contract of a function that does nothing. They speak of numbers alone: nothing ties them to a run yet.
 ghost use Rattle.uac_rate.specs.LevelLaws.{RatesHaveBands, PacketsAddUp, PacketsFollowRemainders, SteadyClocksAreSlight, SlightStepsAddUp};
-ghost use Rattle.uac_rate.specs.LevelLaws.{ReportsFallDue, IntervalsKeepRobust, ReportsKeepRobust};
+ghost use Rattle.uac_rate.specs.LevelLaws.{PacketsAreWhole, TicksAreWhole, ReportsFallDue, IntervalsKeepRobust, ReportsKeepRobust};
 ghost use Rattle.uac_rate.specs.LevelLaws.{FreeFormula, IntervalsKeepTight, ReportsKeepTight, RobustIsNear, TightIsNear};
 ghost use Rattle.uac_rate.specs.LevelLaws.{RingsHoldEnough, PrimedInRange, PrimedIsRobust, PrimedIsTight};
 ghost use Rattle.uac_rate.specs.Reports.{ReportsOverIntegers};
@@ -35,6 +35,12 @@ pub fn four_lost_are_in_a_row()
 pub fn steady_clocks_are_slight()
     ensures step { SteadyClocksAreSlight }
     ensures steps { SlightStepsAddUp }
+{}
+
+/// In each microframe of an interval the least whole frames to the greatest come, and as many ticks.
+pub fn packets_and_ticks_are_whole()
+    ensures packets { PacketsAreWhole }
+    ensures ticks { TicksAreWhole }
 {}
 
 /// When reports fall due, by the count of a stream's microframes at the end of an interval.

@@ -20,7 +20,7 @@ impl Model for Steady {
 }
 
 impl Steady {
-    ghost use Rattle.std.specs.Prelude.{◌≡◌, ◌<◌};
+    ghost use Rattle.std.specs.Prelude.{◌≡◌, ◌<◌, false};
     ghost use Rattle.uac_rate.specs.Steadiness.{Stands, Given, nothing_given, deviated, reported, restarted, is_steady};
 
     /// Nothing was given yet.
@@ -36,6 +36,7 @@ impl Steady {
     /// A clock is off by so many millionths from now on.
     pub fn deviate(&mut self, ppm: i32)
         ensures stands { (given : Given) → Stands self.old given → Stands self.new (deviated ppm given) }
+        ensures never_again { self.old.holds ≡ false → self.new.holds ≡ false }
     {
         self.holds = self.holds && -1000 <= ppm && ppm <= 1000;
     }
@@ -44,6 +45,7 @@ impl Steady {
     pub fn report(&mut self, stream: u8, lost: bool)
         requires { stream < 8 }
         ensures stands { (given : Given) → Stands self.old given → Stands self.new (reported stream lost given) }
+        ensures never_again { self.old.holds ≡ false → self.new.holds ≡ false }
     {
         let run = if lost {
             self.runs[usize::from(stream)].saturating_add(1).min(4)
@@ -58,6 +60,7 @@ impl Steady {
     pub fn restart(&mut self, stream: u8)
         requires { stream < 8 }
         ensures stands { (given : Given) → Stands self.old given → Stands self.new (restarted stream given) }
+        ensures never_again { self.old.holds ≡ false → self.new.holds ≡ false }
     {
         self.runs[usize::from(stream)] = 0;
     }
