@@ -1,6 +1,5 @@
 -- The sentence: which blocks the bytes of a descriptor are. USB 2.0, 9.4.3, 9.6.3 and 9.6.5; Audio Class 2.0, 4.
-use Rattle.std.specs.Prelude.{true, false, ◌≡◌, ◌≢◌, ℕ, ◌+◌, ◌<◌, Bool, ◌||◌, ◌⊎◌, List, [], ◌∷◌, length, flat_map, filter_map, take_while, Option, Some, None, IsTrue}
-use Rattle.std.specs.List.{AllByRecursion}
+use Rattle.std.specs.Prelude.{true, false, ◌≡◌, ℕ, ◌<◌, Bool, List, [], ◌∷◌, length, flat_map, filter_map, take_while}
 use Rattle.uac_descriptor.specs.declared.context.Context.{Context}
 use Rattle.uac_descriptor.specs.declared.context.Context.TheVariants as context
 use Rattle.uac_descriptor.specs.declared.block.Block as block

@@ -1,4 +1,4 @@
-use Rattle.std.proofs.Common.{sym, ◌∙◌, ap, subst}
+use Rattle.std.proofs.Common.{sym}
 use Rattle.uac_sentence.proofs.WellFormedLaw.{Runs, runs_in_turn, runs_nil, turn_on, none_left}
 use Rattle.uac_sentence.proofs.well_formed.are_in_turn.Goals as goal
 

@@ -1,4 +1,4 @@
-use Rattle.std.proofs.Common.{drop, sym, ap, ◌∙◌, subst, ◌+◌}
+use Rattle.std.proofs.Common.{drop, sym, ◌∙◌, subst, ◌+◌}
 use Rattle.uac_descriptor.specs.Contexts.{EachIn}
 use Rattle.uac_descriptor.specs.WellFormed.{IsWellFormed}
 use Rattle.uac_sentence.proofs.WellFormedLaw.{fields_on, none_left}
