@@ -160,29 +160,32 @@ fn ends(alloc: Global, blocks: &mut Vec<Block>) -> Result<(), AllocError> {
 
 /// Mixer 8 hears jack 2 twice, selector 9 feature 3 and the mixer, effect 10 the selector, and terminal 7 the effect.
 fn chain(alloc: Global, blocks: &mut Vec<Block>) -> Result<(), AllocError> {
-    push(blocks, mixer(alloc, 8, 2)?)?;
-    let pins = bytes(alloc, &[3, 8])?;
-    push(
-        blocks,
-        Block::Selector(Selector {
-            id: 9,
-            sources: pins,
-            controls: 3,
-            name: 0,
-        }),
-    )?;
-    let enable = words(alloc, &[3, 3, 3])?;
-    push(
-        blocks,
-        Block::Effect(Effect {
-            id: 10,
-            effect_type: 1,
-            source: 9,
-            words: enable,
-            name: 0,
-        }),
-    )?;
+    let mixed = mixer(alloc, 8, 2)?;
+    push(blocks, mixed)?;
+    let chosen = selector(alloc)?;
+    push(blocks, chosen)?;
+    let bypassed = effect(alloc)?;
+    push(blocks, bypassed)?;
     push(blocks, output(7, 10))
+}
+
+fn selector(alloc: Global) -> Result<Block, AllocError> {
+    Ok(Block::Selector(Selector {
+        id: 9,
+        sources: bytes(alloc, &[3, 8])?,
+        controls: 3,
+        name: 0,
+    }))
+}
+
+fn effect(alloc: Global) -> Result<Block, AllocError> {
+    Ok(Block::Effect(Effect {
+        id: 10,
+        effect_type: 1,
+        source: 9,
+        words: words(alloc, &[3, 3, 3])?,
+        name: 0,
+    }))
 }
 
 /// Whether the wire has as many channels as the frame.
