@@ -254,7 +254,7 @@ fn checked(alloc: Global, blocks: &[Block]) -> Result<Function, AllocError> {
 
 /// One tick of a function after these changes of controls, with (1, -1) at jack 2 and 65536 at jack 5, and how often units were
 /// rendered.
-fn play(
+fn play_on(
     alloc: Global,
     function: &Function,
     rack: &Rack,
@@ -285,6 +285,15 @@ fn play(
     Ok((wires, steps.count()))
 }
 
+/// One tick of the small function after these changes of controls.
+fn play(alloc: Global, rack: &Rack, changes: &[(u8, u8, u8, i32)]) -> Result<Wires, AllocError>
+    requires { IsFitted (λ v x. (⟦<dyn Unit as Unit>⟧ v).kind_of x) rack.now }
+{
+    let function = function(alloc)?;
+    let (wires, _steps) = play_on(alloc, &function, rack, changes)?;
+    Ok(wires)
+}
+
 /// Whether the wire of an entity has these samples.
 fn has(wires: &Wires, entity: u8, samples: &[i32]) -> bool {
     match wires.get(entity) {
@@ -302,18 +311,16 @@ fn ticks_of_a_small_function(rt: HostRuntime) -> Result<(), Fail> {
         Box::new(alloc, PlainFeature)?,
         Box::new(alloc, PlainEffect)?,
     );
-    let function = function(alloc)?;
-    let (wires, steps) = play(alloc, &function, &rack, &[])?;
-    assert_eq!(rt; steps, 5);
+    let wires = play(alloc, &rack, &[])?;
     assert!(rt; has(&wires, 4, &[65536]));
     assert!(rt; has(&wires, 8, &[2, -2]));
     assert!(rt; has(&wires, 7, &[1, -1]));
     assert!(rt; wires.get(1).is_none());
 
-    let (wires, _steps) = play(alloc, &function, &rack, &[(9, 1, 0, 2)])?;
+    let wires = play(alloc, &rack, &[(9, 1, 0, 2)])?;
     assert!(rt; has(&wires, 7, &[2, -2]));
 
-    let (wires, _steps) = play(alloc, &function, &rack, &[(3, 1, 0, 1), (6, 2, 1, -256)])?;
+    let wires = play(alloc, &rack, &[(3, 1, 0, 1), (6, 2, 1, -256)])?;
     assert!(rt; has(&wires, 7, &[0, 0]));
     assert!(rt; has(&wires, 4, &[58409]));
     Ok(())
@@ -334,7 +341,8 @@ fn each_of_forty_mixers_is_rendered_once(rt: HostRuntime) -> Result<(), Fail> {
         Box::new(alloc, PlainFeature)?,
         Box::new(alloc, PlainEffect)?,
     );
-    let (wires, steps) = play(alloc, &mixers_in_a_row(alloc)?, &rack, &[])?;
+    let function = mixers_in_a_row(alloc)?;
+    let (wires, steps) = play_on(alloc, &function, &rack, &[])?;
     assert_eq!(rt; steps, 40);
     assert_eq!(rt; renders.get(), 40);
     assert!(rt; has(&wires, 42, &[2147483647, -2147483648]));
