@@ -4,7 +4,7 @@ use Rattle.uac_descriptor.specs.Classes.{is_streaming_interface}
 use Rattle.uac_descriptor.specs.declared.block.Block as block
 use Rattle.uac_descriptor.specs.declared.block.Block.TheVariants as row
 use Rattle.uac_entities.specs.Entities.{entity_of, entities_of}
-use Rattle.uac_entities.specs.Settings.{alternates_of, alternate_at, own_blocks, is_interface, general_of, format_of, endpoint_of}
+use Rattle.uac_entities.specs.Settings.{alternates_of, alternate_at, own_blocks, ends_setting, general_of, format_of, endpoint_of}
 use Rattle.uac_entities.specs.Streams.{streams_of, stream_at, stream_of, setting_of, link_of, named}
 use Rattle.uac_topology_rules.specs.declared.fault.TopologyFault.{TopologyFault}
 use lib.Count.{ones, ones_in}
@@ -161,5 +161,5 @@ too_many_streams = between [] 2 ++ idle 9
 each_rule : map fault_of
     (zero_id ∷ repeated_id ∷ unknown_source ∷ silent_source ∷ unknown_clock ∷ signal_cycle ∷ clock_cycle ∷ wrong_cluster ∷ wrong_size ∷ unequal_pins ∷ other_clock ∷ wrong_link ∷ wrong_endpoints ∷ too_many_channels ∷ too_many_streams ∷ [])
     ≡ by_entity 1 0 ∷ by_entity 2 2 ∷ by_entity 3 3 ∷ by_entity 4 3 ∷ by_entity 5 2 ∷ by_entity 6 4 ∷ by_entity 7 6 ∷ by_entity 8 2 ∷ by_entity 9 3 ∷ by_entity 10 6 ∷ by_entity 11 4 ∷ by_interface 12 1 ∷ by_interface 13 1 ∷ by_entity 14 3 ∷ by_interface 14 1 ∷ []
-unfolding entity_of alternates_of alternate_at is_streaming_interface own_blocks is_interface general_of format_of endpoint_of stream_at stream_of setting_of link_of named has_walk at found place_of kind_of signal_sources clock_sources cluster_step cluster_within cluster_of pins clocks_step clocks_within clocks_of names_new clock_named each_once domains_of first_place offender number_at interface_offender breaks_u1 breaks_u2 breaks_u3 breaks_u4 breaks_u5 breaks_u6 breaks_u7 breaks_u8 breaks_u9 breaks_u10 breaks_u11 breaks_u12 breaks_u13 names_ninth breaks_u14 at_stream is_usb is_wrong exceeds of_entity of_interface broken_names broken_walks broken_shapes broken_ends broken fault_of ones ones_in by_entity by_interface clock clock_selector multiplier input output feature selector setting general format endpoint between streaming idle zero_id repeated_id unknown_source silent_source unknown_clock signal_cycle clock_cycle wrong_cluster wrong_size unequal_pins other_clock wrong_link wrong_endpoints too_many_channels too_many_streams
+unfolding entity_of alternates_of alternate_at is_streaming_interface own_blocks ends_setting general_of format_of endpoint_of stream_at stream_of setting_of link_of named has_walk at found place_of kind_of signal_sources clock_sources cluster_step cluster_within cluster_of pins clocks_step clocks_within clocks_of names_new clock_named each_once domains_of first_place offender number_at interface_offender breaks_u1 breaks_u2 breaks_u3 breaks_u4 breaks_u5 breaks_u6 breaks_u7 breaks_u8 breaks_u9 breaks_u10 breaks_u11 breaks_u12 breaks_u13 names_ninth breaks_u14 at_stream is_usb is_wrong exceeds of_entity of_interface broken_names broken_walks broken_shapes broken_ends broken fault_of ones ones_in by_entity by_interface clock clock_selector multiplier input output feature selector setting general format endpoint between streaming idle zero_id repeated_id unknown_source silent_source unknown_clock signal_cycle clock_cycle wrong_cluster wrong_size unequal_pins other_clock wrong_link wrong_endpoints too_many_channels too_many_streams
 each_rule = refl
