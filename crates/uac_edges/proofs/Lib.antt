@@ -1,3 +1,4 @@
 pub mod WritingLemmas
 pub mod MemoryLemmas
 pub mod Consuming
+pub mod NumeralsLemmas

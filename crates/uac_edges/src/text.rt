@@ -1,6 +1,7 @@
 // A line of text in a buffer of fixed size, which takes no memory.
 ghost use Rattle.hex.specs.Hex.{encode_lower};
-ghost use Rattle.std.specs.Prelude.{◌≡◌, ℕ, ◌+◌, ◌*◌, ◌≤◌, List, [], ◌++◌, length, decimal};
+ghost use Rattle.std.specs.Prelude.{◌≡◌, ℕ, ◌+◌, ◌*◌, ◌≤◌, List, [], ◌++◌, length, unsigned_abs, decimal};
+ghost use Rattle.uac_edges.specs.Numerals.{numeral};
 
 use arrayvec::ArrayVec;
 use hex::encode_to_slice;
@@ -53,6 +54,16 @@ impl<const N: usize> TextLine<N> {
         self.push(digits.format(number).as_bytes());
     }
 
+    /// Appends `number` in decimal digits, with a minus sign where it is negative, for at most 21 of which there has to be room.
+    pub fn push_signed(&mut self, number: i32)
+        requires { length self.old + 21 ≤ N }
+        ensures text { self.new ≡ self.old ++ numeral number }
+        ensures len { length self.new ≤ length self.old + 21 }
+    {
+        self.push(sign(number));
+        self.push_number(u64::from(number.unsigned_abs()));
+    }
+
     /// Appends `bytes`, at most 255, in lower-case hexadecimal digits, for two of which each there has to be room.
     pub fn push_hex(&mut self, bytes: &[u8])
         requires few { length bytes.now ≤ 255 }
@@ -75,4 +86,12 @@ impl<const N: usize> TextLine<N> {
     {
         self.bytes.as_slice()
     }
+}
+
+/// What stands before the size of a number: a minus sign where it is negative.
+fn sign(number: i32) -> &'static [u8]
+    ensures text { result.now ++ decimal (unsigned_abs number) ≡ numeral number }
+    ensures short { length result.now ≤ 1 }
+{
+    if number < 0 { b"-" } else { b"" }
 }

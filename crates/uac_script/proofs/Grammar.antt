@@ -9,7 +9,8 @@ use Rattle.std.proofs.lemmas.Option.{cond_some, same_Some}
 use Rattle.uac_script.specs.declared.line.MarkKind.{MarkKind}
 use Rattle.uac_script.specs.declared.line.MarkKind.TheVariants.{Out, In, Feedback}
 use Rattle.uac_script.specs.Words.{Word, hex_of}
-use Rattle.uac_script.specs.Numerals.{numeral, is_number, value_of}
+use Rattle.uac_edges.specs.Numerals.{numeral}
+use Rattle.uac_script.specs.Numerals.{is_number, value_of}
 use Rattle.uac_script.specs.Phrase.{Voice, silent, ramps, hisses, Loss, Phrase, idle, feeds, goes, controls, gets, sets, shows, breaks, appends, tracks, jacks, deviates, runs, details, reports}
 use Rattle.uac_script.specs.Line.{IsRow, voice_words, letter_of, mark_word, letters}
 use Rattle.uac_script.specs.Reading.{when_empty, only_of, pair_of, then_of, name_of, numbered, feeds_of, setup_of, sent_of, controls_of, sets_of, element_of, break_at, breaks_of, appends_of, ramp_of, voice_of, signal_of, tracks_of, jacks_of, deviation_of, deviates_of, kind_of, is_mark, mark_of, runs_of, details_of, row_of}

@@ -10,7 +10,8 @@ use Rattle.std.proofs.lemmas.Bool.{and_parts, and_from, le-leb, lt-ltb, ne_eqb, 
 use Rattle.std.proofs.lemmas.Option.{cond_some}
 use Rattle.uac_script.proofs.NumeralLemmas.{value_of_digit, digit_in}
 use Rattle.uac_script.specs.Words.{Word}
-use Rattle.uac_script.specs.Numerals.{natural, numeral, is_natural, natural_of, number_of, is_number, value_of, negated}
+use Rattle.uac_edges.specs.Numerals.{natural, numeral}
+use Rattle.uac_script.specs.Numerals.{is_natural, natural_of, number_of, is_number, value_of, negated}
 
 -- ---- digits and their characters
 

@@ -9,7 +9,7 @@ use Rattle.uac_script.specs.declared.line.Mark.{Mark}
 use Rattle.uac_script.specs.declared.line.Line.{Line}
 use Rattle.uac_script.specs.declared.line.Line.TheVariants.{Nothing, Bytes, Go, Control, Get, Set, Show, Break, Append, Track, Jack, Deviate, Run, Detail, Report}
 use Rattle.uac_script.specs.Words.{Word, words_of, is_idle, hex_of}
-use Rattle.uac_script.specs.Numerals.{numeral}
+use Rattle.uac_edges.specs.Numerals.{numeral}
 use Rattle.uac_script.specs.Phrase.{Voice, silent, ramps, hisses, Loss, Phrase, idle, feeds, goes, controls, gets, sets, shows, breaks, appends, tracks, jacks, deviates, runs, details, reports, is_in_range}
 
 -- ---- how a line is spelt

@@ -1,22 +1,12 @@
--- Profile: the numbers of a script line are decimal without leading zeros, with `-` where negative (not `-0`).
-use Rattle.std.specs.Prelude.{ℕ, zero, suc, ◌+◌, ◌^◌, min, ◌==◌, ◌&&◌, ◌||◌, not, nat_lt, Bool, if◌then◌else◌, ◌∷◌, map, codes, ℤ, length, drop, slice_index, pos, negsuc, neg_ℤ, Option, Some, None, is_some, unwrap_or}
+-- Profile: reading the numbers of a script line, which are written as `numeral` says.
+use Rattle.std.specs.Prelude.{ℕ, zero, suc, ◌+◌, ◌^◌, min, ◌==◌, ◌&&◌, ◌||◌, not, nat_lt, Bool, if◌then◌else◌, ℤ, length, drop, slice_index, pos, negsuc, neg_ℤ, Option, Some, None, is_some, unwrap_or}
 use Rattle.std.specs.List.{list_all}
 use Rattle.std.specs.Char.{is_ascii_digit}
 use Rattle.std.specs.Option.{option_map}
-use Rattle.std.specs.Int.Digits.{digits_of}
 use Rattle.std.specs.Str.Parse.{digits_value}
 use Rattle.uac_script.specs.Words.{Word}
 
--- the numeral of a natural number: `0`, or its digits, of which the first isn't 0
-unfoldable pub natural : ℕ → Word
-natural n = if n == 0 then codes "0" else map (λ d. 48 + d) (digits_of 10 n)
-
--- the numeral of a number: each has one, of whatever length
-unfoldable pub numeral : ℤ → Word
-numeral (pos n) = natural n
-numeral (negsuc n) = 45 ∷ natural (n + 1)
-
--- ---- the same, read: `number_of word ≡ Some z` exactly where the word is the numeral of z
+-- `number_of word ≡ Some z` exactly where the word is the numeral of z
 
 -- one digit or more, and nothing else; a 0 stands in front only where it stands alone
 unfoldable pub is_natural : Word → Bool

@@ -1,0 +1,24 @@
+-- A number's digits are its numeral.
+use Rattle.std.proofs.Common.{◌≡◌, ℕ, zero, suc, ◌^◌, ◌<◌, false, true, ℤ, pos, negsuc, SFits, w32, ◌∷◌, decimal, unsigned_abs, sym, ap, ◌∙◌, arith, add-one}
+use Rattle.std.specs.Prelude.{int_lt}
+use Rattle.std.proofs.lemmas.Bool.{cond-false, ltb-true, ne_eqb}
+use Rattle.std.proofs.lemmas.Fmt.{decimal-digits_of, decimal_digit}
+use Rattle.uac_edges.specs.Numerals.{natural, numeral}
+
+pub decimal-natural : (n : ℕ) → n < 2 ^ 64 → decimal n ≡ natural n
+unfolding natural
+decimal-natural zero h = decimal_digit 0 (omega arith)
+decimal-natural (suc n) h = decimal-digits_of (suc n) (omega arith) h ∙ sym (cond-false _ _ _ (ne_eqb (suc n) 0 (λ e. omega arith)))
+
+-- with no sign, or with a minus sign
+pub positive-numeral : (z : ℤ) → SFits w32 z → int_lt z (pos 0) ≡ false → decimal (unsigned_abs z) ≡ numeral z
+unfolding numeral
+positive-numeral (pos n) fits h = let small = fits.sfits in decimal-natural n (omega arith)
+positive-numeral (negsuc n) fits h = absurd (cc)
+
+pub negative-numeral : (z : ℤ) → SFits w32 z → int_lt z (pos 0) ≡ true → 45 ∷ decimal (unsigned_abs z) ≡ numeral z
+unfolding numeral
+negative-numeral (pos n) fits h = let less = ltb-true n 0 h in absurd (omega arith)
+negative-numeral (negsuc n) fits h =
+    let small = fits.sfits in
+    ap (λ xs. 45 ∷ xs) (decimal-natural (suc n) (omega arith) ∙ ap natural (sym (add-one n)))
