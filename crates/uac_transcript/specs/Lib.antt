@@ -1,0 +1,3 @@
+-- The lines that a run prints.
+pub mod Transcript
+pub mod Printing

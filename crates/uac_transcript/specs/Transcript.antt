@@ -1,0 +1,146 @@
+-- The lines that a run prints, each as what it says, and its spelling (profile).
+use Rattle.std.specs.Prelude.{ℕ, Bool, true, false, ℤ, List, [], ◌∷◌, ◌++◌, flat_map, Option, None, Some, codes, decimal}
+use Rattle.std.specs.Int.{bytes_high_first}
+use Rattle.hex.specs.Hex.{encode_lower}
+use Rattle.uac_edges.specs.Numerals.{numeral}
+use Rattle.uac_units.specs.Hearing.{Reading}
+use Rattle.uac_units.specs.declared.hearing.MeterKind.{MeterKind}
+use Rattle.uac_units.specs.declared.hearing.MeterKind.TheVariants.{Peak, Clipped, Sum}
+use Rattle.uac_transcript.specs.declared.packets.Arrival.{Arrival}
+use Rattle.uac_transcript.specs.declared.packets.Arrival.TheVariants as arrivals
+use Rattle.uac_transcript.specs.declared.report.StreamCounts.{StreamCounts}
+
+-- what came of a control transfer
+pub data Outcome : Type 0 where
+  -- these bytes, of a control or of the descriptor
+  gave : List ℕ → Outcome
+  was_done : Outcome
+  -- it was stalled by this rule
+  stalled : ℕ → Outcome
+  broke : Outcome
+
+-- what came of a line that names an element
+pub data Sight : Type 0 where
+  -- the element's name, and its value
+  has_value : List ℕ → ℤ → Sight
+  is_unknown : List ℕ → Sight
+  was_set : Sight
+  -- its transfer was stalled by this rule
+  was_stalled : ℕ → Sight
+  was_broken : Sight
+
+pub data Said : Type 0 where
+  -- at the descriptor's end: how many entities, streaming interfaces and domains there are
+  says_ready : ℕ → ℕ → ℕ → Said
+  -- the number of a microframe, from 1
+  says_time : ℕ → Said
+  -- the interface, the frames of its packet to the device, and how it arrived
+  says_out : ℕ → ℕ → Arrival → Said
+  -- the interface, the frames of its packet from the device, and whether it was lost
+  says_in : ℕ → ℕ → Bool → Said
+  -- the interface, and a frame that came from it
+  says_frame : ℕ → List ℤ → Said
+  -- the output jack, and a frame that it played
+  says_played : ℕ → List ℤ → Said
+  -- the interface whose ring was found empty, or full
+  says_under : ℕ → Said
+  says_over : ℕ → Said
+  -- the interface, its level, and its target once it is primed
+  says_level : ℕ → ℕ → Option ℕ → Said
+  -- the interface, the value that its feedback reports, and whether the report was lost
+  says_feedback : ℕ → ℕ → Bool → Said
+  -- a control transfer, and a line that names an element
+  says_answer : Outcome → Said
+  says_view : Sight → Said
+  -- the report: the microframes since the start, and whether all was steady
+  says_passed : ℕ → Said
+  says_steady : Bool → Said
+  -- a domain's clock, its rate if it has one, and its ticks since the start
+  says_domain : ℕ → Option ℕ → ℕ → Said
+  -- a stream to the device: its interface, setting, level and target, and what it met
+  says_out_stream : ℕ → ℕ → ℕ → Option ℕ → StreamCounts → Said
+  -- a stream from the device: its interface, setting and level, and what it met
+  says_in_stream : ℕ → ℕ → ℕ → StreamCounts → Said
+  -- what a meter shows
+  says_meter : Reading → Said
+  -- how many units were rendered
+  says_renders : ℕ → Said
+
+-- ---- words of a line
+
+abbrev pub yes_or_no : Bool → List ℕ
+yes_or_no true = codes "yes"
+yes_or_no false = codes "no"
+
+abbrev pub number_or_dash : Option ℕ → List ℕ
+number_or_dash None = codes "-"
+number_or_dash (Some n) = decimal n
+
+abbrev pub lost_or_ok : Bool → List ℕ
+lost_or_ok true = codes "lost"
+lost_or_ok false = codes "ok"
+
+abbrev pub arrival_name : Arrival → List ℕ
+arrival_name arrivals.Ok = codes "ok"
+arrival_name arrivals.Lost = codes "lost"
+arrival_name arrivals.Over = codes "over"
+
+abbrev pub meter_name : MeterKind → List ℕ
+meter_name Peak = codes "peak"
+meter_name Clipped = codes "clipped"
+meter_name Sum = codes "sum"
+
+-- bytes in hexadecimal, or a dash where there are none
+abbrev pub hex_or_dash : List ℕ → List ℕ
+hex_or_dash [] = codes "-"
+hex_or_dash (b ∷ bytes) = encode_lower (b ∷ bytes)
+
+-- a space and a sample, for each
+abbrev pub samples_text : List ℤ → List ℕ
+samples_text samples = flat_map (λ s. codes " " ++ numeral s) samples
+
+-- ---- lines
+
+abbrev pub outcome_text : Outcome → List ℕ
+outcome_text (gave bytes) = codes "c bytes " ++ hex_or_dash bytes ++ codes "\n"
+outcome_text was_done = codes "c done\n"
+outcome_text (stalled rule) = codes "c stall Q" ++ decimal rule ++ codes "\n"
+outcome_text broke = codes "c broken\n"
+
+abbrev pub sight_text : Sight → List ℕ
+sight_text (has_value name value) = codes "h " ++ name ++ codes " " ++ numeral value ++ codes "\n"
+sight_text (is_unknown name) = codes "h " ++ name ++ codes " unknown\n"
+sight_text was_set = codes "h done\n"
+sight_text (was_stalled rule) = codes "h stall Q" ++ decimal rule ++ codes "\n"
+sight_text was_broken = codes "h broken\n"
+
+-- a line's bytes, with the newline
+unfoldable pub spelled : Said → List ℕ
+spelled (says_ready entities streams domains) =
+    codes "ready entities " ++ decimal entities ++ codes " streams " ++ decimal streams ++ codes " domains " ++ decimal domains ++ codes "\n"
+spelled (says_time number) = codes "u " ++ decimal number ++ codes "\n"
+spelled (says_out interface frames arrival) =
+    codes "o " ++ decimal interface ++ codes " " ++ decimal frames ++ codes " " ++ arrival_name arrival ++ codes "\n"
+spelled (says_in interface frames lost) = codes "i " ++ decimal interface ++ codes " " ++ decimal frames ++ codes " " ++ lost_or_ok lost ++ codes "\n"
+spelled (says_frame interface samples) = codes "r " ++ decimal interface ++ samples_text samples ++ codes "\n"
+spelled (says_played terminal samples) = codes "p " ++ decimal terminal ++ samples_text samples ++ codes "\n"
+spelled (says_under interface) = codes "under " ++ decimal interface ++ codes "\n"
+spelled (says_over interface) = codes "over " ++ decimal interface ++ codes "\n"
+spelled (says_level interface level target) = codes "l " ++ decimal interface ++ codes " " ++ decimal level ++ codes " " ++ number_or_dash target ++ codes "\n"
+spelled (says_feedback interface value lost) =
+    codes "f " ++ decimal interface ++ codes " " ++ encode_lower (bytes_high_first 4 value) ++ codes " " ++ lost_or_ok lost ++ codes "\n"
+spelled (says_answer outcome) = outcome_text outcome
+spelled (says_view sight) = sight_text sight
+spelled (says_passed time) = codes "time " ++ decimal time ++ codes "\n"
+spelled (says_steady steady) = codes "steady " ++ yes_or_no steady ++ codes "\n"
+spelled (says_domain clock rate ticks) =
+    codes "domain " ++ decimal clock ++ codes " rate " ++ number_or_dash rate ++ codes " ticks " ++ decimal ticks ++ codes "\n"
+spelled (says_out_stream interface setting level target met) =
+    codes "stream " ++ decimal interface ++ codes " out setting " ++ decimal setting ++ codes " level " ++ decimal level ++ codes " target "
+    ++ number_or_dash target ++ codes " under " ++ decimal met.under ++ codes " over " ++ decimal met.over ++ codes " lost " ++ decimal met.lost
+    ++ codes " missed " ++ decimal met.missed ++ codes "\n"
+spelled (says_in_stream interface setting level met) =
+    codes "stream " ++ decimal interface ++ codes " in setting " ++ decimal setting ++ codes " level " ++ decimal level ++ codes " over "
+    ++ decimal met.over ++ codes " lost " ++ decimal met.lost ++ codes "\n"
+spelled (says_meter reading) = codes "meter " ++ meter_name reading.kind ++ codes " " ++ decimal reading.value ++ codes "\n"
+spelled (says_renders count) = codes "renders " ++ decimal count ++ codes "\n"

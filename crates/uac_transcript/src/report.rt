@@ -1,0 +1,204 @@
+// The lines of the report.
+ghost use Rattle.std.specs.Prelude.{◌≡◌, ◌≤◌, length};
+ghost use Rattle.uac_edges.specs.Faults.{HasCause};
+ghost use Rattle.uac_edges.specs.Writing.{Writes};
+ghost use Rattle.uac_transcript.specs.Transcript.{meter_name, says_domain, says_in_stream, says_meter, says_out_stream, says_passed, says_renders, says_steady, spelled};
+
+use crate::words::{number_or_dash, yes_or_no};
+use uac_edges::{Failed, Sink, TextLine, give_all};
+use uac_units::MeterKind;
+
+/// What the streams of an interface met since the start: rings found empty and full, packets lost, reports missed. Each count
+/// stands still at 18446744073709551615.
+#[derive(Clone, Copy, Debug, PartialEq, Eq)]
+pub struct StreamCounts {
+    pub under: u64,
+    pub over: u64,
+    pub lost: u64,
+    pub missed: u64,
+}
+
+/// Prints the microframes since the start.
+pub fn write_passed<K: Sink>(sink: &mut K, time: u64) -> Result<(), Failed>
+    ensures written { Writes (K.written sink.old) (K.written sink.new) result (spelled (says_passed time)) }
+    ensures cause { HasCause (K.faults sink.old) (K.faults sink.new) result }
+{
+    give_all(sink, passed(time).as_bytes())
+}
+
+#[tactic(auto, unfolding(crate::specs::Transcript::spelled))]
+fn passed(time: u64) -> TextLine<32>
+    ensures { result ≡ spelled (says_passed time) }
+{
+    let mut text = TextLine::new();
+    text.push(b"time ");
+    text.push_number(time);
+    text.push(b"\n");
+    text
+}
+
+/// Prints whether all clocks and reports were steady since the start.
+pub fn write_steady<K: Sink>(sink: &mut K, steady: bool) -> Result<(), Failed>
+    ensures written { Writes (K.written sink.old) (K.written sink.new) result (spelled (says_steady steady)) }
+    ensures cause { HasCause (K.faults sink.old) (K.faults sink.new) result }
+{
+    give_all(sink, steadiness(steady).as_bytes())
+}
+
+#[tactic(auto, unfolding(crate::specs::Transcript::spelled))]
+fn steadiness(steady: bool) -> TextLine<32>
+    ensures { result ≡ spelled (says_steady steady) }
+{
+    let mut text = TextLine::new();
+    text.push(b"steady ");
+    text.push(yes_or_no(steady));
+    text.push(b"\n");
+    text
+}
+
+/// Prints a domain: its clock, its rate if it has one, and its ticks since the start.
+pub fn write_domain<K: Sink>(sink: &mut K, clock: u8, rate: Option<u32>, ticks: u64) -> Result<(), Failed>
+    ensures written { Writes (K.written sink.old) (K.written sink.new) result (spelled (says_domain clock rate ticks)) }
+    ensures cause { HasCause (K.faults sink.old) (K.faults sink.new) result }
+{
+    give_all(sink, domain(clock, rate, ticks).as_bytes())
+}
+
+#[tactic(auto, unfolding(crate::specs::Transcript::spelled))]
+fn domain(clock: u8, rate: Option<u32>, ticks: u64) -> TextLine<128>
+    ensures { result ≡ spelled (says_domain clock rate ticks) }
+{
+    let mut text = TextLine::new();
+    text.push(b"domain ");
+    text.push_number(u64::from(clock));
+    text.push(b" rate ");
+    text.push(number_or_dash(rate).as_bytes());
+    text.push(b" ticks ");
+    text.push_number(ticks);
+    text.push(b"\n");
+    text
+}
+
+/// Prints a stream to the device: its interface, its setting, its level in frames, the level at which it was primed, and what it met.
+pub fn write_out_stream<K: Sink>(
+    sink: &mut K,
+    interface: u8,
+    setting: u8,
+    level: u32,
+    target: Option<u32>,
+    met: StreamCounts,
+) -> Result<(), Failed>
+    ensures written { Writes (K.written sink.old) (K.written sink.new) result (spelled (says_out_stream interface setting level target met)) }
+    ensures cause { HasCause (K.faults sink.old) (K.faults sink.new) result }
+{
+    give_all(sink, out_stream(interface, setting, level, target, met).as_bytes())
+}
+
+#[tactic(auto, unfolding(crate::specs::Transcript::spelled))]
+fn out_stream(interface: u8, setting: u8, level: u32, target: Option<u32>, met: StreamCounts) -> TextLine<256>
+    ensures { result ≡ spelled (says_out_stream interface setting level target met) }
+{
+    let mut text = TextLine::new();
+    text.push(b"stream ");
+    text.push_number(u64::from(interface));
+    text.push(b" out setting ");
+    text.push_number(u64::from(setting));
+    text.push(b" level ");
+    text.push_number(u64::from(level));
+    text.push(b" target ");
+    text.push(number_or_dash(target).as_bytes());
+    text.push(b" under ");
+    text.push_number(met.under);
+    text.push(b" over ");
+    text.push_number(met.over);
+    text.push(b" lost ");
+    text.push_number(met.lost);
+    text.push(b" missed ");
+    text.push_number(met.missed);
+    text.push(b"\n");
+    text
+}
+
+/// Prints a stream from the device: its interface, its setting, its level in frames, and what it met.
+pub fn write_in_stream<K: Sink>(
+    sink: &mut K,
+    interface: u8,
+    setting: u8,
+    level: u32,
+    met: StreamCounts,
+) -> Result<(), Failed>
+    ensures written { Writes (K.written sink.old) (K.written sink.new) result (spelled (says_in_stream interface setting level met)) }
+    ensures cause { HasCause (K.faults sink.old) (K.faults sink.new) result }
+{
+    give_all(sink, in_stream(interface, setting, level, met).as_bytes())
+}
+
+#[tactic(auto, unfolding(crate::specs::Transcript::spelled))]
+fn in_stream(interface: u8, setting: u8, level: u32, met: StreamCounts) -> TextLine<160>
+    ensures { result ≡ spelled (says_in_stream interface setting level met) }
+{
+    let mut text = TextLine::new();
+    text.push(b"stream ");
+    text.push_number(u64::from(interface));
+    text.push(b" in setting ");
+    text.push_number(u64::from(setting));
+    text.push(b" level ");
+    text.push_number(u64::from(level));
+    text.push(b" over ");
+    text.push_number(met.over);
+    text.push(b" lost ");
+    text.push_number(met.lost);
+    text.push(b"\n");
+    text
+}
+
+/// Prints what a meter shows.
+pub fn write_meter<K: Sink>(sink: &mut K, kind: MeterKind, value: u64) -> Result<(), Failed>
+    ensures written { Writes (K.written sink.old) (K.written sink.new) result (spelled (says_meter (record { kind = kind; value = value }))) }
+    ensures cause { HasCause (K.faults sink.old) (K.faults sink.new) result }
+{
+    give_all(sink, meter(kind, value).as_bytes())
+}
+
+#[tactic(auto, unfolding(crate::specs::Transcript::spelled))]
+fn meter(kind: MeterKind, value: u64) -> TextLine<64>
+    ensures { result ≡ spelled (says_meter (record { kind = kind; value = value })) }
+{
+    let mut text = TextLine::new();
+    text.push(b"meter ");
+    text.push(meter_name(kind));
+    text.push(b" ");
+    text.push_number(value);
+    text.push(b"\n");
+    text
+}
+
+fn meter_name(kind: MeterKind) -> &'static [u8]
+    ensures text { result.now ≡ meter_name kind }
+    ensures short { length result.now ≤ 7 }
+{
+    match kind {
+        MeterKind::Peak => b"peak",
+        MeterKind::Clipped => b"clipped",
+        MeterKind::Sum => b"sum",
+    }
+}
+
+/// Prints how many units were rendered since the start.
+pub fn write_renders<K: Sink>(sink: &mut K, count: u64) -> Result<(), Failed>
+    ensures written { Writes (K.written sink.old) (K.written sink.new) result (spelled (says_renders count)) }
+    ensures cause { HasCause (K.faults sink.old) (K.faults sink.new) result }
+{
+    give_all(sink, renders(count).as_bytes())
+}
+
+#[tactic(auto, unfolding(crate::specs::Transcript::spelled))]
+fn renders(count: u64) -> TextLine<32>
+    ensures { result ≡ spelled (says_renders count) }
+{
+    let mut text = TextLine::new();
+    text.push(b"renders ");
+    text.push_number(count);
+    text.push(b"\n");
+    text
+}

@@ -1,0 +1,49 @@
+// The lines of the descriptor's end and of a microframe's number.
+ghost use Rattle.std.specs.Prelude.{◌≡◌};
+ghost use Rattle.uac_edges.specs.Faults.{HasCause};
+ghost use Rattle.uac_edges.specs.Writing.{Writes};
+ghost use Rattle.uac_transcript.specs.Transcript.{says_ready, says_time, spelled};
+
+use uac_edges::{Failed, Sink, TextLine, give_all};
+
+/// Prints the line of the descriptor's end: how many entities, streaming interfaces and domains there are.
+pub fn write_ready<K: Sink>(sink: &mut K, entities: usize, streams: usize, domains: usize) -> Result<(), Failed>
+    ensures written { Writes (K.written sink.old) (K.written sink.new) result (spelled (says_ready entities streams domains)) }
+    ensures cause { HasCause (K.faults sink.old) (K.faults sink.new) result }
+{
+    give_all(sink, ready(entities, streams, domains).as_bytes())
+}
+
+#[tactic(auto, unfolding(crate::specs::Transcript::spelled))]
+fn ready(entities: usize, streams: usize, domains: usize) -> TextLine<128>
+    ensures { result ≡ spelled (says_ready entities streams domains) }
+{
+    let mut text = TextLine::new();
+    text.push(b"ready entities ");
+    text.push_number(entities as u64);
+    text.push(b" streams ");
+    text.push_number(streams as u64);
+    text.push(b" domains ");
+    text.push_number(domains as u64);
+    text.push(b"\n");
+    text
+}
+
+/// Prints the number of a microframe, from 1.
+pub fn write_time<K: Sink>(sink: &mut K, number: u64) -> Result<(), Failed>
+    ensures written { Writes (K.written sink.old) (K.written sink.new) result (spelled (says_time number)) }
+    ensures cause { HasCause (K.faults sink.old) (K.faults sink.new) result }
+{
+    give_all(sink, time(number).as_bytes())
+}
+
+#[tactic(auto, unfolding(crate::specs::Transcript::spelled))]
+fn time(number: u64) -> TextLine<32>
+    ensures { result ≡ spelled (says_time number) }
+{
+    let mut text = TextLine::new();
+    text.push(b"u ");
+    text.push_number(number);
+    text.push(b"\n");
+    text
+}
