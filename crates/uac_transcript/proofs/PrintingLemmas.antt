@@ -1,11 +1,10 @@
 -- Lines that are printed one after the other.
-use Rattle.std.proofs.Common.{◌≡◌, ◌∙◌, sym, ap, subst, ℕ, ◌+◌, ◌<◌, List, [], ◌∷◌, ◌++◌, length, map, take, get_or, flat_map, Option, Result}
+use Rattle.std.proofs.Common.{◌≡◌, ◌∙◌, sym, ap, subst, ℕ, ◌+◌, ◌<◌, List, [], ◌∷◌, ◌++◌, length, map, take, drop, get_or, flat_map, Option, Result}
 use Rattle.std.specs.Io.KnownBytes.{Appends}
 use Rattle.std.proofs.lemmas.Grind.{flat_map-append}
-use Rattle.std.proofs.lemmas.List.{append-nil, map-append, take_more}
-use Rattle.std.proofs.lemmas.List.Folds.{flat_map-map}
+use Rattle.std.proofs.lemmas.List.{append-nil, map-append, take-append-drop, take_more}
 use Rattle.uac_edges.specs.Writing.{AppendsFront, Writes}
-use Rattle.uac_edges.proofs.WritingLemmas.{Appends-twice, AppendsFront-longer, Writes-after, front_of_each}
+use Rattle.uac_edges.proofs.WritingLemmas.{Appends-twice, AppendsFront-after, AppendsFront-longer, Writes-after}
 use Rattle.uac_transcript.specs.Transcript.{Said, spelled}
 use Rattle.uac_transcript.specs.Printing.{Prints, text_of}
 
@@ -15,6 +14,9 @@ text_of-append first second = flat_map-append spelled first second
 -- one line
 pub Appends-line : (old new : Option (List ℕ)) (said : Said) → Appends old new (spelled said) → Appends old new (text_of (said ∷ []))
 Appends-line old new said a = subst (Appends old new) (sym (append-nil (spelled said))) a
+
+pub front_of_line : (old new : Option (List ℕ)) (said : Said) → AppendsFront old new (spelled said) → AppendsFront old new (text_of (said ∷ []))
+front_of_line old new said f = subst (AppendsFront old new) (sym (append-nil (spelled said))) f
 
 pub Prints-line : {T E : Type 0} (old new : Option (List ℕ)) (r : Result T E) (said : Said) → Writes old new r (spelled said) → Prints old new r (said ∷ [])
 Prints-line old new r said w = subst (Writes old new r) (sym (append-nil (spelled said))) w
@@ -34,22 +36,57 @@ pub front_of_more : (old new : Option (List ℕ)) (first second : List Said) →
 front_of_more old new first second f =
     subst (AppendsFront old new) (sym (text_of-append first second)) (AppendsFront-longer old new (text_of first) (text_of second) f)
 
+-- lines, and then a front of others
+pub front_after : (old mid new : Option (List ℕ)) (first second : List Said) → Appends old mid (text_of first) → AppendsFront mid new (text_of second)
+    → AppendsFront old new (text_of (first ++ second))
+front_after old mid new first second a f =
+    subst (AppendsFront old new) (sym (text_of-append first second)) (AppendsFront-after old mid new (text_of first) (text_of second) a f)
+
+-- lines, a front of others, and what was to come
+front_within : (old mid new : Option (List ℕ)) (before lines after : List Said) → Appends old mid (text_of before) → AppendsFront mid new (text_of lines)
+    → AppendsFront old new (text_of ((before ++ lines) ++ after))
+front_within old mid new before lines after a f = front_of_more old new (before ++ lines) after (front_after old mid new before lines a f)
+
 -- ---- a line for each item
 
 module _ {X : Type 0} (old mid new : Option (List ℕ)) (f : X → Said) (xs : List X) (i : ℕ) (d : X) (said : Said) (below : i < length xs) (is : said ≡ f (get_or xs i d)) where
-  each_line : (ys : List X) → text_of (map f ys) ≡ flat_map (λ x. spelled (f x)) ys
-  each_line ys = flat_map-map spelled f ys
+  map_more : map f (take i xs) ++ (said ∷ []) ≡ map f (take (i + 1) xs)
+  map_more =
+      ap (λ (s : Said). map f (take i xs) ++ (s ∷ [])) is ∙ sym (ap (map f) (take_more xs i d below) ∙ map-append f (take i xs) (get_or xs i d ∷ []))
 
   -- that of one item more
   pub one_line_more : Appends old mid (text_of (map f (take i xs))) → Appends mid new (spelled said) → Appends old new (text_of (map f (take (i + 1) xs)))
   one_line_more before next =
-      let all : map f (take i xs) ++ (said ∷ []) ≡ map f (take (i + 1) xs) =
-      ap (λ (s : Said). map f (take i xs) ++ (s ∷ [])) is ∙ sym (ap (map f) (take_more xs i d below) ∙ map-append f (take i xs) (get_or xs i d ∷ [])) in
-      subst (λ (lines : List Said). Appends old new (text_of lines)) all
+      subst (λ (lines : List Said). Appends old new (text_of lines)) map_more
       (Appends-lines old mid new (map f (take i xs)) (said ∷ []) before (Appends-line mid new said next))
 
   -- the lines up to an item, and a front of its line, are a front of all
   pub front_of_lines : Appends old mid (text_of (map f (take i xs))) → AppendsFront mid new (spelled said) → AppendsFront old new (text_of (map f xs))
   front_of_lines before front =
-      subst (AppendsFront old new) (sym (each_line xs))
-      (front_of_each old mid new (λ x. spelled (f x)) xs i d (spelled said) below (subst (Appends old mid) (each_line (take i xs)) before) front (ap spelled is))
+      let all : (map f (take i xs) ++ (said ∷ [])) ++ map f (drop (i + 1) xs) ≡ map f xs =
+      ap (λ (lines : List Said). lines ++ map f (drop (i + 1) xs)) map_more
+      ∙ (sym (map-append f (take (i + 1) xs) (drop (i + 1) xs)) ∙ ap (map f) (take-append-drop (i + 1) xs)) in
+      subst (λ (lines : List Said). AppendsFront old new (text_of lines)) all
+      (front_within old mid new (map f (take i xs)) (said ∷ []) (map f (drop (i + 1) xs)) before (front_of_line mid new said front))
+
+-- ---- lines for each item
+
+module _ {X : Type 0} (old mid new : Option (List ℕ)) (f : X → List Said) (xs : List X) (i : ℕ) (d : X) (lines : List Said) (below : i < length xs) (is : lines ≡ f (get_or xs i d)) where
+  each_more : flat_map f (take i xs) ++ lines ≡ flat_map f (take (i + 1) xs)
+  each_more =
+      ap (λ (ls : List Said). flat_map f (take i xs) ++ ls) (is ∙ sym (append-nil (f (get_or xs i d))))
+      ∙ sym (ap (flat_map f) (take_more xs i d below) ∙ flat_map-append f (take i xs) (get_or xs i d ∷ []))
+
+  -- those of one item more
+  pub some_lines_more : Appends old mid (text_of (flat_map f (take i xs))) → Appends mid new (text_of lines) → Appends old new (text_of (flat_map f (take (i + 1) xs)))
+  some_lines_more before next =
+      subst (λ (ls : List Said). Appends old new (text_of ls)) each_more (Appends-lines old mid new (flat_map f (take i xs)) lines before next)
+
+  -- the lines up to an item, and a front of its own, are a front of all
+  pub front_of_some : Appends old mid (text_of (flat_map f (take i xs))) → AppendsFront mid new (text_of lines) → AppendsFront old new (text_of (flat_map f xs))
+  front_of_some before front =
+      let all : (flat_map f (take i xs) ++ lines) ++ flat_map f (drop (i + 1) xs) ≡ flat_map f xs =
+      ap (λ (ls : List Said). ls ++ flat_map f (drop (i + 1) xs)) each_more
+      ∙ (sym (flat_map-append f (take (i + 1) xs) (drop (i + 1) xs)) ∙ ap (flat_map f) (take-append-drop (i + 1) xs)) in
+      subst (λ (ls : List Said). AppendsFront old new (text_of ls)) all
+      (front_within old mid new (flat_map f (take i xs)) lines (flat_map f (drop (i + 1) xs)) before front)
