@@ -25,13 +25,13 @@ use Rattle.uac_topology_rules.specs.declared.fault.TopologyFault.{TopologyFault}
 use Rattle.uac_topology.specs.Function.{FunctionFields}
 use Rattle.uac_topology.specs.Topology.{first_broken, IsSound, IsFunctionOf}
 use Rattle.uac_units.specs.Hearing.{Reading}
-use Rattle.uac_running.specs.Text.{ready_line}
+use Rattle.uac_running.specs.Lines.{ready_line}
 use Rattle.uac_running.specs.World.{at_start}
 use Rattle.uac_bus.specs.declared.fault.BusFault.{BusFault}
 use Rattle.uac_bus.specs.declared.fault.BusFault.TheVariants as faults
 use Rattle.uac_bus.specs.declared.bus.Stage.TheVariants as stages
 use Rattle.uac_bus.specs.Description.{first_then, blocks_from, blocks_of, function_of}
-use Rattle.uac_bus.specs.World.{Step, done, describing, playing, if_no_fault, if_sound, silently, fed, gone}
+use Rattle.uac_bus.specs.World.{Step, done, describing, running, if_no_fault, if_sound, silently, fed, gone}
 use Rattle.uac_bus.specs.Kept.{StandsFor, Reaches, Prevents}
 use Rattle.uac_bus.specs.Rows.{Describes, fault_of}
 
@@ -93,10 +93,10 @@ described_refused bytes stop fault told is = subst (λ (f : BusFault). Describes
 
 -- the end of such a descriptor
 pub gone_well : (bytes : List ℕ) (function : FunctionFields) (shown : List Reading) → Describes bytes (Ok function)
-    → gone bytes shown ≡ done (playing (at_start bytes function shown)) (ready_line function)
+    → gone bytes shown ≡ done (running (at_start bytes function shown)) (ready_line function ∷ [])
 unfolding gone
 gone_well bytes function shown d =
-    let began : FunctionFields → Step = λ f. done (playing (at_start bytes f shown)) (ready_line f) in
+    let began : FunctionFields → Step = λ f. done (running (at_start bytes f shown)) (ready_line f ∷ []) in
     let whole : Step = began (function_of (blocks_of bytes)) in
     ap (λ (o : Option GrammarFault). if_no_fault o (if_sound (first_broken (blocks_of bytes)) whole)) d.0
     ∙ ap (λ (o : Option TopologyFault). if_sound o whole) d.1
@@ -107,10 +107,10 @@ pub gone_ill : (bytes : List ℕ) (fault : BusFault) (shown : List Reading) (wri
 unfolding gone
 gone_ill bytes (faults.Grammar f) shown written d =
     let function = function_of (blocks_of bytes) in
-    ap (λ (o : Option GrammarFault). if_no_fault o (if_sound (first_broken (blocks_of bytes)) (done (playing (at_start bytes function shown)) (ready_line function)))) d
+    ap (λ (o : Option GrammarFault). if_no_fault o (if_sound (first_broken (blocks_of bytes)) (done (running (at_start bytes function shown)) (ready_line function ∷ [])))) d
 gone_ill bytes (faults.Topology f) shown written d =
     let function = function_of (blocks_of bytes) in
-    let whole : Step = done (playing (at_start bytes function shown)) (ready_line function) in
+    let whole : Step = done (running (at_start bytes function shown)) (ready_line function ∷ []) in
     ap (λ (o : Option GrammarFault). if_no_fault o (if_sound (first_broken (blocks_of bytes)) whole)) d.0
     ∙ ap (λ (o : Option TopologyFault). if_sound o whole) d.1
 gone_ill bytes faults.NoMemory shown written d = refl

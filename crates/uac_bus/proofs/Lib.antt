@@ -2,3 +2,4 @@
 pub mod Described
 pub mod Stepping
 pub mod Rowing
+pub mod AfterLemmas

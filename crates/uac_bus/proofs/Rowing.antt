@@ -13,11 +13,11 @@ use Rattle.uac_script.specs.declared.line.Mark.{Mark}
 use Rattle.uac_script.specs.Line.{loss_of}
 use Rattle.uac_script.specs.Phrase.{deviates}
 use Rattle.uac_topology.specs.Function.{FunctionFields}
-use Rattle.uac_running.specs.World.{Running}
-use Rattle.uac_running.specs.Kept.{PlayingFields, Stands}
+use Rattle.uac_running.specs.World.{RunningWorld}
+use Rattle.uac_running.specs.Kept.{RunningFields, Stands}
 use Rattle.uac_bus.specs.declared.bus.Stage.TheVariants as stages
 use Rattle.uac_bus.specs.declared.fault.BusFault.{BusFault}
-use Rattle.uac_bus.specs.World.{World, Step, step_playing, unless, breaks_rule, unbuilt, is_placed, is_empty, has_out, are_frames}
+use Rattle.uac_bus.specs.World.{World, Step, step_running, unless, breaks_rule, unbuilt, is_placed, is_empty, has_out, are_frames}
 use Rattle.uac_bus.specs.Kept.{StandsFor, Reaches, Does}
 use Rattle.uac_bus.proofs.Stepping.{unless_holds, unless_fails}
 
@@ -28,13 +28,13 @@ unless_reached true rule s Holds written written' e r = r
 unless_reached false rule s Holds written written' e r = absurd (cc)
 
 -- a deviation that was passed on is the line's
-pub deviates_said : (domain : ℕ) (passed ppm : ℤ) (p p' : PlayingFields) (result : Result (Unit {0}) BusFault) → passed ≡ ppm
-    → ((shown : List Reading) (r : Running) (written : Option (List ℕ)) → Stands p shown r
-    → Does (step_playing r (deviates (pos domain) passed)) false (StandsFor (stages.Playing p') shown) written written result)
-    → (shown : List Reading) (r : Running) (written : Option (List ℕ)) → Stands p shown r
-    → Does (step_playing r (deviates (pos domain) ppm)) false (StandsFor (stages.Playing p') shown) written written result
+pub deviates_said : (domain : ℕ) (passed ppm : ℤ) (p p' : RunningFields) (result : Result (Unit {0}) BusFault) → passed ≡ ppm
+    → ((shown : List Reading) (r : RunningWorld) (written : Option (List ℕ)) → Stands p shown r
+    → Does (step_running r (deviates (pos domain) passed)) false (StandsFor (stages.Running p') shown) written written result)
+    → (shown : List Reading) (r : RunningWorld) (written : Option (List ℕ)) → Stands p shown r
+    → Does (step_running r (deviates (pos domain) ppm)) false (StandsFor (stages.Running p') shown) written written result
 deviates_said domain passed ppm p p' result same does shown r written s =
-    subst (λ (z : ℤ). Does (step_playing r (deviates (pos domain) z)) false (StandsFor (stages.Playing p') shown) written written result) same (does shown r written s)
+    subst (λ (z : ℤ). Does (step_running r (deviates (pos domain) z)) false (StandsFor (stages.Running p') shown) written written result) same (does shown r written s)
 
 -- the second rule is broken, or the line isn't built
 pub append_broken : (b c : Bool) → b ≡ true → c ≡ false → unless b 6 (unless c 7 unbuilt) ≡ breaks_rule 7
@@ -63,7 +63,7 @@ channels_nowhere es id e =
 -- ---- what is said of the kept function holds in the world
 
 -- these are the streaming interfaces of the device
-pub streams_in : (r : Running) (p : PlayingFields) (shown : List Reading) (function : FunctionFields) (streams : List StreamInterface) → Stands p shown r
+pub streams_in : (r : RunningWorld) (p : RunningFields) (shown : List Reading) (function : FunctionFields) (streams : List StreamInterface) → Stands p shown r
     → function ≡ p.device.function → streams ≡ function.streams → streams ≡ r.device.function.streams
 streams_in r p shown function streams s same is = is ∙ ap (λ (f : FunctionFields). f.streams) (same ∙ s.device.function)
 

@@ -1,14 +1,13 @@
 -- Steps of the world, and what the bus answers them.
-use Rattle.std.proofs.Common.{◌≡◌, ℕ, ◌≤◌, Bool, true, false, List, ◌++◌, refl, ap, subst, ◌∙◌, arith, Option, None, Result, Ok, Err}
+use Rattle.std.proofs.Common.{◌≡◌, ℕ, Bool, true, false, List, ◌++◌, refl, ap, subst, ◌∙◌, Option, None, Result, Ok, Err}
 use Rattle.std.specs.Prelude.{OnOk}
 use Rattle.std.proofs.KnownBytes.{Appends-nil}
-use Rattle.std.proofs.lemmas.List.Elements.{All-weaker}
 use Rattle.uac_grammar.specs.Reading as reader
 use Rattle.uac_script.specs.declared.line.Line.{Line}
 use Rattle.uac_script.specs.declared.line.Line.TheVariants as lines
 use Rattle.uac_running.specs.Kept as play
-use Rattle.uac_running.specs.Kept.{PlayingFields}
-use Rattle.uac_running.specs.World.{Running}
+use Rattle.uac_running.specs.Kept.{RunningFields}
+use Rattle.uac_running.specs.World.{RunningWorld}
 use Rattle.uac_bus.specs.declared.bus.Stage.TheVariants as stages
 use Rattle.uac_pcm.specs.declared.tones.Tone.{Tone}
 use Rattle.uac_pcm.specs.declared.tones.Tone.TheVariants.{Silent, Ramp, Noise}
@@ -17,7 +16,7 @@ use Rattle.uac_script.specs.Line.{voice_of_tone, phrase_of}
 use Rattle.uac_script.specs.Phrase.{Phrase, idle, feeds, goes}
 use Rattle.uac_bus.specs.declared.fault.BusFault.{BusFault}
 use Rattle.uac_bus.specs.declared.fault.BusFault.TheVariants as faults
-use Rattle.uac_bus.specs.World.{World, describing, playing, Step, done, refused, unless, breaks_rule, tone_of, fed, gone, step, step_playing}
+use Rattle.uac_bus.specs.World.{World, describing, running, Step, done, refused, unless, breaks_rule, tone_of, fed, gone, step, step_running}
 use Rattle.uac_bus.specs.Kept.{BusFields, Stands, StandsFor, Reaches, Prevents, Does, may_want}
 
 -- a tone is what its words spell
@@ -49,7 +48,7 @@ pub idle_in : (r : reader.Reading) (shown : List Reading) (w : World) (written :
     → Reaches (step idle w) (StandsFor (stages.Describing r) shown) written written
 unfolding step
 idle_in r shown (describing bytes heard) written s = (s, Appends-nil written)
-idle_in r shown (playing world) written s = absurd s
+idle_in r shown (running world) written s = absurd s
 
 -- more bytes
 fed_here : (r r' : reader.Reading) (more : List ℕ) (shown : List Reading) (w : World) (written : Option (List ℕ)) (result : Result (Unit {0}) BusFault)
@@ -61,7 +60,7 @@ fed_here r r' more shown (describing bytes heard) written result s does =
     let before : Does (fed (r.taken ++ more) shown) true (StandsFor (stages.Describing r') shown) written written result = does s.1 shown written in
     subst (λ (bs : List ℕ). Does (fed (bs ++ more) heard) true (StandsFor (stages.Describing r') shown) written written result) s.0
     (subst (λ (xs : List Reading). Does (fed (r.taken ++ more) xs) true (StandsFor (stages.Describing r') shown) written written result) s.2 before)
-fed_here r r' more shown (playing world) written result s does = absurd s
+fed_here r r' more shown (running world) written result s does = absurd s
 
 pub fed_in : (r r' : reader.Reading) (more bytes : List ℕ) (shown : List Reading) (w : World) (written : Option (List ℕ)) (result : Result (Unit {0}) BusFault)
     → more ≡ bytes → StandsFor (stages.Describing r) shown w
@@ -72,14 +71,14 @@ fed_in r r' more bytes shown w written result same s does =
     (fed_here r r' more shown w written result s does)
 
 -- the descriptor's end, of a reader that was taken out
-pub begun_in : (r whole : reader.Reading) (p : PlayingFields) (shown : List Reading) (w : World) (written written' : Option (List ℕ))
-    → whole ≡ r → StandsFor (stages.Describing r) shown w → ((heard : List Reading) → Reaches (gone whole.taken heard) (StandsFor (stages.Playing p) heard) written written')
-    → Reaches (step goes w) (StandsFor (stages.Playing p) shown) written written'
+pub begun_in : (r whole : reader.Reading) (p : RunningFields) (shown : List Reading) (w : World) (written written' : Option (List ℕ))
+    → whole ≡ r → StandsFor (stages.Describing r) shown w → ((heard : List Reading) → Reaches (gone whole.taken heard) (StandsFor (stages.Running p) heard) written written')
+    → Reaches (step goes w) (StandsFor (stages.Running p) shown) written written'
 unfolding step
 begun_in r whole p shown (describing bytes heard) written written' same s begins =
-    subst (λ (bs : List ℕ). Reaches (gone bs heard) (StandsFor (stages.Playing p) shown) written written') (ap (λ (x : reader.Reading). x.taken) same ∙ s.0)
-    (subst (λ (xs : List Reading). Reaches (gone whole.taken xs) (StandsFor (stages.Playing p) shown) written written') s.2 (begins shown))
-begun_in r whole p shown (playing world) written written' same s begins = absurd s
+    subst (λ (bs : List ℕ). Reaches (gone bs heard) (StandsFor (stages.Running p) shown) written written') (ap (λ (x : reader.Reading). x.taken) same ∙ s.0)
+    (subst (λ (xs : List Reading). Reaches (gone whole.taken xs) (StandsFor (stages.Running p) shown) written written') s.2 (begins shown))
+begun_in r whole p shown (running world) written written' same s begins = absurd s
 
 pub unbegun_in : (r whole : reader.Reading) (fault : BusFault) (shown : List Reading) (w : World) (written written' : Option (List ℕ))
     → whole ≡ r → StandsFor (stages.Describing r) shown w → ((heard : List Reading) → Prevents fault true (gone whole.taken heard) written written')
@@ -88,14 +87,14 @@ unfolding step
 unbegun_in r whole fault shown (describing bytes heard) written written' same s prevents =
     subst (λ (bs : List ℕ). Prevents fault true (gone bs heard) written written') (ap (λ (x : reader.Reading). x.taken) same ∙ s.0)
     (subst (λ (xs : List Reading). Prevents fault true (gone whole.taken xs) written written') s.2 (prevents shown))
-unbegun_in r whole fault shown (playing world) written written' same s prevents = absurd s
+unbegun_in r whole fault shown (running world) written written' same s prevents = absurd s
 
 -- any other line
 pub early_in : (r : reader.Reading) (line : Line) (shown : List Reading) (w : World) → StandsFor (stages.Describing r) shown w
     → (line ≡ lines.Nothing → ⊥) → ((bytes : _) → line ≡ lines.Bytes bytes → ⊥) → (line ≡ lines.Go → ⊥)
     → step (phrase_of line) w ≡ breaks_rule 5
 unfolding step
-early_in r line shown (playing world) s nothing bytes go = absurd s
+early_in r line shown (running world) s nothing bytes go = absurd s
 early_in r lines.Nothing shown (describing bs heard) s nothing bytes go = absurd (nothing refl)
 early_in r (lines.Bytes b) shown (describing bs heard) s nothing bytes go = absurd (bytes b refl)
 early_in r lines.Go shown (describing bs heard) s nothing bytes go = absurd (go refl)
@@ -113,19 +112,10 @@ early_in r (lines.Detail a) shown (describing bs heard) s nothing bytes go = ref
 early_in r lines.Report shown (describing bs heard) s nothing bytes go = refl
 
 -- a line of the running device
-pub played_in : (p p' : PlayingFields) (phrase : Phrase) (shown shown' : List Reading) (w : World) (written written' : Option (List ℕ)) (result : Result (Unit {0}) BusFault)
-    → StandsFor (stages.Playing p) shown w
-    → ((r : Running) → play.Stands p shown r → Does (step_playing r phrase) false (StandsFor (stages.Playing p') shown') written written' result)
-    → Does (step phrase w) (may_want phrase w) (StandsFor (stages.Playing p') shown') written written' result
+pub played_in : (p p' : RunningFields) (phrase : Phrase) (shown shown' : List Reading) (w : World) (written written' : Option (List ℕ)) (result : Result (Unit {0}) BusFault)
+    → StandsFor (stages.Running p) shown w
+    → ((r : RunningWorld) → play.Stands p shown r → Does (step_running r phrase) false (StandsFor (stages.Running p') shown') written written' result)
+    → Does (step phrase w) (may_want phrase w) (StandsFor (stages.Running p') shown') written written' result
 unfolding step
 played_in p p' phrase shown shown' (describing bytes heard) written written' result s does = absurd s
-played_in p p' phrase shown shown' (playing r) written written' result s does = does r s
-
--- ---- the counts
-
-pub Counts_more : (most more : ℕ) (p : PlayingFields) → most ≤ more → play.Counts most p → play.Counts more p
-Counts_more most more p le counts = record {
-  places = All-weaker (λ j. j.place ≤ most) (λ j. j.place ≤ more) (λ j h. omega arith) p.jacks counts.places;
-  ticks = All-weaker (λ c. c.ticks ≤ most) (λ c. c.ticks ≤ more) (λ c h. omega arith) p.counts counts.ticks;
-  time = (let h = counts.time in omega arith);
-}
+played_in p p' phrase shown shown' (running r) written written' result s does = does r s

@@ -1,51 +1,33 @@
 -- What the bus keeps, for which worlds it stands, and what a line is answered.
-use Rattle.std.specs.Prelude.{◌≡◌, ℕ, ◌*◌, ◌≤◌, ◌&&◌, Bool, true, false, List, Option, None, Result, Ok, Err}
+use Rattle.std.specs.Prelude.{◌≡◌, ℕ, ◌&&◌, Bool, true, false, List, Option, None, Result, Ok, Err}
 use Rattle.std.specs.Io.KnownBytes.{Appends}
 use Rattle.uac_edges.specs.Writing.{AppendsFront}
 use Rattle.uac_script.specs.Phrase.{Phrase, feeds, goes}
+use Rattle.uac_transcript.specs.Printing.{text_of}
 use Rattle.uac_units.specs.Hearing.{Reading}
 use Rattle.uac_running.specs.Kept as play
 use Rattle.uac_bus.specs.declared.fault.BusFault.{BusFault}
 use Rattle.uac_bus.specs.declared.fault.BusFault.TheVariants as faults
 use Rattle.uac_bus.specs.declared.bus.Stage.{Stage}
 use Rattle.uac_bus.specs.declared.bus.Stage.TheVariants as stages
-use Rattle.uac_bus.specs.World.{World, describing, playing, Step, done, refused, step}
+use Rattle.uac_bus.specs.World.{World, describing, running, Step, done, refused, step}
 
--- what a bus is seen as: how far it is, the fault that it answers from now on, and the lines done
+-- what a bus is seen as: how far it is, and the fault that it answers from now on
 pub record BusFields : Type 0 where
   pub stage : Stage
   pub fault : Option BusFault
-  pub lines : ℕ
-
--- the most lines of a script: each has a byte at least
-abbrev pub most_lines : ℕ
-most_lines = 268435456
-
--- no count rises by more in one line: 27 ticks of each of 8 domains in 8,000 microframes
-abbrev pub most_rise : ℕ
-most_rise = 1728000
 
 -- how far the bus is, and how far the world
 abbrev pub StandsFor : Stage → List Reading → World → Type 0
 StandsFor (stages.Describing reader) meters (describing bytes shown) = (reader.taken ≡ bytes) × (reader.stop ≡ None) × (meters ≡ shown)
-StandsFor (stages.Describing reader) meters (playing r) = ⊥
-StandsFor (stages.Playing p) meters (describing bytes shown) = ⊥
-StandsFor (stages.Playing p) meters (playing r) = play.Stands p meters r
+StandsFor (stages.Describing reader) meters (running r) = ⊥
+StandsFor (stages.Running p) meters (describing bytes shown) = ⊥
+StandsFor (stages.Running p) meters (running r) = play.Stands p meters r
 
 -- the bus, with meters that show this, stands for the world: it keeps no fault
 pub record Stands (bus : BusFields) (meters : List Reading) (w : World) : Type 0 where
   pub going : bus.fault ≡ None
   pub stage : StandsFor bus.stage meters w
-
--- no count of a running device passes what the lines done can make of it
-abbrev pub StageCounts : Stage → ℕ → Type 0
-StageCounts (stages.Describing reader) lines = Unit {0}
-StageCounts (stages.Playing p) lines = play.Counts (most_rise * lines) p
-
--- what every bus keeps
-pub record IsBus (bus : BusFields) : Type 0 where
-  pub few : bus.lines ≤ most_lines
-  pub counts : StageCounts bus.stage bus.lines
 
 -- a line for which memory may be wanted
 abbrev pub takes_memory : Phrase → Bool
@@ -56,20 +38,20 @@ takes_memory _ = false
 -- the descriptor's end hasn't come
 abbrev pub is_describing : World → Bool
 is_describing (describing bytes meters) = true
-is_describing (playing r) = false
+is_describing (running r) = false
 
 -- memory may be wanted for what is said before the descriptor's end, and for nothing behind it
 abbrev pub may_want : Phrase → World → Bool
 may_want phrase w = is_describing w && takes_memory phrase
 
--- the step was done: this holds of the next world, and the text was written
+-- the step was done: this holds of the next world, and its lines were written
 abbrev pub Reaches : Step → (World → Type 0) → Option (List ℕ) → Option (List ℕ) → Type 0
-Reaches (done next text) Holds written written' = Holds next × Appends written written' text
+Reaches (done next lines) Holds written written' = Holds next × Appends written written' (text_of lines)
 Reaches (refused fault) Holds written written' = ⊥
 
--- a write failed in the middle of the step's text
+-- a write failed in the middle of the step's lines
 abbrev pub IsCut : Step → Option (List ℕ) → Option (List ℕ) → Type 0
-IsCut (done next text) written written' = AppendsFront written written' text
+IsCut (done next lines) written written' = AppendsFront written written' (text_of lines)
 IsCut (refused fault) written written' = ⊥
 
 -- why a step wasn't done; memory may be wanted only where this says so

@@ -1,13 +1,12 @@
 -- What the calls behind a line answer, each for its part.
-use Rattle.std.specs.Prelude.{◌≡◌, ℕ, ◌^◌, true, List, Option, None, Some, Result, Ok, Err}
+use Rattle.std.specs.Prelude.{◌≡◌, ℕ, true, List, Option, None, Some, Result, Ok, Err}
 use Rattle.uac_sentence.specs.Grammar.{first_fault}
 use Rattle.uac_grammar.specs.declared.fault.ReadStop.{ReadStop}
 use Rattle.uac_grammar.specs.declared.fault.ReadStop.TheVariants as reads
 use Rattle.uac_topology.specs.Function.{FunctionFields}
 use Rattle.uac_topology.specs.Topology.{first_broken}
 use Rattle.uac_units.specs.Hearing.{Reading}
-use Rattle.uac_running.specs.Kept.{PlayingFields}
-use Rattle.uac_running.specs.Kept as play
+use Rattle.uac_running.specs.Kept.{RunningFields}
 use Rattle.uac_bus.specs.declared.fault.BusFault.{BusFault}
 use Rattle.uac_bus.specs.declared.fault.BusFault.TheVariants as faults
 use Rattle.uac_bus.specs.declared.bus.Stage.{Stage}
@@ -17,8 +16,8 @@ use Rattle.uac_bus.specs.World.{Step}
 use Rattle.uac_bus.specs.Kept.{StandsFor, Reaches, Prevents}
 
 -- what the descriptor's end is answered: the running device stands for the next world
-abbrev pub Begins : Step → List Reading → Option (List ℕ) → Option (List ℕ) → Result PlayingFields BusFault → Type 0
-Begins step shown written written' (Ok p) = Reaches step (StandsFor (stages.Playing p) shown) written written'
+abbrev pub Begins : Step → List Reading → Option (List ℕ) → Option (List ℕ) → Result RunningFields BusFault → Type 0
+Begins step shown written written' (Ok p) = Reaches step (StandsFor (stages.Running p) shown) written written'
 Begins step shown written written' (Err fault) = Prevents fault true step written written'
 
 -- why a reader stopped, as the bus tells it
@@ -34,8 +33,3 @@ Describes bytes (Err (faults.Grammar fault)) = first_fault bytes ≡ Some fault
 Describes bytes (Err (faults.Topology fault)) = (first_fault bytes ≡ None) × (first_broken (blocks_of bytes) ≡ Some fault)
 Describes bytes (Err faults.NoMemory) = Unit {0}
 Describes bytes (Err _) = ⊥
-
--- what a running device may count before one more line
-abbrev pub HasRoom : Stage → Type 0
-HasRoom (stages.Describing reader) = Unit {0}
-HasRoom (stages.Playing p) = play.Counts (2 ^ 62) p

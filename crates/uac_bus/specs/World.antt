@@ -16,9 +16,10 @@ use Rattle.uac_units.specs.Hearing.{Reading}
 use Rattle.uac_script.specs.declared.line.MarkKind.{MarkKind}
 use Rattle.uac_script.specs.declared.line.MarkKind.TheVariants.{Out, In, Feedback}
 use Rattle.uac_script.specs.Phrase.{Voice, silent, ramps, hisses, Loss, Phrase, idle, feeds, goes, controls, gets, sets, shows, breaks, appends, tracks, jacks, deviates, runs, details, reports}
-use Rattle.uac_running.specs.World.{Running, at_start, has_jack, has_domain, with_tone, with_deviation, with_detail}
+use Rattle.uac_transcript.specs.Transcript.{Said}
+use Rattle.uac_running.specs.World.{RunningWorld, at_start, has_jack, has_domain, with_tone, with_deviation, with_detail}
 use Rattle.uac_running.specs.Events.{Told, microframes}
-use Rattle.uac_running.specs.Text.{ready_line, report_text}
+use Rattle.uac_running.specs.Lines.{ready_line, report_lines}
 use Rattle.uac_bus.specs.declared.fault.BusFault.{BusFault}
 use Rattle.uac_bus.specs.declared.fault.BusFault.TheVariants as faults
 use Rattle.uac_bus.specs.Description.{blocks_of, function_of}
@@ -26,11 +27,11 @@ use Rattle.uac_bus.specs.Description.{blocks_of, function_of}
 -- before the descriptor's end: its bytes so far, and what the meters show; and from there on the running device
 pub data World : Type 0 where
   describing : List ℕ → List Reading → World
-  playing : Running → World
+  running : RunningWorld → World
 
--- what a line makes of a world: the next world and the text, or the fault with which it is refused
+-- what a line makes of a world: the next world and the lines that it says, or the fault with which it is refused
 pub data Step : Type 0 where
-  done : World → List ℕ → Step
+  done : World → List Said → Step
   refused : BusFault → Step
 
 -- no line was done yet
@@ -56,7 +57,7 @@ abbrev pub unless : Bool → ℕ → Step → Step
 unless true rule step = step
 unless false rule step = breaks_rule rule
 
--- a line that prints nothing
+-- a line that says nothing
 abbrev pub silently : World → Step
 silently w = done w []
 
@@ -78,7 +79,7 @@ fed bytes meters = if_no_fault (shown_fault bytes) (silently (describing bytes m
 unfoldable pub gone : List ℕ → List Reading → Step
 gone bytes meters =
     let function = function_of (blocks_of bytes) in
-    if_no_fault (first_fault bytes) (if_sound (first_broken (blocks_of bytes)) (done (playing (at_start bytes function meters)) (ready_line function)))
+    if_no_fault (first_fault bytes) (if_sound (first_broken (blocks_of bytes)) (done (running (at_start bytes function meters)) (ready_line function ∷ [])))
 
 abbrev pub step_describing : List ℕ → List Reading → Phrase → Step
 step_describing bytes meters idle = silently (describing bytes meters)
@@ -122,44 +123,44 @@ abbrev pub unbuilt : Step
 unbuilt = breaks_rule 9
 
 abbrev pub told : Told → Step
-told t = done (playing t.world) t.text
+told t = done (running t.world) t.lines
 
 abbrev pub is_empty : List Loss → Bool
 is_empty [] = true
 is_empty (loss ∷ losses) = false
 
-abbrev pub step_playing : Running → Phrase → Step
-step_playing r idle = silently (playing r)
-step_playing r (feeds more) = breaks_rule 5
-step_playing r goes = breaks_rule 5
-step_playing r (controls setup sent) = unbuilt
-step_playing r (gets name) = unbuilt
-step_playing r (sets name value) = unbuilt
-step_playing r (shows name) = unbuilt
-step_playing r (breaks after) = unbuilt
-step_playing r (appends number samples) =
+abbrev pub step_running : RunningWorld → Phrase → Step
+step_running r idle = silently (running r)
+step_running r (feeds more) = breaks_rule 5
+step_running r goes = breaks_rule 5
+step_running r (controls setup sent) = unbuilt
+step_running r (gets name) = unbuilt
+step_running r (sets name value) = unbuilt
+step_running r (shows name) = unbuilt
+step_running r (breaks after) = unbuilt
+step_running r (appends number samples) =
     unless (has_out r.device.function.streams (size_of number)) 6 (unless (are_frames r.device.function (size_of number) (length samples)) 7 unbuilt)
-step_playing r (tracks number voice) = unless (has_out r.device.function.streams (size_of number)) 6 unbuilt
-step_playing r (jacks terminal voice) =
-    unless (has_jack r (size_of terminal)) 6 (silently (playing (with_tone (size_of terminal) (tone_of voice) r)))
-step_playing r (deviates clock millionths) =
-    unless (has_domain r (size_of clock)) 6 (silently (playing (with_deviation (size_of clock) millionths r)))
-step_playing r (runs count losses) =
+step_running r (tracks number voice) = unless (has_out r.device.function.streams (size_of number)) 6 unbuilt
+step_running r (jacks terminal voice) =
+    unless (has_jack r (size_of terminal)) 6 (silently (running (with_tone (size_of terminal) (tone_of voice) r)))
+step_running r (deviates clock millionths) =
+    unless (has_domain r (size_of clock)) 6 (silently (running (with_deviation (size_of clock) millionths r)))
+step_running r (runs count losses) =
     unless (list_all (is_placed r.device.function.streams) losses) 6 (unless (is_empty losses) 9 (told (microframes losses (size_of count) r)))
-step_playing r (details level) = silently (playing (with_detail (size_of level) r))
-step_playing r reports = done (playing r) (report_text r)
+step_running r (details level) = silently (running (with_detail (size_of level) r))
+step_running r reports = done (running r) (report_lines r)
 
 -- what a line makes of a world
 unfoldable pub step : Phrase → World → Step
 step phrase (describing bytes meters) = step_describing bytes meters phrase
-step phrase (playing r) = step_playing r phrase
+step phrase (running r) = step_running r phrase
 
 -- the script's end: a descriptor's end is to have come
 abbrev pub finish_of : World → Result (Unit {0}) BusFault
 finish_of (describing bytes meters) = Err (faults.Script 8)
-finish_of (playing r) = Ok tt
+finish_of (running r) = Ok tt
 
 -- what the meters show in a world
 abbrev pub meters_in : World → List Reading
 meters_in (describing bytes meters) = meters
-meters_in (playing r) = r.meters
+meters_in (running r) = r.meters

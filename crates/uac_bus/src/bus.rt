@@ -1,13 +1,12 @@
 // The bus and its lines.
-ghost use Rattle.std.specs.Prelude.{◌≡◌, ◌≢◌, ◌+◌, ◌<◌, ◌≤◌, ◌⊎◌, ℕ, List, true, false, IfErr, OnOk};
+ghost use Rattle.std.specs.Prelude.{◌≡◌, ◌≢◌, ◌≤◌, ◌⊎◌, List, true, false, IfErr};
 ghost use Rattle.uac_units.specs.Fitting.{IsFitted};
 ghost use Rattle.uac_units.specs.Hearing.{Reading};
 ghost use Rattle.uac_units.specs.Panel.{readings};
 ghost use Rattle.uac_edges.specs.Faults.{Rose};
 ghost use Rattle.uac_script.specs.Line.{phrase_of, Keeps};
 ghost use Rattle.uac_bus.specs.World.{World, start, step, finish_of};
-ghost use Rattle.uac_bus.specs.Kept.{Stands, StandsFor, StageCounts, Does, Answers, may_want, is_final, most_lines};
-ghost use Rattle.uac_bus.specs.Rows.{HasRoom};
+ghost use Rattle.uac_bus.specs.Kept.{Stands, StandsFor, Does, Answers, may_want, is_final};
 
 use crate::describing::{begin, feed};
 use crate::fault::BusFault;
@@ -17,7 +16,7 @@ use std::marker::Model;
 use std::mem;
 use uac_edges::Sink;
 use uac_grammar::Reader;
-use uac_running::Playing;
+use uac_running::Running;
 use uac_script::Line;
 use uac_units::{Meter, Meters, Rack, Unit};
 
@@ -27,7 +26,7 @@ pub enum Stage {
     /// The descriptor's bytes are read.
     Describing(Reader),
     /// The device runs.
-    Playing(Playing),
+    Running(Running),
 }
 
 /// A device under a script.
@@ -36,30 +35,25 @@ pub struct Bus {
     alloc: Global,
     stage: Stage,
     fault: Option<BusFault>,
-    lines: u32,
 }
 
 impl Model for Bus {
-    ghost use Rattle.uac_bus.specs.Kept.{BusFields, IsBus};
+    ghost use Rattle.uac_bus.specs.Kept.{BusFields};
 
     ghost Value = { BusFields };
 
-    ghost view = { λ b. record { stage = b.stage; fault = b.fault; lines = b.lines } };
-
-    ghost invariant = { λ b. IsBus (record { stage = b.stage; fault = b.fault; lines = b.lines }) };
+    ghost view = { λ b. record { stage = b.stage; fault = b.fault } };
 }
 
 impl Bus {
     /// A bus to which no line was given. It takes no memory.
     pub fn new(alloc: Global) -> Bus
-        ensures stands { (meters : List Reading) → Stands result meters (start meters) }
-        ensures none { result.lines ≡ 0 }
+        ensures { (meters : List Reading) → Stands result meters (start meters) }
     {
         Bus {
             alloc,
             stage: Stage::Describing(Reader::new(alloc)),
             fault: None,
-            lines: 0,
         }
     }
 
@@ -78,9 +72,8 @@ impl Bus {
     ) -> Result<(), BusFault>
         requires rack { IsFitted (λ v x. (⟦<dyn Unit as Unit>⟧ v).kind_of x) rack.now }
         requires keeps { Keeps line.now }
-        requires few { self.old.lines < most_lines }
 
-        // What it does, in every world for which the bus and the meters stand.
+        // What it does, in every world for which the bus and the meters stand: the step of what the line says, with its lines.
         ensures answers { (w : World) → Stands self.old (readings (λ v x. (⟦<dyn Meter as Meter>⟧ v).reading_of x) meters.old) w
             → Answers (phrase_of line.now) w self.new (readings (λ v x. (⟦<dyn Meter as Meter>⟧ v).reading_of x) meters.new)
             (K.written sink.old) (K.written sink.new) result }
@@ -100,26 +93,17 @@ impl Bus {
         // A failed write has its cause in this call, where it wasn't kept.
         ensures cause { IfErr result (λ fault. fault ≡ BusFault.WriteFault → (self.old.fault ≡ Some BusFault.WriteFault) ⊎ Rose (K.faults sink.old) (K.faults sink.new)) }
         ensures never_falls { K.faults sink.old ≤ K.faults sink.new }
-
-        // The lines done are counted.
-        ensures lines { OnOk result (self.new.lines ≡ self.old.lines + 1) }
-        ensures at_most { self.new.lines ≤ self.old.lines + 1 }
     {
         if let Some(fault) = self.fault {
             return Err(fault);
         }
         match advance(self.alloc, &mut self.stage, line, rack, meters, sink) {
-            Ok(()) => {
-                self.lines += 1;
-                return Ok(());
-            }
+            Ok(()) => return Ok(()),
             Err(fault) => {
                 if !is_kept(fault) {
                     return Err(fault);
                 }
                 self.fault = Some(fault);
-                // A line that a failed write cut off may have done all but its text.
-                self.lines += 1;
                 return Err(fault);
             }
         }
@@ -135,7 +119,7 @@ impl Bus {
         }
         match self.stage {
             Stage::Describing(_) => Err(BusFault::Script(8)),
-            Stage::Playing(_) => Ok(()),
+            Stage::Running(_) => Ok(()),
         }
     }
 }
@@ -161,7 +145,6 @@ fn advance<K: Sink>(
 ) -> Result<(), BusFault>
     requires rack { IsFitted (λ v x. (⟦<dyn Unit as Unit>⟧ v).kind_of x) rack.now }
     requires keeps { Keeps line.now }
-    requires room { HasRoom stage.old }
     ensures does { (w : World) → StandsFor stage.old (readings (λ v x. (⟦<dyn Meter as Meter>⟧ v).reading_of x) meters.old) w
         → Does (step (phrase_of line.now) w) (may_want (phrase_of line.now) w)
         (StandsFor stage.new (readings (λ v x. (⟦<dyn Meter as Meter>⟧ v).reading_of x) meters.new)) (K.written sink.old) (K.written sink.new) result }
@@ -170,7 +153,6 @@ fn advance<K: Sink>(
     ensures unheard { IfErr result (λ fault. fault ≢ BusFault.WriteFault → meters.new ≡ meters.old) }
     ensures cause { IfErr result (λ fault. fault ≡ BusFault.WriteFault → Rose (K.faults sink.old) (K.faults sink.new)) }
     ensures never_falls { K.faults sink.old ≤ K.faults sink.new }
-    ensures counts { (lines : ℕ) → StageCounts stage.old lines → StageCounts stage.new (lines + 1) }
 {
     match stage {
         Stage::Describing(reader) => match line {
@@ -179,8 +161,8 @@ fn advance<K: Sink>(
             Line::Go => {
                 let whole = mem::replace(reader, Reader::new(alloc));
                 match begin(alloc, whole, sink) {
-                    Ok(playing) => {
-                        *stage = Stage::Playing(playing);
+                    Ok(running) => {
+                        *stage = Stage::Running(running);
                         Ok(())
                     }
                     Err(fault) => Err(fault),
@@ -188,6 +170,6 @@ fn advance<K: Sink>(
             }
             _ => Err(BusFault::Script(5)),
         },
-        Stage::Playing(playing) => play(playing, line, rack, meters, sink),
+        Stage::Running(running) => play(running, line, rack, meters, sink),
     }
 }

@@ -1,8 +1,7 @@
 // The lines of the descriptor.
-ghost use Rattle.std.specs.Prelude.{◌≡◌, ◌≢◌, ◌≤◌, ◌++◌, ℕ, List, Option, None, true, IfOk, IfErr};
+ghost use Rattle.std.specs.Prelude.{◌≡◌, ◌≢◌, ◌≤◌, ◌++◌, ℕ, List, Option, None, true, IfErr};
 ghost use Rattle.uac_units.specs.Hearing.{Reading};
 ghost use Rattle.uac_edges.specs.Faults.{Rose};
-ghost use Rattle.uac_running.specs.Kept.{Counts};
 ghost use Rattle.uac_bus.specs.World.{fed, gone};
 ghost use Rattle.uac_bus.specs.Kept.{StandsFor, Does, is_final};
 ghost use Rattle.uac_bus.specs.Rows.{Begins, Describes, fault_of};
@@ -12,7 +11,7 @@ use crate::fault::BusFault;
 use std::alloc::Global;
 use uac_edges::Sink;
 use uac_grammar::{ReadStop, Reader};
-use uac_running::Playing;
+use uac_running::Running;
 use uac_sentence::laws::sentences_are_well_formed;
 use uac_topology::{CheckStop, Function, check};
 
@@ -59,9 +58,8 @@ pub(crate) fn begin<K: Sink>(
     alloc: Global,
     reader: Reader,
     sink: &mut K,
-) -> Result<Playing, BusFault>
+) -> Result<Running, BusFault>
     ensures begins { (shown : List Reading) → Begins (gone reader.taken shown) shown (K.written sink.old) (K.written sink.new) result }
-    ensures counts { IfOk result (Counts 0) }
     ensures fault { IfErr result (λ fault. is_final fault ≡ true) }
     ensures unwritten { IfErr result (λ fault. fault ≢ BusFault.WriteFault → sink.new ≡ sink.old) }
     ensures cause { IfErr result (λ fault. fault ≡ BusFault.WriteFault → Rose (K.faults sink.old) (K.faults sink.new)) }
@@ -71,12 +69,12 @@ pub(crate) fn begin<K: Sink>(
         Ok(function) => function,
         Err(fault) => return Err(fault),
     };
-    let playing = match Playing::new(alloc, function) {
-        Ok(playing) => playing,
+    let running = match Running::new(alloc, function) {
+        Ok(running) => running,
         Err(_) => return Err(BusFault::NoMemory),
     };
-    match playing.ready(sink) {
-        Ok(()) => Ok(playing),
+    match running.ready(sink) {
+        Ok(()) => Ok(running),
         Err(_) => Err(BusFault::WriteFault),
     }
 }

@@ -7,6 +7,8 @@ mod bus;
 mod describing;
 /// Why a line isn't done.
 mod fault;
+/// The law that ties one line to all lines.
+pub mod laws;
 /// The marks of a line, and the streams that it names.
 mod naming;
 /// The lines of the running device.

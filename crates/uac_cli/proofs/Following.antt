@@ -17,7 +17,10 @@ use Rattle.uac_script.proofs.HeadLemmas.{head_line-more}
 use Rattle.uac_edges.proofs.WritingLemmas.{Appends-twice, Appends-none, AppendsFront-after, AppendsFront-longer, Rose-earlier}
 use Rattle.uac_bus.specs.declared.fault.BusFault.{BusFault}
 use Rattle.uac_bus.specs.declared.fault.BusFault.TheVariants as faults
-use Rattle.uac_bus.specs.World.{World, describing, playing, Step, done, refused, start, step, finish_of, meters_in}
+use Rattle.uac_bus.specs.World.{World, describing, running, Step, done, refused, start, step, finish_of, meters_in}
+use Rattle.uac_bus.specs.After.{said_step}
+use Rattle.uac_transcript.specs.Transcript.{Said}
+use Rattle.uac_transcript.specs.Printing.{text_of}
 use Rattle.uac_bus.specs.Kept.{BusFields, Stands, Reaches, IsCut, Prevents, Answers, is_describing, may_want}
 use Rattle.uac_cli.specs.declared.command.Command.TheVariants.{Run}
 use Rattle.uac_cli.specs.declared.status.Status.{Status}
@@ -25,7 +28,7 @@ use Rattle.uac_cli.specs.declared.status.Status.TheVariants as statuses
 use Rattle.uac_cli.specs.Outcome.{End, at_end, read_failed, stopped, Outcome, no_memory, read_fault}
 use Rattle.uac_cli.specs.Run.{HasEnded, Closes, IsRun}
 use Rattle.uac_cli.specs.Running.{IsSilent, Leaves, Does, stop_outcome}
-use Rattle.uac_cli.specs.Transcript.{Ending, misread, too_long, last_line, ends, behind, said_step, after_step, closed_by, finished, goes, transcript}
+use Rattle.uac_cli.specs.Transcript.{Ending, misread, too_long, last_line, ends, behind, after_step, closed_by, finished, goes, transcript}
 use Rattle.uac_cli.proofs.Describing.{said_quiet, still_describing, Stands-meters}
 use Rattle.uac_cli.proofs.Going.{line_size, goes_at, head_nothing, rest_is_done, rest_failed, behind-behind}
 
@@ -48,7 +51,6 @@ pub record IsFar (shown : List Reading) (left left' : Option (List ℕ)) (writte
   pub appended : Appends written written' text
   pub stands : Stands bus shown' world
   pub quiet : is_describing world ≡ true → (text ≡ []) × (shown' ≡ shown)
-  pub few : bus.lines ≤ lines.number
 
 -- ---- the start
 
@@ -59,10 +61,10 @@ kept_here (Some xs) = refl
 abbrev no_lines : Splitting
 no_lines = record { text = []; number = 0; unread = []; spare = most_of_input; stop = None; ended = false }
 
-begins : (shown : List Reading) (left written : Option (List ℕ)) (bus : BusFields) → Stands bus shown (start shown) → bus.lines ≡ 0
+begins : (shown : List Reading) (left written : Option (List ℕ)) (bus : BusFields) → Stands bus shown (start shown)
     → IsFar shown left left written written bus shown no_lines
 unfolding transcript
-begins shown left written bus stands none = record {
+begins shown left written bus stands = record {
   taken = [];
   text = [];
   world = start shown;
@@ -73,14 +75,13 @@ begins shown left written bus stands none = record {
   appended = Appends-none written written (kept_here written);
   stands = stands;
   quiet = (λ d. (refl, refl));
-  few = (omega arith);
 }
 
-pub far_at_first : (shown : List Reading) (left written : Option (List ℕ)) (bus : BusFields) (lines : Splitting) → Stands bus shown (start shown) → bus.lines ≡ 0
+pub far_at_first : (shown : List Reading) (left written : Option (List ℕ)) (bus : BusFields) (lines : Splitting) → Stands bus shown (start shown)
     → lines ≡ record { text = []; number = 0; unread = []; spare = most_of_input; stop = None; ended = false }
     → IsFar shown left left written written bus shown lines
-far_at_first shown left written bus lines stands none is =
-    subst (λ (l : Splitting). IsFar shown left left written written bus shown l) (sym is) (begins shown left written bus stands none)
+far_at_first shown left written bus lines stands is =
+    subst (λ (l : Splitting). IsFar shown left left written written bus shown l) (sym is) (begins shown left written bus stands)
 
 -- ---- a line
 
@@ -95,7 +96,7 @@ pub record HasLine (shown : List Reading) (text : List ℕ) (w : World) (left le
   pub size : length taken + lines.spare ≡ most_of_input + length lines.unread
   pub going : lines.stop ≡ None
   pub law : transcript shown taken end ≡ behind text (after_step (said_step (answer lines.text) w) lines.number w go)
-  pub on : (next : World) (more : List ℕ) → said_step (answer lines.text) w ≡ done next more → ToCome shown taken (text ++ more) lines left' next lines.ended
+  pub on : (next : World) (more : List Said) → said_step (answer lines.text) w ≡ done next more → ToCome shown taken (text ++ text_of more) lines left' next lines.ended
 
 -- the law of what is to come, past the line that stands in front
 past_line : (shown : List Reading) (taken text got told rest unread : List ℕ) (spare number : ℕ) (w : World)
@@ -110,11 +111,11 @@ past_line shown taken text got told rest unread spare number w law head more end
     ∙ ap (behind text) (goes_at (line told (rest ++ more)) spare ((unread ++ got) ++ more) end (number + 1) w (head_line-more spare (unread ++ got) more told rest head))
 
 -- the same where the line was done
-past_done : (shown : List Reading) (taken text told : List ℕ) (number : ℕ) (w next : World) (more : List ℕ) (end : End) (go : World → Ending)
+past_done : (shown : List Reading) (taken text told : List ℕ) (number : ℕ) (w next : World) (more : List Said) (end : End) (go : World → Ending)
     → transcript shown taken end ≡ behind text (after_step (said_step (answer told) w) number w go) → said_step (answer told) w ≡ done next more
-    → transcript shown taken end ≡ behind (text ++ more) (go next)
+    → transcript shown taken end ≡ behind (text ++ text_of more) (go next)
 past_done shown taken text told number w next more end go law is =
-    law ∙ ap (λ (s : Step). behind text (after_step s number w go)) is ∙ behind-behind text more (go next)
+    law ∙ ap (λ (s : Step). behind text (after_step s number w go)) is ∙ behind-behind text (text_of more) (go next)
 
 -- a line with its newline
 has_front : (shown : List Reading) (taken text got told rest : List ℕ) (old new : Splitting) (w : World) (left left' : Option (List ℕ)) (reads reads' : ℕ)
@@ -142,13 +143,13 @@ has_front shown taken text got told rest old new w left left' reads reads' law s
           ∙ after [] stopped
           ∙ ap (λ (t : List ℕ). behind text (after_step (said_step (answer t) w) (old.number + 1) w go)) (sym g.text)
           ∙ ap (λ (n : ℕ). behind text (after_step (said_step (answer new.text) w) n w go)) number-is;
-      on = (λ next more is. subst (λ (b : Bool). ToCome shown (taken ++ got) (text ++ more) new left' next b) (sym g.ended)
+      on = (λ next more is. subst (λ (b : Bool). ToCome shown (taken ++ got) (text ++ text_of more) new left' next b) (sym g.ended)
           (λ behind-it end. past_done shown ((taken ++ got) ++ behind-it) text told (old.number + 1) w next more end
           (λ (n : World). goes (old.spare - (length told + 1)) (rest ++ behind-it) end (old.number + 1 + 1) n)
           (after behind-it end) (ap (λ (t : List ℕ). said_step (answer t) w) (sym g.text) ∙ is)
-          ∙ ap (λ (n : ℕ). behind (text ++ more) (goes n (rest ++ behind-it) end (old.number + 1 + 1) next)) spare-is
-          ∙ ap (λ (u : List ℕ). behind (text ++ more) (goes new.spare (u ++ behind-it) end (old.number + 1 + 1) next)) (sym g.unread)
-          ∙ ap (λ (n : ℕ). behind (text ++ more) (goes new.spare (new.unread ++ behind-it) end (n + 1) next)) number-is));
+          ∙ ap (λ (n : ℕ). behind (text ++ text_of more) (goes n (rest ++ behind-it) end (old.number + 1 + 1) next)) spare-is
+          ∙ ap (λ (u : List ℕ). behind (text ++ text_of more) (goes new.spare (u ++ behind-it) end (old.number + 1 + 1) next)) (sym g.unread)
+          ∙ ap (λ (n : ℕ). behind (text ++ text_of more) (goes new.spare (new.unread ++ behind-it) end (n + 1) next)) number-is));
     }
 
 -- a last line that no newline ends
@@ -176,10 +177,10 @@ has_rest shown taken text got old new w left left' reads reads' law size consume
       law =
           at ∙ ap (λ (t : List ℕ). behind text (after_step (said_step (answer t) w) (old.number + 1) w go)) (sym g.text)
           ∙ ap (λ (n : ℕ). behind text (after_step (said_step (answer new.text) w) n w go)) number-is;
-      on = (λ next more is. subst (λ (b : Bool). ToCome shown (taken ++ got) (text ++ more) new left' next b) (sym g.ended) (
+      on = (λ next more is. subst (λ (b : Bool). ToCome shown (taken ++ got) (text ++ text_of more) new left' next b) (sym g.ended) (
         over,
         past_done shown (taken ++ got) text (old.unread ++ got) (old.number + 1) w next more at_end go at (ap (λ (t : List ℕ). said_step (answer t) w) (sym g.text) ∙ is)
-            ∙ ap (λ (n : ℕ). behind (text ++ more) (finished (n + 1) next)) number-is,
+            ∙ ap (λ (n : ℕ). behind (text ++ text_of more) (finished (n + 1) next)) number-is,
       ));
     }
 
@@ -214,10 +215,10 @@ module _ (shown shown' : List Reading) (left mid left' : Option (List ℕ)) (wri
 
 record WasDone (s : Step) (bus : BusFields) (shown : List Reading) (written written' : Option (List ℕ)) : Type 0 where
   pub next : World
-  pub more : List ℕ
+  pub more : List Said
   pub is : s ≡ done next more
   pub stands : Stands bus shown next
-  pub appended : Appends written written' more
+  pub appended : Appends written written' (text_of more)
 
 done_parts : (s : Step) (bus : BusFields) (shown : List Reading) (written written' : Option (List ℕ)) → Reaches s (Stands bus shown) written written' → WasDone s bus shown written written'
 done_parts (done next more) bus shown written written' d = record { next = next; more = more; is = refl; stands = d.0; appended = d.1 }
@@ -225,28 +226,27 @@ done_parts (refused fault) bus shown written written' d = absurd d
 
 pub far_on : (shown shown' shown'' : List Reading) (left mid left' : Option (List ℕ)) (written written' written'' : Option (List ℕ)) (bus bus' : BusFields) (old new : Splitting) (reads reads' : ℕ)
     → (far : IsFar shown left mid written written' bus shown' old) → HasLine shown far.text far.world left left' old.number new reads reads'
-    → (told : List ℕ) → told ≡ new.text → Reaches (said_step (answer told) far.world) (Stands bus' shown'') written' written'' → bus'.lines ≤ bus.lines + 1
+    → (told : List ℕ) → told ≡ new.text → Reaches (said_step (answer told) far.world) (Stands bus' shown'') written' written''
     → IsFar shown left left' written written'' bus' shown'' new
-far_on shown shown' shown'' left mid left' written written' written'' bus bus' old new reads reads' far has told told-is isdone few =
+far_on shown shown' shown'' left mid left' written written' written'' bus bus' old new reads reads' far has told told-is isdone =
     let d = done_parts (said_step (answer new.text) far.world) bus' shown'' written' written''
     (subst (λ (t : List ℕ). Reaches (said_step (answer t) far.world) (Stands bus' shown'') written' written'') told-is isdone) in
     record {
       taken = has.taken;
-      text = far.text ++ d.more;
+      text = far.text ++ text_of d.more;
       world = d.next;
       consumed = has.consumed;
       size = has.size;
       going = has.going;
       to_come = has.on d.next d.more d.is;
-      appended = Appends-twice written written' written'' far.text d.more far.appended d.appended;
+      appended = Appends-twice written written' written'' far.text (text_of d.more) far.appended d.appended;
       stands = d.stands;
       quiet = (λ describes.
           let q = still_describing (said_step (answer new.text) far.world) far.world d.next d.more (said_quiet (answer new.text) far.world) d.is describes in
           let before = far.quiet q.0 in (
-            ap (λ (t : List ℕ). far.text ++ t) q.1 ∙ append-nil far.text ∙ before.0,
+            ap (λ (ls : List Said). far.text ++ text_of ls) q.1 ∙ append-nil far.text ∙ before.0,
             Stands-meters bus' shown'' d.next d.stands ∙ q.2 ∙ sym (Stands-meters bus shown' far.world far.stands) ∙ before.1,
           ));
-      few = (let n = has.number in let b = far.few in omega arith);
     }
 
 -- ---- the end of a run
@@ -297,7 +297,7 @@ module _ (shown shown' : List Reading) (left left' : Option (List ℕ)) (reads r
 
 cut_parts : (s : Step) (written written' : Option (List ℕ)) (text : List ℕ) (number : ℕ) (w : World) (go : World → Ending) → IsCut s written written'
     → AppendsFront written written' (after_step s number w go).outcome.text
-cut_parts (done next more) written written' text number w go cut = AppendsFront-longer written written' more (go next).outcome.text cut
+cut_parts (done next more) written written' text number w go cut = AppendsFront-longer written written' (text_of more) (go next).outcome.text cut
 cut_parts (refused fault) written written' text number w go cut = absurd cut
 
 -- why no more was taken shows since an earlier moment, too
@@ -400,7 +400,7 @@ module _ (shown shown' : List Reading) (left mid left' : Option (List ℕ)) (wri
 finished_meters : (number : ℕ) (w : World) → (finished number w).meters ≡ meters_in w
 unfolding finished
 finished_meters number (describing bytes meters) = refl
-finished_meters number (playing r) = refl
+finished_meters number (running r) = refl
 
 -- no line is left
 module _ (shown shown' : List Reading) (left mid left' : Option (List ℕ)) (written written' written'' : Option (List ℕ)) (bus : BusFields) (old new : Splitting)
@@ -463,7 +463,7 @@ module _ (shown shown' : List Reading) (left mid left' : Option (List ℕ)) (wri
 -- memory is wanted before the descriptor's end alone
 early : (phrase : Phrase) (w : World) → may_want phrase w ≡ true → is_describing w ≡ true
 early phrase (describing bytes meters) e = refl
-early phrase (playing r) e = absurd (cc)
+early phrase (running r) e = absurd (cc)
 
 -- a line of the bus, in the words of a line's text
 pub does_line : {X : Type 0} (told : X → Option (List ℕ)) (sink sink' : X) (phrase : Phrase) (w : World) (bus bus' : BusFields) (shown shown' : List Reading) (writes writes' : ℕ) (result : Result (Unit {0}) BusFault)

@@ -7,7 +7,9 @@ use Rattle.uac_script.specs.Reading.{answer}
 use Rattle.uac_script.proofs.HeadLemmas.{Cases, is_long, is_line, is_past, is_unended, cases_of, line_end_within}
 use Rattle.uac_bus.specs.World.{World, Step, done, refused}
 use Rattle.uac_cli.specs.Outcome.{End, at_end, read_failed, read_fault}
-use Rattle.uac_cli.specs.Transcript.{Ending, ends, behind, said_step, after_step, finished, rest_done, by_head, goes_within, goes}
+use Rattle.uac_transcript.specs.Printing.{text_of}
+use Rattle.uac_bus.specs.After.{said_step}
+use Rattle.uac_cli.specs.Transcript.{Ending, ends, behind, after_step, finished, rest_done, by_head, goes_within, goes}
 
 -- a line and its newline are some of the bytes, and the rest stands behind them
 pub line_size : (spare : ℕ) (bytes text rest : List ℕ) → head_of spare bytes ≡ line text rest → length text + 1 + length rest ≡ length bytes
@@ -29,7 +31,7 @@ line_size spare bytes text rest h = go (cases_of spare bytes)
 -- ---- more fuel
 
 after_step_same : (s : Step) (number : ℕ) (w : World) (go go' : World → Ending) → ((next : World) → go next ≡ go' next) → after_step s number w go ≡ after_step s number w go'
-after_step_same (done next text) number w go go' same = ap (behind text) (same next)
+after_step_same (done next lines) number w go go' same = ap (behind (text_of lines)) (same next)
 after_step_same (refused fault) number w go go' same = refl
 
 by_head_same : (h : Head) (end : End) (number : ℕ) (w : World) (go go' : List ℕ → List ℕ → World → Ending)

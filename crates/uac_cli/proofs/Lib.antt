@@ -4,3 +4,4 @@ pub mod Describing
 pub mod Following
 pub mod Going
 pub mod Showing
+pub mod ScriptLemmas

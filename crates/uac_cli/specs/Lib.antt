@@ -5,5 +5,6 @@ pub mod Outcome
 pub mod Reading
 pub mod Run
 pub mod Running
+pub mod Script
 pub mod Show
 pub mod Transcript

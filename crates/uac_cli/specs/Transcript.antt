@@ -3,10 +3,11 @@ use Rattle.std.specs.Prelude.{ℕ, zero, suc, ◌+◌, ◌-◌, List, [], ◌∷
 use Rattle.uac_units.specs.Hearing.{Reading}
 use Rattle.uac_script.specs.Lines.{Head, line, long, past, unended, head_of, most_of_input}
 use Rattle.uac_script.specs.Reading.{answer}
-use Rattle.uac_script.specs.Phrase.{Phrase}
+use Rattle.uac_transcript.specs.Printing.{text_of}
 use Rattle.uac_bus.specs.declared.fault.BusFault.{BusFault}
 use Rattle.uac_bus.specs.declared.fault.BusFault.TheVariants as faults
-use Rattle.uac_bus.specs.World.{World, Step, done, refused, breaks_rule, start, step, finish_of, meters_in}
+use Rattle.uac_bus.specs.World.{World, Step, done, refused, start, finish_of, meters_in}
+use Rattle.uac_bus.specs.After.{said_step}
 use Rattle.uac_cli.specs.declared.status.Status.TheVariants as statuses
 use Rattle.uac_cli.specs.Outcome.{End, at_end, read_failed, stopped, Outcome, no_memory, read_fault, refusal, unsound}
 
@@ -45,14 +46,9 @@ ends outcome w = record { outcome = outcome; meters = meters_in w }
 abbrev pub behind : List ℕ → Ending → Ending
 behind text ending = record ending { outcome = record ending.outcome { text = text ++ ending.outcome.text } }
 
--- what a line's text makes of a world
-abbrev pub said_step : Result Phrase ℕ → World → Step
-said_step (Ok phrase) w = step phrase w
-said_step (Err rule) w = breaks_rule rule
-
 -- a line is done and the script goes on; or its refusal ends it
 abbrev pub after_step : Step → ℕ → World → (World → Ending) → Ending
-after_step (done next text) number w go = behind text (go next)
+after_step (done next lines) number w go = behind (text_of lines) (go next)
 after_step (refused fault) number w go = ends (last_line fault number) w
 
 -- the script's end, where the next line would have this number

@@ -10,6 +10,8 @@ mod command;
 mod edges;
 /// Printing the entities of a function.
 mod entities;
+/// The law that ties the transcript to the lines of the script.
+pub mod laws;
 /// The lines that are printed.
 mod lines;
 /// Reading a descriptor from a source.

@@ -1,5 +1,5 @@
 // Running a script, line by line.
-ghost use Rattle.std.specs.Prelude.{◌≡◌, ◌≢◌, ◌+◌, ◌<◌, ◌≤◌, length, List, Some};
+ghost use Rattle.std.specs.Prelude.{◌≡◌, ◌≢◌, ◌≤◌, length, List};
 ghost use Rattle.std.specs.Io.KnownBytes.{IsAtEnd};
 ghost use Rattle.uac_edges.specs.Faults.{Rose};
 ghost use Rattle.uac_script.specs.Reading.{answer};
@@ -7,11 +7,12 @@ ghost use Rattle.uac_units.specs.Fitting.{IsFitted};
 ghost use Rattle.uac_units.specs.Hearing.{Reading};
 ghost use Rattle.uac_units.specs.Panel.{readings};
 ghost use Rattle.uac_bus.specs.World.{World};
-ghost use Rattle.uac_bus.specs.Kept.{Stands, most_lines};
+ghost use Rattle.uac_bus.specs.After.{said_step};
+ghost use Rattle.uac_bus.specs.Kept.{Stands};
 ghost use Rattle.uac_cli.specs.declared.command.Command.TheVariants.{Run};
 ghost use Rattle.uac_cli.specs.Run.{IsRun, Closes};
 ghost use Rattle.uac_cli.specs.Running.{Does, stop_outcome};
-ghost use Rattle.uac_cli.specs.Transcript.{said_step, last_line, finished};
+ghost use Rattle.uac_cli.specs.Transcript.{last_line, finished};
 
 use crate::lines::{NO_MEMORY, READ_FAULT, TOO_LONG, misread_line, refusal_line, unsound_line};
 use crate::status::Status;
@@ -64,13 +65,11 @@ fn do_line<K: Sink>(
 ) -> Result<(), BusFault>
     requires rack { IsFitted (λ v x. (⟦<dyn Unit as Unit>⟧ v).kind_of x) rack.now }
     requires short { length text.now ≤ 4096 }
-    requires few { bus.old.lines < most_lines }
     ensures does { (w : World) → Stands bus.old (readings (λ v x. (⟦<dyn Meter as Meter>⟧ v).reading_of x) meters.old) w
         → Does (said_step (answer text.now) w) w bus.new
         (readings (λ v x. (⟦<dyn Meter as Meter>⟧ v).reading_of x) meters.old) (readings (λ v x. (⟦<dyn Meter as Meter>⟧ v).reading_of x) meters.new)
         (K.written sink.old) (K.written sink.new) (K.faults sink.old) (K.faults sink.new) result }
     ensures never_falls { K.faults sink.old ≤ K.faults sink.new }
-    ensures at_most { bus.new.lines ≤ bus.old.lines + 1 }
 {
     match Line::read(text) {
         Ok(line) => bus.line(&line, rack, meters, sink),

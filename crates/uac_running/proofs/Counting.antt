@@ -1,19 +1,19 @@
 -- The ticks of the domains, counted.
-use Rattle.std.proofs.Common.{◌≡◌, ◌∙◌, sym, ap, subst, refl, arith, ℕ, ◌+◌, ◌-◌, ◌/◌, ◌≤◌, ◌==◌, eqb, false, ◌&&◌, if◌then◌else◌, ℤ, List, [], ◌∷◌, ◌++◌, length, map, take, sum, inl, inr, length-append}
-use Rattle.std.specs.List.{All, AllByRecursion, IsDistinct, find, list_all}
+use Rattle.std.proofs.Common.{◌≡◌, ◌∙◌, sym, ap, subst, refl, arith, ℕ, ◌+◌, ◌-◌, ◌/◌, ◌==◌, eqb, false, ◌&&◌, if◌then◌else◌, ℤ, List, [], ◌∷◌, ◌++◌, length, map, take, sum, inl, inr, length-append}
+use Rattle.std.specs.List.{AllByRecursion, IsDistinct, find, list_all}
 use Rattle.std.specs.Option.{option_map_or}
 use Rattle.std.proofs.Math.Bool.{and-true}
 use Rattle.std.proofs.lemmas.Bool.{cases_Bool, eqb-true, eqb-false, ne_eqb}
 use Rattle.std.proofs.lemmas.List.Folds.{list_all-append}
 use Rattle.std.proofs.lemmas.List.Sums.{sum_by_push}
 use Rattle.std.proofs.lemmas.Map.Keys.{IsDistinct-head, IsDistinct-tail}
+use Rattle.uac_units.specs.Hearing.{held}
 use Rattle.uac_clock.specs.Ticks.{ticks_in}
 use Rattle.uac_device.specs.World.{Domain}
 use Rattle.uac_running.specs.declared.counts.TickCount.{TickCount}
 use Rattle.uac_topology.specs.Function.{FunctionFields}
-use Rattle.uac_running.specs.Kept.{HasItsDomains, PlayingFields, counted, more_counted}
+use Rattle.uac_running.specs.Kept.{HasItsDomains, RunningFields, counted, more_counted}
 use Rattle.uac_running.specs.World.{is_slight}
-use Rattle.uac_device.proofs.Kept.{all_changed}
 
 -- a domain that is off by other millionths
 abbrev pub off_by : ℕ → ℤ → Domain → Domain
@@ -39,6 +39,10 @@ front-push steps s =
     front : (steps : List ℕ) (s : ℕ) → take (length steps) (steps ++ s ∷ []) ≡ steps
     front [] s = refl
     front (x ∷ xs) s = ap (λ ys. x ∷ ys) (front xs s)
+
+-- a count that stands still at its most counts on from there
+held-more : (a b n : ℕ) → a + n ≡ b → held (held a + n) ≡ held b
+held-more a b n is = omega arith
 
 -- the ticks so far and those of the step that comes are the ticks behind it
 ticks-push : (steps : List ℕ) (s : ℕ) → sum steps / 65536 + ticks_in (steps ++ s ∷ []) ≡ sum (steps ++ s ∷ []) / 65536
@@ -74,8 +78,9 @@ counted-stepped clock n step (d ∷ ds) once is =
       | inl same ↦
           (let m : n ≡ ticks_in (d.steps ++ step d ∷ []) = is ∙ rw same refl in
           rw same
-          (ap (λ t. counted_of d.clock t ∷ map (more_counted clock n) (map counted ds)) (ap (λ k. sum d.steps / 65536 + k) m ∙ ticks-push d.steps (step d))
-          ∙ ap (λ (cs : List TickCount). counted_of d.clock (sum (d.steps ++ step d ∷ []) / 65536) ∷ cs)
+          (ap (λ t. counted_of d.clock t ∷ map (more_counted clock n) (map counted ds))
+          (held-more (sum d.steps / 65536) (sum (d.steps ++ step d ∷ []) / 65536) n (ap (λ k. sum d.steps / 65536 + k) m ∙ ticks-push d.steps (step d)))
+          ∙ ap (λ (cs : List TickCount). counted_of d.clock (held (sum (d.steps ++ step d ∷ []) / 65536)) ∷ cs)
           (others_stay clock d.clock n step ds (eqb-true d.clock clock same) (IsDistinct-head eqb d.clock (clocks_of (map counted ds)) once))))
       | inr other ↦
           (let m : n ≡ option_map_or (λ (e : Domain). ticks_in (e.steps ++ step e ∷ [])) (find (λ (e : Domain). e.clock == clock) ds) 0 = is ∙ rw other refl in
@@ -92,27 +97,15 @@ clocks-more clock n (c ∷ cs) =
       | inr other ↦ rw other (ap (λ (ys : List ℕ). c.clock ∷ ys) (clocks-more clock n cs))
     ]
 
--- the counts grow by no more
-pub counts-bound : (clock n most : ℕ) (counts : List TickCount) → All (λ c. c.ticks ≤ most) counts → All (λ c. c.ticks ≤ most + n) (map (more_counted clock n) counts)
-counts-bound clock n most counts all =
-    all_changed (λ c. c.ticks ≤ most) (λ c. c.ticks ≤ most + n) (more_counted clock n) (bound clock n most) counts all
-  where
-    bound : (clock n most : ℕ) (c : TickCount) → c.ticks ≤ most → (more_counted clock n c).ticks ≤ most + n
-    bound clock n most c small = elim (cases_Bool (c.clock == clock)) [ inl same ↦ rw same (omega arith) | inr other ↦ rw other (omega arith) ]
-
 -- one deviation more
 pub slight-push : (deviations : List ℤ) (millionths : ℤ) → list_all is_slight (deviations ++ millionths ∷ []) ≡ (list_all is_slight deviations && is_slight millionths)
 slight-push deviations millionths =
     list_all-append is_slight deviations (millionths ∷ [])
     ∙ ap (λ b. list_all is_slight deviations && b) (and-true (is_slight millionths))
 
--- the domains stay few and counted once
-pub domains_kept : (p q : PlayingFields) → q.device.function ≡ p.device.function → clocks_of q.counts ≡ clocks_of p.counts → HasItsDomains p → HasItsDomains q
+-- the domains stay counted once
+pub domains_kept : (p q : RunningFields) → q.device.function ≡ p.device.function → clocks_of q.counts ≡ clocks_of p.counts → HasItsDomains p → HasItsDomains q
 domains_kept p q function clocks h = record {
   counted = clocks ∙ h.counted ∙ ap (λ (fn : FunctionFields). fn.domains) (sym function);
-  few = subst (λ (fn : FunctionFields). length fn.domains ≤ 8) (sym function) h.few;
   once = subst (IsDistinct eqb) (sym clocks) h.once;
 }
-
-pub ticks_wider : (most greater : ℕ) (counts : List TickCount) → most ≤ greater → All (λ c. c.ticks ≤ most) counts → All (λ c. c.ticks ≤ greater) counts
-ticks_wider most greater counts le all k d below = let small = all k d below in omega arith

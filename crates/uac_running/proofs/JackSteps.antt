@@ -1,5 +1,5 @@
 -- The input jacks, one after the other.
-use Rattle.std.proofs.Common.{◌≡◌, ◌∙◌, sym, ap, subst, refl, arith, ℕ, ◌+◌, ◌<◌, ◌≤◌, ◌==◌, Bool, true, if◌then◌else◌, List, [], ◌∷◌, length, map, take, get_or, inl, inr}
+use Rattle.std.proofs.Common.{◌≡◌, ◌∙◌, sym, ap, subst, refl, ℕ, ◌+◌, ◌<◌, ◌≤◌, ◌==◌, Bool, true, if◌then◌else◌, List, [], ◌∷◌, length, map, take, get_or, inl, inr}
 use Rattle.std.specs.List.{All, fold, filter}
 use Rattle.std.proofs.lemmas.Bool.{cases_Bool}
 use Rattle.std.proofs.lemmas.List.Elements.{filter_more}
@@ -16,7 +16,7 @@ use Rattle.uac_running.specs.Events.{after_one, given, given_one, gone_on, next_
 use Rattle.uac_running.specs.World.{toned}
 use Rattle.uac_device.proofs.Kept.{all_changed}
 use Rattle.uac_device.proofs.Turning.{IsTurnedBelow, untouched}
-use Rattle.uac_running.specs.Kept.{HasItsJacks, PlayingFields}
+use Rattle.uac_running.specs.Kept.{HasItsJacks, RunningFields}
 
 -- one jack more
 pub given_more : (clock : ℕ) (jacks : List Jack) (i : ℕ) (d : Jack) (w : DeviceWorld) → i < length jacks
@@ -36,7 +36,7 @@ kept_toned : (P : ℕ → ℕ → Type 0) (terminal : ℕ) (tone : Tone) (j : Ja
 kept_toned P terminal tone j holds = elim (cases_Bool (j.terminal == terminal)) [ inl same ↦ rw same holds | inr other ↦ rw other holds ]
 
 -- the input jacks stay what they are, whatever their tones and places are
-pub kept_jacks : (f : Jack → Jack) (p q : PlayingFields) → ((P : ℕ → ℕ → Type 0) (j : Jack) → P j.terminal j.channels → P (f j).terminal (f j).channels)
+pub kept_jacks : (f : Jack → Jack) (p q : RunningFields) → ((P : ℕ → ℕ → Type 0) (j : Jack) → P j.terminal j.channels → P (f j).terminal (f j).channels)
     → q.device.function ≡ p.device.function → q.jacks ≡ map f p.jacks → HasItsJacks p → HasItsJacks q
 kept_jacks f p q keeps function is h =
     let kind : ℕ → ℕ → Type 0 = λ t c. is_input_jack (entity q.device.function.entities t) ≡ true in
@@ -50,24 +50,11 @@ kept_jacks f p q keeps function is h =
       most = subst (All (λ (j : Jack). most j.terminal j.channels)) (sym is) (all_changed (λ j. most j.terminal j.channels) (λ j. most j.terminal j.channels) f (λ j. keeps most j) p.jacks h.most);
     }
 
-pub jacks_gone_on : (clock : ℕ) (p q : PlayingFields) → q.device.function ≡ p.device.function → q.jacks ≡ gone_on clock p.jacks → HasItsJacks p → HasItsJacks q
+pub jacks_gone_on : (clock : ℕ) (p q : RunningFields) → q.device.function ≡ p.device.function → q.jacks ≡ gone_on clock p.jacks → HasItsJacks p → HasItsJacks q
 jacks_gone_on clock p q = kept_jacks (after_one clock) p q (λ P j holds. kept_after P clock j holds)
 
-pub jacks_toned : (terminal : ℕ) (tone : Tone) (p q : PlayingFields) → q.device.function ≡ p.device.function → q.jacks ≡ map (toned terminal tone) p.jacks → HasItsJacks p → HasItsJacks q
+pub jacks_toned : (terminal : ℕ) (tone : Tone) (p q : RunningFields) → q.device.function ≡ p.device.function → q.jacks ≡ map (toned terminal tone) p.jacks → HasItsJacks p → HasItsJacks q
 jacks_toned terminal tone p q = kept_jacks (toned terminal tone) p q (λ P j holds. kept_toned P terminal tone j holds)
-
--- a place goes on by one at most
-pub places_more : (clock most : ℕ) (jacks : List Jack) → All (λ j. j.place ≤ most) jacks → All (λ j. j.place ≤ most + 1) (gone_on clock jacks)
-places_more clock most jacks all = all_changed (λ j. j.place ≤ most) (λ j. j.place ≤ most + 1) (after_one clock) (one clock most) jacks all
-  where
-    one : (clock most : ℕ) (j : Jack) → j.place ≤ most → (after_one clock j).place ≤ most + 1
-    one clock most j small = elim (cases_Bool (j.clock == clock)) [ inl same ↦ rw same (omega arith) | inr other ↦ rw other (omega arith) ]
-
-pub places_toned : (terminal most : ℕ) (tone : Tone) (jacks : List Jack) → All (λ j. j.place ≤ most) jacks → All (λ j. j.place ≤ most) (map (toned terminal tone) jacks)
-places_toned terminal most tone jacks all = all_changed (λ j. j.place ≤ most) (λ j. j.place ≤ most) (toned terminal tone) (one terminal most tone) jacks all
-  where
-    one : (terminal most : ℕ) (tone : Tone) (j : Jack) → j.place ≤ most → (toned terminal tone j).place ≤ most
-    one terminal most tone j small = elim (cases_Bool (j.terminal == terminal)) [ inl same ↦ rw same (omega arith) | inr other ↦ rw other small ]
 
 pub length-next_frame : (j : Jack) → length (next_frame j) ≡ j.channels
 unfolding next_frame
@@ -79,7 +66,7 @@ pub gives_next : (clock : ℕ) (old now : List Jack) (i : ℕ) (d : Jack) (w : D
 gives_next clock old now i d w new below changed stands =
     subst (Stands new) (ap (λ (j : Jack). given_one clock j (given clock (take i old) w)) (untouched (after_one clock) now old i d changed) ∙ sym (given_more clock old i d w below)) stands
 
-pub jacks_kept : (p q : PlayingFields) → q.device.function ≡ p.device.function → q.jacks ≡ p.jacks → HasItsJacks p → HasItsJacks q
+pub jacks_kept : (p q : RunningFields) → q.device.function ≡ p.device.function → q.jacks ≡ p.jacks → HasItsJacks p → HasItsJacks q
 jacks_kept p q function is h = record {
   kinds = subst (λ (js : List Jack). All (λ (j : Jack). is_input_jack (entity q.device.function.entities j.terminal) ≡ true) js) (sym is)
       (subst (λ (fn : FunctionFields). All (λ (j : Jack). is_input_jack (entity fn.entities j.terminal) ≡ true) p.jacks) (sym function) h.kinds);
@@ -87,6 +74,3 @@ jacks_kept p q function is h = record {
       (subst (λ (fn : FunctionFields). All (λ (j : Jack). (entity fn.entities j.terminal).cluster.channels ≡ j.channels) p.jacks) (sym function) h.channels);
   most = subst (λ (js : List Jack). All (λ (j : Jack). j.channels ≤ 32) js) (sym is) h.most;
 }
-
-pub places_wider : (most greater : ℕ) (jacks : List Jack) → most ≤ greater → All (λ j. j.place ≤ most) jacks → All (λ j. j.place ≤ greater) jacks
-places_wider most greater jacks le all k d below = let small = all k d below in omega arith

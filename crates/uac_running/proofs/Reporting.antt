@@ -1,32 +1,35 @@
 -- The report of a running device.
-use Rattle.std.proofs.Common.{◌≡◌, ◌∙◌, ap, subst, ℕ, Bool, List, ◌++◌, flat_map, codes, decimal, Option, Result}
+use Rattle.std.proofs.Common.{◌≡◌, ◌∙◌, ap, subst, ℕ, Bool, List, [], ◌∷◌, ◌++◌, map, Option, Result}
 use Rattle.std.specs.Io.KnownBytes.{Appends}
 use Rattle.uac_units.specs.Hearing.{Reading}
-use Rattle.uac_edges.specs.Writing.{AppendsFront, Writes}
-use Rattle.uac_edges.proofs.WritingLemmas.{AppendsFront-longer, Writes-after}
-use Rattle.uac_running.specs.World.{Running}
-use Rattle.uac_running.specs.Text.{domain_line, meter_line, report_head, report_text, stream_line, yes_or_no}
-use Rattle.uac_running.specs.Kept.{PlayingFields, Stands}
+use Rattle.uac_edges.specs.Writing.{AppendsFront}
+use Rattle.uac_transcript.specs.Transcript.{Said, says_meter, says_passed, says_steady}
+use Rattle.uac_transcript.specs.Printing.{Prints, text_of}
+use Rattle.uac_transcript.proofs.PrintingLemmas.{Prints-after, front_of_more}
+use Rattle.uac_running.specs.World.{RunningWorld, is_steady}
+use Rattle.uac_running.specs.Lines.{domain_line, report_lines, stream_line}
+use Rattle.uac_running.specs.Kept.{RunningFields, Stands}
 
 -- the first two lines
-abbrev pub head_text : ℕ → Bool → List ℕ
-head_text time steady = codes "time " ++ decimal time ++ codes "\nsteady " ++ yes_or_no steady ++ codes "\n"
+abbrev pub head_lines : ℕ → Bool → List Said
+head_lines time steady = says_passed time ∷ says_steady steady ∷ []
 
 -- the other lines
-abbrev rest_text : Running → List Reading → List ℕ
-rest_text r meters = flat_map (domain_line r.device) r.device.domains ++ (flat_map (stream_line r.device r.met) r.device.function.streams ++ flat_map meter_line meters)
+abbrev rest_lines : RunningWorld → List Reading → List Said
+rest_lines r meters = map (domain_line r.device) r.device.domains ++ (map (stream_line r.device r.met) r.device.function.streams ++ map says_meter meters)
 
-module _ (p : PlayingFields) (meters : List Reading) (r : Running) (stands : Stands p meters r) where
-  head_is : head_text p.time p.steady ≡ report_head r
-  head_is = ap (λ t. head_text t p.steady) stands.time ∙ ap (λ b. head_text r.time b) stands.steady
+module _ (p : RunningFields) (meters : List Reading) (r : RunningWorld) (stands : Stands p meters r) where
+  head_is : head_lines p.time p.steady ≡ head_lines r.time (is_steady r)
+  head_is = ap (λ t. head_lines t p.steady) stands.time ∙ ap (λ b. head_lines r.time b) stands.steady
 
-  pub head_front : (old new : Option (List ℕ)) → AppendsFront old new (head_text p.time p.steady) → AppendsFront old new (report_text r)
-  unfolding report_text
-  head_front old new front = AppendsFront-longer old new (report_head r) (rest_text r r.meters) (subst (AppendsFront old new) head_is front)
+  pub head_front : (old new : Option (List ℕ)) → AppendsFront old new (text_of (head_lines p.time p.steady)) → AppendsFront old new (text_of (report_lines r))
+  unfolding report_lines
+  head_front old new front =
+      front_of_more old new (head_lines r.time (is_steady r)) (rest_lines r r.meters) (subst (λ (lines : List Said). AppendsFront old new (text_of lines)) head_is front)
 
-  pub report_whole : {E : Type 0} (old mid new : Option (List ℕ)) (result : Result (Unit {0}) E) → Appends old mid (head_text p.time p.steady) → Writes mid new result (rest_text r meters)
-      → Writes old new result (report_text r)
-  unfolding report_text
+  pub report_whole : {E : Type 0} (old mid new : Option (List ℕ)) (result : Result (Unit {0}) E) → Appends old mid (text_of (head_lines p.time p.steady))
+      → Prints mid new result (rest_lines r meters) → Prints old new result (report_lines r)
+  unfolding report_lines
   report_whole {E = E} old mid new result head rest =
-      Writes-after old mid new result (report_head r) (rest_text r r.meters) (subst (Appends old mid) head_is head)
-      (subst (λ (ms : List Reading). Writes mid new result (rest_text r ms)) stands.meters rest)
+      Prints-after old mid new result (head_lines r.time (is_steady r)) (rest_lines r r.meters) (subst (λ (lines : List Said). Appends old mid (text_of lines)) head_is head)
+      (subst (λ (ms : List Reading). Prints mid new result (rest_lines r ms)) stands.meters rest)

@@ -1,5 +1,5 @@
 -- A device just after the descriptor's end.
-use Rattle.std.proofs.Common.{◌≡◌, ◌∙◌, sym, ap, subst, refl, arith, ℕ, ◌≤◌, ◌==◌, ◌&&◌, eqb, not, Bool, true, false, List, [], ◌∷◌, length, map, get_or, inl, inr}
+use Rattle.std.proofs.Common.{◌≡◌, ◌∙◌, sym, ap, subst, refl, ℕ, ◌≤◌, ◌==◌, ◌&&◌, eqb, not, Bool, true, false, List, [], ◌∷◌, map, get_or, inl, inr}
 use Rattle.std.specs.List.{All, AllByRecursion, IsDistinct, filter, filter_map, list_all}
 use Rattle.std.proofs.lemmas.Bool.{cases_Bool, eqb-false, ne_eqb}
 use Rattle.std.proofs.lemmas.List.{get_or_default}
@@ -24,7 +24,7 @@ use Rattle.uac_device.specs.World.{at_rest, fresh, is_input_jack, is_jack}
 use Rattle.uac_host.specs.World.{fresh_host}
 use Rattle.uac_running.specs.declared.counts.TickCount.{TickCount}
 use Rattle.uac_running.specs.declared.jacks.Jack.{Jack}
-use Rattle.uac_running.specs.Kept.{Counts, HasItsDomains, HasItsJacks, PlayingFields, Stands, counted, none_counted}
+use Rattle.uac_running.specs.Kept.{HasItsDomains, HasItsJacks, RunningFields, Stands, counted, none_counted}
 use Rattle.uac_running.specs.World.{at_start, is_steady, silent_jack}
 use Rattle.uac_running.proofs.Counting.{clocks_of}
 
@@ -114,13 +114,6 @@ module _ (entities : List Entity) (graph : IsSignalGraph entities) where
       let e = get_or (filter is_input_jack entities) k d in
       (known k d below).most (input_no_clock e.kind (is_jack e) (input k d below)))
 
--- no frame of a jack was given
-pub places-silent : (entities : List Entity) → All (λ j. j.place ≤ 0) (map silent_jack entities)
-places-silent entities = All-map (λ j. j.place ≤ 0) silent_jack entities (λ k d below. omega arith)
-
-pub ticks-none : (clocks : List ℕ) → All (λ c. c.ticks ≤ 0) (map none_counted clocks)
-ticks-none clocks = All-map (λ c. c.ticks ≤ 0) none_counted clocks (λ k d below. omega arith)
-
 -- no report was lost
 no_reports : (interfaces : List ℕ) → list_all (λ interface. true) interfaces ≡ true
 no_reports [] = refl
@@ -132,7 +125,7 @@ pub function_kept : (function : FunctionFields) (d : device.DeviceFields) → de
 unfolding fresh
 function_kept function d stands = stands.function
 
-module _ (function : FunctionFields) (sound : IsSoundFunction function) (p : PlayingFields) (fresh_now : device.Stands p.device (fresh function))
+module _ (function : FunctionFields) (sound : IsSoundFunction function) (p : RunningFields) (fresh_now : device.Stands p.device (fresh function))
     (jacks : p.jacks ≡ map silent_jack (filter is_input_jack function.entities)) (counts : p.counts ≡ map none_counted function.domains) where
   own : function ≡ p.device.function
   own = sym (function_kept function p.device fresh_now)
@@ -152,10 +145,9 @@ module _ (function : FunctionFields) (sound : IsSoundFunction function) (p : Pla
   unfolding domains_of
   each_domain_once = subst (IsDistinct eqb) (sym sound.2.domains) (distinct-once (filter_map clock_named (entities_of sound.0)))
 
-  pub domains_start : length function.domains ≤ 8 → HasItsDomains p
-  domains_start few = record {
+  pub domains_start : HasItsDomains p
+  domains_start = record {
     counted = ap clocks_of counts ∙ clocks-none function.domains ∙ ap (λ (f : FunctionFields). f.domains) own;
-    few = subst (λ (f : FunctionFields). length f.domains ≤ 8) own few;
     once = subst (IsDistinct eqb) (sym (ap clocks_of counts ∙ clocks-none function.domains)) each_domain_once;
   }
 
@@ -174,11 +166,4 @@ module _ (function : FunctionFields) (sound : IsSoundFunction function) (p : Pla
     met = λ interface. refl;
     unreported = λ interface. refl;
     meters = refl;
-  }
-
-  pub counts_start : p.time ≡ 0 → Counts 0 p
-  counts_start time = record {
-    places = subst (All (λ (j : Jack). j.place ≤ 0)) (sym jacks) (places-silent (filter is_input_jack function.entities));
-    ticks = subst (All (λ (c : TickCount). c.ticks ≤ 0)) (sym counts) (ticks-none function.domains);
-    time = omega arith;
   }

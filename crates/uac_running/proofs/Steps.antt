@@ -5,70 +5,50 @@ use Rattle.std.proofs.Math.Bool.{and_comm}
 use Rattle.std.proofs.lemmas.Bool.{cases_Bool}
 use Rattle.std.proofs.lemmas.List.{drop_all}
 use Rattle.uac_pcm.specs.declared.tones.Tone.{Tone}
-use Rattle.uac_units.specs.Hearing.{Reading}
+use Rattle.uac_units.specs.Hearing.{Reading, held}
 use Rattle.uac_device.specs.Kept as device
 use Rattle.uac_device.specs.World.{DeviceWorld, advanced, after_frames, deviated, heard_of, next_ticks, set_jack, step_in, ticked}
 use Rattle.uac_script.specs.Phrase.{Loss}
-use Rattle.uac_edges.specs.Writing.{Writes}
+use Rattle.uac_transcript.specs.Printing.{Prints}
 use Rattle.uac_running.specs.declared.counts.TickCount.{TickCount}
 use Rattle.uac_running.specs.declared.jacks.Jack.{Jack}
 use Rattle.uac_topology.specs.Function.{FunctionFields}
 use Rattle.uac_host.specs.World.{Rests}
 use Rattle.uac_mixer.specs.World.{known_view}
-use Rattle.uac_running.specs.World.{Running, is_slight, is_steady, keeps_feedback, toned, with_detail, with_deviation, with_tone}
-use Rattle.uac_running.specs.Text.{played_lines, time_line}
-use Rattle.uac_running.specs.Events.{all_given, behind, domain_microframe, domain_microframes, given, gone_on, microframe, microframes, next_frame, tick, tick_times}
-use Rattle.uac_running.specs.Kept.{Counts, PlayingFields, Stands, Tells, TicksWithin, counted, more_counted}
-use Rattle.uac_running.proofs.Counting.{clocks_of, counted-off, counted-stepped, slight-push, ticks_wider}
-use Rattle.uac_running.proofs.JackSteps.{places_wider}
-use Rattle.uac_running.proofs.SoFar.{at_ok, still}
+use Rattle.uac_running.specs.World.{RunningWorld, is_slight, is_steady, keeps_feedback, toned, with_detail, with_deviation, with_tone}
+use Rattle.uac_running.specs.Lines.{played_lines}
+use Rattle.uac_running.specs.Events.{all_given, behind, domain_microframe, domain_microframes, given, gone_on, microframe, microframes, next_frame, number_said, still, tick, tick_times}
+use Rattle.uac_running.specs.Kept.{RunningFields, Stands, Tells, counted, more_counted}
+use Rattle.uac_running.proofs.Counting.{clocks_of, counted-off, counted-stepped, slight-push}
+use Rattle.uac_running.proofs.SoFar.{at_ok}
 
 -- ---- events one after the other
 
-pub ticks_split : (count i clock : ℕ) (w : Running) → i < count → tick_times (count - i) clock w ≡ behind (tick clock w).text (tick_times (count - (i + 1)) clock (tick clock w).world)
+pub ticks_split : (count i clock : ℕ) (w : RunningWorld) → i < count → tick_times (count - i) clock w ≡ behind (tick clock w).lines (tick_times (count - (i + 1)) clock (tick clock w).world)
 unfolding tick_times
 ticks_split count i clock w below = let left : count - i ≡ suc (count - (i + 1)) = omega arith in ap (λ n. tick_times n clock w) left
 
-pub ticks_end : (count i clock : ℕ) (w : Running) → count ≤ i → tick_times (count - i) clock w ≡ still w
+pub ticks_end : (count i clock : ℕ) (w : RunningWorld) → count ≤ i → tick_times (count - i) clock w ≡ still w
 unfolding tick_times
 ticks_end count i clock w past = let left : count - i ≡ 0 = omega arith in ap (λ n. tick_times n clock w) left
 
-pub microframes_split : (losses : List Loss) (count i : ℕ) (w : Running) → i < count
-    → microframes losses (count - i) w ≡ behind (microframe losses w).text (microframes losses (count - (i + 1)) (microframe losses w).world)
+pub microframes_split : (losses : List Loss) (count i : ℕ) (w : RunningWorld) → i < count
+    → microframes losses (count - i) w ≡ behind (microframe losses w).lines (microframes losses (count - (i + 1)) (microframe losses w).world)
 unfolding microframes
 microframes_split losses count i w below = let left : count - i ≡ suc (count - (i + 1)) = omega arith in ap (λ n. microframes losses n w) left
 
-pub microframes_end : (losses : List Loss) (count i : ℕ) (w : Running) → count ≤ i → microframes losses (count - i) w ≡ still w
+pub microframes_end : (losses : List Loss) (count i : ℕ) (w : RunningWorld) → count ≤ i → microframes losses (count - i) w ≡ still w
 unfolding microframes
 microframes_end losses count i w past = let left : count - i ≡ 0 = omega arith in ap (λ n. microframes losses n w) left
 
-pub domains_split : (clocks : List ℕ) (i : ℕ) (w : Running) → i < length clocks
-    → domain_microframes (drop i clocks) w ≡ behind (domain_microframe (get_or clocks i 0) w).text (domain_microframes (drop (i + 1) clocks) (domain_microframe (get_or clocks i 0) w).world)
+pub domains_split : (clocks : List ℕ) (i : ℕ) (w : RunningWorld) → i < length clocks
+    → domain_microframes (drop i clocks) w ≡ behind (domain_microframe (get_or clocks i 0) w).lines (domain_microframes (drop (i + 1) clocks) (domain_microframe (get_or clocks i 0) w).world)
 unfolding domain_microframes
 domains_split clocks i w below = ap (λ (cs : List ℕ). domain_microframes cs w) (drop-cons clocks i 0 below) ∙ rw add-one refl
 
-pub domains_end : (clocks : List ℕ) (i : ℕ) (w : Running) → length clocks ≤ i → domain_microframes (drop i clocks) w ≡ still w
+pub domains_end : (clocks : List ℕ) (i : ℕ) (w : RunningWorld) → length clocks ≤ i → domain_microframes (drop i clocks) w ≡ still w
 unfolding domain_microframes
 domains_end clocks i w past = ap (λ (cs : List ℕ). domain_microframes cs w) (drop_all i clocks past)
-
--- ---- how far counts go
-
-pub wider : (most greater : ℕ) (p : PlayingFields) → most ≤ greater → Counts most p → Counts greater p
-wider most greater p le c = record {
-  places = places_wider most greater p.jacks le c.places;
-  ticks = ticks_wider most greater p.counts le c.ticks;
-  time = let small = c.time in omega arith;
-}
-
-pub ticks_within : (most greater : ℕ) (p : PlayingFields) → most ≤ greater → TicksWithin most p → TicksWithin greater p
-ticks_within most greater p le c = record {
-  places = places_wider most greater p.jacks le c.places;
-  ticks = ticks_wider most greater p.counts le c.ticks;
-}
-
--- a microframe that has come leaves ticks and places
-pub passed_within : (most : ℕ) (p q : PlayingFields) → q ≡ record p { time = p.time + 1 } → Counts most p → TicksWithin most q
-passed_within most p q is c = subst (TicksWithin most) (sym is) (record { places = c.places; ticks = c.ticks })
 
 and_turned : (a b c : Bool) → ((a && b) && c) ≡ ((a && c) && b)
 and_turned true b c = and_comm b c
@@ -76,11 +56,11 @@ and_turned false b c = refl
 
 -- ---- the device and its counts under events
 
-module _ (meters : List Reading) (r : Running) (p q : PlayingFields) (stands : Stands p meters r) where
-  pub passed : q ≡ record p { time = p.time + 1 } → Stands q meters (record r { time = r.time + 1 })
+module _ (meters : List Reading) (r : RunningWorld) (p q : RunningFields) (stands : Stands p meters r) where
+  pub passed : q ≡ record p { time = held (p.time + 1) } → Stands q meters (record r { time = held (r.time + 1) })
   unfolding is_steady
   passed is =
-      let P : PlayingFields → Type 0 = λ x. Stands x meters (record r { time = r.time + 1 }) in
+      let P : RunningFields → Type 0 = λ x. Stands x meters (record r { time = held (r.time + 1) }) in
       subst P (sym is)
       (record {
         device = stands.device;
@@ -88,7 +68,7 @@ module _ (meters : List Reading) (r : Running) (p q : PlayingFields) (stands : S
         view = stands.view;
         jacks = stands.jacks;
         counts = stands.counts;
-        time = ap (λ n. n + 1) stands.time;
+        time = ap (λ n. held (n + 1)) stands.time;
         steady = stands.steady;
         detail = stands.detail;
         unbroken = stands.unbroken;
@@ -100,7 +80,7 @@ module _ (meters : List Reading) (r : Running) (p q : PlayingFields) (stands : S
   pub detailed : (level : ℕ) → q ≡ record p { detail = level } → Stands q meters (with_detail level r)
   unfolding is_steady with_detail
   detailed level is =
-      let P : PlayingFields → Type 0 = λ x. Stands x meters (with_detail level r) in
+      let P : RunningFields → Type 0 = λ x. Stands x meters (with_detail level r) in
       subst P (sym is)
       (record {
         device = stands.device;
@@ -120,7 +100,7 @@ module _ (meters : List Reading) (r : Running) (p q : PlayingFields) (stands : S
   pub toned_on : (terminal : ℕ) (tone : Tone) (jacks : List Jack) → jacks ≡ map (toned terminal tone) p.jacks → q ≡ record p { jacks = jacks } → Stands q meters (with_tone terminal tone r)
   unfolding is_steady with_tone
   toned_on terminal tone jacks changed is =
-      let P : PlayingFields → Type 0 = λ x. Stands x meters (with_tone terminal tone r) in
+      let P : RunningFields → Type 0 = λ x. Stands x meters (with_tone terminal tone r) in
       subst P (sym is)
       (record {
         device = stands.device;
@@ -192,7 +172,7 @@ given-kept f keeps clock (j ∷ js) w =
     ]
 
 -- jacks give, the device ticks, and meters hear
-pub sounded : (clock : ℕ) (shown showing : List Reading) (r : Running) (p q : PlayingFields) (jacks : List Jack) (mid : device.DeviceFields)
+pub sounded : (clock : ℕ) (shown showing : List Reading) (r : RunningWorld) (p q : RunningFields) (jacks : List Jack) (mid : device.DeviceFields)
     → Stands p shown r → jacks ≡ p.jacks
     → ((w : DeviceWorld) → device.Stands p.device w → device.Stands mid (given clock jacks w))
     → ((w : DeviceWorld) → device.Stands mid w → device.Stands q.device (ticked clock w))
@@ -228,26 +208,26 @@ sounded clock shown showing r p q jacks mid stands own gives ticks hears gone co
 
 -- ---- what is told of an event
 
-pub tick_told : {E : Type 0} (clock : ℕ) (meters : List Reading) (r : Running) (p : PlayingFields) (old new : Option (List ℕ)) (result : Result (Unit {0}) E)
+pub tick_told : {E : Type 0} (clock : ℕ) (meters : List Reading) (r : RunningWorld) (p : RunningFields) (old new : Option (List ℕ)) (result : Result (Unit {0}) E)
     → Stands p meters (tick clock r).world
-    → ((w : DeviceWorld) → device.Stands p.device w → Writes old new result (if nat_le 1 p.detail then played_lines clock w else []))
+    → ((w : DeviceWorld) → device.Stands p.device w → Prints old new result (if nat_le 1 p.detail then played_lines clock w else []))
     → Tells (tick clock r) p meters old new result
 unfolding tick
 tick_told {E = E} clock meters r p old new result stands shows = (
-  subst (λ (n : ℕ). Writes old new result (if nat_le 1 n then played_lines clock (tick clock r).world.device else [])) stands.detail (shows (tick clock r).world.device stands.device),
+  subst (λ (n : ℕ). Prints old new result (if nat_le 1 n then played_lines clock (tick clock r).world.device else [])) stands.detail (shows (tick clock r).world.device stands.device),
   at_ok (Stands p meters (tick clock r).world) result stands,
 )
 
-pub domain_told : (clock n : ℕ) (r : Running) → n ≡ next_ticks clock r.device → tick_times n clock (record r { device = advanced clock r.device }) ≡ domain_microframe clock r
+pub domain_told : (clock n : ℕ) (r : RunningWorld) → n ≡ next_ticks clock r.device → tick_times n clock (record r { device = advanced clock r.device }) ≡ domain_microframe clock r
 unfolding domain_microframe
 domain_told clock n r is = ap (λ k. tick_times k clock (record r { device = advanced clock r.device })) is
 
--- the text of a microframe's number
-pub number_text : (r : Running) (p : PlayingFields) (meters : List Reading) → Stands p meters (record r { time = r.time + 1 })
-    → (if nat_le 2 p.detail then time_line p.time else []) ≡ (if nat_le 2 r.detail then time_line (r.time + 1) else [])
-number_text r p meters stands =
-    ap (λ n. if nat_le 2 n then time_line p.time else []) stands.detail ∙ ap (λ t. if nat_le 2 r.detail then time_line t else []) stands.time
+-- the line of a microframe's number
+pub number_line : (r : RunningWorld) (p : RunningFields) (meters : List Reading) → Stands p meters (record r { time = held (r.time + 1) })
+    → number_said p.detail p.time ≡ number_said r.detail (held (r.time + 1))
+number_line r p meters stands = ap (λ n. number_said n p.time) stands.detail ∙ ap (number_said r.detail) stands.time
 
-pub microframe_is : (losses : List Loss) (r : Running) → behind (if nat_le 2 r.detail then time_line (r.time + 1) else []) (domain_microframes r.device.function.domains (record r { time = r.time + 1 })) ≡ microframe losses r
+pub microframe_is : (losses : List Loss) (r : RunningWorld)
+    → behind (number_said r.detail (held (r.time + 1))) (domain_microframes r.device.function.domains (record r { time = held (r.time + 1) })) ≡ microframe losses r
 unfolding microframe
 microframe_is losses r = refl

@@ -1,21 +1,28 @@
--- Ticks and microframes of a running device, with their text (profile).
+-- Ticks and microframes of a running device, with the lines that they say (profile). A count stands still at the greatest number of
+-- 64 bits.
 use Rattle.std.specs.Prelude.{ℕ, zero, suc, ◌+◌, ◌==◌, nat_le, if◌then◌else◌, ℤ, List, [], ◌∷◌, ◌++◌, map, filter}
 use Rattle.std.specs.List.{fold, range_with_len}
 use Rattle.uac_pcm.specs.Tones.{tone_sample}
 use Rattle.uac_device.specs.World.{DeviceWorld, advanced, next_ticks, set_jack, ticked, heard_of, after_frames}
+use Rattle.uac_units.specs.Hearing.{held}
 use Rattle.uac_script.specs.Phrase.{Loss}
+use Rattle.uac_transcript.specs.Transcript.{Said, says_time}
 use Rattle.uac_running.specs.declared.jacks.Jack.{Jack}
-use Rattle.uac_running.specs.World.{Running}
-use Rattle.uac_running.specs.Text.{time_line, played_lines}
+use Rattle.uac_running.specs.World.{RunningWorld}
+use Rattle.uac_running.specs.Lines.{played_lines}
 
--- a world, and the text that was printed on the way to it
+-- a world, and the lines that were said on the way to it
 pub record Told : Type 0 where
-  pub text : List ℕ
-  pub world : Running
+  pub lines : List Said
+  pub world : RunningWorld
 
--- this text, and then what is told
-abbrev pub behind : List ℕ → Told → Told
-behind text told = record { text = text ++ told.text; world = told.world }
+-- these lines, and then what is told
+abbrev pub behind : List Said → Told → Told
+behind lines told = record { lines = lines ++ told.lines; world = told.world }
+
+-- nothing happens and nothing is said
+abbrev pub still : RunningWorld → Told
+still r = record { lines = []; world = r }
 
 -- the frame that a jack's tone gives next
 unfoldable pub next_frame : Jack → List ℤ
@@ -30,49 +37,53 @@ abbrev pub given : ℕ → List Jack → DeviceWorld → DeviceWorld
 given clock jacks w = fold (λ v j. set_jack j.terminal (next_frame j) v) w (filter (λ j. j.clock == clock) jacks)
 
 -- the jacks of a domain are given their tones' next frames
-unfoldable pub all_given : ℕ → Running → DeviceWorld
+unfoldable pub all_given : ℕ → RunningWorld → DeviceWorld
 all_given clock r = given clock r.jacks r.device
 
 -- a jack, and behind one frame more where it is of the domain
 abbrev pub after_one : ℕ → Jack → Jack
-after_one clock j = if j.clock == clock then record j { place = j.place + 1 } else j
+after_one clock j = if j.clock == clock then record j { place = held (j.place + 1) } else j
 
 -- of the jacks of a domain one more frame was given
 abbrev pub gone_on : ℕ → List Jack → List Jack
 gone_on clock jacks = map (after_one clock) jacks
 
 -- one tick of a domain: its jacks give their tones' frames, the graph is evaluated, the meters hear the output jacks, and from
--- detail 1 on what these played is printed
-unfoldable pub tick : ℕ → Running → Told
+-- detail 1 on what these played is said
+unfoldable pub tick : ℕ → RunningWorld → Told
 tick clock r =
     let device = ticked clock (all_given clock r) in
     record {
-      text = if nat_le 1 r.detail then played_lines clock device else [];
+      lines = if nat_le 1 r.detail then played_lines clock device else [];
       world = record r { device = device; jacks = gone_on clock r.jacks; meters = after_frames (heard_of clock device) r.meters };
     }
 
 -- so many ticks of a domain
-unfoldable pub tick_times : ℕ → ℕ → Running → Told
-tick_times zero clock r = record { text = []; world = r }
-tick_times (suc n) clock r = behind (tick clock r).text (tick_times n clock (tick clock r).world)
+unfoldable pub tick_times : ℕ → ℕ → RunningWorld → Told
+tick_times zero clock r = still r
+tick_times (suc n) clock r = behind (tick clock r).lines (tick_times n clock (tick clock r).world)
 
 -- a domain's part of a microframe: its clock goes on, and it ticks as often as that gives
-unfoldable pub domain_microframe : ℕ → Running → Told
+unfoldable pub domain_microframe : ℕ → RunningWorld → Told
 domain_microframe clock r = tick_times (next_ticks clock r.device) clock (record r { device = advanced clock r.device })
 
 -- the same of these domains, one after the other
-unfoldable pub domain_microframes : List ℕ → Running → Told
-domain_microframes [] r = record { text = []; world = r }
-domain_microframes (clock ∷ clocks) r = behind (domain_microframe clock r).text (domain_microframes clocks (domain_microframe clock r).world)
+unfoldable pub domain_microframes : List ℕ → RunningWorld → Told
+domain_microframes [] r = still r
+domain_microframes (clock ∷ clocks) r = behind (domain_microframe clock r).lines (domain_microframes clocks (domain_microframe clock r).world)
 
--- one microframe, in which these packets and feedback reports are lost: from detail 2 on its number is printed, and each domain has
+-- from detail 2 on the number of a microframe is said
+abbrev pub number_said : ℕ → ℕ → List Said
+number_said detail time = if nat_le 2 detail then says_time time ∷ [] else []
+
+-- one microframe, in which these packets and feedback reports are lost: from detail 2 on its number is said, and each domain has
 -- its part in it, in order. No stream runs yet, so none of them is there
-unfoldable pub microframe : List Loss → Running → Told
+unfoldable pub microframe : List Loss → RunningWorld → Told
 microframe losses r =
-    behind (if nat_le 2 r.detail then time_line (r.time + 1) else [])
-    (domain_microframes r.device.function.domains (record r { time = r.time + 1 }))
+    let time = held (r.time + 1) in
+    behind (number_said r.detail time) (domain_microframes r.device.function.domains (record r { time = time }))
 
 -- so many microframes, with these losses in each
-unfoldable pub microframes : List Loss → ℕ → Running → Told
-microframes losses zero r = record { text = []; world = r }
-microframes losses (suc n) r = behind (microframe losses r).text (microframes losses n (microframe losses r).world)
+unfoldable pub microframes : List Loss → ℕ → RunningWorld → Told
+microframes losses zero r = still r
+microframes losses (suc n) r = behind (microframe losses r).lines (microframes losses n (microframe losses r).world)

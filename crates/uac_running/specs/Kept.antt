@@ -1,22 +1,22 @@
 -- What is kept of a running device, and for which worlds it stands.
-use Rattle.std.specs.Prelude.{◌≡◌, ℕ, ◌≤◌, ◌+◌, ◌==◌, nat_eq, true, Bool, if◌then◌else◌, List, [], map, length, Option, None, Result, OnOk}
+use Rattle.std.specs.Prelude.{◌≡◌, ℕ, ◌≤◌, ◌+◌, ◌==◌, nat_eq, true, Bool, if◌then◌else◌, List, [], map, Option, None, Result, OnOk}
 use Rattle.std.specs.List.{All, IsDistinct}
-use Rattle.uac_units.specs.Hearing.{Reading}
+use Rattle.uac_units.specs.Hearing.{Reading, held}
 use Rattle.uac_device.specs.Kept as device
 use Rattle.uac_device.specs.World.{Domain, is_input_jack}
 use Rattle.uac_graph.specs.Meaning.{entity}
-use Rattle.uac_edges.specs.Writing.{Writes}
+use Rattle.uac_transcript.specs.Printing.{Prints}
 use Rattle.uac_running.specs.declared.jacks.Jack.{Jack}
 use Rattle.uac_running.specs.declared.counts.TickCount.{TickCount}
 use Rattle.uac_host.specs.World.{Rests}
 use Rattle.uac_mixer.specs.World.{known_view}
-use Rattle.uac_running.specs.World.{Running, is_steady, nothing_met}
+use Rattle.uac_running.specs.World.{RunningWorld, is_steady, nothing_met}
 use Rattle.uac_running.specs.Events.{Told}
-use Rattle.uac_running.specs.Text.{ticks_since}
+use Rattle.uac_running.specs.Lines.{ticks_since}
 
 -- what a running device is seen as: of the deviations it keeps whether all were slight, of a domain's steps how many ticks
 -- they are
-pub record PlayingFields : Type 0 where
+pub record RunningFields : Type 0 where
   pub device : device.DeviceFields
   pub jacks : List Jack
   pub counts : List TickCount
@@ -33,47 +33,35 @@ none_counted clock = record { clock = clock; ticks = 0 }
 
 -- a domain's ticks, and so many more where it is the one with this clock
 abbrev pub more_counted : ℕ → ℕ → TickCount → TickCount
-more_counted clock ticks c = if c.clock == clock then record c { ticks = c.ticks + ticks } else c
+more_counted clock ticks c = if c.clock == clock then record c { ticks = held (c.ticks + ticks) } else c
 
 -- it stands for this world, with meters that show this. No stream runs yet and no transfer was made: nothing is kept of the host, of
 -- the view, of a break, or of what streams met
-pub record Stands (playing : PlayingFields) (shown : List Reading) (r : Running) : Type 0 where
-  pub device : device.Stands playing.device r.device
+pub record Stands (running : RunningFields) (shown : List Reading) (r : RunningWorld) : Type 0 where
+  pub device : device.Stands running.device r.device
   pub host : Rests r.device.function r.host
   pub view : r.view ≡ known_view r.device.function.entities r.device.controls
-  pub jacks : playing.jacks ≡ r.jacks
-  pub counts : playing.counts ≡ map counted r.device.domains
-  pub time : playing.time ≡ r.time
-  pub steady : playing.steady ≡ is_steady r
-  pub detail : playing.detail ≡ r.detail
+  pub jacks : running.jacks ≡ r.jacks
+  pub counts : running.counts ≡ map counted r.device.domains
+  pub time : running.time ≡ r.time
+  pub steady : running.steady ≡ is_steady r
+  pub detail : running.detail ≡ r.detail
   pub unbroken : r.breaks ≡ None
   pub met : (interface : ℕ) → r.met interface ≡ nothing_met
   pub unreported : (interface : ℕ) → r.feedback interface ≡ []
   pub meters : shown ≡ r.meters
 
 -- its jacks are input jacks of its function, each with its channels
-pub record HasItsJacks (playing : PlayingFields) : Type 0 where
-  pub kinds : All (λ j. is_input_jack (entity playing.device.function.entities j.terminal) ≡ true) playing.jacks
-  pub channels : All (λ j. (entity playing.device.function.entities j.terminal).cluster.channels ≡ j.channels) playing.jacks
-  pub most : All (λ j. j.channels ≤ 32) playing.jacks
+pub record HasItsJacks (running : RunningFields) : Type 0 where
+  pub kinds : All (λ j. is_input_jack (entity running.device.function.entities j.terminal) ≡ true) running.jacks
+  pub channels : All (λ j. (entity running.device.function.entities j.terminal).cluster.channels ≡ j.channels) running.jacks
+  pub most : All (λ j. j.channels ≤ 32) running.jacks
 
--- its domains are few, and each is counted, once
-pub record HasItsDomains (playing : PlayingFields) : Type 0 where
-  pub counted : map (λ c. c.clock) playing.counts ≡ playing.device.function.domains
-  pub few : length playing.device.function.domains ≤ 8
-  pub once : IsDistinct nat_eq (map (λ c. c.clock) playing.counts)
+-- each of its domains is counted, once
+pub record HasItsDomains (running : RunningFields) : Type 0 where
+  pub counted : map (λ c. c.clock) running.counts ≡ running.device.function.domains
+  pub once : IsDistinct nat_eq (map (λ c. c.clock) running.counts)
 
--- no jack's place and no count of ticks is more than this
-pub record TicksWithin (most : ℕ) (playing : PlayingFields) : Type 0 where
-  pub places : All (λ j. j.place ≤ most) playing.jacks
-  pub ticks : All (λ c. c.ticks ≤ most) playing.counts
-
--- no count of it is more than this
-pub record Counts (most : ℕ) (playing : PlayingFields) : Type 0 where
-  pub places : All (λ j. j.place ≤ most) playing.jacks
-  pub ticks : All (λ c. c.ticks ≤ most) playing.counts
-  pub time : playing.time ≤ most
-
--- what was told was written: all of it, and what is kept stands for its world; or at an error a front of it
-abbrev pub Tells : {E : Type 0} → Told → PlayingFields → List Reading → Option (List ℕ) → Option (List ℕ) → Result (Unit {0}) E → Type 0
-Tells told playing meters old new result = Writes old new result told.text × OnOk result (Stands playing meters told.world)
+-- what was told was printed: all of it, and what is kept stands for its world; or at an error a front of it
+abbrev pub Tells : {E : Type 0} → Told → RunningFields → List Reading → Option (List ℕ) → Option (List ℕ) → Result (Unit {0}) E → Type 0
+Tells told running meters old new result = Prints old new result told.lines × OnOk result (Stands running meters told.world)

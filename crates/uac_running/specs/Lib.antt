@@ -1,5 +1,5 @@
--- The running device under its jacks' tones: the world, its events, their text, and what is kept of it.
+-- The running device under its jacks' tones: the world, its events, what is said of them, and what is kept of it.
 pub mod World
-pub mod Text
+pub mod Lines
 pub mod Events
 pub mod Kept

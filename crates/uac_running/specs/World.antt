@@ -10,7 +10,7 @@ use Rattle.uac_device.specs.World.{DeviceWorld, fresh, deviated, is_input_jack}
 use Rattle.uac_host.specs.World.{HostWorld, fresh_host}
 use Rattle.uac_mixer.specs.World.{ViewWorld, known_view}
 use Rattle.uac_mixer.specs.declared.When.{When}
-use Rattle.uac_running.specs.declared.counts.StreamCounts.{StreamCounts}
+use Rattle.uac_transcript.specs.declared.report.StreamCounts.{StreamCounts}
 use Rattle.uac_running.specs.declared.jacks.Jack.{Jack}
 
 -- a primed stream to the device as it stood at its last delivered feedback report, or where it was primed if that was later
@@ -24,7 +24,7 @@ pub record StreamMark : Type 0 where
   pub since : ℕ
 
 -- the device, the host, the host's view of the device, and the bus, whose part all else is
-pub record Running : Type 0 where
+pub record RunningWorld : Type 0 where
   pub device : DeviceWorld
   pub host : HostWorld
   pub view : ViewWorld
@@ -32,7 +32,7 @@ pub record Running : Type 0 where
   pub descriptor : List ℕ
   -- the tone of each input jack, and how many of its frames were given
   pub jacks : List Jack
-  -- the microframes since the start
+  -- the microframes since the start, up to the greatest number of 64 bits
   pub time : ℕ
   -- the deviations that were given, in millionths
   pub deviations : List ℤ
@@ -58,7 +58,7 @@ abbrev pub silent_jack : Entity → Jack
 silent_jack e = record { terminal = e.id; clock = e.clock; channels = e.cluster.channels; tone = Silent; place = 0 }
 
 -- just after the descriptor with these bytes was accepted
-unfoldable pub at_start : List ℕ → FunctionFields → List Reading → Running
+unfoldable pub at_start : List ℕ → FunctionFields → List Reading → RunningWorld
 at_start descriptor function meters =
     record {
       device = fresh function;
@@ -77,11 +77,11 @@ at_start descriptor function meters =
     }
 
 -- there is an input jack with this id
-abbrev pub has_jack : Running → ℕ → Bool
+abbrev pub has_jack : RunningWorld → ℕ → Bool
 has_jack r terminal = list_any (λ j. j.terminal == terminal) r.jacks
 
 -- there is a domain with this clock
-abbrev pub has_domain : Running → ℕ → Bool
+abbrev pub has_domain : RunningWorld → ℕ → Bool
 has_domain r clock = list_any (λ d. d == clock) r.device.function.domains
 
 -- a jack, and with this tone from its first frame where it is the one with this id
@@ -89,16 +89,16 @@ abbrev pub toned : ℕ → Tone → Jack → Jack
 toned terminal tone j = if j.terminal == terminal then record j { tone = tone; place = 0 } else j
 
 -- an input jack has this tone from now on, from its first frame
-unfoldable pub with_tone : ℕ → Tone → Running → Running
+unfoldable pub with_tone : ℕ → Tone → RunningWorld → RunningWorld
 with_tone terminal tone r = record r { jacks = map (toned terminal tone) r.jacks }
 
 -- a domain's clock is off by so many millionths from now on
-unfoldable pub with_deviation : ℕ → ℤ → Running → Running
+unfoldable pub with_deviation : ℕ → ℤ → RunningWorld → RunningWorld
 with_deviation clock millionths r =
     record r { device = deviated clock millionths r.device; deviations = r.deviations ++ millionths ∷ [] }
 
 -- so much is printed from now on
-unfoldable pub with_detail : ℕ → Running → Running
+unfoldable pub with_detail : ℕ → RunningWorld → RunningWorld
 with_detail level r = record r { detail = level }
 
 -- a clock is off by at most a thousandth
@@ -114,5 +114,5 @@ abbrev pub keeps_feedback : (ℕ → List (List Bool)) → List ℕ → Bool
 keeps_feedback feedback interfaces = list_all (λ interface. list_all (λ reports. not (has_four_lost reports)) (feedback interface)) interfaces
 
 -- no deviation passed a thousandth, and no stream lost four feedback reports in succession
-unfoldable pub is_steady : Running → Bool
+unfoldable pub is_steady : RunningWorld → Bool
 is_steady r = list_all is_slight r.deviations && keeps_feedback r.feedback (map (λ s. s.number) r.device.function.streams)

@@ -1,26 +1,17 @@
 // What is counted for the report: the ticks of each domain, and what streams met.
-ghost use Rattle.std.specs.Prelude.{◌≡◌, ◌==◌, ◌<◌, ◌≤◌, ◌+◌, ◌^◌, if◌then◌else◌, IfOk, map};
-ghost use Rattle.std.specs.List.{All};
+ghost use Rattle.std.specs.Prelude.{◌≡◌, IfOk, map};
 ghost use Rattle.uac_running.specs.Kept.{none_counted, more_counted};
 ghost use Rattle.uac_running.specs.World.{nothing_met};
 
 use std::alloc::Global;
 use uac_descriptor::NoMemory;
+use uac_transcript::StreamCounts;
 
-/// A clock domain and how often it ticked since the start.
+/// A clock domain and how often it ticked since the start; the count stands still at 18446744073709551615.
 #[derive(Clone, Copy, Debug, PartialEq, Eq)]
 pub struct TickCount {
     pub clock: u8,
     pub ticks: u64,
-}
-
-/// What the streams of an interface met since the start: rings found empty and full, packets lost, reports missed.
-#[derive(Clone, Copy, Debug, PartialEq, Eq)]
-pub struct StreamCounts {
-    pub under: u64,
-    pub over: u64,
-    pub lost: u64,
-    pub missed: u64,
 }
 
 /// Nothing was met.
@@ -55,7 +46,6 @@ pub(crate) fn no_ticks(alloc: Global, domains: &[u8]) -> Result<Vec<TickCount>, 
 
 /// A domain ticked so often.
 pub(crate) fn count_ticks(counts: &mut [TickCount], clock: u8, ticks: u32)
-    requires { All (λ c. c.ticks < 2 ^ 63) counts.old }
     ensures { counts.new ≡ map (more_counted clock ticks) counts.old }
 {
     for count in counts.iter_mut() {
@@ -64,12 +54,11 @@ pub(crate) fn count_ticks(counts: &mut [TickCount], clock: u8, ticks: u32)
 }
 
 fn after_ticks(count: TickCount, clock: u8, ticks: u32) -> TickCount
-    requires { count.ticks < 2 ^ 63 }
     ensures { result ≡ more_counted clock ticks count }
 {
     if count.clock == clock {
         TickCount {
-            ticks: count.ticks + ticks as u64,
+            ticks: count.ticks.saturating_add(u64::from(ticks)),
             ..count
         }
     } else {

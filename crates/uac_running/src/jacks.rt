@@ -1,5 +1,5 @@
 // The jacks' tones.
-ghost use Rattle.std.specs.Prelude.{◌≡◌, ◌==◌, ◌≤◌, ◌<◌, ◌^◌, true, IfOk, map, filter};
+ghost use Rattle.std.specs.Prelude.{◌≡◌, ◌==◌, ◌≤◌, true, IfOk, map, filter};
 ghost use Rattle.std.specs.List.{All, list_any};
 ghost use Rattle.uac_graph.specs.Meaning.{entity};
 ghost use Rattle.uac_device.specs.Kept.{Stands};
@@ -16,7 +16,7 @@ use uac_entities::Entity;
 use uac_pcm::{Frame, Tone};
 
 /// An input jack: its terminal's id, its clock domain and its channels, and the tone that it gives, of which so many frames were
-/// given since it was set.
+/// given since it was set; the count stands still at 18446744073709551615.
 #[derive(Clone, Copy, Debug, PartialEq, Eq)]
 pub struct Jack {
     pub terminal: u8,
@@ -90,7 +90,6 @@ pub(crate) fn give_jacks(device: &mut Device, jacks: &mut [Jack], clock: u8)
     requires kinds { All (λ j. world.is_input_jack (entity device.old.function.entities j.terminal) ≡ true) jacks.old }
     requires channels { All (λ j. (entity device.old.function.entities j.terminal).cluster.channels ≡ j.channels) jacks.old }
     requires most { All (λ j. j.channels ≤ 32) jacks.old }
-    requires room { All (λ j. j.place < 2 ^ 63) jacks.old }
     ensures stands { (w : DeviceWorld) → Stands device.old w → Stands device.new (given clock jacks.old w) }
     ensures jacks { jacks.new ≡ gone_on clock jacks.old }
     ensures function { device.new.function ≡ device.old.function }
@@ -117,12 +116,11 @@ fn give_jack(device: &mut Device, jack: &Jack, clock: u8)
 
 /// A jack of the domain after one frame more.
 fn after_frame(jack: Jack, clock: u8) -> Jack
-    requires { jack.place < 2 ^ 63 }
     ensures { result ≡ after_one clock jack }
 {
     if jack.clock == clock {
         Jack {
-            place: jack.place + 1,
+            place: jack.place.saturating_add(1),
             ..jack
         }
     } else {

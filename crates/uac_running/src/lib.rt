@@ -6,12 +6,13 @@ mod counts;
 /// The jacks' tones.
 mod jacks;
 /// A running device.
-mod playing;
-/// Printing what output jacks play.
+mod running;
+/// Printing what output jacks played.
 mod printing;
 /// Printing the report.
 mod report;
 
-pub use counts::{StreamCounts, TickCount};
+pub use counts::TickCount;
 pub use jacks::Jack;
-pub use playing::Playing;
+pub use running::Running;
+pub use uac_transcript::StreamCounts;

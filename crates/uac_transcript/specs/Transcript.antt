@@ -117,16 +117,19 @@ sight_text was_broken = codes "h broken\n"
 -- a line's bytes, with the newline
 unfoldable pub spelled : Said → List ℕ
 spelled (says_ready entities streams domains) =
-    codes "ready entities " ++ decimal entities ++ codes " streams " ++ decimal streams ++ codes " domains " ++ decimal domains ++ codes "\n"
+    codes "ready entities " ++ decimal entities ++ codes " streams " ++ decimal streams
+    ++ codes " domains " ++ decimal domains ++ codes "\n"
 spelled (says_time number) = codes "u " ++ decimal number ++ codes "\n"
 spelled (says_out interface frames arrival) =
     codes "o " ++ decimal interface ++ codes " " ++ decimal frames ++ codes " " ++ arrival_name arrival ++ codes "\n"
-spelled (says_in interface frames lost) = codes "i " ++ decimal interface ++ codes " " ++ decimal frames ++ codes " " ++ lost_or_ok lost ++ codes "\n"
+spelled (says_in interface frames lost) =
+    codes "i " ++ decimal interface ++ codes " " ++ decimal frames ++ codes " " ++ lost_or_ok lost ++ codes "\n"
 spelled (says_frame interface samples) = codes "r " ++ decimal interface ++ samples_text samples ++ codes "\n"
 spelled (says_played terminal samples) = codes "p " ++ decimal terminal ++ samples_text samples ++ codes "\n"
 spelled (says_under interface) = codes "under " ++ decimal interface ++ codes "\n"
 spelled (says_over interface) = codes "over " ++ decimal interface ++ codes "\n"
-spelled (says_level interface level target) = codes "l " ++ decimal interface ++ codes " " ++ decimal level ++ codes " " ++ number_or_dash target ++ codes "\n"
+spelled (says_level interface level target) =
+    codes "l " ++ decimal interface ++ codes " " ++ decimal level ++ codes " " ++ number_or_dash target ++ codes "\n"
 spelled (says_feedback interface value lost) =
     codes "f " ++ decimal interface ++ codes " " ++ encode_lower (bytes_high_first 4 value) ++ codes " " ++ lost_or_ok lost ++ codes "\n"
 spelled (says_answer outcome) = outcome_text outcome
@@ -136,11 +139,11 @@ spelled (says_steady steady) = codes "steady " ++ yes_or_no steady ++ codes "\n"
 spelled (says_domain clock rate ticks) =
     codes "domain " ++ decimal clock ++ codes " rate " ++ number_or_dash rate ++ codes " ticks " ++ decimal ticks ++ codes "\n"
 spelled (says_out_stream interface setting level target met) =
-    codes "stream " ++ decimal interface ++ codes " out setting " ++ decimal setting ++ codes " level " ++ decimal level ++ codes " target "
-    ++ number_or_dash target ++ codes " under " ++ decimal met.under ++ codes " over " ++ decimal met.over ++ codes " lost " ++ decimal met.lost
-    ++ codes " missed " ++ decimal met.missed ++ codes "\n"
+    codes "stream " ++ decimal interface ++ codes " out setting " ++ decimal setting ++ codes " level " ++ decimal level
+    ++ codes " target " ++ number_or_dash target ++ codes " under " ++ decimal met.under ++ codes " over " ++ decimal met.over
+    ++ codes " lost " ++ decimal met.lost ++ codes " missed " ++ decimal met.missed ++ codes "\n"
 spelled (says_in_stream interface setting level met) =
-    codes "stream " ++ decimal interface ++ codes " in setting " ++ decimal setting ++ codes " level " ++ decimal level ++ codes " over "
-    ++ decimal met.over ++ codes " lost " ++ decimal met.lost ++ codes "\n"
+    codes "stream " ++ decimal interface ++ codes " in setting " ++ decimal setting ++ codes " level " ++ decimal level
+    ++ codes " over " ++ decimal met.over ++ codes " lost " ++ decimal met.lost ++ codes "\n"
 spelled (says_meter reading) = codes "meter " ++ meter_name reading.kind ++ codes " " ++ decimal reading.value ++ codes "\n"
 spelled (says_renders count) = codes "renders " ++ decimal count ++ codes "\n"

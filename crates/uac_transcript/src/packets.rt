@@ -30,7 +30,12 @@ fn arrival_name(arrival: Arrival) -> &'static [u8]
 }
 
 /// Prints the packet to the device of an interface: its frames and how it arrived.
-pub fn write_out<K: Sink>(sink: &mut K, interface: u8, frames: u32, arrival: Arrival) -> Result<(), Failed>
+pub fn write_out<K: Sink>(
+    sink: &mut K,
+    interface: u8,
+    frames: u32,
+    arrival: Arrival,
+) -> Result<(), Failed>
     ensures written { Writes (K.written sink.old) (K.written sink.new) result (spelled (says_out interface frames arrival)) }
     ensures cause { HasCause (K.faults sink.old) (K.faults sink.new) result }
 {
@@ -114,7 +119,12 @@ fn over(interface: u8) -> TextLine<32>
 }
 
 /// Prints the level of a stream to the device in frames, and its target once it is primed.
-pub fn write_level<K: Sink>(sink: &mut K, interface: u8, level: u32, target: Option<u32>) -> Result<(), Failed>
+pub fn write_level<K: Sink>(
+    sink: &mut K,
+    interface: u8,
+    level: u32,
+    target: Option<u32>,
+) -> Result<(), Failed>
     ensures written { Writes (K.written sink.old) (K.written sink.new) result (spelled (says_level interface level target)) }
     ensures cause { HasCause (K.faults sink.old) (K.faults sink.new) result }
 {
@@ -137,7 +147,12 @@ fn level_text(interface: u8, level: u32, target: Option<u32>) -> TextLine<128>
 }
 
 /// Prints the value that a stream's feedback reports, in 65,536ths of a frame in a microframe, and whether the report was lost.
-pub fn write_feedback<K: Sink>(sink: &mut K, interface: u8, value: u32, lost: bool) -> Result<(), Failed>
+pub fn write_feedback<K: Sink>(
+    sink: &mut K,
+    interface: u8,
+    value: u32,
+    lost: bool,
+) -> Result<(), Failed>
     ensures written { Writes (K.written sink.old) (K.written sink.new) result (spelled (says_feedback interface value lost)) }
     ensures cause { HasCause (K.faults sink.old) (K.faults sink.new) result }
 {

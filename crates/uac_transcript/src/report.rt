@@ -57,7 +57,12 @@ fn steadiness(steady: bool) -> TextLine<32>
 }
 
 /// Prints a domain: its clock, its rate if it has one, and its ticks since the start.
-pub fn write_domain<K: Sink>(sink: &mut K, clock: u8, rate: Option<u32>, ticks: u64) -> Result<(), Failed>
+pub fn write_domain<K: Sink>(
+    sink: &mut K,
+    clock: u8,
+    rate: Option<u32>,
+    ticks: u64,
+) -> Result<(), Failed>
     ensures written { Writes (K.written sink.old) (K.written sink.new) result (spelled (says_domain clock rate ticks)) }
     ensures cause { HasCause (K.faults sink.old) (K.faults sink.new) result }
 {
@@ -88,14 +93,24 @@ pub fn write_out_stream<K: Sink>(
     target: Option<u32>,
     met: StreamCounts,
 ) -> Result<(), Failed>
-    ensures written { Writes (K.written sink.old) (K.written sink.new) result (spelled (says_out_stream interface setting level target met)) }
+    ensures written { Writes (K.written sink.old) (K.written sink.new) result
+        (spelled (says_out_stream interface setting level target met)) }
     ensures cause { HasCause (K.faults sink.old) (K.faults sink.new) result }
 {
-    give_all(sink, out_stream(interface, setting, level, target, met).as_bytes())
+    give_all(
+        sink,
+        out_stream(interface, setting, level, target, met).as_bytes(),
+    )
 }
 
 #[tactic(auto, unfolding(crate::specs::Transcript::spelled))]
-fn out_stream(interface: u8, setting: u8, level: u32, target: Option<u32>, met: StreamCounts) -> TextLine<256>
+fn out_stream(
+    interface: u8,
+    setting: u8,
+    level: u32,
+    target: Option<u32>,
+    met: StreamCounts,
+) -> TextLine<256>
     ensures { result ≡ spelled (says_out_stream interface setting level target met) }
 {
     let mut text = TextLine::new();
@@ -154,7 +169,8 @@ fn in_stream(interface: u8, setting: u8, level: u32, met: StreamCounts) -> TextL
 
 /// Prints what a meter shows.
 pub fn write_meter<K: Sink>(sink: &mut K, kind: MeterKind, value: u64) -> Result<(), Failed>
-    ensures written { Writes (K.written sink.old) (K.written sink.new) result (spelled (says_meter (record { kind = kind; value = value }))) }
+    ensures written { Writes (K.written sink.old) (K.written sink.new) result
+        (spelled (says_meter (record { kind = kind; value = value }))) }
     ensures cause { HasCause (K.faults sink.old) (K.faults sink.new) result }
 {
     give_all(sink, meter(kind, value).as_bytes())

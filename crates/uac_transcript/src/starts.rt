@@ -7,7 +7,12 @@ ghost use Rattle.uac_transcript.specs.Transcript.{says_ready, says_time, spelled
 use uac_edges::{Failed, Sink, TextLine, give_all};
 
 /// Prints the line of the descriptor's end: how many entities, streaming interfaces and domains there are.
-pub fn write_ready<K: Sink>(sink: &mut K, entities: usize, streams: usize, domains: usize) -> Result<(), Failed>
+pub fn write_ready<K: Sink>(
+    sink: &mut K,
+    entities: usize,
+    streams: usize,
+    domains: usize,
+) -> Result<(), Failed>
     ensures written { Writes (K.written sink.old) (K.written sink.new) result (spelled (says_ready entities streams domains)) }
     ensures cause { HasCause (K.faults sink.old) (K.faults sink.new) result }
 {

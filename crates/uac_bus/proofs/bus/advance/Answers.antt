@@ -1,6 +1,4 @@
-use Rattle.std.proofs.Common.{◌+◌, ◌*◌, ◌≤◌, arith}
-use Rattle.uac_bus.specs.Kept.{most_rise}
-use Rattle.uac_bus.proofs.Stepping.{idle_in, fed_in, begun_in, unbegun_in, early_in, played_in, Counts_more}
+use Rattle.uac_bus.proofs.Stepping.{idle_in, fed_in, begun_in, unbegun_in, early_in, played_in}
 use Rattle.uac_bus.proofs.bus.advance.Goals as goal
 
 pub returns-in-Nothing-clause-does : goal.returns-in-Nothing-clause-does
@@ -22,10 +20,5 @@ pub returns-in_default-clause-does : goal.returns-in_default-clause-does
 returns-in_default-clause-does g c = λ w s.
     early_in _ _ _ w (rw c.in-Describing.is at s) c.in_default.not-Nothing c.in_default.not-Bytes c.in_default.not-Go
 
-pub returns-in-Playing-clause-does : goal.returns-in-Playing-clause-does
-returns-in-Playing-clause-does g c = λ w s. played_in _ _ _ _ _ w _ _ _ (rw c.in-Playing.is at s) c.play.ensures.does
-
-pub returns-in-Playing-clause-counts : goal.returns-in-Playing-clause-counts
-returns-in-Playing-clause-counts g c = λ lines counts.
-    let le : most_rise * lines + most_rise ≤ most_rise * (lines + 1) = omega arith in
-    Counts_more _ _ _ le (c.play.ensures.counts (most_rise * lines) (rw c.in-Playing.is at counts))
+pub returns-in-Running-clause-does : goal.returns-in-Running-clause-does
+returns-in-Running-clause-does g c = λ w s. played_in _ _ _ _ _ w _ _ _ (rw c.in-Running.is at s) c.play.ensures.does

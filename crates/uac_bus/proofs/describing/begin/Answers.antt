@@ -2,7 +2,9 @@ use Rattle.std.proofs.Common.{sym, subst}
 use Rattle.std.specs.Io.KnownBytes.{Appends}
 use Rattle.uac_topology.specs.Function.{FunctionFields}
 use Rattle.uac_edges.specs.Writing.{AppendsFront}
-use Rattle.uac_running.specs.Text.{ready_line}
+use Rattle.uac_transcript.specs.Transcript.{spelled}
+use Rattle.uac_transcript.proofs.PrintingLemmas.{Appends-line, front_of_line}
+use Rattle.uac_running.specs.Lines.{ready_line}
 use Rattle.uac_bus.specs.declared.bus.Stage.TheVariants as stages
 use Rattle.uac_bus.specs.World.{Step}
 use Rattle.uac_bus.specs.Kept.{StandsFor, Reaches, IsCut}
@@ -14,14 +16,16 @@ returns-in-Err-clause-begins g c = λ shown. gone_ill _ _ shown _ c.in-Err.ensur
 
 pub returns-in-Ok-ready-clause-begins : goal.returns-in-Ok-ready-clause-begins
 returns-in-Ok-ready-clause-begins g c = λ shown.
-    subst (λ (s : Step). Reaches s (StandsFor (stages.Playing c.in-Ok-new.playing) shown) (g.K.Sink.written c.args.sink.now) (g.K.Sink.written c.ready.new.sink))
+    subst (λ (s : Step). Reaches s (StandsFor (stages.Running c.in-Ok-new.running) shown) (g.K.Sink.written c.args.sink.now) (g.K.Sink.written c.ready.new.sink))
     (sym (gone_well c.args.reader.taken c.in-Ok.function shown c.in-Ok.ensures)) (
       c.in-Ok-new.ensures.stands c.args.reader.taken shown,
-      subst (λ (f : FunctionFields). Appends (g.K.Sink.written c.args.sink.now) (g.K.Sink.written c.ready.new.sink) (ready_line f)) c.in-Ok-new.ensures.function c.in-Ok-ready.ensures.written,
+      Appends-line _ _ (ready_line c.in-Ok.function)
+          (subst (λ (f : FunctionFields). Appends (g.K.Sink.written c.args.sink.now) (g.K.Sink.written c.ready.new.sink) (spelled (ready_line f))) c.in-Ok-new.ensures.function c.in-Ok-ready.ensures.written),
     )
 
 pub returns-in-Err-ready-clause-begins : goal.returns-in-Err-ready-clause-begins
 returns-in-Err-ready-clause-begins g c = λ shown.
     subst (λ (s : Step). IsCut s (g.K.Sink.written c.args.sink.now) (g.K.Sink.written c.ready.new.sink))
     (sym (gone_well c.args.reader.taken c.in-Ok.function shown c.in-Ok.ensures))
-    (subst (λ (f : FunctionFields). AppendsFront (g.K.Sink.written c.args.sink.now) (g.K.Sink.written c.ready.new.sink) (ready_line f)) c.in-Ok-new.ensures.function c.in-Err-ready.ensures.written)
+    (front_of_line _ _ (ready_line c.in-Ok.function)
+    (subst (λ (f : FunctionFields). AppendsFront (g.K.Sink.written c.args.sink.now) (g.K.Sink.written c.ready.new.sink) (spelled (ready_line f))) c.in-Ok-new.ensures.function c.in-Err-ready.ensures.written))

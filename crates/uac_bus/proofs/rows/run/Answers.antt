@@ -1,6 +1,5 @@
-use Rattle.std.proofs.Common.{◌+◌, ◌*◌, ◌≤◌, arith, sym, ◌∙◌}
-use Rattle.uac_bus.specs.Kept.{most_rise}
-use Rattle.uac_bus.proofs.Stepping.{Counts_more, unless_fails, unless_holds}
+use Rattle.std.proofs.Common.{sym, ◌∙◌}
+use Rattle.uac_bus.proofs.Stepping.{unless_fails, unless_holds}
 use Rattle.uac_bus.proofs.Rowing.{streams_in, are_placed_in, marked}
 use Rattle.uac_bus.proofs.rows.run.Goals as goal
 
@@ -16,15 +15,3 @@ returns-then-not-is_empty-clause-does g c = λ r s.
     let all = are_placed_in _ _ c.args.marks.now _ streams c.are_placed.ensures in
     unless_holds _ 6 _ (sym all ∙ c.if-not-are_placed.false)
     ∙ unless_fails _ 9 _ (marked c.args.marks.now (sym c.is_empty.ensures ∙ c.if-not-is_empty.true))
-
-pub returns-in-Ok-clause-counts : goal.returns-in-Ok-clause-counts
-returns-in-Ok-clause-counts g c = λ most counts.
-    let few = c.requires.few in
-    let le : most + 216 * c.args.count ≤ most + most_rise = omega arith in
-    Counts_more _ _ _ le (c.in-Ok.ensures.counts most counts)
-
-pub returns-in-Err-clause-counts : goal.returns-in-Err-clause-counts
-returns-in-Err-clause-counts g c = λ most counts.
-    let few = c.requires.few in
-    let le : most + 216 * c.args.count ≤ most + most_rise = omega arith in
-    Counts_more _ _ _ le (c.in-Err.ensures.counts most counts)

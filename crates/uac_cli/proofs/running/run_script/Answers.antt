@@ -5,7 +5,7 @@ use Rattle.uac_cli.proofs.running.run_script.Goals as goal
 
 pub loop-bus-init : goal.loop-bus-init
 loop-bus-init g c = record {
-  far = far_at_first _ _ _ _ _ (c.new-bus.ensures.stands _) c.new-bus.ensures.none c.new-lines.ensures;
+  far = far_at_first _ _ _ _ _ (c.new-bus.ensures _) c.new-lines.ensures;
   bounded = (let all : c.new-lines.result.number + c.new-lines.result.spare ≡ 0 + 268435456 = ap (λ (s : Splitting). s.number + s.spare) c.new-lines.ensures in omega arith);
   reads = (omega arith);
   writes = (omega arith);
@@ -18,7 +18,7 @@ loop-bus-preserved g c =
     let before_end = not_ended c.loop-bus.lines.ended (Ok c.in-Ok-Line.field-0) (c.in-Ok-Line.ensures.ended f.going) (λ e. cc (c.in-Ok-Line.field-0-is)) in
     let has = has_line _ _ _ _ _ _ _ _ _ _ _ _ f c.in-Ok-Line.field-0 c.in-Ok-Line.field-0-is before_end (c.in-Ok-Line.ensures.splits f.going before_end) in
     record {
-      far = far_on _ _ _ _ _ _ _ _ _ _ _ _ _ _ _ f has _ c.text.ensures.0 (c.in-Ok.ensures.does f.world f.stands).0 c.do_line.ensures.at_most;
+      far = far_on _ _ _ _ _ _ _ _ _ _ _ _ _ _ _ f has _ c.text.ensures.0 (c.in-Ok.ensures.does f.world f.stands).0;
       bounded = c.next.ensures.bounded has.going;
       reads = (let later = c.next.ensures.never_falls in omega arith);
       writes = (let later = c.do_line.ensures.never_falls in omega arith);

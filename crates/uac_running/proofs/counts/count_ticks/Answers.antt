@@ -1,13 +1,7 @@
-use Rattle.std.proofs.Common.{◌<◌, ◌^◌, arith}
-use Rattle.uac_running.specs.declared.counts.TickCount.{TickCount}
+use Rattle.std.proofs.Common.{arith}
 use Rattle.uac_running.specs.Kept.{more_counted}
-use Rattle.uac_device.proofs.Turning.{turned_all, turned_more, untouched_holds}
+use Rattle.uac_device.proofs.Turning.{turned_all, turned_more}
 use Rattle.uac_running.proofs.counts.count_ticks.Goals as goal
-
-pub after_ticks-requires : goal.after_ticks-requires
-after_ticks-requires c =
-    untouched_holds (λ (k : TickCount). k.ticks < 2 ^ 63) (more_counted c.args.clock c.args.ticks) c.loop-count.counts c.args.counts.now c.loop-count.count-index _ c.requires
-    (omega arith) c.loop-count.invariant
 
 pub loop-count-preserved : goal.loop-count-preserved
 loop-count-preserved c =

@@ -1,4 +1,4 @@
-use Rattle.std.proofs.Common.{◌≡◌, ◌∙◌, ◌<◌, ◌≤◌, ◌^◌, sym, subst, true, arith}
+use Rattle.std.proofs.Common.{◌≡◌, ◌∙◌, ◌≤◌, sym, subst, true, arith}
 use Rattle.std.specs.List.{All}
 use Rattle.uac_topology.specs.Function.{FunctionFields}
 use Rattle.uac_graph.specs.Meaning.{entity}
@@ -27,11 +27,6 @@ give_jack-requires-clause-channels c =
 pub give_jack-requires-clause-most : goal.give_jack-requires-clause-most
 give_jack-requires-clause-most c =
     untouched_holds (λ (j : Jack). j.channels ≤ 32) (after_one c.args.clock) c.loop-jack.jacks c.args.jacks.now c.loop-jack.jack-index _ c.requires.most (omega arith)
-    c.loop-jack.invariant.changed
-
-pub after_frame-requires : goal.after_frame-requires
-after_frame-requires c =
-    untouched_holds (λ (j : Jack). j.place < 2 ^ 63) (after_one c.args.clock) c.loop-jack.jacks c.args.jacks.now c.loop-jack.jack-index _ c.requires.room (omega arith)
     c.loop-jack.invariant.changed
 
 pub loop-jack-preserved : goal.loop-jack-preserved

@@ -1,14 +1,15 @@
-use Rattle.std.proofs.Common.{◌≡◌, ◌≤◌, flat_map, map, take}
+use Rattle.std.proofs.Common.{◌≡◌, ◌≤◌, map, take}
 use Rattle.std.specs.Io.KnownBytes.{Appends}
 use Rattle.uac_device.specs.Kept.{Stands}
 use Rattle.uac_device.specs.World.{DeviceWorld}
+use Rattle.uac_transcript.specs.Printing.{text_of}
 use Rattle.uac_running.specs.Kept.{counted}
-use Rattle.uac_running.specs.Text.{domain_line}
+use Rattle.uac_running.specs.Lines.{domain_line}
 use Rattle.uac_running.proofs.report.write_domains.Given as goal
 
 abbrev pub invariant-loop-count : goal.invariant-loop-count
 invariant-loop-count g l = record {
   written : (w : DeviceWorld) → Stands l.device w → l.counts ≡ map counted w.domains
-      → Appends (g.K.Sink.written l.fn.sink) (g.K.Sink.written l.sink) (flat_map (domain_line w) (take l.count-index w.domains));
+      → Appends (g.K.Sink.written l.fn.sink) (g.K.Sink.written l.sink) (text_of (map (domain_line w) (take l.count-index w.domains)));
   never_falls : g.K.Sink.faults l.fn.sink ≤ g.K.Sink.faults l.sink;
 }

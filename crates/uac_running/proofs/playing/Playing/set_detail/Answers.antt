@@ -1,9 +1,0 @@
-use Rattle.std.proofs.Common.{sym, subst, refl}
-use Rattle.uac_running.specs.Kept.{PlayingFields, Stands}
-use Rattle.uac_running.proofs.Steps.{detailed}
-use Rattle.uac_running.specs.contracts.playing.Playing.{the_view}
-use Rattle.uac_running.proofs.playing.Playing.set_detail.Goals as goal
-
-pub returns-clause-stands : goal.returns-clause-stands
-returns-clause-stands c meters r stands =
-    detailed meters r (the_view c.self.inside) _ (subst (λ (p : PlayingFields). Stands p meters r) (sym c.self.view_is) stands) c.args.level refl

@@ -1,8 +1,0 @@
-use Rattle.uac_units.specs.Panel.{readings}
-use Rattle.uac_running.proofs.Steps.{tick_told}
-use Rattle.uac_running.proofs.playing.Playing.tick.Goals as goal
-
-pub returns-clause-tells : goal.returns-clause-tells
-returns-clause-tells g c r stands =
-    tick_told c.args.clock (readings (λ v x. (goal.Meter-dyn g (v, x)).reading_of x) c.sound.new.meters) r c.sound.new.self
-    (g.K.Sink.written c.args.sink.now) (g.K.Sink.written c.show.new.sink) c.show.result (c.sound.ensures.stands r stands) c.show.ensures.written

@@ -1,0 +1,29 @@
+use Rattle.std.proofs.Common.{◌∙◌, ap, sym, subst, refl}
+use Rattle.uac_units.specs.Panel.{readings}
+use Rattle.uac_running.specs.Events.{after_one, gone_on}
+use Rattle.uac_running.specs.Kept.{RunningFields, Stands}
+use Rattle.uac_device.proofs.Turning.{turned_back}
+use Rattle.uac_running.proofs.Counting.{domains_kept}
+use Rattle.uac_running.proofs.JackSteps.{jacks_gone_on}
+use Rattle.uac_running.proofs.Steps.{sounded}
+use Rattle.uac_running.specs.contracts.running.Running.{the_view}
+use Rattle.uac_running.proofs.running.Running.sound.Goals as goal
+
+pub invariant_of-self : goal.invariant_of-self
+invariant_of-self g c =
+    let jacks = turned_back (after_one c.args.clock) c.self.inside.jacks.len c.self.inside.jacks.items c.deref_mut.result.now c.give_jacks.new.jacks
+    c.give_jacks.ensures.jacks c.deref_mut.ensures.value c.deref_mut.ensures.len in
+    let function = c.tick-ticked.ensures.function ∙ c.give_jacks.ensures.function in (
+      jacks_gone_on c.args.clock (the_view c.self.inside) _ function jacks c.self.invariant.0,
+      domains_kept (the_view c.self.inside) _ function refl c.self.invariant.1,
+    )
+
+pub returns-clause-stands : goal.returns-clause-stands
+returns-clause-stands g c r stands =
+    let shown = readings (λ v x. (goal.Meter-dyn g (v, x)).reading_of x) c.args.meters.now in
+    let showing = readings (λ v x. (goal.Meter-dyn g (v, x)).reading_of x) c.tick-ticked.new.meters in
+    let jacks = turned_back (after_one c.args.clock) c.self.inside.jacks.len c.self.inside.jacks.items c.deref_mut.result.now c.give_jacks.new.jacks
+    c.give_jacks.ensures.jacks c.deref_mut.ensures.value c.deref_mut.ensures.len in
+    let own = subst (λ (p : RunningFields). Stands p shown r) (sym c.self.view_is) stands in
+    sounded c.args.clock shown showing r (the_view c.self.inside) _ c.deref_mut.result.now c.give_jacks.new.device own c.deref_mut.ensures.value
+    c.give_jacks.ensures.stands c.tick-ticked.ensures.stands c.tick-ticked.ensures.heard (jacks ∙ ap (gone_on c.args.clock) (sym c.deref_mut.ensures.value)) refl refl refl refl
