@@ -203,7 +203,7 @@ const SCRIPT: &[u8] =
 
 /// What it prints: 37 bytes at the second line, and the others at the last.
 const TRANSCRIPT: &[u8] =
-    b"ready entities 0 streams 0 domains 0\ntime 2\nsteady yes\nmeter peak 0\nmeter clipped 0\nmeter sum 0\n";
+    b"ready entities 0 streams 0 domains 0\ntime 2\nsteady yes\nmeter peak 0\nmeter clipped 0\nmeter sum 0\nrenders 0\n";
 
 /// `run` of that script, byte by byte, whose source fails at this call.
 fn followed(alloc: Global, call: u32) -> Result<(Status, MemorySink), Fail> {

@@ -3,7 +3,7 @@ use Rattle.std.proofs.Common.{◌≡◌, ◌∙◌, ap, subst, ℕ, Bool, List, 
 use Rattle.std.specs.Io.KnownBytes.{Appends}
 use Rattle.uac_units.specs.Hearing.{Reading}
 use Rattle.uac_edges.specs.Writing.{AppendsFront}
-use Rattle.uac_transcript.specs.Transcript.{Said, says_meter, says_passed, says_steady}
+use Rattle.uac_transcript.specs.Transcript.{Said, says_meter, says_passed, says_renders, says_steady}
 use Rattle.uac_transcript.specs.Printing.{Prints, text_of}
 use Rattle.uac_transcript.proofs.PrintingLemmas.{Prints-after, front_of_more}
 use Rattle.uac_running.specs.World.{RunningWorld, is_steady}
@@ -15,8 +15,10 @@ abbrev pub head_lines : ℕ → Bool → List Said
 head_lines time steady = says_passed time ∷ says_steady steady ∷ []
 
 -- the other lines
-abbrev rest_lines : RunningWorld → List Reading → List Said
-rest_lines r meters = map (domain_line r.device) r.device.domains ++ (map (stream_line r.device r.met) r.device.function.streams ++ map says_meter meters)
+abbrev rest_lines : RunningWorld → List Reading → ℕ → List Said
+rest_lines r meters renders =
+    map (domain_line r.device) r.device.domains
+    ++ (map (stream_line r.device r.met) r.device.function.streams ++ (map says_meter meters ++ says_renders renders ∷ []))
 
 module _ (p : RunningFields) (meters : List Reading) (r : RunningWorld) (stands : Stands p meters r) where
   head_is : head_lines p.time p.steady ≡ head_lines r.time (is_steady r)
@@ -25,11 +27,12 @@ module _ (p : RunningFields) (meters : List Reading) (r : RunningWorld) (stands 
   pub head_front : (old new : Option (List ℕ)) → AppendsFront old new (text_of (head_lines p.time p.steady)) → AppendsFront old new (text_of (report_lines r))
   unfolding report_lines
   head_front old new front =
-      front_of_more old new (head_lines r.time (is_steady r)) (rest_lines r r.meters) (subst (λ (lines : List Said). AppendsFront old new (text_of lines)) head_is front)
+      front_of_more old new (head_lines r.time (is_steady r)) (rest_lines r r.meters r.renders) (subst (λ (lines : List Said). AppendsFront old new (text_of lines)) head_is front)
 
   pub report_whole : {E : Type 0} (old mid new : Option (List ℕ)) (result : Result (Unit {0}) E) → Appends old mid (text_of (head_lines p.time p.steady))
-      → Prints mid new result (rest_lines r meters) → Prints old new result (report_lines r)
+      → Prints mid new result (rest_lines r meters p.renders) → Prints old new result (report_lines r)
   unfolding report_lines
   report_whole {E = E} old mid new result head rest =
-      Prints-after old mid new result (head_lines r.time (is_steady r)) (rest_lines r r.meters) (subst (λ (lines : List Said). Appends old mid (text_of lines)) head_is head)
-      (subst (λ (ms : List Reading). Prints mid new result (rest_lines r ms)) stands.meters rest)
+      Prints-after old mid new result (head_lines r.time (is_steady r)) (rest_lines r r.meters r.renders) (subst (λ (lines : List Said). Appends old mid (text_of lines)) head_is head)
+      (subst (λ (n : ℕ). Prints mid new result (rest_lines r r.meters n)) stands.renders
+      (subst (λ (ms : List Reading). Prints mid new result (rest_lines r ms p.renders)) stands.meters rest))

@@ -151,9 +151,9 @@ module _ (function : FunctionFields) (sound : IsSoundFunction function) (p : Run
     once = subst (IsDistinct eqb) (sym (ap clocks_of counts ∙ clocks-none function.domains)) each_domain_once;
   }
 
-  pub stands_start : p.time ≡ 0 → p.steady ≡ true → p.detail ≡ 0 → (descriptor : List ℕ) (meters : List Reading) → Stands p meters (at_start descriptor function meters)
+  pub stands_start : p.time ≡ 0 → p.steady ≡ true → p.detail ≡ 0 → p.renders ≡ 0 → (descriptor : List ℕ) (meters : List Reading) → Stands p meters (at_start descriptor function meters)
   unfolding at_start fresh fresh_host is_steady
-  stands_start time steady detail descriptor meters = record {
+  stands_start time steady detail renders descriptor meters = record {
     device = fresh_now;
     host = record { function = refl; paces = λ interface. refl; tracks = λ interface. refl };
     view = refl;
@@ -166,4 +166,5 @@ module _ (function : FunctionFields) (sound : IsSoundFunction function) (p : Run
     met = λ interface. refl;
     unreported = λ interface. refl;
     meters = refl;
+    renders = renders;
   }

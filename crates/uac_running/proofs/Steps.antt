@@ -75,6 +75,7 @@ module _ (meters : List Reading) (r : RunningWorld) (p q : RunningFields) (stand
         met = stands.met;
         unreported = stands.unreported;
         meters = stands.meters;
+        renders = stands.renders;
       })
 
   pub detailed : (level : ℕ) → q ≡ record p { detail = level } → Stands q meters (with_detail level r)
@@ -95,6 +96,7 @@ module _ (meters : List Reading) (r : RunningWorld) (p q : RunningFields) (stand
         met = stands.met;
         unreported = stands.unreported;
         meters = stands.meters;
+        renders = stands.renders;
       })
 
   pub toned_on : (terminal : ℕ) (tone : Tone) (jacks : List Jack) → jacks ≡ map (toned terminal tone) p.jacks → q ≡ record p { jacks = jacks } → Stands q meters (with_tone terminal tone r)
@@ -115,12 +117,13 @@ module _ (meters : List Reading) (r : RunningWorld) (p q : RunningFields) (stand
         met = stands.met;
         unreported = stands.unreported;
         meters = stands.meters;
+        renders = stands.renders;
       })
 
   pub off : (clock : ℕ) (millionths : ℤ) → device.Stands q.device (deviated clock millionths r.device) → q.jacks ≡ p.jacks → q.counts ≡ p.counts → q.time ≡ p.time
-      → q.steady ≡ (p.steady && is_slight millionths) → q.detail ≡ p.detail → Stands q meters (with_deviation clock millionths r)
+      → q.steady ≡ (p.steady && is_slight millionths) → q.detail ≡ p.detail → q.renders ≡ p.renders → Stands q meters (with_deviation clock millionths r)
   unfolding is_steady with_deviation deviated
-  off clock millionths kept jacks counts time steady detail = record {
+  off clock millionths kept jacks counts time steady detail renders = record {
     device = kept;
     host = stands.host;
     view = stands.view;
@@ -137,13 +140,14 @@ module _ (meters : List Reading) (r : RunningWorld) (p q : RunningFields) (stand
     met = stands.met;
     unreported = stands.unreported;
     meters = stands.meters;
+    renders = renders ∙ stands.renders;
   }
 
   pub advanced_on : (clock n : ℕ) → device.Stands q.device (advanced clock r.device) → n ≡ next_ticks clock r.device → IsDistinct eqb (clocks_of p.counts)
-      → q.counts ≡ map (more_counted clock n) p.counts → q.jacks ≡ p.jacks → q.time ≡ p.time → q.steady ≡ p.steady → q.detail ≡ p.detail
+      → q.counts ≡ map (more_counted clock n) p.counts → q.jacks ≡ p.jacks → q.time ≡ p.time → q.steady ≡ p.steady → q.detail ≡ p.detail → q.renders ≡ p.renders
       → Stands q meters (record r { device = advanced clock r.device })
   unfolding is_steady advanced next_ticks
-  advanced_on clock n kept is once counts jacks time steady detail = record {
+  advanced_on clock n kept is once counts jacks time steady detail renders = record {
     device = kept;
     host = stands.host;
     view = stands.view;
@@ -159,6 +163,7 @@ module _ (meters : List Reading) (r : RunningWorld) (p q : RunningFields) (stand
     met = stands.met;
     unreported = stands.unreported;
     meters = stands.meters;
+    renders = renders ∙ stands.renders;
   }
 
 -- giving frames leaves all that setting a jack leaves
@@ -172,15 +177,16 @@ given-kept f keeps clock (j ∷ js) w =
     ]
 
 -- jacks give, the device ticks, and meters hear
-pub sounded : (clock : ℕ) (shown showing : List Reading) (r : RunningWorld) (p q : RunningFields) (jacks : List Jack) (mid : device.DeviceFields)
+pub sounded : (clock count : ℕ) (shown showing : List Reading) (r : RunningWorld) (p q : RunningFields) (jacks : List Jack) (mid : device.DeviceFields)
     → Stands p shown r → jacks ≡ p.jacks
     → ((w : DeviceWorld) → device.Stands p.device w → device.Stands mid (given clock jacks w))
     → ((w : DeviceWorld) → device.Stands mid w → device.Stands q.device (ticked clock w))
     → ((w : DeviceWorld) → device.Stands mid w → showing ≡ after_frames (heard_of clock (ticked clock w)) shown)
-    → q.jacks ≡ gone_on clock jacks → q.counts ≡ p.counts → q.time ≡ p.time → q.steady ≡ p.steady → q.detail ≡ p.detail
+    → ((w : DeviceWorld) → device.Stands mid w → count ≡ renders_of clock w)
+    → q.jacks ≡ gone_on clock jacks → q.counts ≡ p.counts → q.time ≡ p.time → q.steady ≡ p.steady → q.detail ≡ p.detail → q.renders ≡ held (p.renders + count)
     → Stands q showing (tick clock r).world
 unfolding is_steady tick all_given ticked set_jack
-sounded clock shown showing r p q jacks mid stands own gives ticks hears gone counts time steady detail =
+sounded clock count shown showing r p q jacks mid stands own gives ticks hears rendered gone counts time steady detail renders =
     let all : jacks ≡ r.jacks = own ∙ stands.jacks in
     let before = subst (λ (js : List Jack). device.Stands mid (given clock js r.device)) all (gives r.device stands.device) in
     record {
@@ -204,6 +210,8 @@ sounded clock shown showing r p q jacks mid stands own gives ticks hears gone co
       met = stands.met;
       unreported = stands.unreported;
       meters = hears (all_given clock r) before ∙ ap (after_frames (heard_of clock (ticked clock (all_given clock r)))) stands.meters;
+      renders =
+          renders ∙ ap (λ n. held (n + count)) stands.renders ∙ ap (λ n. held (r.renders + n)) (rendered (all_given clock r) before);
     }
 
 -- ---- what is told of an event

@@ -3,7 +3,7 @@
 use Rattle.std.specs.Prelude.{ℕ, zero, suc, ◌+◌, ◌==◌, nat_le, if◌then◌else◌, ℤ, List, [], ◌∷◌, ◌++◌, map, filter}
 use Rattle.std.specs.List.{fold, range_with_len}
 use Rattle.uac_pcm.specs.Tones.{tone_sample}
-use Rattle.uac_device.specs.World.{DeviceWorld, advanced, next_ticks, set_jack, ticked, heard_of, after_frames}
+use Rattle.uac_device.specs.World.{DeviceWorld, advanced, next_ticks, renders_of, set_jack, ticked, heard_of, after_frames}
 use Rattle.uac_units.specs.Hearing.{held}
 use Rattle.uac_script.specs.Phrase.{Loss}
 use Rattle.uac_transcript.specs.Transcript.{Said, says_time}
@@ -48,14 +48,19 @@ after_one clock j = if j.clock == clock then record j { place = held (j.place + 
 abbrev pub gone_on : ℕ → List Jack → List Jack
 gone_on clock jacks = map (after_one clock) jacks
 
--- one tick of a domain: its jacks give their tones' frames, the graph is evaluated, the meters hear the output jacks, and from
--- detail 1 on what these played is said
+-- one tick of a domain: its jacks give their tones' frames, the graph is evaluated, each unit that the domain needs being rendered
+-- once, the meters hear the output jacks, and from detail 1 on what these played is said
 unfoldable pub tick : ℕ → RunningWorld → Told
 tick clock r =
     let device = ticked clock (all_given clock r) in
     record {
       lines = if nat_le 1 r.detail then played_lines clock device else [];
-      world = record r { device = device; jacks = gone_on clock r.jacks; meters = after_frames (heard_of clock device) r.meters };
+      world = record r {
+        device = device;
+        jacks = gone_on clock r.jacks;
+        meters = after_frames (heard_of clock device) r.meters;
+        renders = held (r.renders + renders_of clock (all_given clock r));
+      };
     }
 
 -- so many ticks of a domain

@@ -23,6 +23,7 @@ pub record RunningFields : Type 0 where
   pub time : ℕ
   pub steady : Bool
   pub detail : ℕ
+  pub renders : ℕ
 
 abbrev pub counted : Domain → TickCount
 counted d = record { clock = d.clock; ticks = ticks_since d }
@@ -50,6 +51,7 @@ pub record Stands (running : RunningFields) (shown : List Reading) (r : RunningW
   pub met : (interface : ℕ) → r.met interface ≡ nothing_met
   pub unreported : (interface : ℕ) → r.feedback interface ≡ []
   pub meters : shown ≡ r.meters
+  pub renders : running.renders ≡ r.renders
 
 -- its jacks are input jacks of its function, each with its channels
 pub record HasItsJacks (running : RunningFields) : Type 0 where

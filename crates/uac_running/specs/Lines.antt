@@ -1,5 +1,5 @@
 -- The lines that are said of a running device (profile).
-use Rattle.std.specs.Prelude.{ℕ, ◌/◌, Bool, true, false, List, ◌∷◌, ◌++◌, map, filter, sum, length, Option, unwrap_or}
+use Rattle.std.specs.Prelude.{ℕ, ◌/◌, Bool, true, false, List, [], ◌∷◌, ◌++◌, map, filter, sum, length, Option, unwrap_or}
 use Rattle.uac_entities.specs.declared.entity.Entity.{Entity}
 use Rattle.uac_entities.specs.declared.stream.StreamInterface.{StreamInterface}
 use Rattle.uac_topology.specs.Function.{FunctionFields}
@@ -7,7 +7,7 @@ use Rattle.uac_store.specs.Rates.{rate_of}
 use Rattle.uac_alt.specs.Settings.{setting_of}
 use Rattle.uac_units.specs.Hearing.{held}
 use Rattle.uac_transcript.specs.declared.report.StreamCounts.{StreamCounts}
-use Rattle.uac_transcript.specs.Transcript.{Said, says_ready, says_played, says_passed, says_steady, says_domain, says_out_stream, says_in_stream, says_meter}
+use Rattle.uac_transcript.specs.Transcript.{Said, says_ready, says_played, says_passed, says_steady, says_domain, says_out_stream, says_in_stream, says_meter, says_renders}
 use Rattle.uac_device.specs.World.{Domain, DeviceWorld, is_output_jack_of, level_of, target_of}
 use Rattle.uac_running.specs.World.{RunningWorld, is_steady}
 
@@ -50,4 +50,4 @@ stream_line w met s =
 unfoldable pub report_lines : RunningWorld → List Said
 report_lines r =
     says_passed r.time ∷ says_steady (is_steady r) ∷ map (domain_line r.device) r.device.domains
-    ++ (map (stream_line r.device r.met) r.device.function.streams ++ map says_meter r.meters)
+    ++ (map (stream_line r.device r.met) r.device.function.streams ++ (map says_meter r.meters ++ says_renders r.renders ∷ []))

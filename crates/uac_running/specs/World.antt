@@ -48,6 +48,8 @@ pub record RunningWorld : Type 0 where
   pub marks : ℕ → Option StreamMark
   -- what the meters show, which heard all frames so far
   pub meters : List Reading
+  -- how often units were rendered since the start, up to the greatest number of 64 bits
+  pub renders : ℕ
 
 -- streams that met nothing
 abbrev pub nothing_met : StreamCounts
@@ -74,6 +76,7 @@ at_start descriptor function meters =
       feedback = λ interface. [];
       marks = λ interface. None;
       meters = meters;
+      renders = 0;
     }
 
 -- there is an input jack with this id

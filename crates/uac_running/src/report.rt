@@ -7,7 +7,7 @@ ghost use Rattle.uac_units.specs.Panel.{readings};
 ghost use Rattle.uac_device.specs.Kept.{Stands};
 ghost use Rattle.uac_device.specs.World.{DeviceWorld};
 ghost use Rattle.uac_transcript.specs.Printing.{Prints};
-ghost use Rattle.uac_transcript.specs.Transcript.{says_meter, says_passed, says_steady, spelled};
+ghost use Rattle.uac_transcript.specs.Transcript.{says_meter, says_passed, says_renders, says_steady, spelled};
 ghost use Rattle.uac_running.specs.Kept.{counted};
 ghost use Rattle.uac_running.specs.Lines.{domain_line, stream_line};
 ghost use Rattle.uac_running.specs.World.{nothing_met as none};
@@ -18,7 +18,7 @@ use uac_edges::{Failed, Sink};
 use uac_entities::StreamInterface;
 use uac_transcript::{
     StreamCounts, write_domain, write_in_stream, write_meter, write_out_stream, write_passed,
-    write_steady,
+    write_renders, write_steady,
 };
 use uac_units::{Meter, Meters};
 
@@ -34,17 +34,18 @@ pub(crate) fn write_head<K: Sink>(sink: &mut K, time: u64, steady: bool) -> Resu
     write_steady(sink, steady)
 }
 
-/// Prints each domain's rate and ticks, each stream, and each meter.
+/// Prints each domain's rate and ticks, each stream, each meter, and how often units were rendered.
 pub(crate) fn write_rest<K: Sink>(
     sink: &mut K,
     device: &Device,
     counts: &[TickCount],
     meters: &Meters,
+    renders: u64,
 ) -> Result<(), Failed>
     ensures printed { (w : DeviceWorld) (met : ℕ → StreamCounts) → Stands device.now w → ((interface : ℕ) → met interface ≡ none)
         → counts.now ≡ map counted w.domains → Prints (K.written sink.old) (K.written sink.new) result
         (map (domain_line w) w.domains ++ (map (stream_line w met) w.function.streams
-        ++ map says_meter (readings (λ v x. (⟦<dyn Meter as Meter>⟧ v).reading_of x) meters.now))) }
+        ++ (map says_meter (readings (λ v x. (⟦<dyn Meter as Meter>⟧ v).reading_of x) meters.now) ++ says_renders renders ∷ []))) }
     ensures cause { HasCause (K.faults sink.old) (K.faults sink.new) result }
 {
     match write_domains(sink, device, counts) {
@@ -55,7 +56,20 @@ pub(crate) fn write_rest<K: Sink>(
         Ok(()) => {}
         Err(failed) => return Err(failed),
     }
-    write_meters(sink, meters)
+    write_last(sink, meters, renders)
+}
+
+/// Prints each meter, and how often units were rendered.
+fn write_last<K: Sink>(sink: &mut K, meters: &Meters, renders: u64) -> Result<(), Failed>
+    ensures printed { Prints (K.written sink.old) (K.written sink.new) result
+        (map says_meter (readings (λ v x. (⟦<dyn Meter as Meter>⟧ v).reading_of x) meters.now) ++ says_renders renders ∷ []) }
+    ensures cause { HasCause (K.faults sink.old) (K.faults sink.new) result }
+{
+    match write_meters(sink, meters) {
+        Ok(()) => {}
+        Err(failed) => return Err(failed),
+    }
+    write_renders(sink, renders)
 }
 
 /// Prints each domain's rate and ticks.

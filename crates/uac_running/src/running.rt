@@ -40,6 +40,7 @@ pub struct Running {
     time: u64,
     steady: bool,
     detail: u8,
+    renders: u64,
 }
 
 impl Model for Running {
@@ -47,10 +48,10 @@ impl Model for Running {
 
     ghost Value = { RunningFields };
 
-    ghost view = { λ p. record { device = p.device; jacks = p.jacks.items; counts = p.counts.items; time = p.time; steady = p.steady; detail = p.detail } };
+    ghost view = { λ p. record { device = p.device; jacks = p.jacks.items; counts = p.counts.items; time = p.time; steady = p.steady; detail = p.detail; renders = p.renders } };
 
-    ghost invariant = { λ p. HasItsJacks (record { device = p.device; jacks = p.jacks.items; counts = p.counts.items; time = p.time; steady = p.steady; detail = p.detail })
-        × HasItsDomains (record { device = p.device; jacks = p.jacks.items; counts = p.counts.items; time = p.time; steady = p.steady; detail = p.detail }) };
+    ghost invariant = { λ p. HasItsJacks (record { device = p.device; jacks = p.jacks.items; counts = p.counts.items; time = p.time; steady = p.steady; detail = p.detail; renders = p.renders })
+        × HasItsDomains (record { device = p.device; jacks = p.jacks.items; counts = p.counts.items; time = p.time; steady = p.steady; detail = p.detail; renders = p.renders }) };
 }
 
 impl Running {
@@ -70,6 +71,7 @@ impl Running {
             time: 0,
             steady: true,
             detail: 0,
+            renders: 0,
         })
     }
 
@@ -292,7 +294,7 @@ impl Running {
         self.show(clock, sink)
     }
 
-    /// The jacks of a domain give their next frames, the device ticks, and the meters hear its output jacks.
+    /// The jacks of a domain give their next frames, the device ticks, and the meters hear its output jacks. The renders are counted.
     fn sound(&mut self, clock: u8, rack: &Rack, meters: &mut Meters)
         requires rack { IsFitted (λ v x. (⟦<dyn Unit as Unit>⟧ v).kind_of x) rack.now }
         ensures stands { (r : RunningWorld) → Stands self.old (readings (λ v x. (⟦<dyn Meter as Meter>⟧ v).reading_of x) meters.old) r
@@ -301,7 +303,9 @@ impl Running {
     {
         give_jacks(&mut self.device, &mut self.jacks, clock);
         fresh_steps_have_room(self.device.function());
-        let _ticked = self.device.tick(clock, rack, meters, &mut Steps::new());
+        let mut steps = Steps::new();
+        let _ticked = self.device.tick(clock, rack, meters, &mut steps);
+        self.renders = self.renders.saturating_add(steps.count());
     }
 
     /// Prints what a domain's output jacks played, from detail 1 on.
@@ -326,7 +330,7 @@ impl Running {
             Ok(()) => {}
             Err(failed) => return Err(failed),
         }
-        write_rest(sink, &self.device, &self.counts, meters)
+        write_rest(sink, &self.device, &self.counts, meters, self.renders)
     }
 
     /// Prints the line of the descriptor's end.

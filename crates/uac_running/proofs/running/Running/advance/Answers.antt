@@ -23,4 +23,4 @@ returns-clause-stands c meters r stands =
     c.count_ticks.ensures c.deref_mut.ensures.value c.deref_mut.ensures.len in
     let own = subst (λ (p : RunningFields). Stands p meters r) (sym c.self.view_is) stands in
     advanced_on meters r (the_view c.self.inside) _ own c.args.clock c.ticks-ticks.result (c.ticks-ticks.ensures.stands r.device own.device)
-    (c.ticks-ticks.ensures.ticks r.device own.device) c.self.invariant.1.once counts refl refl refl refl
+    (c.ticks-ticks.ensures.ticks r.device own.device) c.self.invariant.1.once counts refl refl refl refl refl

@@ -18,4 +18,4 @@ returns-clause-stands c meters r stands =
       | else-self w ↦ w.self-is ∙ w.if-self.false ∙ ap (λ b. b && is_slight c.args.ppm) (sym w.if-self.false)
     ] in
     off meters r (the_view c.self.inside) _ own c.args.clock c.args.ppm
-    (subst (λ (m : ℤ). device.Stands c.deviate.new.self (deviated c.args.clock m r.device)) exact (c.deviate.ensures.stands r.device own.device)) refl refl refl steady refl
+    (subst (λ (m : ℤ). device.Stands c.deviate.new.self (deviated c.args.clock m r.device)) exact (c.deviate.ensures.stands r.device own.device)) refl refl refl steady refl refl

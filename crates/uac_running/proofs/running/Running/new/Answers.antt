@@ -20,6 +20,6 @@ returns c =
     let jacks = c.in_ok-jacks.ensures ∙ ap (λ (es : List Entity). map silent_jack (filter is_input_jack es)) c.entities.ensures in
     let counts = c.in_ok-counts.ensures ∙ ap (map none_counted) c.domains.ensures in
     record {
-      stands = stands_start c.args.function c.functions_are_sound.ensures _ c.in_ok-device.ensures jacks counts refl refl refl;
+      stands = stands_start c.args.function c.functions_are_sound.ensures _ c.in_ok-device.ensures jacks counts refl refl refl refl;
       function = function_kept c.args.function c.in_ok-device.device c.in_ok-device.ensures;
     }
