@@ -43,7 +43,7 @@ end_of_line text rest whole =
 line_first : (spare : ℕ) (text rest : List ℕ) → IsLine text → length text + 1 ≤ spare → head_of spare (text ++ 10 ∷ rest) ≡ line text rest
 line_first spare text rest is fits =
     let bytes : List ℕ = text ++ 10 ∷ rest in
-    let long : length bytes ≡ length text + (1 + length rest) = length-append text (10 ∷ rest) in
+    let long : length bytes ≡ length text + suc (length rest) = length-append text (10 ∷ rest) in
     let within = line_end_in spare bytes in
     let found = end_of_line text rest is.whole in
     let size : length text ≡ line_end (take spare bytes) = omega (arith, within, found) in
@@ -80,7 +80,10 @@ pub goes_lines : (texts : List (List ℕ)) (spare : ℕ) (rest : List ℕ) (end 
     → goes spare (with_newlines texts ++ rest) end number w
     ≡ come_to (after (map answer texts) w) number (λ v. goes (spare - length (with_newlines texts)) rest end (length texts + number) v)
 unfolding after
-goes_lines [] spare rest end number w are fits = let all : spare ≡ spare - 0 = omega arith in ap (λ (n : ℕ). goes n rest end number w) all
+goes_lines [] spare rest end number w are fits =
+    let all : spare ≡ spare - 0 = omega arith in
+    let first : number ≡ 0 + number = omega arith in
+    ap (λ (n : ℕ). goes n rest end number w) all ∙ ap (λ (n : ℕ). goes (spare - 0) rest end n w) first
 goes_lines (text ∷ texts) spare rest end number w are fits =
     let behind-it : List ℕ = with_newlines texts ++ rest in
     let parts : with_newlines (text ∷ texts) ++ rest ≡ text ++ 10 ∷ behind-it =
