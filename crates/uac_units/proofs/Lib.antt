@@ -1,3 +1,4 @@
+pub mod LanesLemmas
 pub mod Listing
 pub mod Mixing
 pub mod Samples

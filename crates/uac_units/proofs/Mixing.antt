@@ -1,12 +1,16 @@
 -- The sum of a mixer, input by input.
-use Rattle.std.proofs.Common.{◌≡◌, ◌∙◌, ap, arith, ℕ, ◌+◌, ◌*◌, ℤ, pos, ◌+ℤ◌, ◌≤◌, ◌<◌, unsigned_abs, to_z, of_z, w32, w64, List, [], ◌∷◌, map}
+use Rattle.std.proofs.Common.{◌≡◌, ◌∙◌, ap, arith, ℕ, ◌+◌, ◌*◌, ℤ, pos, ◌+ℤ◌, ◌≤◌, ◌<◌, ◌^◌, sym, zero, suc, unsigned_abs, to_z, of_z, w32, w64, slice_index, List, [], ◌∷◌, map}
 use lib.Signed.{mag}
 use Rattle.std.specs.List.{fold, range_with_len}
 use Rattle.std.proofs.lemmas.List.Sums.{fold-append}
 use Rattle.std.proofs.lemmas.List.FromFn.{map-range_with_len_more}
 use Rattle.std.proofs.lemmas.Int.{ints}
 use Rattle.uac_units.specs.declared.jobs.Job.{Job}
-use Rattle.uac_units.specs.Rendering.{gained}
+use Rattle.std.specs.Simd.Lanes.{Each1, zip2}
+use Rattle.uac_units.specs.Lanes.{HasRoom, eight}
+use Rattle.uac_units.specs.Rendering.{gained, input}
+use Rattle.uac_gain.specs.Gain.{floored}
+use Rattle.uac_units.proofs.LanesLemmas.{saturated-mag, eight-same, eight-each}
 
 -- one input, scaled by the gain of its node
 abbrev pub node : Job → List ℤ → ℕ → ℕ → ℤ
@@ -29,3 +33,31 @@ sum_fits sum sample at small few fits = omega (arith, ints)
 pub sum-bound : (sum sample : ℤ) (at : ℕ) → unsigned_abs sum ≤ 2147483648 * at → mag sample < 2147483648
     → unsigned_abs (sum +ℤ sample) ≤ 2147483648 * (at + 1)
 sum-bound sum sample at small fits = omega (arith, ints)
+
+-- ---- in lanes
+
+pub mixed-bound : (job : Job) (pins : List ℤ) (channel n : ℕ) → unsigned_abs (mixed_front job pins channel n) ≤ 2147483648 * n
+mixed-bound job pins channel zero = omega (arith, ints)
+mixed-bound job pins channel (suc n) =
+    let sum = mixed_front job pins channel n in
+    let sample = node job pins channel n in
+    let fits : mag sample < 2147483648 = saturated-mag (floored (input pins n) (slice_index job.gains.items (n * job.outputs + channel))) in
+    let next : suc n ≡ n + 1 = omega arith in
+    let more : unsigned_abs (mixed_front job pins channel (suc n)) ≡ unsigned_abs (sum +ℤ sample) =
+    ap (λ k. unsigned_abs (mixed_front job pins channel k)) next ∙ ap unsigned_abs (mixed_front_more job pins channel n) in
+    let bound = sum-bound sum sample n (mixed-bound job pins channel n) fits in
+    omega (arith, more, bound)
+
+pub mixed-room : (job : Job) (pins : List ℤ) (from at : ℕ) → at ≤ 256 → Each1 HasRoom (eight (λ lane. mixed_front job pins (from + lane) at))
+mixed-room job pins from at few =
+    eight-each HasRoom (λ lane. mixed_front job pins (from + lane) at)
+    (λ lane. let bound = mixed-bound job pins (from + lane) at in omega (arith, bound))
+
+-- eight sums and the samples of one more input
+pub lanes-more : (job : Job) (pins : List ℤ) (from at : ℕ) (sums samples : List ℤ) → sums ≡ eight (λ lane. mixed_front job pins (from + lane) at)
+    → samples ≡ eight (λ lane. node job pins (from + lane) at) → zip2 (λ s x. s +ℤ x) sums samples ≡ eight (λ lane. mixed_front job pins (from + lane) (at + 1))
+lanes-more job pins from at sums samples e f =
+    ap (λ ss. zip2 (λ s x. s +ℤ x) ss samples) e
+    ∙ ap (λ xs. zip2 (λ s x. s +ℤ x) (eight (λ lane. mixed_front job pins (from + lane) at)) xs) f
+    ∙ eight-same (λ lane. mixed_front job pins (from + lane) at +ℤ node job pins (from + lane) at) (λ lane. mixed_front job pins (from + lane) (at + 1))
+    (λ lane. sym (mixed_front_more job pins (from + lane) at))

@@ -1,4 +1,5 @@
 pub mod Fitting
 pub mod Hearing
+pub mod Lanes
 pub mod Panel
 pub mod Rendering

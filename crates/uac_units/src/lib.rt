@@ -2,8 +2,10 @@
 #![tactic(auto)]
 
 mod counting;
+mod eights;
 mod hearing;
 mod jobs;
+mod lanes;
 pub mod laws;
 mod panel;
 mod plain;
@@ -14,6 +16,7 @@ mod tallies;
 pub use counting::Steps;
 pub use hearing::{Meter, MeterKind};
 pub use jobs::{Job, Pins, UnitKind};
+pub use lanes::{LaneEffect, LaneFeature, LaneMixer, LaneSelector};
 pub use panel::Meters;
 pub use plain::{PlainEffect, PlainFeature, PlainMixer, PlainSelector};
 pub use rendering::Unit;

@@ -89,7 +89,7 @@ fn render_as(kind: UnitKind, job: &Job, pins: &Pins, out: &mut Frame, steps: &mu
 }
 
 /// The sample of one output channel of a unit of that kind.
-fn sample_of(kind: UnitKind, job: &Job, pins: &Pins, channel: usize) -> i32
+pub(crate) fn sample_of(kind: UnitKind, job: &Job, pins: &Pins, channel: usize) -> i32
     requires fits { FitsKind kind job.now pins.now.items }
     requires inside { channel < job.now.outputs }
     ensures { result ≡ pins_sample kind job.now pins.now.items channel }

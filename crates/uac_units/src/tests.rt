@@ -161,3 +161,34 @@ fn meters_hear_the_most_negative_sample(rt: HostRuntime) -> Result<(), Fail> {
     }
     Ok(())
 }
+
+#[test]
+fn lanes_and_the_rest(rt: HostRuntime) {
+    let mut steps = Steps::new();
+    let pins = make_pins(&[1073741824; 9]);
+    let gains = [
+        DOWN, FULL, DOWN, FULL, DOWN, FULL, DOWN, FULL, DOWN, FULL, DOWN, FULL, DOWN, FULL, DOWN,
+        FULL, DOWN, FULL,
+    ];
+    let scaled = play(&LaneFeature, &make_job(9, 0, &gains), &pins, &mut steps);
+    assert_eq!(rt; scaled.as_slice(), [956973408; 9].as_slice());
+}
+
+#[test]
+fn plain_and_lane_mixers_agree(rt: HostRuntime) {
+    let mut samples = [0i32; 16];
+    for at in 0..16usize {
+        samples[at] = at as i32 * 130000000 - 1000000000;
+    }
+    let mut gains = [0u32; 256];
+    for at in 0..256usize {
+        gains[at] = 1073741824 + (at as u32 * 77 % 251) * 12000000;
+    }
+    let mut steps = Steps::new();
+    let pins = make_pins(&samples);
+    let job = make_job(16, 0, &gains);
+    let plain = play(&PlainMixer, &job, &pins, &mut steps);
+    let lanes = play(&LaneMixer, &job, &pins, &mut steps);
+    assert_eq!(rt; plain.len(), 16);
+    assert_eq!(rt; plain.as_slice(), lanes.as_slice());
+}

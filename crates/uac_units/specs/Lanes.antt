@@ -1,0 +1,22 @@
+-- Samples and gains in eight lanes (profile: the arithmetic of units, as in Rendering).
+use Rattle.std.specs.Prelude.{ℕ, ◌^◌, ℤ, pos, ◌*ℤ◌, ◌≤ℤ◌, ◌<ℤ◌, ◌≤◌, unsigned_abs, List, [], ◌∷◌}
+use Rattle.uac_gain.specs.Gain.{floor_div, saturated}
+
+-- what stands in each of eight lanes
+abbrev pub eight : (ℕ → ℤ) → List ℤ
+eight lane = lane 0 ∷ lane 1 ∷ lane 2 ∷ lane 3 ∷ lane 4 ∷ lane 5 ∷ lane 6 ∷ lane 7 ∷ []
+
+-- a gain, in parts of 2^30, as a lane has it
+abbrev pub IsGain : ℤ → Type 0
+IsGain gain = (pos 0 ≤ℤ gain) × (gain <ℤ pos 4294967296)
+
+-- a sum to which a sample can be added in 64 bits
+abbrev pub HasRoom : ℤ → Type 0
+HasRoom sum = unsigned_abs sum ≤ 2 ^ 40
+
+-- a sample scaled by a lane's gain, before and after it is held to 32 bits
+abbrev pub floored_by : ℤ → ℤ → ℤ
+floored_by sample gain = floor_div (sample *ℤ gain) (2 ^ 30)
+
+abbrev pub scaled_by : ℤ → ℤ → ℤ
+scaled_by sample gain = saturated (floored_by sample gain)

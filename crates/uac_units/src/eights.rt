@@ -1,0 +1,117 @@
+//! Samples and gains, eight lanes at a time.
+
+ghost use Rattle.std.specs.Prelude.{◌≡◌, ◌+◌, ◌*◌, ◌^◌, ◌<◌, ◌≤◌, pos, ◌+ℤ◌, length, map, slice_index, FitsSigned};
+ghost use Rattle.std.specs.Int.{w32, w64};
+ghost use Rattle.std.specs.Simd.Lanes.{Each1, zip2};
+ghost use Rattle.uac_gain.specs.Gain.{saturated};
+ghost use Rattle.uac_units.specs.Lanes.{HasRoom, IsGain, eight, floored_by, scaled_by};
+ghost use Rattle.uac_units.specs.Rendering.{input};
+
+use crate::jobs::{Job, Pins};
+use std::simd::prelude::*;
+
+/// Eight samples, each scaled by the gain in its lane and held to 32 bits.
+pub(crate) fn scale_eight(samples: i64x8, gains: i64x8) -> i64x8
+    requires lanes { (length samples ≡ 8) × (length gains ≡ 8) }
+    requires samples { Each1 (FitsSigned w32) samples }
+    requires gains { Each1 IsGain gains }
+    ensures lanes { result ≡ zip2 scaled_by samples gains }
+    ensures fits { Each1 (FitsSigned w32) result }
+{
+    saturate_eight(multiply_eight(samples, gains))
+}
+
+/// Eight samples, each times the gain in its lane, rounded towards minus infinity.
+fn multiply_eight(samples: i64x8, gains: i64x8) -> i64x8
+    requires lanes { (length samples ≡ 8) × (length gains ≡ 8) }
+    requires samples { Each1 (FitsSigned w32) samples }
+    requires gains { Each1 IsGain gains }
+    ensures lanes { result ≡ zip2 floored_by samples gains }
+    ensures fits { Each1 (FitsSigned w64) result }
+{
+    samples.strict_mul(gains) >> 30
+}
+
+/// Eight sums, each held to 32 bits.
+pub(crate) fn saturate_eight(sums: i64x8) -> i64x8
+    requires lanes { length sums ≡ 8 }
+    requires fits { Each1 (FitsSigned w64) sums }
+    ensures lanes { result ≡ map saturated sums }
+    ensures fits { Each1 (FitsSigned w32) result }
+{
+    sums.simd_clamp(i64x8::splat(i32::MIN as i64), i64x8::splat(i32::MAX as i64))
+}
+
+/// Eight sums, each with the sample in its lane added.
+pub(crate) fn add_eight(sums: i64x8, samples: i64x8) -> i64x8
+    requires lanes { (length sums ≡ 8) × (length samples ≡ 8) }
+    requires room { Each1 HasRoom sums }
+    requires samples { Each1 (FitsSigned w32) samples }
+    ensures lanes { result ≡ zip2 ◌+ℤ◌ sums samples }
+    ensures fits { Each1 (FitsSigned w64) result }
+{
+    sums.strict_add(samples)
+}
+
+/// Eight input channels from that one on.
+pub(crate) fn eight_inputs(pins: &Pins, from: usize) -> i64x8
+    requires { (from < 2 ^ 32) × (from + 8 ≤ length pins.now.items) }
+    ensures lanes { result ≡ eight (λ lane. input pins.now.items (from + lane)) }
+    ensures fits { Each1 (FitsSigned w32) result }
+{
+    i64x8::from_array([
+        wide_input(pins, from),
+        wide_input(pins, from + 1),
+        wide_input(pins, from + 2),
+        wide_input(pins, from + 3),
+        wide_input(pins, from + 4),
+        wide_input(pins, from + 5),
+        wide_input(pins, from + 6),
+        wide_input(pins, from + 7),
+    ])
+}
+
+/// An input channel in all eight lanes.
+pub(crate) fn one_input(pins: &Pins, at: usize) -> i64x8
+    requires { at < length pins.now.items }
+    ensures lanes { result ≡ eight (λ _. input pins.now.items at) }
+    ensures fits { Each1 (FitsSigned w32) result }
+{
+    i64x8::splat(wide_input(pins, at))
+}
+
+/// An input channel in 64 bits.
+fn wide_input(pins: &Pins, at: usize) -> i64
+    requires { at < length pins.now.items }
+    ensures value { result ≡ input pins.now.items at }
+    ensures fits { FitsSigned w32 result }
+{
+    pins[at] as i64
+}
+
+/// Eight gains from that one on, so far apart.
+pub(crate) fn eight_gains(job: &Job, from: usize, apart: usize) -> i64x8
+    requires { (apart ≤ 2) × (from + 7 * apart < length job.now.gains.items) }
+    ensures lanes { result ≡ eight (λ lane. pos (slice_index job.now.gains.items (from + lane * apart))) }
+    ensures gains { Each1 IsGain result }
+{
+    i64x8::from_array([
+        job.gains[from] as i64,
+        job.gains[from + apart] as i64,
+        job.gains[from + 2 * apart] as i64,
+        job.gains[from + 3 * apart] as i64,
+        job.gains[from + 4 * apart] as i64,
+        job.gains[from + 5 * apart] as i64,
+        job.gains[from + 6 * apart] as i64,
+        job.gains[from + 7 * apart] as i64,
+    ])
+}
+
+/// Eight samples of 32 bits, in lanes of that width.
+pub(crate) fn narrow_eight(samples: i64x8) -> i32x8
+    requires lanes { length samples ≡ 8 }
+    requires fits { Each1 (FitsSigned w32) samples }
+    ensures { result ≡ samples }
+{
+    samples.cast::<i32>()
+}

@@ -1,0 +1,152 @@
+//! The units on vectors of eight lanes: whole eights of channels at a time, and the rest one after the other.
+
+ghost use Rattle.std.specs.Prelude.{◌≡◌, ◌+◌, ◌*◌, ◌/◌, ◌^◌, ◌<◌, ◌≤◌, map};
+ghost use Rattle.std.specs.List.{range_with_len};
+ghost use Rattle.std.specs.Prelude.{FitsSigned};
+ghost use Rattle.std.specs.Int.{w32};
+ghost use Rattle.std.specs.Simd.Lanes.{Each1};
+ghost use Rattle.uac_units.specs.declared.jobs.UnitKind.TheVariants.{Mixer, Selector, Feature, Effect};
+ghost use Rattle.uac_units.specs.Lanes.{eight};
+ghost use Rattle.uac_units.specs.Rendering.{FitsKind, pins_sample, rendered};
+
+use crate::counting::Steps;
+use crate::eights::{
+    add_eight, eight_gains, eight_inputs, narrow_eight, one_input, saturate_eight, scale_eight,
+};
+use crate::jobs::{Job, Pins, UnitKind};
+use crate::plain::sample_of;
+use crate::rendering::Unit;
+use std::simd::prelude::*;
+use uac_pcm::Frame;
+
+/// A mixer (Audio Class 2.0, 3.13.3) on eight lanes.
+#[derive(Drop)]
+pub struct LaneMixer;
+
+/// A selector (Audio Class 2.0, 3.13.4) on eight lanes.
+#[derive(Drop)]
+pub struct LaneSelector;
+
+/// A feature (Audio Class 2.0, 3.13.5) on eight lanes.
+#[derive(Drop)]
+pub struct LaneFeature;
+
+/// An effect (Audio Class 2.0, 3.13.7), bypassed, on eight lanes.
+#[derive(Drop)]
+pub struct LaneEffect;
+
+impl Unit for LaneMixer {
+    ghost kind_of = { λ _. Mixer };
+
+    fn kind(&self) -> UnitKind {
+        UnitKind::Mixer
+    }
+
+    fn render(&self, job: &Job, pins: &Pins, out: &mut Frame, steps: &mut Steps) {
+        render_by_lanes(UnitKind::Mixer, job, pins, out, steps);
+    }
+}
+
+impl Unit for LaneSelector {
+    ghost kind_of = { λ _. Selector };
+
+    fn kind(&self) -> UnitKind {
+        UnitKind::Selector
+    }
+
+    fn render(&self, job: &Job, pins: &Pins, out: &mut Frame, steps: &mut Steps) {
+        render_by_lanes(UnitKind::Selector, job, pins, out, steps);
+    }
+}
+
+impl Unit for LaneFeature {
+    ghost kind_of = { λ _. Feature };
+
+    fn kind(&self) -> UnitKind {
+        UnitKind::Feature
+    }
+
+    fn render(&self, job: &Job, pins: &Pins, out: &mut Frame, steps: &mut Steps) {
+        render_by_lanes(UnitKind::Feature, job, pins, out, steps);
+    }
+}
+
+impl Unit for LaneEffect {
+    ghost kind_of = { λ _. Effect };
+
+    fn kind(&self) -> UnitKind {
+        UnitKind::Effect
+    }
+
+    fn render(&self, job: &Job, pins: &Pins, out: &mut Frame, steps: &mut Steps) {
+        render_by_lanes(UnitKind::Effect, job, pins, out, steps);
+    }
+}
+
+/// Makes `out` the samples of a unit of that kind, and counts one render.
+fn render_by_lanes(kind: UnitKind, job: &Job, pins: &Pins, out: &mut Frame, steps: &mut Steps)
+    requires fits { FitsKind kind job.now pins.now.items }
+    requires room { steps.old + 1 < 2 ^ 64 }
+    ensures samples { out.new.items ≡ rendered kind job.now pins.now.items }
+    ensures counted { steps.new ≡ steps.old + 1 }
+{
+    render_eights(kind, job, pins, out);
+    for channel in job.outputs as usize / 8 * 8..job.outputs as usize {
+        out.push(sample_of(kind, job, pins, channel));
+    }
+    steps.tick();
+}
+
+/// Makes `out` the samples of the output channels that come in whole eights.
+fn render_eights(kind: UnitKind, job: &Job, pins: &Pins, out: &mut Frame)
+    requires { FitsKind kind job.now pins.now.items }
+    ensures { out.new.items ≡ map (pins_sample kind job.now pins.now.items) (range_with_len 0 (job.now.outputs / 8 * 8)) }
+{
+    out.clear();
+    for block in 0..job.outputs as usize / 8 {
+        let samples = narrow_eight(eight_of(kind, job, pins, 8 * block)).to_array();
+        let _ = out.try_extend_from_slice(&samples);
+    }
+}
+
+/// The samples of eight output channels, from that one on, of a unit of that kind.
+fn eight_of(kind: UnitKind, job: &Job, pins: &Pins, from: usize) -> i64x8
+    requires fits { FitsKind kind job.now pins.now.items }
+    requires inside { from + 8 ≤ job.now.outputs }
+    ensures lanes { result ≡ eight (λ lane. pins_sample kind job.now pins.now.items (from + lane)) }
+    ensures narrow { Each1 (FitsSigned w32) result }
+{
+    match kind {
+        UnitKind::Mixer => mix_eight(job, pins, from),
+        UnitKind::Selector => eight_inputs(pins, job.pin as usize * job.outputs as usize + from),
+        UnitKind::Feature => feature_eight(job, pins, from),
+        UnitKind::Effect => eight_inputs(pins, from),
+    }
+}
+
+/// Eight channels of a feature, each scaled by its own gain and then by the master's.
+fn feature_eight(job: &Job, pins: &Pins, from: usize) -> i64x8
+    requires fits { FitsKind Feature job.now pins.now.items }
+    requires inside { from + 8 ≤ job.now.outputs }
+    ensures lanes { result ≡ eight (λ lane. pins_sample Feature job.now pins.now.items (from + lane)) }
+    ensures narrow { Each1 (FitsSigned w32) result }
+{
+    let own = scale_eight(eight_inputs(pins, from), eight_gains(job, 2 * from, 2));
+    scale_eight(own, eight_gains(job, 2 * from + 1, 2))
+}
+
+/// Eight outputs of a mixer: the saturated sums of all inputs, each scaled by the gain of its node.
+fn mix_eight(job: &Job, pins: &Pins, from: usize) -> i64x8
+    requires fits { FitsKind Mixer job.now pins.now.items }
+    requires inside { from + 8 ≤ job.now.outputs }
+    ensures lanes { result ≡ eight (λ lane. pins_sample Mixer job.now pins.now.items (from + lane)) }
+    ensures narrow { Each1 (FitsSigned w32) result }
+{
+    let outputs = job.outputs as usize;
+    let mut sums = i64x8::splat(0);
+    for at in 0..pins.len() {
+        let gains = eight_gains(job, at * outputs + from, 1);
+        sums = add_eight(sums, scale_eight(one_input(pins, at), gains));
+    }
+    saturate_eight(sums)
+}
