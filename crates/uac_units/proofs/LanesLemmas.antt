@@ -1,5 +1,5 @@
 -- Products, shifts and saturation, lane by lane.
-use Rattle.std.proofs.Common.{◌≡◌, ◌∙◌, refl, ap, arith, ℕ, zero, suc, ◌^◌, ◌*◌, ◌≤◌, ◌<◌, ◌/◌, ℤ, pos, negsuc, neg_ℤ, ◌*ℤ◌, ◌+ℤ◌, ◌+◌, ◌++◌, unsigned_abs, to_z, of_z, w64, w32, List, [], ◌∷◌, length, map, Bool, true, false, FitsSigned, sym, subst}
+use Rattle.std.proofs.Common.{◌≡◌, ◌∙◌, refl, ap, arith, ℕ, zero, suc, ◌^◌, ◌*◌, ◌≤◌, ◌<◌, ℤ, pos, negsuc, neg_ℤ, ◌*ℤ◌, ◌+ℤ◌, ◌+◌, ◌++◌, unsigned_abs, to_z, of_z, w64, w32, List, [], ◌∷◌, length, map, Bool, true, false, FitsSigned, sym, subst}
 use lib.Signed.{mag, shr_z, lt_z}
 use mathlib.Core.Bool.{cond}
 use Rattle.std.proofs.lemmas.Int.{ints, to_z-of_z}

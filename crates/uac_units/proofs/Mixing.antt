@@ -1,5 +1,5 @@
 -- The sum of a mixer, input by input.
-use Rattle.std.proofs.Common.{◌≡◌, ◌∙◌, ap, arith, ℕ, ◌+◌, ◌*◌, ℤ, pos, ◌+ℤ◌, ◌≤◌, ◌<◌, ◌^◌, sym, zero, suc, unsigned_abs, to_z, of_z, w32, w64, slice_index, List, [], ◌∷◌, map}
+use Rattle.std.proofs.Common.{◌≡◌, ◌∙◌, ap, arith, ℕ, ◌+◌, ◌*◌, ℤ, pos, ◌+ℤ◌, ◌≤◌, ◌<◌, sym, zero, suc, unsigned_abs, to_z, of_z, w32, w64, slice_index, List, [], ◌∷◌, map}
 use lib.Signed.{mag}
 use Rattle.std.specs.List.{fold, range_with_len}
 use Rattle.std.proofs.lemmas.List.Sums.{fold-append}

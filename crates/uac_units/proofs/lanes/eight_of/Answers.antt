@@ -1,6 +1,5 @@
-use Rattle.std.proofs.Common.{◌≡◌, ◌*◌, ◌+◌, ◌≤◌, arith, length, subst}
+use Rattle.std.proofs.Common.{◌*◌, ◌+◌, ◌≤◌, arith, length, subst}
 use Rattle.std.proofs.Math.Nat.{mul-le-mul_left}
-use Rattle.uac_units.specs.declared.jobs.UnitKind.TheVariants.{Selector}
 use Rattle.uac_units.specs.Rendering.{FitsNumbers}
 use Rattle.uac_units.proofs.lanes.eight_of.Goals as goal
 
