@@ -11,11 +11,11 @@ use crate::top::{Racks, uac_main};
 use std::alloc::{AllocError, Global};
 use uac_edges::{Sink, Source};
 use uac_units::{
-    ClippedMeter, Meter, Meters, PeakMeter, PlainEffect, PlainFeature, PlainMixer, PlainSelector,
-    Rack, SumMeter, Unit,
+    ClippedMeter, LaneEffect, LaneFeature, LaneMixer, LaneSelector, Meter, Meters, PeakMeter,
+    PlainEffect, PlainFeature, PlainMixer, PlainSelector, Rack, SumMeter, Unit,
 };
 
-/// Runs the program with two racks of plain units and with three meters, for which there may be no memory.
+/// Runs the program with a rack of plain units, one of units on eight lanes, and three meters, for which there may be no memory.
 pub fn run_in_boxes<S: Source, K: Sink>(
     alloc: Global,
     words: &[String],
@@ -46,10 +46,10 @@ pub fn run_in_boxes<S: Source, K: Sink>(
             Box::new(alloc, PlainEffect)?,
         ),
         lanes: Rack::new(
-            Box::new(alloc, PlainMixer)?,
-            Box::new(alloc, PlainSelector)?,
-            Box::new(alloc, PlainFeature)?,
-            Box::new(alloc, PlainEffect)?,
+            Box::new(alloc, LaneMixer)?,
+            Box::new(alloc, LaneSelector)?,
+            Box::new(alloc, LaneFeature)?,
+            Box::new(alloc, LaneEffect)?,
         ),
     };
     run_with_racks(alloc, words, source, sink, &racks)
