@@ -7,7 +7,7 @@ use Rattle.std.proofs.lemmas.List.{drop_all}
 use Rattle.uac_pcm.specs.declared.tones.Tone.{Tone}
 use Rattle.uac_units.specs.Hearing.{Reading, held}
 use Rattle.uac_device.specs.Kept as device
-use Rattle.uac_device.specs.World.{DeviceWorld, advanced, after_frames, deviated, heard_of, next_ticks, set_jack, step_in, ticked}
+use Rattle.uac_device.specs.World.{DeviceWorld, advanced, after_frames, deviated, heard_of, next_ticks, renders_of, set_jack, step_in, ticked}
 use Rattle.uac_script.specs.Phrase.{Loss}
 use Rattle.uac_transcript.specs.Printing.{Prints}
 use Rattle.uac_running.specs.declared.counts.TickCount.{TickCount}

@@ -1,5 +1,6 @@
-use Rattle.std.proofs.Common.{◌∙◌, ◌+◌, ap, sym, subst, refl, zero-add}
-use Rattle.uac_device.specs.World.{renders_of}
+use Rattle.std.proofs.Common.{◌≡◌, ◌∙◌, ◌+◌, ap, sym, subst, refl, zero-add}
+use Rattle.uac_device.specs.Kept as device
+use Rattle.uac_device.specs.World.{DeviceWorld, renders_of}
 use Rattle.uac_units.specs.Panel.{readings}
 use Rattle.uac_running.specs.Events.{after_one, gone_on}
 use Rattle.uac_running.specs.Kept.{RunningFields, Stands}
@@ -26,6 +27,7 @@ returns-clause-stands g c r stands =
     let jacks = turned_back (after_one c.args.clock) c.self.inside.jacks.len c.self.inside.jacks.items c.deref_mut.result.now c.give_jacks.new.jacks
     c.give_jacks.ensures.jacks c.deref_mut.ensures.value c.deref_mut.ensures.len in
     let own = subst (λ (p : RunningFields). Stands p shown r) (sym c.self.view_is) stands in
-    let rendered = λ w kept. c.count.ensures ∙ c.tick-ticked.ensures.once w kept ∙ ap (λ n. n + renders_of c.args.clock w) c.new-steps.ensures ∙ zero-add (renders_of c.args.clock w) in
+    let rendered : (w : DeviceWorld) → device.Stands c.give_jacks.new.device w → c.count.result ≡ renders_of c.args.clock w =
+        λ w kept. c.count.ensures ∙ c.tick-ticked.ensures.once w kept ∙ ap (λ n. n + renders_of c.args.clock w) c.new-steps.ensures ∙ zero-add (renders_of c.args.clock w) in
     sounded c.args.clock c.count.result shown showing r (the_view c.self.inside) _ c.deref_mut.result.now c.give_jacks.new.device own c.deref_mut.ensures.value
-    c.give_jacks.ensures.stands c.tick-ticked.ensures.stands c.tick-ticked.ensures.heard rendered (jacks ∙ ap (gone_on c.args.clock) (sym c.deref_mut.ensures.value)) refl refl refl refl c.saturating_add.ensures
+    c.give_jacks.ensures.stands c.tick-ticked.ensures.stands c.tick-ticked.ensures.heard rendered (jacks ∙ ap (gone_on c.args.clock) (sym c.deref_mut.ensures.value)) refl refl refl refl c.saturating_add-self-inside.ensures
