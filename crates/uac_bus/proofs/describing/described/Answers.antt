@@ -1,3 +1,5 @@
+use Rattle.std.proofs.Common.{subst, sym}
+use Rattle.uac_descriptor.specs.WellFormed.{AreWellFormed}
 use Rattle.uac_bus.proofs.Described.{described_well, described_broken}
 use Rattle.uac_bus.proofs.describing.described.Goals as goal
 
@@ -8,3 +10,7 @@ returns-in-Ok-check c =
 pub returns-in-Err-Fault : goal.returns-in-Err-Fault
 returns-in-Err-Fault c =
     described_broken _ _ _ _ c.in-Ok.ensures.sentence c.in-Ok.ensures.no_fault c.as_slice.ensures.value (rw c.in-Err-Fault.field-0-is at c.in-Err-Fault.ensures.broken)
+
+pub check-requires : goal.check-requires
+check-requires c =
+    subst AreWellFormed (sym c.as_slice.ensures.value) (c.sentences_are_well_formed.ensures c.args.reader.taken c.in-Ok.blocks.items c.in-Ok.ensures.sentence)

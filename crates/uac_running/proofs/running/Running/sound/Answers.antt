@@ -28,6 +28,6 @@ returns-clause-stands g c r stands =
     c.give_jacks.ensures.jacks c.deref_mut.ensures.value c.deref_mut.ensures.len in
     let own = subst (λ (p : RunningFields). Stands p shown r) (sym c.self.view_is) stands in
     let rendered : (w : DeviceWorld) → device.Stands c.give_jacks.new.device w → c.count.result ≡ renders_of c.args.clock w =
-        λ w kept. c.count.ensures ∙ c.tick-ticked.ensures.once w kept ∙ ap (λ n. n + renders_of c.args.clock w) c.new-steps.ensures ∙ zero-add (renders_of c.args.clock w) in
+    λ w kept. c.count.ensures ∙ c.tick-ticked.ensures.once w kept ∙ ap (λ n. n + renders_of c.args.clock w) c.new-steps.ensures ∙ zero-add (renders_of c.args.clock w) in
     sounded c.args.clock c.count.result shown showing r (the_view c.self.inside) _ c.deref_mut.result.now c.give_jacks.new.device own c.deref_mut.ensures.value
     c.give_jacks.ensures.stands c.tick-ticked.ensures.stands c.tick-ticked.ensures.heard rendered (jacks ∙ ap (gone_on c.args.clock) (sym c.deref_mut.ensures.value)) refl refl refl refl c.saturating_add-self-inside.ensures
