@@ -1,3 +1,5 @@
+use Rattle.std.proofs.Common.{subst, sym}
+use Rattle.uac_descriptor.specs.WellFormed.{AreWellFormed}
 use Rattle.uac_cli.proofs.Answering.{judged_run, refused_run, failed_run}
 use Rattle.uac_cli.proofs.top.describe.Goals as goal
 
@@ -9,3 +11,8 @@ returns-in-Stopped-clause-answered g c = refused_run _ _ _ _ _ _ _ _ _ c.args.de
 
 pub returns-in-Failed-clause-answered : goal.returns-in-Failed-clause-answered
 returns-in-Failed-clause-answered g c = failed_run _ _ _ _ _ _ _ _ _ c.args.description c.in-Failed.ensures.reads c.close.ensures
+
+pub judge-requires : goal.judge-requires
+judge-requires g c =
+    let reads = c.in-Whole.ensures.reads in
+    subst AreWellFormed (sym c.deref.ensures.value) (c.sentences_are_well_formed.ensures reads.taken c.in-Whole.blocks.items reads.comes.1)
