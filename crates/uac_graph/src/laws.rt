@@ -26,9 +26,12 @@ pub fn sound_functions_have_a_graph()
     ensures { (function : FunctionFields) → IsSoundFunction function → IsSignalGraph function.entities }
 {}
 
-/// A domain needs exactly the units on which one of its output terminals depends, each of them once.
-#[tactic(auto, using(crate::proofs::NeedsLemmas::needed_are, crate::proofs::NeedsLemmas::needed_apart))]
+/// On each unit that a domain needs one of its output terminals depends, in any list of entities; in a sound one these are exactly the
+/// units on which one does, each of them once.
+#[tactic(auto, using(crate::proofs::Needed::needed_depended, crate::proofs::NeedsLemmas::needed_are, crate::proofs::NeedsLemmas::needed_apart))]
 pub fn needed_units_are_depended_on()
+    ensures depended { (entities : List Entity) (domain id : ℕ) → list_any (λ n. n == id) (needed entities domain) ≡ true
+        → depended entities domain id ≡ true }
     ensures members { (entities : List Entity) (domain id : ℕ) → IsSignalGraph entities
         → list_any (λ n. n == id) (needed entities domain) ≡ (is_unit (entity entities id).kind && depended entities domain id) }
     ensures apart { (entities : List Entity) (domain : ℕ) → IsSignalGraph entities → IsDistinct nat_eq (needed entities domain) }
