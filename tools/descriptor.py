@@ -1,11 +1,6 @@
 """Blocks of a configuration descriptor, for the tools beside: cut, named and read field by field.
 
-The layouts are those of docs/DESCRIPTORS.md, and the sentences of the rules are read from docs/, where they stand once.
-Nothing here decides what is sound: that is the program's."""
-import os, re, subprocess, sys
-
-TOP = os.path.dirname(os.path.dirname(os.path.abspath(__file__)))
-PROGRAM = os.path.join(TOP, "uac_cli")
+The layouts are those of docs/DESCRIPTORS.md. Nothing here decides what is sound: that is the program's."""
 
 # The fields of each kind behind length, type and (for class blocks) subtype: a name and a number of bytes. A name that ends in * is a list.
 LAYOUTS = {
@@ -34,18 +29,14 @@ LAYOUTS = {
 CONTROL_SUBTYPES = {1: "header", 2: "input_terminal", 3: "output_terminal", 4: "mixer", 5: "selector", 6: "feature", 7: "effect",
                     10: "clock_source", 11: "clock_selector", 12: "clock_multiplier"}
 ENTITY_KINDS = [kind for kind in CONTROL_SUBTYPES.values() if kind != "header"]
-FIXED_LENGTHS = {"configuration": 9, "association": 8, "interface": 9, "endpoint": 7, "header": 9, "input_terminal": 17, "output_terminal": 12,
-                 "clock_source": 8, "clock_multiplier": 7, "general": 16, "type_one": 6, "class_endpoint": 8}
+FIXED_LENGTHS = {"configuration": 9, "association": 8, "interface": 9, "endpoint": 7, "header": 9, "input_terminal": 17,
+                 "output_terminal": 12, "clock_source": 8, "clock_multiplier": 7, "general": 16, "type_one": 6, "class_endpoint": 8}
 # The spatial locations of a cluster, from bit 0 on (Audio Class 2.0, 4.1).
-LOCATIONS = ("front left, front right, front center, low frequency, back left, back right, front left of center, front right of center, back center, "
-             "side left, side right, top center, top front left, top front center, top front right, top back left, top back center, top back right, "
-             "top front left of center, top front right of center, left low frequency, right low frequency, top side left, top side right, "
-             "bottom center, back left of center, back right of center").split(", ")
-RATES = (8000, 11025, 16000, 22050, 32000, 44100, 48000, 64000, 88200, 96000, 176400, 192000)
-
-
-class Refused(Exception):
-    """What stands in the way, as one sentence."""
+LOCATIONS = ("front left, front right, front center, low frequency, back left, back right, front left of center, "
+             "front right of center, back center, side left, side right, top center, top front left, top front center, "
+             "top front right, top back left, top back center, top back right, top front left of center, top front right of center, "
+             "left low frequency, right low frequency, top side left, top side right, bottom center, back left of center, "
+             "back right of center").split(", ")
 
 
 class Block:
@@ -127,57 +118,27 @@ def cut(data):
     return blocks, data[place:]
 
 
-def rules():
-    """Each rule's sentence, by its name, from the tables in docs/."""
-    found = {}
-    for page in ("DESCRIPTORS.md", "TOPOLOGY.md"):
-        column = None
-        with open(os.path.join(TOP, "docs", page), encoding="utf-8") as file:
-            for line in file:
-                cells = [cell.strip() for cell in line.strip().strip("|").split("|")]
-                if "In our own words" in cells:
-                    column = cells.index("In our own words")
-                elif column is not None and re.match(r"[GU]\d", cells[0]) and len(cells) > column:
-                    for name in re.findall(r"[GU]\d+", cells[0]):
-                        found[name] = cells[column]
-                elif not line.startswith("|"):
-                    column = None
+def is_streaming(block):
+    """Whether an interface block begins a streaming interface of version 2.0."""
+    return (block["class"], block["subclass"], block["protocol"]) == (1, 2, 0x20)
+
+
+def settings_of(blocks):
+    """Each setting of a streaming interface: its number, its setting, and its blocks by kind."""
+    found, setting = [], None
+    for block in blocks:
+        if block.kind in ("interface", "association", "configuration"):
+            setting = None
+            if block.kind == "interface" and is_streaming(block):
+                setting = {"number": block["number"], "setting": block["setting"], "endpoint": []}
+                found.append(setting)
+        elif setting is not None and block.kind == "endpoint":
+            setting["endpoint"].append(block)
+        elif setting is not None and block.kind in ("general", "type_one"):
+            setting.setdefault(block.kind, block)
     return found
 
 
-def read_input(name):
-    """The bytes of a file, or of standard input for '-'."""
-    try:
-        if name == "-":
-            data = sys.stdin.buffer.read()
-        else:
-            with open(name, "rb") as file:
-                data = file.read()
-    except OSError as why:
-        raise Refused(f"{name} can't be read ({why.strerror}): a file with its bytes is wanted, as a device's folder of sysfs has it in the file 'descriptors'")
-    if not data:
-        raise Refused(f"{name} is empty")
-    return data
-
-
-def ask(command, data):
-    """What the program answers: its lines and its status."""
-    done = subprocess.run([PROGRAM, command], input=data, stdout=subprocess.PIPE)
-    if done.returncode == 70:
-        raise Refused("the program could not be built; its own words stand above")
-    return done.stdout.decode("ascii").splitlines(), done.returncode
-
-
-def main_of(main, doc):
-    """Runs a tool: --help, and refusals as one sentence on standard error."""
-    if any(word in ("-h", "--help") for word in sys.argv[1:]):
-        print(doc)
-        return 0
-    try:
-        return main(sys.argv[1:])
-    except Refused as why:
-        print(f"{os.path.basename(sys.argv[0])}: {why}", file=sys.stderr)
-        return 1
-    except BrokenPipeError:
-        sys.stderr.close()
-        return 0
+def entities_of(blocks):
+    """The entities by their ids."""
+    return {block["id"]: block for block in blocks if block.kind in ENTITY_KINDS}

@@ -1,0 +1,145 @@
+"""The controls of entities: their names, their bytes, their ranges and the rates that clocks can give, by docs/CONTROLS.md.
+
+The numbers here are the profile's, told for people: which request is answered how is the program's to say."""
+from descriptor import entities_of
+
+RATES = (8000, 11025, 16000, 22050, 32000, 44100, 48000, 64000, 88200, 96000, 176400, 192000)
+# The most frames that a microframe can bring at each rate.
+MOST_FRAMES = dict(zip(RATES, (2, 2, 3, 3, 5, 6, 7, 9, 12, 13, 23, 25)))
+START_RATE = 48000
+VOLUMES = "-96 to -33 dB by 1, -32 to +12 dB by 0.5, or silence"
+ACCESS = ("absent", "read-only", "not allowed", "host-programmable")
+
+
+class Control:
+    """A control of a kind of entity: its selector, its name, the name of its element (None where it keeps no value), the place of its
+    two bits, its bytes, and whether its values may be below 0."""
+
+    def __init__(self, selector, name, element, bits, width, signed=False):
+        self.selector, self.name, self.element, self.bits, self.width, self.signed = selector, name, element, bits, width, signed
+
+    def value_of(self, data):
+        return int.from_bytes(data, "little", signed=self.signed)
+
+
+CONTROLS = {
+    "clock_source": [Control(1, "frequency", "rate", 0, 4), Control(2, "validity", None, 1, 1)],
+    "clock_selector": [Control(1, "selector", "clock", 0, 1)],
+    "clock_multiplier": [Control(1, "numerator", "times", 0, 2), Control(2, "denominator", "over", 1, 2)],
+    "input_terminal": [Control(2, "connector", None, 1, 6)],
+    "output_terminal": [Control(2, "connector", None, 1, 6)],
+    "mixer": [Control(1, "node", "mix", None, 2, True)],
+    "selector": [Control(1, "selector", "select", 0, 1)],
+    "feature": [Control(1, "mute", "mute", 0, 1), Control(2, "volume", "volume", 1, 2, True)],
+    "effect": [Control(1, "enable", "enable", 0, 1)],
+}
+INTERFACE_CONTROLS = {1: "active_setting", 2: "valid_settings"}
+
+
+def control_of(kind, selector):
+    """The control of a kind of entity with this selector, None where it has none."""
+    return next((control for control in CONTROLS.get(kind, []) if control.selector == selector), None)
+
+
+def words_of(block):
+    """The control words of a block, one for each channel from the master on, or its one."""
+    return block["words"] if block["words"] is not None else [block["controls"] or 0]
+
+
+def access_of(block, control, channel=0):
+    """What a host may do with a control on a channel."""
+    words = words_of(block)
+    return ACCESS[words[channel] >> 2 * control.bits & 3] if channel < len(words) else "absent"
+
+
+def is_programmable(block, selector):
+    return access_of(block, control_of(block.kind, selector)) == "host-programmable"
+
+
+def source_rates(block):
+    """The frequencies that a clock source takes: an external or fixed one has 48,000 Hz alone."""
+    return RATES if block["attributes"] & 3 in (2, 3) else (START_RATE,)
+
+
+def range_of(block, control):
+    """The values that a control takes, in words."""
+    if control.name == "frequency":
+        rates = source_rates(block)
+        return f"{START_RATE} Hz" if len(rates) == 1 else "the twelve rates"
+    if control.name == "selector":
+        return f"1 to {block['pins']}"
+    others = {"validity": "1", "numerator": "1 to 8", "denominator": "1 to 8", "connector": "-", "node": VOLUMES, "volume": VOLUMES}
+    return others.get(control.name, "0, 1")
+
+
+def rates_of(block, by_id, depth=0):
+    """The rates that a clock entity can be brought to by the controls that a host may set; a selector's are those of its pins."""
+    if block is None or depth > len(by_id):
+        return set()
+    if block.kind == "clock_source":
+        return set(source_rates(block)) if is_programmable(block, 1) else {START_RATE}
+    behind = [rates_of(by_id.get(name), by_id, depth + 1) for name in block.sources]
+    if block.kind == "clock_selector":
+        return set().union(*behind) if is_programmable(block, 1) else behind[0]
+    above = range(1, 9) if is_programmable(block, 1) else (1,)
+    below = range(1, 9) if is_programmable(block, 2) else (1,)
+    return {rate * n // d for rate in behind[0] for n in above for d in below if rate * n % d == 0} & set(RATES)
+
+
+def terminal_of(setting, blocks):
+    """The terminal to which a setting links, None where it has no format."""
+    return entities_of(blocks).get(setting["general"]["link"]) if "general" in setting else None
+
+
+def room_of(endpoint):
+    """The bytes of a packet: the size of an endpoint, times one and the additional transactions."""
+    return (endpoint["max_packet"] & 0x7FF) * (1 + (endpoint["max_packet"] >> 11 & 3))
+
+
+def service_of(endpoint):
+    """How many microframes pass from one packet, or report, to the next."""
+    return 1 << (endpoint["interval"] - 1)
+
+
+def why_format(setting, channels):
+    """Why no rate runs with a setting's format, None where nothing speaks against it."""
+    general, form = setting.get("general"), setting.get("type_one")
+    if general is None or form is None or general["format_type"] != 1 or not general["formats"] & 1:
+        return "its format isn't Type I PCM"
+    return None if general["channels"] == channels else f"it has {general['channels']} channels and its terminal {channels}"
+
+
+def why_endpoints(setting, is_out):
+    """Why no rate runs on a setting's endpoints, None where nothing speaks against it."""
+    ends = setting["endpoint"]
+    if not ends or ends[0]["attributes"] >> 2 & 3 != 1:
+        return "its first endpoint isn't asynchronous"
+    if ends[0]["interval"] > 4:
+        return "its packets come less often than every 8 microframes"
+    if not is_out:
+        return "it has a second endpoint" if len(ends) > 1 else None
+    if ends[0]["attributes"] >> 4 & 3 != 0:
+        return "its first endpoint carries feedback data"
+    if len(ends) < 2:
+        return "it has no feedback endpoint"
+    if not ends[0]["interval"] <= ends[1]["interval"] <= 4:
+        return "its reports come more often than its packets, or less often than every 8 microframes"
+    return "its feedback endpoint has less than 4 bytes" if ends[1]["max_packet"] & 0x7FF < 4 else None
+
+
+def running_rates(setting, blocks, channels):
+    """The rates of the twelve that fit a setting, and those of them that its clock can give; or why there is none."""
+    by_id, terminal = entities_of(blocks), terminal_of(setting, blocks)
+    is_out = terminal is not None and terminal.kind == "input_terminal"
+    why = why_format(setting, channels) or why_endpoints(setting, is_out)
+    if why is not None:
+        return (), (), why
+    first, frame = setting["endpoint"][0], channels * setting["type_one"]["subslot"]
+    fits = [rate for rate in RATES if service_of(first) * MOST_FRAMES[rate] * frame <= room_of(first)]
+    given = rates_of(by_id.get(terminal["clock"]), by_id)
+    if not fits:
+        least = service_of(first) * MOST_FRAMES[RATES[0]]
+        return (), (), f"its packets hold {room_of(first) // frame} frames, and {RATES[0]} Hz needs {least}"
+    both = [rate for rate in fits if rate in given]
+    named = " and ".join(str(rate) for rate in sorted(given))
+    return fits, both, None if both else f"its packets are too small for {named} Hz, which its clock gives"
