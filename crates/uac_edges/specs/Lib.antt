@@ -3,3 +3,4 @@ pub mod Faults
 pub mod Writing
 pub mod Numerals
 pub mod Memory
+pub mod Streams

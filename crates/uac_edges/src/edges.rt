@@ -1,5 +1,5 @@
 // The source of the program's bytes and the sink of its text.
-ghost use Rattle.std.specs.Prelude.{◌≡◌, ℕ, ◌<◌, ◌≤◌, List, [], length, Option, IfOk};
+ghost use Rattle.std.specs.Prelude.{◌≡◌, ℕ, ◌<◌, ◌≤◌, List, [], length, Option, IfOk, OnOk};
 ghost use Rattle.std.specs.Io.KnownBytes.{ReadConsumes, WriteAppends};
 ghost use Rattle.uac_edges.specs.Faults.{HasCause};
 ghost use Rattle.uac_edges.specs.Writing.{Writes};
@@ -19,12 +19,14 @@ pub trait Source {
 
     /// Moves the next bytes to the front of `into` and answers their number, at most the length of
     /// `into`. 0 is the end of input: a source that tells its bytes has none left then. `Failed`
-    /// comes only where the count of faults rose in this call, and then no byte is taken.
+    /// comes only where the count of faults rose in this call, and then no byte is taken; a call
+    /// that isn't `Failed` met no fault.
     fn take(&mut self, into: &mut [u8]) -> Result<usize, Failed>
         requires { 0 < length into.old }
         ensures fits { IfOk result (λ n. n ≤ length into.new) }
         ensures bytes { ReadConsumes (left self.old) (left self.new) result into.new }
-        ensures cause { HasCause (faults self.old) (faults self.new) result };
+        ensures cause { HasCause (faults self.old) (faults self.new) result }
+        ensures faultless { OnOk result (faults self.new ≡ faults self.old) };
 }
 
 /// Where text goes. It has the bytes written, where it tells them, and a count of faults that
@@ -38,20 +40,22 @@ pub trait Sink {
 
     /// Appends bytes from the front of `piece` and answers their number, at least 1 and at most
     /// the length of `piece`. `Failed` comes only where the count of faults rose in this call, and
-    /// then nothing was appended.
+    /// then nothing was appended; a call that isn't `Failed` met no fault.
     fn give(&mut self, piece: &[u8]) -> Result<usize, Failed>
         requires { 0 < length piece.now }
         ensures some { IfOk result (λ n. 0 < n) }
         ensures fits { IfOk result (λ n. n ≤ length piece.now) }
         ensures bytes { WriteAppends (written self.old) (written self.new) result piece.now }
-        ensures cause { HasCause (faults self.old) (faults self.new) result };
+        ensures cause { HasCause (faults self.old) (faults self.new) result }
+        ensures faultless { OnOk result (faults self.new ≡ faults self.old) };
 }
 
-/// Gives the whole text, piece by piece, however little each call takes. After `Failed` a front of
-/// the text was appended. An empty text gives nothing.
+/// Gives the whole text, piece by piece, however little each call takes. `Ok` means that no call
+/// met a fault. After `Failed` a front of the text was appended. An empty text gives nothing.
 pub fn give_all<K: Sink>(sink: &mut K, text: &[u8]) -> Result<(), Failed>
     ensures written { Writes (K.written sink.old) (K.written sink.new) result text.now }
     ensures cause { HasCause (K.faults sink.old) (K.faults sink.new) result }
+    ensures faultless { OnOk result (K.faults sink.new ≡ K.faults sink.old) }
     ensures empty { text.now ≡ [] → sink.new ≡ sink.old }
 {
     let mut rest = text;

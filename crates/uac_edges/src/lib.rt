@@ -9,12 +9,15 @@ mod edges;
 mod sinks;
 /// The sources in memory.
 mod sources;
+/// Any reader as a source, and any writer as a sink.
+mod streams;
 /// A line of text in a buffer of fixed size.
 mod text;
 
 pub use edges::{Failed, Sink, Source, give_all};
 pub use sinks::MemorySink;
 pub use sources::{MemorySource, SteadySource};
+pub use streams::{StdSink, StdSource};
 pub use text::TextLine;
 
 #[cfg(test)]

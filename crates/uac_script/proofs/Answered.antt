@@ -1,5 +1,5 @@
 -- What a text is answered: its line where it spells one in range, and else the first of rules S2 to S4 that it breaks.
-use Rattle.std.proofs.Common.{◌≡◌, ◌≢◌, ℕ, ◌<◌, ◌≤◌, ◌↔◌, Bool, true, false, cond, List, [], ◌∷◌, length, Option, Some, None, is_some, Result, Ok, Err, eqb, inl, inr, sym, ap, ◌∙◌, refl, subst, arith}
+use Rattle.std.proofs.Common.{◌≡◌, ◌≢◌, ℕ, ◌<◌, ◌≤◌, Bool, true, false, cond, List, [], ◌∷◌, length, Option, Some, None, is_some, Result, Ok, Err, eqb, inl, inr, sym, ap, ◌∙◌, refl, subst, arith}
 use Rattle.std.specs.List.{onto_first}
 use Rattle.std.specs.Result.{IfOk, IfErr}
 use Rattle.std.proofs.lemmas.Bool.{ne_eqb, false≢true, cond-true, cond-false}
@@ -11,7 +11,7 @@ use Rattle.std.specs.Result.{result_ok}
 use Rattle.uac_script.specs.declared.line.Line.{Line}
 use Rattle.uac_script.specs.Words.{Word, words_of, is_idle, hex_of}
 use Rattle.uac_script.specs.Phrase.{Phrase, idle, feeds, goes, controls, gets, sets, shows, breaks, appends, tracks, jacks, deviates, runs, details, reports, is_in_range}
-use Rattle.uac_script.specs.Line.{IsRow, Spells, begins_known, phrase_of, HasNoEmptyPart, Keeps, Gives, IsOutOfRange, IsMisspelt, IsUnknown}
+use Rattle.uac_script.specs.Line.{IsRow, Spells, begins_known, phrase_of, HasNoEmptyPart, Keeps, Says, IsOutOfRange, IsMisspelt, IsUnknown}
 use Rattle.uac_script.specs.Reading.{row_of, judged, judged_row, answer_of, answer, said}
 use Rattle.uac_script.proofs.Grammar.{row_sound, row_complete, row_of-letter}
 
@@ -162,20 +162,6 @@ rules_only text rule (unknown a b e) h = let x = same_rule 2 rule (sym e ∙ h) 
 rules_only text rule (misspelt a b e) h = let x = same_rule 3 rule (sym e ∙ h) in (omega arith, omega arith)
 rules_only text rule (spelt q row e) h = let x = judged_rule q (is_in_range q) rule (sym e ∙ h) in (omega arith, omega arith)
 
--- ---- the answer is the grammar's, both ways
-
-pub answer_gives : (text : List ℕ) (p : Phrase) → (answer text ≡ Ok p) ↔ (Spells text p × (is_in_range p ≡ true))
-answer_gives text p = (ok_then text p (case_of text), λ h. then_ok text p h.0 h.1)
-
-pub answer_four : (text : List ℕ) → (answer text ≡ Err 4) ↔ IsOutOfRange text
-answer_four text = (four_then text (case_of text), then_four text)
-
-pub answer_three : (text : List ℕ) → (answer text ≡ Err 3) ↔ IsMisspelt text
-answer_three text = (three_then text (case_of text), then_three text (case_of text))
-
-pub answer_two : (text : List ℕ) → (answer text ≡ Err 2) ↔ IsUnknown text
-answer_two text = (two_then text (case_of text), then_two text (case_of text))
-
 -- ---- no part of a line is empty
 
 bytes_there : (digits : Word) (bytes : List ℕ) (r : Result (List ℕ) FromHexError) → 0 < length digits → decode_of digits ≡ r → result_ok r ≡ Some bytes → bytes ≢ []
@@ -210,38 +196,32 @@ spells_there : (text : List ℕ) (p : Phrase) → Spells text p → HasNoEmptyPa
 spells_there text p (inl i) = subst HasNoEmptyPart (sym i.1) tt
 spells_there text p (inr row) = row_there (words_of text) p row
 
+-- ---- what a text says is what it is answered
+
+says_err : (text : List ℕ) (rule : ℕ) → Case text → answer text ≡ Err rule → Says text (Err rule)
+says_err text rule (idles quiet e) h = cc
+says_err text rule (unknown a b e) h = inl (sym (same_rule 2 rule (sym e ∙ h)), (a, b))
+says_err text rule (misspelt a b e) h = let three = same_rule 3 rule (sym e ∙ h) in inr (inl (sym three, three_then text (misspelt a b e) e))
+says_err text rule (spelt q row e) h =
+    let four = judged_rule q (is_in_range q) rule (sym e ∙ h) in inr (inr (sym four, four_then text (spelt q row e) (h ∙ ap (λ r. Err r) (sym four))))
+
+says_answer : (text : List ℕ) (said : Result Phrase ℕ) → answer text ≡ said → Says text said
+says_answer text (Ok phrase) h = ok_then text phrase (case_of text) h
+says_answer text (Err rule) h = says_err text rule (case_of text) h
+
+pub answer_says : (text : List ℕ) → Says text (answer text)
+answer_says text = says_answer text (answer text) refl
+
+pub says_only : (text : List ℕ) (said : Result Phrase ℕ) → Says text said → said ≡ answer text
+says_only text (Ok phrase) h = sym (then_ok text phrase h.0 h.1)
+says_only text (Err rule) (inl h) = ap (λ r. Err r) h.0 ∙ sym (then_two text (case_of text) h.1)
+says_only text (Err rule) (inr (inl h)) = ap (λ r. Err r) h.0 ∙ sym (then_three text (case_of text) h.1)
+says_only text (Err rule) (inr (inr h)) = ap (λ r. Err r) h.0 ∙ sym (then_four text h.1)
+
 -- ---- the clauses of `Line::read`
 
-gives : (r : Result Line ℕ) (p : Phrase) → said r ≡ Ok p → Gives r p
-gives (Ok line) p h = cc
-gives (Err rule) p h = cc
-
-given : (r : Result Line ℕ) (p : Phrase) → Gives r p → said r ≡ Ok p
-given (Ok line) p h = ap (λ x. Ok x) h
-given (Err rule) p h = absurd h
-
-refuses : (r : Result Line ℕ) (rule : ℕ) → said r ≡ Err rule → r ≡ Err rule
-refuses (Ok line) rule h = cc
-refuses (Err other) rule h = cc
-
-pub read_gives : (text : List ℕ) (r : Result Line ℕ) → said r ≡ answer text → (p : Phrase) → Gives r p ↔ (Spells text p × (is_in_range p ≡ true))
-read_gives text r e p = (
-  λ g. (answer_gives text p).0 (sym e ∙ given r p g),
-  λ h. gives r p (e ∙ (answer_gives text p).1 h),
-)
-
--- a rule is answered where the answer is that rule
-by_rule : (text : List ℕ) (r : Result Line ℕ) (rule : ℕ) (P : Type 0) → said r ≡ answer text → (answer text ≡ Err rule) ↔ P → (r ≡ Err rule) ↔ P
-by_rule text r rule P e means = (λ h. means.0 (sym e ∙ ap said h), λ h. refuses r rule (e ∙ means.1 h))
-
-pub read_four : (text : List ℕ) (r : Result Line ℕ) → said r ≡ answer text → (r ≡ Err 4) ↔ IsOutOfRange text
-read_four text r e = by_rule text r 4 (IsOutOfRange text) e (answer_four text)
-
-pub read_three : (text : List ℕ) (r : Result Line ℕ) → said r ≡ answer text → (r ≡ Err 3) ↔ IsMisspelt text
-read_three text r e = by_rule text r 3 (IsMisspelt text) e (answer_three text)
-
-pub read_two : (text : List ℕ) (r : Result Line ℕ) → said r ≡ answer text → (r ≡ Err 2) ↔ IsUnknown text
-read_two text r e = by_rule text r 2 (IsUnknown text) e (answer_two text)
+pub read_says : (text : List ℕ) (r : Result Line ℕ) → said r ≡ answer text → Says text (said r)
+read_says text r e = says_answer text (said r) (sym e)
 
 pub read_keeps : (text : List ℕ) (r : Result Line ℕ) → said r ≡ answer text → IfOk r Keeps
 read_keeps text (Ok line) e = let o = ok_then text (phrase_of line) (case_of text) (sym e) in (o.1, spells_there text (phrase_of line) o.0)

@@ -6,7 +6,7 @@ use Rattle.std.proofs.lemmas.Bool.{lt-ltb, le-ltb, ltb-false, cases_lt}
 use Rattle.std.proofs.lemmas.Option.{cond_some}
 use Rattle.std.proofs.lemmas.List.{take-take, length-take, length-take-le, take_all, take-append-le, drop-append-le, take_min, take_at}
 use Rattle.std.proofs.lemmas.List.Sums.{prefix_len-le-length}
-use Rattle.uac_script.specs.Lines.{head_of, line, long, past, unended, most_of_line}
+use Rattle.uac_script.specs.Lines.{Head, head_of, IsTold, line, long, past, unended, most_of_line}
 use Rattle.uac_script.specs.Looking.{line_end}
 use Rattle.uac_script.proofs.WordsLemmas.{none_then_false}
 
@@ -176,3 +176,13 @@ head_unended-all spare bytes text h = go (cases_of spare bytes)
     go (is_unended few none within e) =
         let same : unended text ≡ unended bytes = sym h ∙ e in
         (cc, omega (arith, length-take spare bytes), within)
+
+-- what bytes tell stays told when more bytes come
+pub told_before : (spare : ℕ) (bytes more : List ℕ) → head_of spare (bytes ++ more) ≡ unended (bytes ++ more) → IsTold (head_of spare bytes) → ⊥
+told_before spare bytes more waits known = go (head_of spare bytes) refl known
+  where
+    go : (head : Head) → head_of spare bytes ≡ head → IsTold head → ⊥
+    go (line text rest) e h = let still = head_line-more spare bytes more text rest e in absurd (cc)
+    go long e h = let still = head_long-more spare bytes more e in absurd (cc)
+    go past e h = let still = head_past-more spare bytes more e in absurd (cc)
+    go (unended text) e h = h

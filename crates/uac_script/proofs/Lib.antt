@@ -8,6 +8,7 @@ pub mod ListLemmas
 pub mod Numerals
 pub mod Grammar
 pub mod Answered
-pub mod Laws
+pub mod Spellings
+pub mod Sayings
 pub mod Kept
 pub mod Worked

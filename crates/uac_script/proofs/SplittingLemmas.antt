@@ -3,9 +3,10 @@ use Rattle.std.proofs.Common.{◌≡◌, ℕ, ◌<◌, true, List, [], ◌++◌,
 use Rattle.std.proofs.lemmas.List.{append-nil, take_all, drop_all, nil_from_length}
 use Rattle.std.specs.Io.KnownBytes.{Consumes}
 use Rattle.uac_script.specs.declared.lines.Next.TheVariants as next
-use Rattle.uac_script.specs.Lines.{Splitting, Splits, Goes, head_of, unended}
+use Rattle.uac_script.specs.Lines.{Splitting, Splits, Goes, IsTold, head_of, unended}
 use Rattle.uac_script.specs.Taking.{Grows}
 use Rattle.uac_edges.proofs.Consuming.{Consumes-Consumes}
+use Rattle.uac_script.proofs.HeadLemmas.{told_before}
 
 -- bytes taken, and then more
 pub same_more : (old mid now : Splitting) (taken got : List ℕ) → mid ≡ record old { unread = old.unread ++ taken } → now ≡ record mid { unread = now.unread }
@@ -18,6 +19,15 @@ same_more old mid now taken got before others grown =
 -- a take changes the unread bytes alone
 pub others_kept : (mid now : Splitting) → now ≡ record mid { unread = now.unread } → (now.number ≡ mid.number) × (now.spare ≡ mid.spare) × (now.stop ≡ mid.stop)
 others_kept mid now others = (ap (λ (s : Splitting). s.number) others, ap (λ (s : Splitting). s.spare) others, ap (λ (s : Splitting). s.stop) others)
+
+-- Bytes that don't tell what stands first, behind more that were taken, didn't tell it before.
+pub untold : (old mid : Splitting) (taken : List ℕ) → mid ≡ record old { unread = old.unread ++ taken } → head_of mid.spare mid.unread ≡ unended mid.unread
+    → IsTold (head_of old.spare old.unread) → ⊥
+untold old mid taken same waits known =
+    let spare-is : mid.spare ≡ old.spare = ap (λ (s : Splitting). s.spare) same in
+    let mid-is : mid.unread ≡ old.unread ++ taken = ap (λ (s : Splitting). s.unread) same in
+    let still : head_of old.spare (old.unread ++ taken) ≡ unended (old.unread ++ taken) = cc in
+    told_before old.spare old.unread taken still known
 
 -- The source was at its end, and some bytes were left: they are the last line.
 pub last_line : (old mid now new : Splitting) (taken : List ℕ) (a b c : Option (List ℕ)) (before after size most count : ℕ)

@@ -3,6 +3,7 @@ pub mod Numerals
 pub mod Phrase
 pub mod Line
 pub mod Reading
+pub mod Saying
 pub mod Lines
 pub mod Taking
 pub mod Looking

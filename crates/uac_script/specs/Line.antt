@@ -107,12 +107,7 @@ HasNoEmptyPart _ = Unit {0}
 abbrev pub Keeps : Line → Type 0
 Keeps line = (is_in_range (phrase_of line) ≡ true) × HasNoEmptyPart (phrase_of line)
 
--- ---- what reading answers
-
--- a line, and the phrase that it stands for
-abbrev pub Gives : Result Line ℕ → Phrase → Type 0
-Gives (Ok line) phrase = phrase_of line ≡ phrase
-Gives (Err rule) phrase = ⊥
+-- ---- what a text says
 
 -- rule S4: the text is a line, but for a number out of its range
 abbrev pub IsOutOfRange : List ℕ → Type 0
@@ -125,3 +120,8 @@ IsMisspelt text = (is_idle text ≡ false) × (begins_known (words_of text) ≡ 
 -- rule S2: the first word isn't known
 abbrev pub IsUnknown : List ℕ → Type 0
 IsUnknown text = (is_idle text ≡ false) × (begins_known (words_of text) ≡ false)
+
+-- what a text says: the line that it spells, each number in its range, or the first of rules S2 to S4 that it breaks
+abbrev pub Says : List ℕ → Result Phrase ℕ → Type 0
+Says text (Ok phrase) = Spells text phrase × (is_in_range phrase ≡ true)
+Says text (Err rule) = ((rule ≡ 2) × IsUnknown text) ⊎ ((rule ≡ 3) × IsMisspelt text) ⊎ ((rule ≡ 4) × IsOutOfRange text)

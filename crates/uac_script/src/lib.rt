@@ -3,6 +3,8 @@
 
 /// Bytes as words of HEX spell them.
 mod hex_bytes;
+/// What holds of every line.
+pub mod laws;
 /// A line of the script.
 mod line;
 /// The lines of a script, from a source in pieces of any size.

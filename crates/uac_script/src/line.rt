@@ -78,10 +78,9 @@ pub enum Line {
 }
 
 impl Line {
-    ghost use Rattle.std.specs.Prelude.{◌≡◌, ◌↔◌, ◌≤◌, length, true, IfOk, IfErr};
-    ghost use Rattle.uac_script.specs.Phrase.{Phrase, is_in_range};
+    ghost use Rattle.std.specs.Prelude.{◌≡◌, ◌≤◌, length, IfOk, IfErr};
     ghost use Rattle.uac_script.specs.Reading.{said, answer};
-    ghost use Rattle.uac_script.specs.Line.{Spells, Gives, Keeps, IsOutOfRange, IsMisspelt, IsUnknown};
+    ghost use Rattle.uac_script.specs.Line.{Says, Keeps};
 
     /// The line that a text of at most 4,096 bytes spells.
     ///
@@ -91,13 +90,10 @@ impl Line {
     /// words aren't as in the table or a number is spelt otherwise, 4 where a number is out of its range.
     pub fn read(text: &[u8]) -> Result<Line, u8>
         requires { length text.now ≤ 4096 }
-        ensures reads { (phrase : Phrase)
-            → (Gives result phrase ↔ (Spells text.now phrase × (is_in_range phrase ≡ true))) }
-        ensures out_of_range { (result ≡ Err 4) ↔ IsOutOfRange text.now }
-        ensures misspelt { (result ≡ Err 3) ↔ IsMisspelt text.now }
-        ensures unknown { (result ≡ Err 2) ↔ IsUnknown text.now }
+        // By the table of spellings alone; `laws::each_line_says_one_thing` tells that a text says one thing.
+        ensures says { Says text.now (said result) }
 
-        // The same as one function of the text, for definitions that go on from the line.
+        // The same as one function of the text, for definitions that compute it.
         ensures answered { said result ≡ answer text.now }
 
         ensures keeps { IfOk result Keeps }

@@ -1,5 +1,5 @@
 // The bytes that were taken of a source and aren't in a line yet.
-ghost use Rattle.std.specs.Prelude.{◌≡◌, ℕ, ◌+◌, ◌-◌, ◌<◌, ◌≤◌, [], length, take, drop, IfOk, OnErr};
+ghost use Rattle.std.specs.Prelude.{◌≡◌, ℕ, ◌+◌, ◌-◌, ◌<◌, ◌≤◌, [], length, take, drop, IfOk, OnOk, OnErr};
 ghost use Rattle.std.specs.Io.KnownBytes.{Keeps};
 ghost use Rattle.uac_edges.specs.Faults.{HasCause};
 ghost use Rattle.uac_script.specs.Taking.{Grows};
@@ -76,6 +76,7 @@ impl Unread {
         ensures err { OnErr result (self.new ≡ self.old) }
         ensures kept { OnErr result (Keeps (S.left source.old) (S.left source.new)) }
         ensures cause { HasCause (S.faults source.old) (S.faults source.new) result }
+        ensures faultless { OnOk result (S.faults source.new ≡ S.faults source.old) }
     {
         move_to_front(&mut self.bytes, self.start, self.end);
         self.end -= self.start;

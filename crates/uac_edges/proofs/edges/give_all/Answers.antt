@@ -20,11 +20,10 @@ pub loop-rest-preserved : goal.loop-rest-preserved
 loop-rest-preserved g c =
     let before = c.loop-rest.invariant in
     let told = c.in-Ok.ensures in
-    let cause = told.cause.never_falls in
     record {
       given = before.given ++ take c.in-Ok.given c.loop-rest.rest.now;
       parts = given_more c.args.text.now before.given c.loop-rest.rest.now c.in-Ok.given before.parts;
       appended = Appends-twice _ _ _ _ _ before.appended told.bytes;
-      never_falls = omega (arith, before.never_falls, cause);
+      faultless = told.faultless ∙ before.faultless;
       untouched = λ empty. absurd (some_left c.args.text.now before.given c.loop-rest.rest.now (search rules) before.parts empty);
     }

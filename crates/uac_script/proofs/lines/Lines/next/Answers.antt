@@ -1,7 +1,7 @@
 use Rattle.std.proofs.Common.{◌≡◌, ◌<◌, ◌++◌, length, ap, ◌∙◌, arith, length-append}
 use Rattle.uac_edges.proofs.Consuming.{Consumes-Consumes}
 use Rattle.uac_script.proofs.HeadLemmas.{line_end_more}
-use Rattle.uac_script.proofs.SplittingLemmas.{same_more, others_kept, last_line}
+use Rattle.uac_script.proofs.SplittingLemmas.{same_more, others_kept, last_line, untold}
 use Rattle.uac_script.proofs.lines.Lines.next.Goals as goal
 
 pub returns-in-Ok-eq0-2-clause-splits : goal.returns-in-Ok-eq0-2-clause-splits
@@ -26,8 +26,6 @@ loop-size-preserved g c =
     let grown : length c.fill.new.self.unread ≡ length (c.loop-size.self.unread ++ grows.taken) = ap length grows.grown in
     let few = grows.few in
     let count = grows.size in
-    let falls = told.cause.never_falls in
-    let fell = i.never_falls in
     let bounded = i.bounded in
     let counted = shown.2 in
     record {
@@ -39,5 +37,19 @@ loop-size-preserved g c =
       within = omega (arith, length-append c.loop-size.self.unread grows.taken);
       known = rw grows.grown (let more = line_end_more c.loop-size.self.unread grows.taken in let all = shown.4 in omega arith);
       counted = omega arith;
-      never_falls = omega arith;
+      told = λ known. absurd (untold c.args.self.now c.loop-size.self i.taken i.same shown.0 known);
+      faultless = told.faultless ∙ i.faultless;
     }
+
+-- The source was called: then the bytes didn't tell what stands first.
+pub returns-in-Ok-eq0-2-clause-told : goal.returns-in-Ok-eq0-2-clause-told
+returns-in-Ok-eq0-2-clause-told g c =
+    let i = c.loop-size.invariant in
+    let shown = c.in-Open.ensures in
+    λ going before_end known. absurd (untold c.args.self.now c.loop-size.self i.taken i.same shown.0 known)
+
+pub returns-in-Err-clause-told : goal.returns-in-Err-clause-told
+returns-in-Err-clause-told g c =
+    let i = c.loop-size.invariant in
+    let shown = c.in-Open.ensures in
+    λ going before_end known. absurd (untold c.args.self.now c.loop-size.self i.taken i.same shown.0 known)

@@ -1,10 +1,11 @@
 use Rattle.std.proofs.Common.{◌≡◌, ◌+◌, ◌-◌, ◌≤◌, ◌++◌, ℕ, List, length, None}
 use Rattle.std.specs.Io.KnownBytes.{Consumes}
-use Rattle.uac_script.specs.Lines.{most_of_input}
+use Rattle.uac_script.specs.Lines.{most_of_input, IsTold, head_of}
 use Rattle.uac_script.specs.Looking.{line_end}
 use Rattle.uac_script.proofs.lines.Lines.next.Given as goal
 
--- Nothing changed but that bytes were taken, of which the first have no newline.
+-- Nothing changed but that bytes were taken, of which the first have no newline. The source was called only where they
+-- didn't tell what stands first, and met no fault.
 abbrev pub invariant-loop-size : goal.invariant-loop-size
 invariant-loop-size g l = record {
   taken : List ℕ;
@@ -15,7 +16,8 @@ invariant-loop-size g l = record {
   within : length l.self.unread ≤ l.self.spare + 1;
   known : l.searched ≤ line_end l.self.unread;
   counted : l.searched ≤ l.self.spare;
-  never_falls : g.S.Source.faults l.fn.source ≤ g.S.Source.faults l.source;
+  told : IsTold (head_of l.fn.self.spare l.fn.self.unread) → l.source ≡ l.fn.source;
+  faultless : g.S.Source.faults l.source ≡ g.S.Source.faults l.fn.source;
 }
 
 abbrev pub decreases-loop-size : goal.decreases-loop-size
