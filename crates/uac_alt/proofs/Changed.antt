@@ -28,7 +28,7 @@ of_another (s ∷ settings) interface setting n other = elim (cases_Bool (s.inte
 ]
 
 -- the setting of each interface after one was changed
-setting_of_changed : (settings : List InterfaceSetting) (interface setting n : ℕ) → IsSome (setting_of settings interface) → setting_of (with_setting settings interface setting) n ≡ (if n == interface then Some setting else setting_of settings n)
+pub setting_of_changed : (settings : List InterfaceSetting) (interface setting n : ℕ) → IsSome (setting_of settings interface) → setting_of (with_setting settings interface setting) n ≡ (if n == interface then Some setting else setting_of settings n)
 unfolding with_setting
 setting_of_changed settings interface setting n there = elim (cases_eq n interface) [
   | inl same ↦ rw (eq-eqb n interface same, same) (of_itself settings interface setting there)

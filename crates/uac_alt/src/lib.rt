@@ -1,6 +1,7 @@
 //! The alternate settings that an audio function's interfaces are in, and the streams that settings run.
 #![tactic(auto)]
 
+pub mod laws;
 /// The settings of all interfaces.
 mod settings;
 /// The stream of a setting that can run.
@@ -9,7 +10,7 @@ mod streams;
 mod values;
 
 pub use settings::{InterfaceSetting, Settings};
-pub use streams::stream;
+pub use streams::{packet_room, stream};
 pub use values::Stream;
 
 #[cfg(test)]

@@ -165,7 +165,7 @@ fn fits(nominal: &Nominal, general: &General, type_one: &TypeOne, first: &Endpoi
 }
 
 /// The bytes that an endpoint carries in a microframe, additional transactions and all (USB 2.0, 9.6.6).
-fn packet_room(endpoint: &Endpoint) -> u32
+pub fn packet_room(endpoint: &Endpoint) -> u32
     ensures { result ≡ spec.packet_room endpoint.now }
 {
     u32::from(endpoint.packet_size()) * (1 + u32::from(endpoint.additional_transactions()))

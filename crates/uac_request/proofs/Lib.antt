@@ -1,8 +1,15 @@
+pub mod Addressed
+pub mod Answering
+pub mod Asked
+pub mod Coming
 pub mod Found
+pub mod Lasting
 pub mod Little
 pub mod Maps
 pub mod Narrow
 pub mod Owned
 pub mod Sent
 pub mod Started
+pub mod Staying
+pub mod Taken
 pub mod Worked

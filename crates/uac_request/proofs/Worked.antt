@@ -1,9 +1,11 @@
 -- Worked answers: a headset's, to requests byte by byte.
-use Rattle.std.proofs.Common.{◌≡◌, ℕ, List, [], ◌∷◌, Some, None, true, false, refl}
+use Rattle.std.proofs.Common.{◌≡◌, ℕ, ℤ, pos, negsuc, List, [], ◌∷◌, map, Some, None, unwrap_or, true, false, refl}
+use Rattle.std.specs.List.{range_with_len}
 use Rattle.uac_entities.specs.declared.entity.Entity.{Entity}
 use Rattle.uac_entities.specs.declared.entity.EntityKind.{EntityKind}
 use Rattle.uac_entities.specs.declared.entity.EntityKind.TheVariants as kind
 use Rattle.uac_entities.specs.declared.stream.Setting.{Setting}
+use Rattle.uac_entities.specs.declared.stream.StreamInterface.{StreamInterface}
 use Rattle.uac_entities.specs.Streams.{named}
 use Rattle.uac_clock.specs.Nominal.{nominal_of, values_of}
 use Rattle.uac_gain.specs.Gain.{decibel_gain, raised_gain}
@@ -14,7 +16,7 @@ use Rattle.uac_store.specs.Rates.{rate_of, rate_step, rate_within, source_rate}
 use Rattle.uac_store.specs.Values.{are_clocked, is_legal, ranges_of}
 use Rattle.uac_alt.specs.Settings.{initial_settings, setting_of, with_setting}
 use Rattle.uac_alt.specs.Streams.{can_run, linked_channels, stream_at, stream_of}
-use Rattle.uac_request.specs.Requests.{Held, Told, with_bytes, with_descriptor, is_done, is_stalled, after_request, answered, broken_by, cur_bytes, get_broken, has_setting, interface_broken, is_valid, least, left_by, little_bytes, little_number, owner_of, range_bytes, reply_of, set_broken, setup_of, valid_bytes, value_bytes, value_from}
+use Rattle.uac_request.specs.Requests.{Held, Told, with_bytes, with_descriptor, is_done, is_stalled, after_request, answered, breaks_q1, breaks_q2, breaks_q3, breaks_q4, breaks_q5, breaks_q6, breaks_q7, breaks_q8, breaks_q9, breaks_q10, breaks_q11, breaks_q12, cur_bytes, entity_width, first_broken, has_setting, is_signed, is_valid, least, left_by, little_bytes, little_number, node_bit, owner_of, range_bytes, reply_of, setup_of, valid_bytes, value_bytes, value_from}
 
 abbrev with : ℕ → EntityKind → ℕ → List ℕ → ℕ → ℕ → ℕ → List ℕ → Entity
 with id k type sources clock channels locations controls =
@@ -65,6 +67,8 @@ headset size =
       total = 275;
     }
 
+-- ---- the answers, by request and rule
+
 at_start : Held
 at_start = record { controls = initial_controls entities; settings = initial_settings (headset 150) }
 
@@ -73,100 +77,100 @@ first bytes sent = reply_of (headset 150) at_start (setup_of bytes) sent
 
 -- the first three rules
 no_request : first (192 ∷ 0 ∷ 0 ∷ 0 ∷ 0 ∷ 0 ∷ 0 ∷ 0 ∷ []) [] ≡ is_stalled 1
-unfolding first reply_of
+unfolding first reply_of first_broken least breaks_q1 breaks_q2 breaks_q3 breaks_q4 breaks_q5 breaks_q6 breaks_q7 breaks_q8 breaks_q9 breaks_q10 breaks_q11 breaks_q12
 no_request = refl
 
 no_interface : first (161 ∷ 1 ∷ 1 ∷ 2 ∷ 9 ∷ 3 ∷ 2 ∷ 0 ∷ []) [] ≡ is_stalled 2
-unfolding first reply_of headset broken_by
+unfolding first reply_of headset first_broken least breaks_q1 breaks_q2 breaks_q3 breaks_q4 breaks_q5 breaks_q6 breaks_q7 breaks_q8 breaks_q9 breaks_q10 breaks_q11 breaks_q12
 no_interface = refl
 
 no_entity : first (161 ∷ 1 ∷ 1 ∷ 2 ∷ 0 ∷ 9 ∷ 2 ∷ 0 ∷ []) [] ≡ is_stalled 3
-unfolding first reply_of headset broken_by owner_of entities named
+unfolding first reply_of headset owner_of entities named first_broken least breaks_q1 breaks_q2 breaks_q3 breaks_q4 breaks_q5 breaks_q6 breaks_q7 breaks_q8 breaks_q9 breaks_q10 breaks_q11 breaks_q12
 no_entity = refl
 
 -- a mute has no range
 no_range : first (161 ∷ 2 ∷ 0 ∷ 1 ∷ 0 ∷ 3 ∷ 2 ∷ 0 ∷ []) [] ≡ is_stalled 4
-unfolding first reply_of headset broken_by owner_of entities named get_broken least count_of
+unfolding first reply_of headset owner_of entities named count_of first_broken least breaks_q1 breaks_q2 breaks_q3 breaks_q4 breaks_q5 breaks_q6 breaks_q7 breaks_q8 breaks_q9 breaks_q10 breaks_q11 breaks_q12
 no_range = refl
 
 -- the master's volume isn't declared, and there is no third channel
 undeclared : first (161 ∷ 1 ∷ 0 ∷ 2 ∷ 0 ∷ 3 ∷ 2 ∷ 0 ∷ []) [] ≡ is_stalled 5
-unfolding first reply_of headset broken_by owner_of entities named get_broken least count_of
+unfolding first reply_of headset owner_of entities named count_of first_broken least breaks_q1 breaks_q2 breaks_q3 breaks_q4 breaks_q5 breaks_q6 breaks_q7 breaks_q8 breaks_q9 breaks_q10 breaks_q11 breaks_q12
 undeclared = refl
 
 past_the_channels : first (161 ∷ 1 ∷ 3 ∷ 2 ∷ 0 ∷ 3 ∷ 2 ∷ 0 ∷ []) [] ≡ is_stalled 6
-unfolding first reply_of headset broken_by owner_of entities named get_broken least count_of
+unfolding first reply_of headset owner_of entities named count_of first_broken least breaks_q1 breaks_q2 breaks_q3 breaks_q4 breaks_q5 breaks_q6 breaks_q7 breaks_q8 breaks_q9 breaks_q10 breaks_q11 breaks_q12
 past_the_channels = refl
 
 -- a clock's validity can't be set, and a volume has two bytes
 read_only : first (33 ∷ 1 ∷ 0 ∷ 2 ∷ 0 ∷ 1 ∷ 1 ∷ 0 ∷ []) (1 ∷ []) ≡ is_stalled 7
-unfolding first reply_of headset broken_by owner_of entities named set_broken least count_of
+unfolding first reply_of headset owner_of entities named count_of first_broken least breaks_q1 breaks_q2 breaks_q3 breaks_q4 breaks_q5 breaks_q6 breaks_q7 breaks_q8 breaks_q9 breaks_q10 breaks_q11 breaks_q12
 read_only = refl
 
 one_byte : first (33 ∷ 1 ∷ 1 ∷ 2 ∷ 0 ∷ 3 ∷ 2 ∷ 0 ∷ []) (0 ∷ []) ≡ is_stalled 8
-unfolding first reply_of headset broken_by owner_of entities named set_broken least count_of
+unfolding first reply_of headset owner_of entities named count_of first_broken least breaks_q1 breaks_q2 breaks_q3 breaks_q4 breaks_q5 breaks_q6 breaks_q7 breaks_q8 breaks_q9 breaks_q10 breaks_q11 breaks_q12
 one_byte = refl
 
 -- the range of a volume, cut at the length that is asked for
 range_cut : first (161 ∷ 2 ∷ 1 ∷ 2 ∷ 0 ∷ 3 ∷ 2 ∷ 0 ∷ []) [] ≡ with_bytes (2 ∷ 0 ∷ [])
-unfolding first reply_of headset broken_by owner_of entities named get_broken least count_of answered range_bytes ranges_of has_on little_bytes value_bytes
+unfolding first reply_of headset owner_of entities named count_of answered range_bytes ranges_of has_on little_bytes value_bytes first_broken least breaks_q1 breaks_q2 breaks_q3 breaks_q4 breaks_q5 breaks_q6 breaks_q7 breaks_q8 breaks_q9 breaks_q10 breaks_q11 breaks_q12
 range_cut = refl
 
 range_half : first (161 ∷ 2 ∷ 1 ∷ 2 ∷ 0 ∷ 3 ∷ 8 ∷ 0 ∷ []) [] ≡ with_bytes (2 ∷ 0 ∷ 0 ∷ 160 ∷ 0 ∷ 223 ∷ 0 ∷ 1 ∷ [])
-unfolding first reply_of headset broken_by owner_of entities named get_broken least count_of answered range_bytes ranges_of has_on little_bytes value_bytes
+unfolding first reply_of headset owner_of entities named count_of answered range_bytes ranges_of has_on little_bytes value_bytes first_broken least breaks_q1 breaks_q2 breaks_q3 breaks_q4 breaks_q5 breaks_q6 breaks_q7 breaks_q8 breaks_q9 breaks_q10 breaks_q11 breaks_q12
 range_half = refl
 
 range_whole : first (161 ∷ 2 ∷ 1 ∷ 2 ∷ 0 ∷ 3 ∷ 14 ∷ 0 ∷ []) []
     ≡ with_bytes (2 ∷ 0 ∷ 0 ∷ 160 ∷ 0 ∷ 223 ∷ 0 ∷ 1 ∷ 0 ∷ 224 ∷ 0 ∷ 12 ∷ 128 ∷ 0 ∷ [])
-unfolding first reply_of headset broken_by owner_of entities named get_broken least count_of answered range_bytes ranges_of has_on little_bytes value_bytes
+unfolding first reply_of headset owner_of entities named count_of answered range_bytes ranges_of has_on little_bytes value_bytes first_broken least breaks_q1 breaks_q2 breaks_q3 breaks_q4 breaks_q5 breaks_q6 breaks_q7 breaks_q8 breaks_q9 breaks_q10 breaks_q11 breaks_q12
 range_whole = refl
 
 -- a setting's map and the active setting of interface 1
 valid_settings : first (161 ∷ 1 ∷ 0 ∷ 2 ∷ 1 ∷ 0 ∷ 2 ∷ 0 ∷ []) [] ≡ with_bytes (1 ∷ 3 ∷ [])
-unfolding first at_start reply_of headset broken_by owner_of entities named get_broken least answered cur_bytes valid_bytes is_valid stream_of stream_at can_run linked_channels little_bytes rate_of rate_within rate_step source_rate value_of initial_controls controls_of channels_at first_channels count_of start_of nominal_of values_of
+unfolding first at_start reply_of headset owner_of entities named answered cur_bytes valid_bytes is_valid stream_of stream_at can_run linked_channels little_bytes rate_of rate_within rate_step source_rate value_of initial_controls controls_of channels_at first_channels count_of start_of nominal_of values_of first_broken least breaks_q1 breaks_q2 breaks_q3 breaks_q4 breaks_q5 breaks_q6 breaks_q7 breaks_q8 breaks_q9 breaks_q10 breaks_q11 breaks_q12
 valid_settings = refl
 
 active_setting : first (161 ∷ 1 ∷ 0 ∷ 1 ∷ 1 ∷ 0 ∷ 1 ∷ 0 ∷ []) [] ≡ with_bytes (0 ∷ [])
-unfolding first at_start reply_of headset broken_by owner_of entities named get_broken least answered cur_bytes setting_of initial_settings
+unfolding first at_start reply_of headset owner_of entities named answered cur_bytes setting_of initial_settings first_broken least breaks_q1 breaks_q2 breaks_q3 breaks_q4 breaks_q5 breaks_q6 breaks_q7 breaks_q8 breaks_q9 breaks_q10 breaks_q11 breaks_q12
 active_setting = refl
 
 -- the configuration's first nine bytes, and the setting of interface 1
 descriptor : first (128 ∷ 6 ∷ 0 ∷ 2 ∷ 0 ∷ 0 ∷ 9 ∷ 0 ∷ []) [] ≡ with_descriptor 0 9
-unfolding first reply_of headset broken_by least answered
+unfolding first reply_of headset answered first_broken least breaks_q1 breaks_q2 breaks_q3 breaks_q4 breaks_q5 breaks_q6 breaks_q7 breaks_q8 breaks_q9 breaks_q10 breaks_q11 breaks_q12
 descriptor = refl
 
 interface : first (129 ∷ 10 ∷ 0 ∷ 0 ∷ 1 ∷ 0 ∷ 1 ∷ 0 ∷ []) [] ≡ with_bytes (0 ∷ [])
-unfolding first at_start reply_of headset broken_by least answered setting_of initial_settings
+unfolding first at_start reply_of headset answered setting_of initial_settings first_broken least breaks_q1 breaks_q2 breaks_q3 breaks_q4 breaks_q5 breaks_q6 breaks_q7 breaks_q8 breaks_q9 breaks_q10 breaks_q11 breaks_q12
 interface = refl
 
 -- a volume between two steps isn't legal, half a decibel and silence are
 between_steps : first (33 ∷ 1 ∷ 1 ∷ 2 ∷ 0 ∷ 3 ∷ 2 ∷ 0 ∷ []) (64 ∷ 0 ∷ []) ≡ is_stalled 9
-unfolding first at_start reply_of headset broken_by owner_of entities named set_broken least count_of value_from little_number is_legal takes takes_on decibel_gain
+unfolding first at_start reply_of headset owner_of entities named count_of value_from little_number is_legal takes takes_on decibel_gain first_broken least breaks_q1 breaks_q2 breaks_q3 breaks_q4 breaks_q5 breaks_q6 breaks_q7 breaks_q8 breaks_q9 breaks_q10 breaks_q11 breaks_q12
 between_steps = refl
 
 half_a_decibel : first (33 ∷ 1 ∷ 1 ∷ 2 ∷ 0 ∷ 3 ∷ 2 ∷ 0 ∷ []) (128 ∷ 0 ∷ []) ≡ is_done
-unfolding first at_start reply_of headset broken_by owner_of entities named set_broken least count_of value_from little_number is_legal takes takes_on decibel_gain raised_gain answered
+unfolding first at_start reply_of headset owner_of entities named count_of value_from little_number is_legal takes takes_on decibel_gain raised_gain answered first_broken least breaks_q1 breaks_q2 breaks_q3 breaks_q4 breaks_q5 breaks_q6 breaks_q7 breaks_q8 breaks_q9 breaks_q10 breaks_q11 breaks_q12
 half_a_decibel = refl
 
 silenced : first (33 ∷ 1 ∷ 1 ∷ 2 ∷ 0 ∷ 3 ∷ 2 ∷ 0 ∷ []) (0 ∷ 128 ∷ []) ≡ is_done
-unfolding first at_start reply_of headset broken_by owner_of entities named set_broken least count_of value_from little_number is_legal takes takes_on decibel_gain answered
+unfolding first at_start reply_of headset owner_of entities named count_of value_from little_number is_legal takes takes_on decibel_gain answered first_broken least breaks_q1 breaks_q2 breaks_q3 breaks_q4 breaks_q5 breaks_q6 breaks_q7 breaks_q8 breaks_q9 breaks_q10 breaks_q11 breaks_q12
 silenced = refl
 
 -- a setting that isn't there, and one that is
 no_setting : first (1 ∷ 11 ∷ 2 ∷ 0 ∷ 1 ∷ 0 ∷ 0 ∷ 0 ∷ []) [] ≡ is_stalled 11
-unfolding first reply_of headset broken_by interface_broken has_setting least
+unfolding first reply_of headset has_setting first_broken least breaks_q1 breaks_q2 breaks_q3 breaks_q4 breaks_q5 breaks_q6 breaks_q7 breaks_q8 breaks_q9 breaks_q10 breaks_q11 breaks_q12
 no_setting = refl
 
 started : Held
 started = after_request (headset 150) at_start (setup_of (1 ∷ 11 ∷ 1 ∷ 0 ∷ 1 ∷ 0 ∷ 0 ∷ 0 ∷ [])) []
 
 runs : setting_of started.settings 1 ≡ Some 1
-unfolding started after_request at_start headset broken_by interface_broken has_setting least is_valid stream_of stream_at can_run linked_channels entities named rate_of rate_within rate_step source_rate value_of initial_controls controls_of channels_at first_channels count_of start_of nominal_of values_of left_by setting_of with_setting initial_settings
+unfolding started after_request at_start headset has_setting is_valid stream_of stream_at can_run linked_channels entities named rate_of rate_within rate_step source_rate value_of initial_controls controls_of channels_at first_channels count_of start_of nominal_of values_of left_by setting_of with_setting initial_settings first_broken least breaks_q1 breaks_q2 breaks_q3 breaks_q4 breaks_q5 breaks_q6 breaks_q7 breaks_q8 breaks_q9 breaks_q10 breaks_q11 breaks_q12
 runs = refl
 
 -- while it runs, its clock's rate can't change
 rate_held : reply_of (headset 150) started (setup_of (33 ∷ 1 ∷ 0 ∷ 1 ∷ 0 ∷ 1 ∷ 4 ∷ 0 ∷ [])) (68 ∷ 172 ∷ 0 ∷ 0 ∷ []) ≡ is_stalled 10
-unfolding reply_of started after_request at_start headset broken_by set_broken interface_broken has_setting least is_valid stream_of stream_at can_run linked_channels entities named owner_of value_from little_number is_legal takes takes_on are_clocked with_value rate_of rate_within rate_step source_rate value_of initial_controls controls_of channels_at first_channels count_of start_of nominal_of values_of left_by setting_of with_setting initial_settings
+unfolding reply_of started after_request at_start headset has_setting is_valid stream_of stream_at can_run linked_channels entities named owner_of value_from little_number is_legal takes takes_on are_clocked with_value rate_of rate_within rate_step source_rate value_of initial_controls controls_of channels_at first_channels count_of start_of nominal_of values_of left_by setting_of with_setting initial_settings first_broken least breaks_q1 breaks_q2 breaks_q3 breaks_q4 breaks_q5 breaks_q6 breaks_q7 breaks_q8 breaks_q9 breaks_q10 breaks_q11 breaks_q12
 rate_held = refl
 
 -- an endpoint of 144 bytes is too small at 192,000 Hz
@@ -174,5 +178,120 @@ fast : Held
 fast = after_request (headset 144) at_start (setup_of (33 ∷ 1 ∷ 0 ∷ 1 ∷ 0 ∷ 1 ∷ 4 ∷ 0 ∷ [])) (0 ∷ 238 ∷ 2 ∷ 0 ∷ [])
 
 too_small : reply_of (headset 144) fast (setup_of (1 ∷ 11 ∷ 1 ∷ 0 ∷ 1 ∷ 0 ∷ 0 ∷ 0 ∷ [])) [] ≡ is_stalled 12
-unfolding reply_of fast after_request at_start headset broken_by set_broken interface_broken has_setting least is_valid stream_of stream_at can_run linked_channels entities named owner_of value_from little_number is_legal takes takes_on are_clocked with_value rate_of rate_within rate_step source_rate value_of initial_controls controls_of channels_at first_channels count_of start_of nominal_of values_of left_by setting_of with_setting initial_settings
+unfolding reply_of fast after_request at_start headset has_setting is_valid stream_of stream_at can_run linked_channels entities named owner_of value_from little_number is_legal takes takes_on are_clocked with_value rate_of rate_within rate_step source_rate value_of initial_controls controls_of channels_at first_channels count_of start_of nominal_of values_of left_by setting_of with_setting initial_settings first_broken least breaks_q1 breaks_q2 breaks_q3 breaks_q4 breaks_q5 breaks_q6 breaks_q7 breaks_q8 breaks_q9 breaks_q10 breaks_q11 breaks_q12
 too_small = refl
+
+-- ---- values as bytes, both ways
+
+-- a value of a kind's control in its bytes, and the value that bytes are to it
+abbrev sent_as : EntityKind → ℕ → ℤ → List ℕ
+sent_as k selector v = value_bytes (unwrap_or (entity_width k selector) 0) v
+
+abbrev read_as : EntityKind → ℕ → List ℕ → ℤ
+read_as k selector bytes = value_from (is_signed k selector) bytes
+
+-- a frequency of 48,000 Hz, a clock's second pin, a numerator of 8 and a denominator of 3
+frequency_out : sent_as kind.ClockSource 1 (pos 48000) ≡ 128 ∷ 187 ∷ 0 ∷ 0 ∷ []
+unfolding value_bytes little_bytes
+frequency_out = refl
+
+frequency_in : read_as kind.ClockSource 1 (128 ∷ 187 ∷ 0 ∷ 0 ∷ []) ≡ pos 48000
+unfolding value_from little_number
+frequency_in = refl
+
+clock_pin_out : sent_as kind.ClockSelector 1 (pos 2) ≡ 2 ∷ []
+unfolding value_bytes little_bytes
+clock_pin_out = refl
+
+clock_pin_in : read_as kind.ClockSelector 1 (2 ∷ []) ≡ pos 2
+unfolding value_from little_number
+clock_pin_in = refl
+
+numerator_out : sent_as kind.ClockMultiplier 1 (pos 8) ≡ 8 ∷ 0 ∷ []
+unfolding value_bytes little_bytes
+numerator_out = refl
+
+numerator_in : read_as kind.ClockMultiplier 1 (8 ∷ 0 ∷ []) ≡ pos 8
+unfolding value_from little_number
+numerator_in = refl
+
+denominator_out : sent_as kind.ClockMultiplier 2 (pos 3) ≡ 3 ∷ 0 ∷ []
+unfolding value_bytes little_bytes
+denominator_out = refl
+
+denominator_in : read_as kind.ClockMultiplier 2 (3 ∷ 0 ∷ []) ≡ pos 3
+unfolding value_from little_number
+denominator_in = refl
+
+-- a silent node, and one of -1 dB
+silent_node_out : sent_as kind.Mixer 1 (negsuc 32767) ≡ 0 ∷ 128 ∷ []
+unfolding value_bytes little_bytes
+silent_node_out = refl
+
+silent_node_in : read_as kind.Mixer 1 (0 ∷ 128 ∷ []) ≡ negsuc 32767
+unfolding value_from little_number
+silent_node_in = refl
+
+low_node_in : read_as kind.Mixer 1 (0 ∷ 255 ∷ []) ≡ negsuc 255
+unfolding value_from little_number
+low_node_in = refl
+
+-- a pin, a mute, a volume of -6 dB and one of 0.5 dB, and an enable
+pin_out : sent_as kind.Selector 1 (pos 3) ≡ 3 ∷ []
+unfolding value_bytes little_bytes
+pin_out = refl
+
+pin_in : read_as kind.Selector 1 (3 ∷ []) ≡ pos 3
+unfolding value_from little_number
+pin_in = refl
+
+mute_out : sent_as kind.Feature 1 (pos 1) ≡ 1 ∷ []
+unfolding value_bytes little_bytes
+mute_out = refl
+
+mute_in : read_as kind.Feature 1 (1 ∷ []) ≡ pos 1
+unfolding value_from little_number
+mute_in = refl
+
+volume_out : sent_as kind.Feature 2 (negsuc 1535) ≡ 0 ∷ 250 ∷ []
+unfolding value_bytes little_bytes
+volume_out = refl
+
+volume_in : read_as kind.Feature 2 (0 ∷ 250 ∷ []) ≡ negsuc 1535
+unfolding value_from little_number
+volume_in = refl
+
+raised_volume_in : read_as kind.Feature 2 (128 ∷ 0 ∷ []) ≡ pos 128
+unfolding value_from little_number
+raised_volume_in = refl
+
+enable_out : sent_as kind.Effect 1 (pos 1) ≡ 1 ∷ []
+unfolding value_bytes little_bytes
+enable_out = refl
+
+enable_in : read_as kind.Effect 1 (1 ∷ []) ≡ pos 1
+unfolding value_from little_number
+enable_in = refl
+
+-- ---- bitmaps
+
+-- of the bytes FF 80 the first nine nodes are set
+nodes : map (node_bit (255 ∷ 128 ∷ [])) (range_with_len 0 11) ≡ 1 ∷ 1 ∷ 1 ∷ 1 ∷ 1 ∷ 1 ∷ 1 ∷ 1 ∷ 1 ∷ 0 ∷ 0 ∷ []
+nodes = refl
+
+abbrev numbered : ℕ → Setting
+numbered number = record idle { number = number }
+
+-- of nine settings 0, 1 and 8 are valid: two bytes of bits, the low one first
+nine_settings : StreamInterface
+nine_settings =
+    record {
+      number = 1;
+      terminal = 2;
+      out = true;
+      settings = idle ∷ out_setting 150 ∷ numbered 2 ∷ numbered 3 ∷ numbered 4 ∷ numbered 5 ∷ numbered 6 ∷ numbered 7 ∷ (record (out_setting 150) { number = 8 }) ∷ [];
+    }
+
+two_byte_map : valid_bytes (record (headset 150) { streams = nine_settings ∷ [] }) (initial_controls entities) nine_settings ≡ 2 ∷ 3 ∷ 1 ∷ []
+unfolding nine_settings valid_bytes is_valid stream_of stream_at can_run linked_channels headset entities named little_bytes rate_of rate_within rate_step source_rate value_of initial_controls controls_of channels_at first_channels count_of start_of nominal_of values_of
+two_byte_map = refl

@@ -1,6 +1,6 @@
 -- Requests to controls and interfaces (Audio Class 2.0, 5.2; USB 2.0, 9.4), and what the device answers. The rules Q1 to Q12, by which a
 -- request is stalled, are this profile's; the first that is broken is told.
-use Rattle.std.specs.Prelude.{◌≡◌, ℕ, ◌+◌, ◌-◌, ◌*◌, ◌/◌, ◌%◌, ◌^◌, ◌==◌, ◌&&◌, ◌||◌, not, nat_le, nat_lt, Bool, true, false, if◌then◌else◌, ℤ, pos, negsuc, List, [], ◌∷◌, ◌++◌, map, flat_map, length, get_or, take, sum, Option, Some, None, is_some, unwrap_or}
+use Rattle.std.specs.Prelude.{◌≡◌, ◌<◌, ℕ, ◌+◌, ◌-◌, ◌*◌, ◌/◌, ◌%◌, ◌^◌, ◌==◌, ◌&&◌, ◌||◌, not, nat_le, nat_lt, Bool, true, false, if◌then◌else◌, ℤ, pos, negsuc, List, [], ◌∷◌, ◌++◌, map, flat_map, length, get_or, take, sum, Option, Some, None, is_some, unwrap_or}
 use Rattle.std.specs.List.{find, filter_map, list_any, range_with_len}
 use Rattle.std.specs.Option.{option_and_then, option_map, option_map_or}
 use Rattle.std.specs.Ordering.{int_eq}
@@ -18,8 +18,6 @@ use Rattle.uac_store.specs.Controls.{count_of}
 use Rattle.uac_store.specs.Keyed.{key_of, value_of, with_value}
 use Rattle.uac_store.specs.Rates.{rate_of}
 use Rattle.uac_store.specs.Values.{ranges_of, is_legal}
-use Rattle.uac_request.specs.declared.request.Request.{Request}
-use Rattle.uac_request.specs.declared.request.Request.TheVariants as ask
 use Rattle.uac_request.specs.declared.setup.Setup.{Setup}
 use Rattle.uac_request.specs.declared.told.Answer.{Answer}
 use Rattle.uac_request.specs.declared.told.Answer.TheVariants as told
@@ -40,16 +38,38 @@ setup_of bytes =
       length = get_or bytes 6 0 + 256 * get_or bytes 7 0;
     }
 
--- the request that these two bytes name (Audio Class 2.0, A.14; USB 2.0, 9.4)
-abbrev pub request_of : ℕ → ℕ → Option Request
-request_of type request =
-    if type == 161 && request == 1 then Some ask.GetCur
-    else if type == 161 && request == 2 then Some ask.GetRange
-    else if type == 33 && request == 1 then Some ask.SetCur
-    else if type == 128 && request == 6 then Some ask.GetDescriptor
-    else if type == 129 && request == 10 then Some ask.GetInterface
-    else if type == 1 && request == 11 then Some ask.SetInterface
-    else None
+-- the requests, by bmRequestType and bRequest (Audio Class 2.0, A.14; USB 2.0, 9.4)
+abbrev pub is_request : ℕ → ℕ → Setup → Bool
+is_request type number p = p.request_type == type && p.request == number
+
+abbrev pub gets_cur : Setup → Bool
+gets_cur p = is_request 161 1 p
+
+abbrev pub gets_range : Setup → Bool
+gets_range p = is_request 161 2 p
+
+abbrev pub sets_cur : Setup → Bool
+sets_cur p = is_request 33 1 p
+
+abbrev pub gets_descriptor : Setup → Bool
+gets_descriptor p = is_request 128 6 p
+
+abbrev pub gets_interface : Setup → Bool
+gets_interface p = is_request 129 10 p
+
+abbrev pub sets_interface : Setup → Bool
+sets_interface p = is_request 1 11 p
+
+-- those to a control, and those to an interface
+abbrev pub is_to_control : Setup → Bool
+is_to_control p = gets_cur p || gets_range p || sets_cur p
+
+abbrev pub is_to_interface : Setup → Bool
+is_to_interface p = gets_interface p || sets_interface p
+
+-- those that get bytes
+abbrev pub is_get : Setup → Bool
+is_get p = gets_cur p || gets_range p || gets_descriptor p || gets_interface p
 
 -- a request to a control names its selector and channel in wValue, its entity and the interface in wIndex (5.2.2)
 abbrev pub high : ℕ → ℕ
@@ -116,10 +136,12 @@ abbrev pub entity_range : EntityKind → ℕ → Bool
 entity_range kind.ClockSource selector = selector == 1
 entity_range kind.ClockSelector selector = selector == 1
 entity_range kind.ClockMultiplier selector = selector == 1 || selector == 2
+entity_range kind.InputTerminal selector = false
+entity_range kind.OutputTerminal selector = false
 entity_range kind.Mixer selector = selector == 1
 entity_range kind.Selector selector = selector == 1
 entity_range kind.Feature selector = selector == 2
-entity_range _ selector = false
+entity_range kind.Effect selector = false
 
 abbrev pub has_range : Owner → ℕ → Bool
 has_range (by_entity e) selector = entity_range e.kind selector
@@ -128,9 +150,15 @@ has_range (by_stream s) selector = false
 -- which control word holds a channel's control: a feature and an effect have one for each channel, the master's first
 -- (4.7.2.8, 4.7.2.10)
 abbrev pub word_of : EntityKind → ℕ → ℕ
+word_of kind.ClockSource channel = 0
+word_of kind.ClockSelector channel = 0
+word_of kind.ClockMultiplier channel = 0
+word_of kind.InputTerminal channel = 0
+word_of kind.OutputTerminal channel = 0
+word_of kind.Mixer channel = 0
+word_of kind.Selector channel = 0
 word_of kind.Feature channel = channel
 word_of kind.Effect channel = channel
-word_of _ channel = 0
 
 -- the place of a control's two bits in its word: by selector, but for a terminal's connector, which stands second (4.7.2)
 abbrev pub entity_bits : Entity → ℕ → ℕ → ℕ
@@ -138,7 +166,8 @@ entity_bits e selector channel = get_or e.controls (word_of e.kind channel) 0 / 
 
 -- the presence of an interface's controls is told by its first general block; without one both are absent
 abbrev pub stream_bits : StreamInterface → ℕ → ℕ
-stream_bits s selector = option_map_or (λ g. g.controls / 4 ^ (selector - 1) % 4) (find (λ g. true) (filter_map (λ t. t.general) s.settings)) 0
+stream_bits s selector =
+    option_map_or (λ g. g.controls / 4 ^ (selector - 1) % 4) (find (λ g. true) (filter_map (λ t. t.general) s.settings)) 0
 
 -- a node's bit among those of its mixer, the most significant bit of the first byte being the first: 1 where it can be set (profile)
 abbrev pub node_bit : List ℕ → ℕ → ℕ
@@ -154,8 +183,15 @@ is_in_range entities owner channel = nat_lt channel (owner_count entities owner)
 
 -- the control is declared: its bits aren't 00, and every node of a mixer is
 abbrev pub is_declared_on : EntityKind → Entity → ℕ → ℕ → Bool
+is_declared_on kind.ClockSource e selector channel = not (entity_bits e selector channel == 0)
+is_declared_on kind.ClockSelector e selector channel = not (entity_bits e selector channel == 0)
+is_declared_on kind.ClockMultiplier e selector channel = not (entity_bits e selector channel == 0)
+is_declared_on kind.InputTerminal e selector channel = not (entity_bits e selector channel == 0)
+is_declared_on kind.OutputTerminal e selector channel = not (entity_bits e selector channel == 0)
 is_declared_on kind.Mixer e selector channel = true
-is_declared_on _ e selector channel = not (entity_bits e selector channel == 0)
+is_declared_on kind.Selector e selector channel = not (entity_bits e selector channel == 0)
+is_declared_on kind.Feature e selector channel = not (entity_bits e selector channel == 0)
+is_declared_on kind.Effect e selector channel = not (entity_bits e selector channel == 0)
 
 abbrev pub is_declared : Owner → ℕ → ℕ → Bool
 is_declared (by_entity e) selector channel = is_declared_on e.kind e selector channel
@@ -164,11 +200,15 @@ is_declared (by_stream s) selector channel = not (stream_bits s selector == 0)
 -- a host may set the control: its bits are 11, or a node's bit is 1. The validity of a clock and the controls of terminals and
 -- interfaces can only be read, whatever their bits say
 abbrev pub is_writable_on : EntityKind → Entity → ℕ → ℕ → Bool
-is_writable_on kind.Mixer e selector channel = node_bit e.mix_bits channel == 1
 is_writable_on kind.ClockSource e selector channel = selector == 1 && entity_bits e selector channel == 3
+is_writable_on kind.ClockSelector e selector channel = entity_bits e selector channel == 3
+is_writable_on kind.ClockMultiplier e selector channel = entity_bits e selector channel == 3
 is_writable_on kind.InputTerminal e selector channel = false
 is_writable_on kind.OutputTerminal e selector channel = false
-is_writable_on _ e selector channel = entity_bits e selector channel == 3
+is_writable_on kind.Mixer e selector channel = node_bit e.mix_bits channel == 1
+is_writable_on kind.Selector e selector channel = entity_bits e selector channel == 3
+is_writable_on kind.Feature e selector channel = entity_bits e selector channel == 3
+is_writable_on kind.Effect e selector channel = entity_bits e selector channel == 3
 
 abbrev pub is_writable : Owner → ℕ → ℕ → Bool
 is_writable (by_entity e) selector channel = is_writable_on e.kind e selector channel
@@ -193,11 +233,24 @@ value_bytes width v = little_bytes width (complement width v)
 unfoldable pub little_number : List ℕ → ℕ
 little_number bytes = sum (map (λ i. get_or bytes i 0 * 256 ^ i) (range_with_len 0 (length bytes)))
 
+-- the values that have a place in so many bytes, with a sign or without
+abbrev pub IsWithin : Bool → ℕ → ℤ → Type 0
+IsWithin true width (pos n) = 2 * n < 256 ^ width
+IsWithin true width (negsuc n) = 2 * n < 256 ^ width
+IsWithin false width (pos n) = n < 256 ^ width
+IsWithin false width (negsuc n) = ⊥
+
 -- a volume and a node are signed
 abbrev pub is_signed : EntityKind → ℕ → Bool
+is_signed kind.ClockSource selector = false
+is_signed kind.ClockSelector selector = false
+is_signed kind.ClockMultiplier selector = false
+is_signed kind.InputTerminal selector = false
+is_signed kind.OutputTerminal selector = false
 is_signed kind.Mixer selector = true
+is_signed kind.Selector selector = false
 is_signed kind.Feature selector = selector == 2
-is_signed _ selector = false
+is_signed kind.Effect selector = false
 
 -- the value that bytes are
 unfoldable pub value_from : Bool → List ℕ → ℤ
@@ -227,24 +280,9 @@ has_setting function interface number =
     if interface == function.control_interface then number == 0
     else option_map_or (λ s. list_any (λ t. t.number == number) s.settings) (stream_in function interface) false
 
--- the first of these rules that is broken
-unfoldable pub least : List (ℕ × Bool) → Option ℕ
-least [] = None
-least ((rule, broken) ∷ rules) = if broken then Some rule else least rules
-
 abbrev pub is_empty : List ℕ → Bool
 is_empty [] = true
 is_empty (byte ∷ bytes) = false
-
--- a request for a control's values
-unfoldable pub get_broken : FunctionFields → Setup → List ℕ → Bool → Owner → Option ℕ
-get_broken function p sent range owner =
-    least (
-    (4, not (is_some (width_of owner (high p.value))) || (range && not (has_range owner (high p.value))))
-    ∷ (5, is_in_range function.entities owner (low p.value) && not (is_declared owner (high p.value) (low p.value)))
-    ∷ (6, not (is_in_range function.entities owner (low p.value)))
-    ∷ (8, not (is_empty sent))
-    ∷ [])
 
 -- the key of the control that wValue and wIndex name
 abbrev pub key_named : Setup → Key
@@ -259,55 +297,108 @@ abbrev pub is_clock_control : Owner → Bool
 is_clock_control (by_entity e) = is_clock e.kind
 is_clock_control (by_stream s) = false
 
--- a request that sets a control's value
-unfoldable pub set_broken : FunctionFields → Held → Setup → List ℕ → Owner → Option ℕ
-set_broken function held p sent owner =
-    let width : Option ℕ = width_of owner (high p.value) in
-    let value : ℤ = sent_value owner (high p.value) sent in
-    least (
-    (4, not (is_some width))
-    ∷ (5, is_in_range function.entities owner (low p.value) && not (is_declared owner (high p.value) (low p.value)))
-    ∷ (6, not (is_in_range function.entities owner (low p.value)))
-    ∷ (7, not (is_writable owner (high p.value) (low p.value)))
-    ∷ (8, not (p.length == unwrap_or width 0 && length sent == unwrap_or width 0))
-    ∷ (9, not (is_legal function.entities held.controls (key_named p) value))
-    ∷ (10, is_clock_control owner && (is_running held.settings && not (option_map_or (int_eq value) (value_of held.controls (key_named p)) false)))
-    ∷ [])
+-- the bytes of a control; 0 where there is none
+abbrev pub bytes_of : Owner → ℕ → ℕ
+bytes_of owner selector = unwrap_or (width_of owner selector) 0
+
+-- the control of this key has this value
+abbrev pub has_value : List (Key × ℤ) → Key → ℤ → Bool
+has_value controls k value = option_map_or (int_eq value) (value_of controls k) false
 
 -- a setting that an interface has is valid; the control interface's is
 abbrev pub can_hold : FunctionFields → List (Key × ℤ) → ℕ → ℕ → Bool
 can_hold function controls interface setting = option_map_or (λ s. is_valid function controls s setting) (stream_in function interface) true
 
--- a request that sets an interface's setting
-unfoldable pub interface_broken : FunctionFields → Held → Setup → List ℕ → Option ℕ
-interface_broken function held p sent =
-    least (
-    (8, not (p.length == 0 && is_empty sent))
-    ∷ (11, not (has_setting function p.index p.value))
-    ∷ (12, not (can_hold function held.controls p.index p.value))
-    ∷ [])
+-- what keeps the control that a request names has this
+abbrev pub is_so_of : FunctionFields → Setup → (Owner → Bool) → Bool
+is_so_of function p test = option_map_or test (owner_of function p.index) false
 
--- the rule that a request to what keeps a control breaks first; Q3 where nothing keeps it
-abbrev pub owned_broken : Option Owner → (Owner → Option ℕ) → Option ℕ
-owned_broken None broken = Some 3
-owned_broken (Some owner) broken = broken owner
+-- Q1 (Audio Class 2.0, A.14; USB 2.0, 9.4): a request is one of the six
+unfoldable pub breaks_q1 : Setup → Bool
+breaks_q1 p = not (is_to_control p || (is_to_interface p || gets_descriptor p))
 
-abbrev pub if_interface : Bool → Option ℕ → Option ℕ
-if_interface true broken = broken
-if_interface false broken = Some 2
+-- Q2 (5.2.2; USB 2.0, 9.4): a request to a control, whose interface is the low byte of wIndex, or to an interface, which is the whole
+-- wIndex, names an interface of the function
+unfoldable pub breaks_q2 : FunctionFields → Setup → Bool
+breaks_q2 function p =
+    (is_to_control p && not (has_interface function (low p.index))) || (is_to_interface p && not (has_interface function p.index))
 
--- the rule that a request to a control breaks first, Q2 and Q3 before those of what keeps it
-abbrev pub owned_in : FunctionFields → ℕ → (Owner → Option ℕ) → Option ℕ
-owned_in function index broken = if_interface (has_interface function (low index)) (owned_broken (owner_of function index) broken)
+-- Q3 (5.2.2): a request to a control names an entity on the control interface, and on a streaming interface none
+unfoldable pub breaks_q3 : FunctionFields → Setup → Bool
+breaks_q3 function p = is_to_control p && not (is_some (owner_of function p.index))
+
+-- Q4 (5.2.5, 5.2.6; USB 2.0, 9.4.3): a request to a control names a selector that its kind has, one for ranges a selector that has ranges,
+-- and one for a descriptor the configuration, which is the first of its type
+unfoldable pub breaks_q4 : FunctionFields → Setup → Bool
+breaks_q4 function p =
+    (is_to_control p && is_so_of function p (λ o. not (is_some (width_of o (high p.value)))))
+    || ((gets_range p && is_so_of function p (λ o. not (has_range o (high p.value)))) || (gets_descriptor p && not (p.value == 512)))
+
+-- Q5 (4.7.2): a request to a control on a channel in range names one that is declared
+unfoldable pub breaks_q5 : FunctionFields → Setup → Bool
+breaks_q5 function p =
+    is_to_control p
+    && is_so_of function p (λ o. is_in_range function.entities o (low p.value) && not (is_declared o (high p.value) (low p.value)))
+
+-- Q6 (5.2.2): a request to a control names a channel, or a node, in range
+unfoldable pub breaks_q6 : FunctionFields → Setup → Bool
+breaks_q6 function p = is_to_control p && is_so_of function p (λ o. not (is_in_range function.entities o (low p.value)))
+
+-- Q7 (4.7.2): a request to set a control names one that a host may set
+unfoldable pub breaks_q7 : FunctionFields → Setup → Bool
+breaks_q7 function p = sets_cur p && is_so_of function p (λ o. not (is_writable o (high p.value) (low p.value)))
+
+-- Q8 (USB 2.0, 9.3.5): a request that gets comes with no bytes; one to set a control announces as many bytes as the control has, and as
+-- many come; one to set an interface announces none, and none come
+unfoldable pub breaks_q8 : FunctionFields → Setup → List ℕ → Bool
+breaks_q8 function p sent =
+    (is_get p && not (is_empty sent))
+    || ((sets_cur p && is_so_of function p (λ o. not (p.length == bytes_of o (high p.value) && length sent == bytes_of o (high p.value))))
+    || (sets_interface p && not (p.length == 0 && is_empty sent)))
+
+-- Q9 (5.2.1): a request to set a control sends a value that is legal for it
+unfoldable pub breaks_q9 : FunctionFields → Held → Setup → List ℕ → Bool
+breaks_q9 function held p sent =
+    sets_cur p
+    && is_so_of function p (λ o. not (is_legal function.entities held.controls (key_named p) (sent_value o (high p.value) sent)))
+
+-- Q10 (profile): a request to set a clock's control sends the value that it has, while some interface is in a setting other than 0
+unfoldable pub breaks_q10 : FunctionFields → Held → Setup → List ℕ → Bool
+breaks_q10 function held p sent =
+    sets_cur p
+    && is_so_of function p (λ o. is_clock_control o
+    && (is_running held.settings && not (has_value held.controls (key_named p) (sent_value o (high p.value) sent))))
+
+-- Q11 (USB 2.0, 9.4.10): a request to set an interface names a setting that it has
+unfoldable pub breaks_q11 : FunctionFields → Setup → Bool
+breaks_q11 function p = sets_interface p && not (has_setting function p.index p.value)
+
+-- Q12 (profile): a request to set an interface names a setting that is valid at the rate that its clock has
+unfoldable pub breaks_q12 : FunctionFields → Held → Setup → Bool
+breaks_q12 function held p = sets_interface p && not (can_hold function held.controls p.index p.value)
+
+-- the first of these rules that is broken
+unfoldable pub least : List (ℕ × Bool) → Option ℕ
+least [] = None
+least ((rule, broken) ∷ rules) = if broken then Some rule else least rules
 
 -- the first rule that a request breaks
-unfoldable pub broken_by : FunctionFields → Held → Setup → List ℕ → Request → Option ℕ
-broken_by function held p sent ask.GetCur = owned_in function p.index (get_broken function p sent false)
-broken_by function held p sent ask.GetRange = owned_in function p.index (get_broken function p sent true)
-broken_by function held p sent ask.SetCur = owned_in function p.index (set_broken function held p sent)
-broken_by function held p sent ask.GetDescriptor = least ((4, not (p.value == 512)) ∷ (8, not (is_empty sent)) ∷ [])
-broken_by function held p sent ask.GetInterface = if_interface (has_interface function p.index) (least ((8, not (is_empty sent)) ∷ []))
-broken_by function held p sent ask.SetInterface = if_interface (has_interface function p.index) (interface_broken function held p sent)
+unfoldable pub first_broken : FunctionFields → Held → Setup → List ℕ → Option ℕ
+first_broken function held p sent =
+    least (
+    (1, breaks_q1 p)
+    ∷ (2, breaks_q2 function p)
+    ∷ (3, breaks_q3 function p)
+    ∷ (4, breaks_q4 function p)
+    ∷ (5, breaks_q5 function p)
+    ∷ (6, breaks_q6 function p)
+    ∷ (7, breaks_q7 function p)
+    ∷ (8, breaks_q8 function p sent)
+    ∷ (9, breaks_q9 function held p sent)
+    ∷ (10, breaks_q10 function held p sent)
+    ∷ (11, breaks_q11 function p)
+    ∷ (12, breaks_q12 function held p)
+    ∷ [])
 
 -- ---- the answer
 
@@ -338,10 +429,15 @@ connector_bytes e = e.cluster.channels ∷ (little_bytes 4 e.cluster.locations +
 
 -- a clock source is always valid, and all other controls of entities keep a value
 abbrev pub entity_bytes : EntityKind → Entity → List (Key × ℤ) → Key → List ℕ
+entity_bytes kind.ClockSource e controls k = if k.selector == 2 then 1 ∷ [] else kept_bytes controls k (entity_width e.kind k.selector)
+entity_bytes kind.ClockSelector e controls k = kept_bytes controls k (entity_width e.kind k.selector)
+entity_bytes kind.ClockMultiplier e controls k = kept_bytes controls k (entity_width e.kind k.selector)
 entity_bytes kind.InputTerminal e controls k = connector_bytes e
 entity_bytes kind.OutputTerminal e controls k = connector_bytes e
-entity_bytes kind.ClockSource e controls k = if k.selector == 2 then 1 ∷ [] else kept_bytes controls k (entity_width e.kind k.selector)
-entity_bytes _ e controls k = kept_bytes controls k (entity_width e.kind k.selector)
+entity_bytes kind.Mixer e controls k = kept_bytes controls k (entity_width e.kind k.selector)
+entity_bytes kind.Selector e controls k = kept_bytes controls k (entity_width e.kind k.selector)
+entity_bytes kind.Feature e controls k = kept_bytes controls k (entity_width e.kind k.selector)
+entity_bytes kind.Effect e controls k = kept_bytes controls k (entity_width e.kind k.selector)
 
 -- the bit of a setting by its number, where it is valid
 abbrev pub valid_bit : FunctionFields → List (Key × ℤ) → StreamInterface → ℕ → ℕ
@@ -371,45 +467,54 @@ unfoldable pub range_bytes : ℕ → List Range → List ℕ
 range_bytes width ranges =
     little_bytes 2 (length ranges) ++ flat_map (one_range_bytes width) ranges
 
--- what a request that breaks no rule is answered
-unfoldable pub answered : FunctionFields → Held → Setup → Request → Told
-answered function held p ask.GetCur = with_bytes (take p.length (option_map_or (cur_bytes function held p) (owner_of function p.index) []))
-answered function held p ask.GetRange =
-    with_bytes
-    (take p.length
-    (option_map_or (λ owner. range_bytes (unwrap_or (width_of owner (high p.value)) 0) (unwrap_or (ranges_of function.entities (key_named p)) [])) (owner_of function p.index) []))
-answered function held p ask.GetDescriptor = with_descriptor 0 (if nat_le p.length function.total then p.length else function.total)
-answered function held p ask.GetInterface = with_bytes (take p.length (unwrap_or (setting_of held.settings p.index) 0 ∷ []))
-answered function held p _ = is_done
+-- the value of the control that a request names, and its ranges, in bytes
+abbrev pub cur_named : FunctionFields → Held → Setup → List ℕ
+cur_named function held p = option_map_or (cur_bytes function held p) (owner_of function p.index) []
+
+abbrev pub ranges_named : FunctionFields → Setup → List ℕ
+ranges_named function p =
+    option_map_or (λ o. range_bytes (bytes_of o (high p.value)) (unwrap_or (ranges_of function.entities (key_named p)) []))
+    (owner_of function p.index) []
+
+-- what a request that breaks no rule is answered: a control's value or its ranges, and an interface's setting, cut at wLength; the
+-- configuration up to wLength; or that it is done
+unfoldable pub answered : FunctionFields → Held → Setup → Told
+answered function held p =
+    if gets_cur p then with_bytes (take p.length (cur_named function held p))
+    else if gets_range p then with_bytes (take p.length (ranges_named function p))
+    else if gets_descriptor p then with_descriptor 0 (if nat_le p.length function.total then p.length else function.total)
+    else if gets_interface p then with_bytes (take p.length (unwrap_or (setting_of held.settings p.index) 0 ∷ []))
+    else is_done
+
+-- the controls with the one that a request names set to what it sends
+abbrev pub controls_set : FunctionFields → Held → Setup → List ℕ → List (Key × ℤ)
+controls_set function held p sent =
+    option_map_or (λ o. with_value held.controls (key_named p) (sent_value o (high p.value) sent)) (owner_of function p.index) held.controls
 
 -- what it leaves: a value that is set is held, and so is a setting
-unfoldable pub left_by : FunctionFields → Held → Setup → List ℕ → Request → Held
-left_by function held p sent ask.SetCur =
-    record held { controls = option_map_or (λ owner. with_value held.controls (key_named p) (sent_value owner (high p.value) sent)) (owner_of function p.index) held.controls }
-left_by function held p sent ask.SetInterface = record held { settings = with_setting held.settings p.index p.value }
-left_by function held p sent _ = held
+unfoldable pub left_by : FunctionFields → Held → Setup → List ℕ → Held
+left_by function held p sent =
+    if sets_cur p then record held { controls = controls_set function held p sent }
+    else if sets_interface p then record held { settings = with_setting held.settings p.index p.value }
+    else held
 
--- what a request is told: the rule that it breaks first, or its answer
-abbrev pub told_to : FunctionFields → Held → Setup → List ℕ → Request → Told
-told_to function held p sent r = option_map_or is_stalled (broken_by function held p sent r) (answered function held p r)
-
--- what the device keeps behind it: a stalled request changes nothing
-abbrev pub kept_after : FunctionFields → Held → Setup → List ℕ → Request → Held
-kept_after function held p sent r = if is_some (broken_by function held p sent r) then held else left_by function held p sent r
-
--- the answer to a request; Q1 where no request has this type and number
+-- the answer to a request: the rule that it breaks first, where it breaks one
 unfoldable pub reply_of : FunctionFields → Held → Setup → List ℕ → Told
-reply_of function held p sent =
-    option_map_or (told_to function held p sent) (request_of p.request_type p.request) (is_stalled 1)
+reply_of function held p sent = option_map_or is_stalled (first_broken function held p sent) (answered function held p)
 
 -- what the device keeps behind it: a stalled request changes nothing
 unfoldable pub after_request : FunctionFields → Held → Setup → List ℕ → Held
-after_request function held p sent =
-    option_map_or (kept_after function held p sent) (request_of p.request_type p.request) held
+after_request function held p sent = if is_some (first_broken function held p sent) then held else left_by function held p sent
 
 -- each interface of the function, and no other, has a setting
 abbrev pub AreSettingsOf : FunctionFields → List InterfaceSetting → Type 0
 AreSettingsOf function settings = (number : ℕ) → is_some (setting_of settings number) ≡ has_interface function number
+
+-- each interface is in setting 0, or in one of a streaming interface that is valid
+abbrev pub AreValidSettings : FunctionFields → Held → Type 0
+AreValidSettings function held =
+    (interface setting : ℕ) → setting_of held.settings interface ≡ Some setting
+    → (setting == 0 || option_map_or (λ s. is_valid function held.controls s setting) (stream_in function interface) false) ≡ true
 
 -- the controls' values and the settings, as what the device keeps
 abbrev pub held_by : List (Key × ℤ) → List InterfaceSetting → Held

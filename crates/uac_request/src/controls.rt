@@ -44,8 +44,11 @@ fn first_width(kind: EntityKind) -> Option<u8>
     match kind {
         EntityKind::ClockSource => Some(4),
         EntityKind::ClockMultiplier | EntityKind::Mixer => Some(2),
+        EntityKind::ClockSelector
+        | EntityKind::Selector
+        | EntityKind::Feature
+        | EntityKind::Effect => Some(1),
         EntityKind::InputTerminal | EntityKind::OutputTerminal => None,
-        _ => Some(1),
     }
 }
 
@@ -57,7 +60,8 @@ fn second_width(kind: EntityKind) -> Option<u8>
         EntityKind::ClockSource => Some(1),
         EntityKind::ClockMultiplier | EntityKind::Feature => Some(2),
         EntityKind::InputTerminal | EntityKind::OutputTerminal => Some(6),
-        _ => None,
+        EntityKind::ClockSelector | EntityKind::Mixer | EntityKind::Selector | EntityKind::Effect =>
+            None,
     }
 }
 
@@ -107,7 +111,7 @@ fn entity_range(kind: EntityKind, selector: u8) -> bool
         | EntityKind::Selector => selector == 1,
         EntityKind::ClockMultiplier => selector == 1 || selector == 2,
         EntityKind::Feature => selector == 2,
-        _ => false,
+        EntityKind::InputTerminal | EntityKind::OutputTerminal | EntityKind::Effect => false,
     }
 }
 
@@ -133,7 +137,7 @@ pub(crate) fn written<'a>(owner: Owner<'a>, selector: u8, channel: u8) -> Option
 {
     match owner {
         Owner::Entity(entity) if is_writable(entity, selector, channel) => Some(entity),
-        _ => None,
+        Owner::Entity(_) | Owner::Stream(_) => None,
     }
 }
 
@@ -145,7 +149,11 @@ fn is_writable(entity: &Entity, selector: u8, channel: u8) -> bool
         EntityKind::Mixer => node_bit(entity.mix_bits.as_slice(), channel) == 1,
         EntityKind::ClockSource => { selector == 1 && entity_bits(entity, selector, channel) == 3 }
         EntityKind::InputTerminal | EntityKind::OutputTerminal => false,
-        _ => entity_bits(entity, selector, channel) == 3,
+        EntityKind::ClockSelector
+        | EntityKind::ClockMultiplier
+        | EntityKind::Selector
+        | EntityKind::Feature
+        | EntityKind::Effect => entity_bits(entity, selector, channel) == 3,
     }
 }
 
@@ -167,7 +175,13 @@ fn word_of(kind: EntityKind, channel: u8) -> u8
 {
     match kind {
         EntityKind::Feature | EntityKind::Effect => channel,
-        _ => 0,
+        EntityKind::ClockSource
+        | EntityKind::ClockSelector
+        | EntityKind::ClockMultiplier
+        | EntityKind::InputTerminal
+        | EntityKind::OutputTerminal
+        | EntityKind::Mixer
+        | EntityKind::Selector => 0,
     }
 }
 

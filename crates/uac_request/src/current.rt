@@ -52,7 +52,13 @@ fn entity_bytes(entity: &Entity, store: &Store, key: Key) -> Reply
     match entity.kind {
         EntityKind::InputTerminal | EntityKind::OutputTerminal => connector_bytes(entity),
         EntityKind::ClockSource if key.selector == 2 => one_byte(1),
-        _ => kept_bytes(store, key, entity_width(entity.kind, key.selector)),
+        EntityKind::ClockSource
+        | EntityKind::ClockSelector
+        | EntityKind::ClockMultiplier
+        | EntityKind::Mixer
+        | EntityKind::Selector
+        | EntityKind::Feature
+        | EntityKind::Effect => kept_bytes(store, key, entity_width(entity.kind, key.selector)),
     }
 }
 

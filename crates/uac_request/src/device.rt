@@ -15,7 +15,7 @@ use uac_topology::Function;
 /// are the bytes that came with it. It takes no memory.
 ///
 /// A stall carries the first of the rules Q1 to Q12 that the request breaks, and changes nothing.
-#[tactic(auto, unfolding(crate::specs::Requests::reply_of, crate::specs::Requests::after_request))]
+#[tactic(auto, unfolding(crate::specs::Requests::reply_of, crate::specs::Requests::after_request), using(crate::proofs::Asked::first_unknown))]
 pub fn answer(
     function: &Function,
     store: &mut Store,
@@ -30,7 +30,7 @@ pub fn answer(
     ensures of_function { IsStoreOf function.now.entities store.new }
     ensures still { AreSettingsOf function.now settings.new }
 {
-    match request_of(setup.request_type, setup.request) {
+    match request_of(setup) {
         Some(Request::GetCur) => get_cur(function, store, settings, setup, sent),
         Some(Request::GetRange) => get_range(function, store, setup, sent),
         Some(Request::SetCur) => set_cur(function, store, settings, setup, sent),

@@ -32,3 +32,4 @@ mod valid;
 pub use device::answer;
 pub use setup::Setup;
 pub use told::{Answer, Reply};
+pub use valid::is_valid;

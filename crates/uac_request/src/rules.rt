@@ -5,12 +5,13 @@ ghost use Rattle.std.specs.Int.RustNames.{FitsSigned};
 ghost use Rattle.uac_entities.specs.Streams.{named};
 ghost use Rattle.uac_entities.specs.declared.entity.Entity.{Entity};
 ghost use Rattle.uac_topology.specs.Function.{FunctionFields};
+ghost use Rattle.uac_alt.specs.declared.settings.InterfaceSetting.{InterfaceSetting};
 ghost use Rattle.uac_store.specs.Controls.{IsStoreOf, count_of, selectors_of, takes};
 ghost use Rattle.uac_store.specs.Keyed.{value_of};
 ghost use Rattle.uac_store.specs.Values.{is_legal};
-ghost use Rattle.uac_request.specs.Owners.{owned};
+ghost use Rattle.uac_request.specs.Owners.{get_rules, owned, set_rules};
 ghost use Rattle.uac_request.specs.Requests as spec;
-ghost use Rattle.uac_request.specs.Requests.{by_entity, held_by, key_named, owner_of, sent_value};
+ghost use Rattle.uac_request.specs.Requests.{by_entity, first_broken, held_by, key_named, least, owner_of, sent_value};
 
 use crate::bytes::value_from;
 use crate::controls::{has_range, is_declared, width_of, written};
@@ -23,7 +24,6 @@ use uac_topology::{Entity, EntityKind, Function};
 use uac_topology_rules::is_clock;
 
 /// The first rule that a request for a control's values, or for its ranges, breaks.
-#[tactic(auto, unfolding(crate::specs::Requests::get_broken, crate::specs::Requests::least))]
 pub(crate) fn get_broken(
     function: &Function,
     store: &Store,
@@ -33,8 +33,29 @@ pub(crate) fn get_broken(
     owner: Owner<'_>,
 ) -> Option<u8>
     requires of_function { IsStoreOf function.now.entities store.now }
+    requires asked { setup.now.request_type ≡ 161 }
+    requires number { setup.now.request ≡ (if range then 2 else 1) }
+    requires of_interface { spec.has_interface function.now (spec.low setup.now.index) ≡ true }
     requires of_index { owner_of function.now setup.now.index ≡ Some (owned owner) }
-    ensures broken { result ≡ spec.get_broken function.now setup.now sent.now range (owned owner.entry) }
+    ensures broken { (settings : List InterfaceSetting) → result ≡ first_broken function.now (held_by store.now settings) setup.now sent.now }
+    ensures ranged { result ≡ None → range ≡ true → spec.has_range (owned owner.entry) (spec.high setup.now.value) ≡ true }
+{
+    broken_at(function, store, setup, sent, range, owner)
+}
+
+// The first rule that it breaks, of those that are left where its control is kept by something.
+#[tactic(auto, unfolding(crate::specs::Requests::least))]
+fn broken_at(
+    function: &Function,
+    store: &Store,
+    setup: &Setup,
+    sent: &[u8],
+    range: bool,
+    owner: Owner<'_>,
+) -> Option<u8>
+    requires of_function { IsStoreOf function.now.entities store.now }
+    requires of_index { owner_of function.now setup.now.index ≡ Some (owned owner) }
+    ensures broken { result ≡ least (get_rules function.now setup.now sent.now (owned owner.entry) range) }
     ensures ranged { result ≡ None → range ≡ true → spec.has_range (owned owner.entry) (spec.high setup.now.value) ≡ true }
 {
     let key = key_of(setup);
@@ -86,7 +107,6 @@ fn keeps_values(kind: EntityKind) -> bool
 }
 
 /// The value that a request to set a control's value sends, or the first rule that it breaks.
-#[tactic(auto, unfolding(crate::specs::Requests::set_broken, crate::specs::Requests::least), using(crate::proofs::Owned::entity_named))]
 pub(crate) fn value_to_set(
     function: &Function,
     store: &Store,
@@ -96,9 +116,33 @@ pub(crate) fn value_to_set(
     owner: Owner<'_>,
 ) -> Result<i32, u8>
     requires of_function { IsStoreOf function.now.entities store.now }
+    requires asked { setup.now.request_type ≡ 33 }
+    requires number { setup.now.request ≡ 1 }
+    requires of_interface { spec.has_interface function.now (spec.low setup.now.index) ≡ true }
     requires of_index { owner_of function.now setup.now.index ≡ Some (owned owner) }
-    ensures broken { IfErr result (λ rule. spec.set_broken function.now (held_by store.now settings.now) setup.now sent.now (owned owner.entry) ≡ Some rule) }
-    ensures met { IfOk result (λ value. spec.set_broken function.now (held_by store.now settings.now) setup.now sent.now (owned owner.entry) ≡ None) }
+    ensures broken { IfErr result (λ rule. first_broken function.now (held_by store.now settings.now) setup.now sent.now ≡ Some rule) }
+    ensures met { IfOk result (λ value. first_broken function.now (held_by store.now settings.now) setup.now sent.now ≡ None) }
+    ensures value { IfOk result (λ value. value ≡ sent_value (owned owner.entry) (spec.high setup.now.value) sent.now) }
+    ensures kept { IfOk result (λ value. IsSome (value_of store.now (key_named setup.now))) }
+    ensures taken { IfOk result (λ value. takes function.now.entities (key_named setup.now) value ≡ true) }
+{
+    value_sent(function, store, settings, setup, sent, owner)
+}
+
+// The same, where its control is kept by something.
+#[tactic(auto, unfolding(crate::specs::Requests::least), using(crate::proofs::Owned::entity_named))]
+fn value_sent(
+    function: &Function,
+    store: &Store,
+    settings: &Settings,
+    setup: &Setup,
+    sent: &[u8],
+    owner: Owner<'_>,
+) -> Result<i32, u8>
+    requires of_function { IsStoreOf function.now.entities store.now }
+    requires of_index { owner_of function.now setup.now.index ≡ Some (owned owner) }
+    ensures broken { IfErr result (λ rule. least (set_rules function.now (held_by store.now settings.now) setup.now sent.now (owned owner.entry)) ≡ Some rule) }
+    ensures met { IfOk result (λ value. least (set_rules function.now (held_by store.now settings.now) setup.now sent.now (owned owner.entry)) ≡ None) }
     ensures value { IfOk result (λ value. value ≡ sent_value (owned owner.entry) (spec.high setup.now.value) sent.now) }
     ensures kept { IfOk result (λ value. IsSome (value_of store.now (key_named setup.now))) }
     ensures taken { IfOk result (λ value. takes function.now.entities (key_named setup.now) value ≡ true) }
@@ -175,6 +219,12 @@ fn is_signed(kind: EntityKind, selector: u8) -> bool
     match kind {
         EntityKind::Mixer => true,
         EntityKind::Feature => selector == 2,
-        _ => false,
+        EntityKind::ClockSource
+        | EntityKind::ClockSelector
+        | EntityKind::ClockMultiplier
+        | EntityKind::InputTerminal
+        | EntityKind::OutputTerminal
+        | EntityKind::Selector
+        | EntityKind::Effect => false,
     }
 }

@@ -1,13 +1,11 @@
 // The six requests, each by itself.
-ghost use Rattle.std.specs.Prelude as prelude;
 ghost use Rattle.std.specs.Prelude.{◌≡◌, ℤ, List, ℕ, IfErr, IfOk, None, Some, take, true};
 ghost use Rattle.uac_alt.specs.declared.settings.InterfaceSetting.{InterfaceSetting};
 ghost use Rattle.uac_store.specs.Controls.{IsStoreOf};
 ghost use Rattle.uac_store.specs.declared.keys.Key.{Key};
 ghost use Rattle.uac_request.specs.Owners.{owned};
 ghost use Rattle.uac_request.specs.Requests as spec;
-ghost use Rattle.uac_request.specs.Requests.{AreSettingsOf, Held, held_by, kept_after, low, seen, told_to};
-ghost use Rattle.uac_request.specs.declared.request.Request.TheVariants as ask;
+ghost use Rattle.uac_request.specs.Requests.{AreSettingsOf, Held, after_request, first_broken, held_by, is_to_control, low, reply_of, seen};
 
 use crate::current::{cur_bytes, key_of, one_byte};
 use crate::owner::{Owner, has_interface, interface_named, owner_of, setting_named};
@@ -21,7 +19,7 @@ use uac_store::Store;
 use uac_topology::Function;
 
 /// What a request for a control's value is told (Audio Class 2.0, 5.2.2).
-#[tactic(auto, unfolding(crate::specs::Requests::broken_by, crate::specs::Requests::answered, crate::specs::Requests::left_by))]
+#[tactic(auto, unfolding(crate::specs::Requests::reply_of, crate::specs::Requests::after_request), using(crate::proofs::Asked::answered_cur, crate::proofs::Asked::left_cur))]
 pub(crate) fn get_cur(
     function: &Function,
     store: &Store,
@@ -29,9 +27,11 @@ pub(crate) fn get_cur(
     setup: &Setup,
     sent: &[u8],
 ) -> Answer
-    requires { IsStoreOf function.now.entities store.now }
-    ensures told { seen result ≡ told_to function.now (held_by store.now settings.now) setup.now sent.now ask.GetCur }
-    ensures held { held_by store.now settings.now ≡ kept_after function.now (held_by store.now settings.now) setup.now sent.now ask.GetCur }
+    requires of_function { IsStoreOf function.now.entities store.now }
+    requires asked { setup.now.request_type ≡ 161 }
+    requires number { setup.now.request ≡ 1 }
+    ensures told { seen result ≡ reply_of function.now (held_by store.now settings.now) setup.now sent.now }
+    ensures held { held_by store.now settings.now ≡ after_request function.now (held_by store.now settings.now) setup.now sent.now }
 {
     let owner = match owner_named(function, setup) {
         Ok(owner) => owner,
@@ -47,11 +47,13 @@ pub(crate) fn get_cur(
 }
 
 /// What a request for a control's ranges is told (Audio Class 2.0, 5.2.1).
-#[tactic(auto, unfolding(crate::specs::Requests::broken_by, crate::specs::Requests::answered, crate::specs::Requests::left_by))]
+#[tactic(auto, unfolding(crate::specs::Requests::reply_of, crate::specs::Requests::after_request), using(crate::proofs::Asked::answered_range, crate::proofs::Asked::left_cur))]
 pub(crate) fn get_range(function: &Function, store: &Store, setup: &Setup, sent: &[u8]) -> Answer
-    requires { IsStoreOf function.now.entities store.now }
-    ensures told { (settings : List InterfaceSetting) → seen result ≡ told_to function.now (held_by store.now settings) setup.now sent.now ask.GetRange }
-    ensures held { (settings : List InterfaceSetting) → held_by store.now settings ≡ kept_after function.now (held_by store.now settings) setup.now sent.now ask.GetRange }
+    requires of_function { IsStoreOf function.now.entities store.now }
+    requires asked { setup.now.request_type ≡ 161 }
+    requires number { setup.now.request ≡ 2 }
+    ensures told { (settings : List InterfaceSetting) → seen result ≡ reply_of function.now (held_by store.now settings) setup.now sent.now }
+    ensures held { (settings : List InterfaceSetting) → held_by store.now settings ≡ after_request function.now (held_by store.now settings) setup.now sent.now }
 {
     let owner = match owner_named(function, setup) {
         Ok(owner) => owner,
@@ -64,7 +66,7 @@ pub(crate) fn get_range(function: &Function, store: &Store, setup: &Setup, sent:
 }
 
 /// What a request to set a control's value is told, and the controls behind it (Audio Class 2.0, 5.2.2).
-#[tactic(auto, unfolding(crate::specs::Requests::broken_by, crate::specs::Requests::answered, crate::specs::Requests::left_by))]
+#[tactic(auto, unfolding(crate::specs::Requests::reply_of, crate::specs::Requests::after_request), using(crate::proofs::Asked::answered_set, crate::proofs::Asked::left_set))]
 pub(crate) fn set_cur(
     function: &Function,
     store: &mut Store,
@@ -72,9 +74,11 @@ pub(crate) fn set_cur(
     setup: &Setup,
     sent: &[u8],
 ) -> Answer
-    requires { IsStoreOf function.now.entities store.old }
-    ensures told { seen result ≡ told_to function.now (held_by store.old settings.now) setup.now sent.now ask.SetCur }
-    ensures held { held_by store.new settings.now ≡ kept_after function.now (held_by store.old settings.now) setup.now sent.now ask.SetCur }
+    requires of_function { IsStoreOf function.now.entities store.old }
+    requires asked { setup.now.request_type ≡ 33 }
+    requires number { setup.now.request ≡ 1 }
+    ensures told { seen result ≡ reply_of function.now (held_by store.old settings.now) setup.now sent.now }
+    ensures held { held_by store.new settings.now ≡ after_request function.now (held_by store.old settings.now) setup.now sent.now }
     ensures of_function { IsStoreOf function.now.entities store.new }
 {
     let owner = match owner_named(function, setup) {
@@ -91,10 +95,12 @@ pub(crate) fn set_cur(
 }
 
 /// What a request for the configuration is told (USB 2.0, 9.4.3).
-#[tactic(auto, unfolding(crate::specs::Requests::broken_by, crate::specs::Requests::answered, crate::specs::Requests::left_by, crate::specs::Requests::least))]
+#[tactic(auto, unfolding(crate::specs::Requests::reply_of, crate::specs::Requests::after_request, crate::specs::Requests::least), using(crate::proofs::Asked::first_descriptor, crate::proofs::Asked::answered_descriptor, crate::proofs::Asked::left_descriptor))]
 pub(crate) fn get_descriptor(function: &Function, setup: &Setup, sent: &[u8]) -> Answer
-    ensures told { (held : Held) → seen result ≡ told_to function.now held setup.now sent.now ask.GetDescriptor }
-    ensures held { (held : Held) → held ≡ kept_after function.now held setup.now sent.now ask.GetDescriptor }
+    requires asked { setup.now.request_type ≡ 128 }
+    requires number { setup.now.request ≡ 6 }
+    ensures told { (held : Held) → seen result ≡ reply_of function.now held setup.now sent.now }
+    ensures held { (held : Held) → held ≡ after_request function.now held setup.now sent.now }
 {
     if setup.value != 0x0200 {
         return Answer::Stall(4);
@@ -114,15 +120,17 @@ pub(crate) fn get_descriptor(function: &Function, setup: &Setup, sent: &[u8]) ->
 }
 
 /// What a request for an interface's setting is told (USB 2.0, 9.4.4).
-#[tactic(auto, unfolding(crate::specs::Requests::broken_by, crate::specs::Requests::answered, crate::specs::Requests::left_by, crate::specs::Requests::least))]
+#[tactic(auto, unfolding(crate::specs::Requests::reply_of, crate::specs::Requests::after_request, crate::specs::Requests::least), using(crate::proofs::Asked::first_interface, crate::proofs::Asked::answered_interface, crate::proofs::Asked::left_interface))]
 pub(crate) fn get_interface(
     function: &Function,
     settings: &Settings,
     setup: &Setup,
     sent: &[u8],
 ) -> Answer
-    ensures told { (controls : List (Key × ℤ)) → seen result ≡ told_to function.now (held_by controls settings.now) setup.now sent.now ask.GetInterface }
-    ensures held { (controls : List (Key × ℤ)) → held_by controls settings.now ≡ kept_after function.now (held_by controls settings.now) setup.now sent.now ask.GetInterface }
+    requires asked { setup.now.request_type ≡ 129 }
+    requires number { setup.now.request ≡ 10 }
+    ensures told { (controls : List (Key × ℤ)) → seen result ≡ reply_of function.now (held_by controls settings.now) setup.now sent.now }
+    ensures held { (controls : List (Key × ℤ)) → held_by controls settings.now ≡ after_request function.now (held_by controls settings.now) setup.now sent.now }
 {
     let Some(interface) = interface_named(function, setup.index) else {
         return Answer::Stall(2);
@@ -135,7 +143,7 @@ pub(crate) fn get_interface(
 }
 
 /// What a request to set an interface's setting is told, and the settings behind it (USB 2.0, 9.4.10).
-#[tactic(auto, unfolding(crate::specs::Requests::broken_by, crate::specs::Requests::answered, crate::specs::Requests::left_by, crate::specs::Requests::interface_broken, crate::specs::Requests::least))]
+#[tactic(auto, unfolding(crate::specs::Requests::reply_of, crate::specs::Requests::after_request, crate::specs::Requests::least), using(crate::proofs::Asked::first_set_interface, crate::proofs::Asked::answered_set_interface, crate::proofs::Asked::left_set_interface))]
 pub(crate) fn set_interface(
     function: &Function,
     store: &Store,
@@ -143,9 +151,11 @@ pub(crate) fn set_interface(
     setup: &Setup,
     sent: &[u8],
 ) -> Answer
-    requires { AreSettingsOf function.now settings.old }
-    ensures told { seen result ≡ told_to function.now (held_by store.now settings.old) setup.now sent.now ask.SetInterface }
-    ensures held { held_by store.now settings.new ≡ kept_after function.now (held_by store.now settings.old) setup.now sent.now ask.SetInterface }
+    requires settings { AreSettingsOf function.now settings.old }
+    requires asked { setup.now.request_type ≡ 1 }
+    requires number { setup.now.request ≡ 11 }
+    ensures told { seen result ≡ reply_of function.now (held_by store.now settings.old) setup.now sent.now }
+    ensures held { held_by store.now settings.new ≡ after_request function.now (held_by store.now settings.old) setup.now sent.now }
     ensures of_function { AreSettingsOf function.now settings.new }
 {
     let Some(interface) = interface_named(function, setup.index) else {
@@ -175,8 +185,10 @@ fn can_hold(function: &Function, store: &Store, interface: u8, setting: u8) -> b
 }
 
 // What keeps the control that a request names, or the rule by which it is stalled where nothing does.
+#[tactic(auto, using(crate::proofs::Asked::no_interface, crate::proofs::Asked::no_owner))]
 fn owner_named<'a>(function: &'a Function, setup: &Setup) -> Result<Owner<'a>, u8>
-    ensures none { IfErr result (λ rule. (broken : spec.Owner → prelude.Option ℕ) → spec.owned_in function.now setup.now.index broken ≡ Some rule) }
+    requires { is_to_control setup.now ≡ true }
+    ensures none { IfErr result (λ rule. (held : Held) (sent : List ℕ) → first_broken function.now held setup.now sent ≡ Some rule) }
     ensures interface { IfOk result (λ owner. spec.has_interface function.now (low setup.now.index) ≡ true) }
     ensures owner { IfOk result (λ owner. spec.owner_of function.now setup.now.index ≡ Some (owned owner)) }
 {

@@ -10,12 +10,7 @@ use uac_topology::{Function, StreamInterface};
 /// Whether a setting of a streaming interface is valid: it is 0, or can run at the rate of its terminal's clock now
 /// (profile).
 #[tactic(auto, unfolding(crate::specs::Requests::is_valid))]
-pub(crate) fn is_valid(
-    function: &Function,
-    store: &Store,
-    stream: &StreamInterface,
-    number: u8,
-) -> bool
+pub fn is_valid(function: &Function, store: &Store, stream: &StreamInterface, number: u8) -> bool
     ensures { result ≡ spec.is_valid function.now store.now stream.now number }
 {
     number == 0 || can_run(function, store, stream, number)

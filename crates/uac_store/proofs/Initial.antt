@@ -13,7 +13,7 @@ use Rattle.uac_topology_rules.proofs.Sound.{option_or-none}
 use Rattle.uac_topology.specs.Kept.{has_pins, HavePins}
 use Rattle.uac_store.specs.declared.keys.Key.{Key}
 use Rattle.uac_store.specs.Keyed.{value_of}
-use Rattle.uac_store.specs.Controls.{start_of, start_at, start_by, count_of, selectors_of, pins_of, node_start, channel_within, controls_of, initial_controls, has_on, has_control, takes, takes_on, takes_by, is_one_to, is_switch, IsStoreOf}
+use Rattle.uac_store.specs.Controls.{choices, start_of, start_at, start_by, count_of, selectors_of, pins_of, node_start, channel_within, controls_of, initial_controls, has_on, has_control, takes, takes_on, takes_by, is_one_to, is_switch, IsStoreOf}
 use Rattle.uac_store.proofs.Keeping.{value_of-append, controls_miss_channel, controls_miss_entity, selectors_miss, selectors_have, entities_miss}
 
 -- what one entity gives a key
@@ -102,8 +102,11 @@ no_selector selector has there = from (nat_lt 0 selector) (nat_le selector 0) re
   from false high l h there = cc
 
 -- the first pin is there
-first_pin : (pins : ℕ) → 1 ≤ pins → is_one_to pins (pos 1) ≡ true
-first_pin pins some = le-leb 1 pins some
+first_pin : (pins : ℕ) → 1 ≤ pins → is_one_to (choices pins) (pos 1) ≡ true
+first_pin pins some = from (nat_lt pins 256) where
+  from : (b : Bool) → is_one_to (if b then pins else 255) (pos 1) ≡ true
+  from true = le-leb 1 pins some
+  from false = refl
 
 -- what an entity's control has at the start is a value that it takes
 start_taken : (k : EntityKind) (pins : List ℕ) (outputs sources attributes selector channel : ℕ) (has : Bool)

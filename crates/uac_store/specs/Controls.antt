@@ -39,10 +39,15 @@ abbrev pub nodes_of : List Entity → Entity → ℕ
 nodes_of entities e = sum (pins_of entities e) * e.cluster.channels
 
 abbrev pub count_by : EntityKind → ℕ → ℕ → ℕ
+count_by kind.ClockSource nodes channels = 1
+count_by kind.ClockSelector nodes channels = 1
+count_by kind.ClockMultiplier nodes channels = 1
+count_by kind.InputTerminal nodes channels = 1
+count_by kind.OutputTerminal nodes channels = 1
 count_by kind.Mixer nodes channels = nodes
+count_by kind.Selector nodes channels = 1
 count_by kind.Feature nodes channels = channels + 1
 count_by kind.Effect nodes channels = channels + 1
-count_by _ nodes channels = 1
 
 -- how many of each control an entity has: the nodes of a mixer; the master, channel 0, and the channels of a feature or an
 -- effect; else channel 0 alone
@@ -64,9 +69,12 @@ abbrev pub start_by : EntityKind → ℤ → ℤ
 start_by kind.ClockSource node = pos 48000
 start_by kind.ClockSelector node = pos 1
 start_by kind.ClockMultiplier node = pos 1
+start_by kind.InputTerminal node = pos 0
+start_by kind.OutputTerminal node = pos 0
 start_by kind.Mixer node = node
 start_by kind.Selector node = pos 1
-start_by _ node = pos 0
+start_by kind.Feature node = pos 0
+start_by kind.Effect node = pos 0
 
 -- profile: at the start mute and volume are 0, selectors 1, a frequency 48000, numerator and denominator 1, enable 0
 unfoldable pub start_of : List Entity → Entity → ℕ → ℤ
@@ -102,6 +110,10 @@ unfoldable pub start_at : List Entity → Key → Option ℤ
 start_at entities k =
     option_and_then (λ e. if has_on entities k e then Some (start_of entities e k.channel) else None) (named entities k.entity)
 
+-- the pins that a control of one byte can choose
+abbrev pub choices : ℕ → ℕ
+choices pins = if nat_lt pins 256 then pins else 255
+
 -- a whole number from 1 to this
 abbrev pub is_one_to : ℕ → ℤ → Bool
 is_one_to most (pos n) = nat_lt 0 n && nat_le n most
@@ -120,13 +132,14 @@ is_frequency attributes _ = false
 -- a value of the control is one that it can take
 abbrev pub takes_by : EntityKind → ℕ → ℕ → ℕ → ℤ → Bool
 takes_by kind.ClockSource pins attributes selector v = is_frequency attributes v
-takes_by kind.ClockSelector pins attributes selector v = is_one_to pins v
+takes_by kind.ClockSelector pins attributes selector v = is_one_to (choices pins) v
 takes_by kind.ClockMultiplier pins attributes selector v = is_one_to 8 v
+takes_by kind.InputTerminal pins attributes selector v = false
+takes_by kind.OutputTerminal pins attributes selector v = false
 takes_by kind.Mixer pins attributes selector v = is_some (gain_of v)
-takes_by kind.Selector pins attributes selector v = is_one_to pins v
+takes_by kind.Selector pins attributes selector v = is_one_to (choices pins) v
 takes_by kind.Feature pins attributes selector v = if selector == 1 then is_switch v else is_some (gain_of v)
 takes_by kind.Effect pins attributes selector v = is_switch v
-takes_by _ pins attributes selector v = false
 
 -- profile: the values that an entity's control takes
 unfoldable pub takes_on : ℕ → ℤ → Entity → Bool
@@ -143,8 +156,15 @@ pub record IsStoreOf (entities : List Entity) (controls : List (Key × ℤ)) : T
 
 -- profile: a mixer has at most 256 input channels and at most 256 nodes
 abbrev pub IsSmall : EntityKind → ℕ → ℕ → Type 0
+IsSmall kind.ClockSource inputs outputs = Unit {0}
+IsSmall kind.ClockSelector inputs outputs = Unit {0}
+IsSmall kind.ClockMultiplier inputs outputs = Unit {0}
+IsSmall kind.InputTerminal inputs outputs = Unit {0}
+IsSmall kind.OutputTerminal inputs outputs = Unit {0}
 IsSmall kind.Mixer inputs outputs = (inputs ≤ 256) × (inputs * outputs ≤ 256)
-IsSmall _ inputs outputs = Unit {0}
+IsSmall kind.Selector inputs outputs = Unit {0}
+IsSmall kind.Feature inputs outputs = Unit {0}
+IsSmall kind.Effect inputs outputs = Unit {0}
 
 -- each control has a key of its own: ids differ, and the number of a node is a channel number
 pub record IsKeyed (entities : List Entity) : Type 0 where

@@ -56,7 +56,12 @@ rate_by controls below e kind.ClockSource = source_rate controls e.id
 rate_by controls below e kind.ClockSelector = option_and_then below (chosen_source controls e)
 rate_by controls below e kind.ClockMultiplier =
     option_and_then (multiplier_rate controls e.id) (option_and_then below (slice_get e.sources 0))
-rate_by controls below e _ = None
+rate_by controls below e kind.InputTerminal = None
+rate_by controls below e kind.OutputTerminal = None
+rate_by controls below e kind.Mixer = None
+rate_by controls below e kind.Selector = None
+rate_by controls below e kind.Feature = None
+rate_by controls below e kind.Effect = None
 
 -- the same, from an entity's id
 unfoldable pub rate_step : List Entity → List (Key × ℤ) → (ℕ → Option ℕ) → ℕ → Option ℕ

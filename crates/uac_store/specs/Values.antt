@@ -13,7 +13,7 @@ use Rattle.uac_store.specs.declared.keys.Key.{Key}
 use Rattle.uac_store.specs.declared.keys.Range.{Range}
 use Rattle.uac_store.specs.declared.values.Change.{Change}
 use Rattle.uac_store.specs.Keyed.{with_value}
-use Rattle.uac_store.specs.Controls.{has_on, takes}
+use Rattle.uac_store.specs.Controls.{choices, has_on, takes}
 use Rattle.uac_store.specs.Rates.{rate_of}
 
 -- ---- ranges
@@ -30,10 +30,6 @@ alone hertz = record { min = pos hertz; max = pos hertz; res = pos 0 }
 abbrev pub frequencies : ℕ → List ℕ
 frequencies attributes = if nat_lt (attributes % 4) 2 then 48000 ∷ [] else twelve_rates
 
--- the pins that a control of one byte can choose
-abbrev pub choices : ℕ → ℕ
-choices pins = if nat_lt pins 256 then pins else 255
-
 -- the volumes but for silence, in 1/256 decibel: whole decibels from -96 to -33, and halves from -32 to 12
 abbrev pub volumes : List Range
 volumes = record { min = negsuc 24575; max = negsuc 8447; res = pos 256 } ∷ record { min = negsuc 8191; max = pos 3072; res = pos 128 } ∷ []
@@ -43,10 +39,12 @@ abbrev pub ranges_by : EntityKind → ℕ → ℕ → ℕ → Option (List Range
 ranges_by kind.ClockSource pins attributes selector = Some (map alone (frequencies attributes))
 ranges_by kind.ClockSelector pins attributes selector = one_range (pos 1) (pos (choices pins)) (pos 1)
 ranges_by kind.ClockMultiplier pins attributes selector = one_range (pos 1) (pos 8) (pos 1)
+ranges_by kind.InputTerminal pins attributes selector = None
+ranges_by kind.OutputTerminal pins attributes selector = None
 ranges_by kind.Mixer pins attributes selector = Some volumes
 ranges_by kind.Selector pins attributes selector = one_range (pos 1) (pos (choices pins)) (pos 1)
 ranges_by kind.Feature pins attributes selector = if selector == 2 then Some volumes else None
-ranges_by _ pins attributes selector = None
+ranges_by kind.Effect pins attributes selector = None
 
 -- the subranges of the control of this key; none where there is no such control, or it has no ranges
 unfoldable pub ranges_of : List Entity → Key → Option (List Range)

@@ -38,7 +38,12 @@ pub(crate) fn rate_within(
             let rate = rate_within(steps - 1, function, store, change, source)?;
             multiplier_rate(store, change, entity.id, rate)
         }
-        _ => None,
+        EntityKind::InputTerminal
+        | EntityKind::OutputTerminal
+        | EntityKind::Mixer
+        | EntityKind::Selector
+        | EntityKind::Feature
+        | EntityKind::Effect => None,
     }
 }
 

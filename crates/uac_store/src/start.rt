@@ -81,7 +81,11 @@ pub(crate) fn selectors_of(kind: EntityKind) -> u8
     match kind {
         EntityKind::InputTerminal | EntityKind::OutputTerminal => 0,
         EntityKind::ClockMultiplier | EntityKind::Feature => 2,
-        _ => 1,
+        EntityKind::ClockSource
+        | EntityKind::ClockSelector
+        | EntityKind::Mixer
+        | EntityKind::Selector
+        | EntityKind::Effect => 1,
     }
 }
 
@@ -96,7 +100,12 @@ pub(crate) fn count_of(function: &Function, entity: &Entity) -> usize
     match entity.kind {
         EntityKind::Mixer => inputs_of(function, entity) * channels,
         EntityKind::Feature | EntityKind::Effect => channels + 1,
-        _ => 1,
+        EntityKind::ClockSource
+        | EntityKind::ClockSelector
+        | EntityKind::ClockMultiplier
+        | EntityKind::InputTerminal
+        | EntityKind::OutputTerminal
+        | EntityKind::Selector => 1,
     }
 }
 
@@ -121,7 +130,10 @@ fn start_of(entity: &Entity, pins: &[u8], channel: usize) -> i32
         EntityKind::ClockSource => 48000,
         EntityKind::ClockSelector | EntityKind::ClockMultiplier | EntityKind::Selector => 1,
         EntityKind::Mixer => node_start(pins, entity.cluster.channels as usize, channel),
-        _ => 0,
+        EntityKind::InputTerminal
+        | EntityKind::OutputTerminal
+        | EntityKind::Feature
+        | EntityKind::Effect => 0,
     }
 }
 

@@ -83,21 +83,24 @@ fn ranges_on(entity: &Entity, selector: u8) -> Option<Ranges>
     match entity.kind {
         EntityKind::ClockSource => Some(frequencies(entity.attributes)),
         EntityKind::ClockSelector | EntityKind::Selector => {
-            Some(one_range(1, choices(entity.sources.as_slice()), 1))
+            Some(one_range(1, i32::from(choices(entity.sources.as_slice())), 1))
         }
         EntityKind::ClockMultiplier => Some(one_range(1, i32::from(MOST_TIMES), 1)),
         EntityKind::Mixer => Some(volumes()),
         EntityKind::Feature if selector == 2 => Some(volumes()),
-        _ => None,
+        EntityKind::Feature
+        | EntityKind::Effect
+        | EntityKind::InputTerminal
+        | EntityKind::OutputTerminal => None,
     }
 }
 
 // The last pin, counted from 1, that a control of one byte can choose.
-fn choices(sources: &[u8]) -> i32
-    ensures { result ≡ pos (spec.choices (length sources.now)) }
+fn choices(sources: &[u8]) -> u8
+    ensures { result ≡ controls.choices (length sources.now) }
 {
     match u8::try_from(sources.len()) {
-        Ok(pins) => i32::from(pins),
+        Ok(pins) => pins,
         Err(_) => 255,
     }
 }
@@ -180,9 +183,9 @@ fn takes(entity: &Entity, selector: u8, value: i32) -> bool
     match entity.kind {
         EntityKind::ClockSource => is_frequency(entity.attributes, value),
         EntityKind::ClockSelector | EntityKind::Selector => {
-            is_one_to(entity.sources.as_slice().len(), value)
+            is_one_to(choices(entity.sources.as_slice()), value)
         }
-        EntityKind::ClockMultiplier => is_one_to(usize::from(MOST_TIMES), value),
+        EntityKind::ClockMultiplier => is_one_to(MOST_TIMES, value),
         EntityKind::Feature if selector == 1 => is_switch(value),
         EntityKind::Feature | EntityKind::Mixer => is_volume(value),
         EntityKind::Effect => is_switch(value),
@@ -200,10 +203,10 @@ fn is_frequency(attributes: u8, value: i32) -> bool
     }
 }
 
-fn is_one_to(most: usize, value: i32) -> bool
+fn is_one_to(most: u8, value: i32) -> bool
     ensures { result ≡ controls.is_one_to most value }
 {
-    value >= 1 && value as usize <= most
+    value >= 1 && value <= i32::from(most)
 }
 
 fn is_switch(value: i32) -> bool
