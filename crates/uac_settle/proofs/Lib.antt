@@ -1,0 +1,4 @@
+pub mod GapsLemmas
+pub mod StretchesLemmas
+pub mod TurnsLemmas
+mod Worked

@@ -1,0 +1,5 @@
+use Rattle.uac_settle.proofs.StretchesLemmas.{stretch_settles}
+use Rattle.uac_settle.proofs.laws.stretches_settle.Goals as goal
+
+pub returns : goal.returns
+returns c = stretch_settles
