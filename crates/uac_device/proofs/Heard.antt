@@ -9,7 +9,7 @@ use Rattle.uac_topology_rules.specs.Rules.{is_output}
 use Rattle.uac_graph.specs.Needs.{is_end}
 use Rattle.uac_graph.specs.Wiring.{Frames, frame_on}
 use Rattle.uac_units.specs.Hearing.{Reading, after_hearing}
-use Rattle.uac_device.specs.World.{after_frames, is_jack}
+use Rattle.uac_device.specs.DeviceWorld.{after_frames, is_jack}
 use Rattle.uac_device.specs.Turns.{frames_heard, heard_on}
 
 -- one entity more

@@ -1,7 +1,7 @@
 -- The clocks that are kept go on as those of the world.
 use Rattle.std.proofs.Common.{◌≡◌, ◌∙◌, sym, refl, ap, subst, arith, ℕ, ◌+◌, ◌-◌, ◌/◌, ◌%◌, ◌<◌, ◌≤◌, ◌==◌, Bool, true, false, if◌then◌else◌, cond, ℤ, List, [], ◌∷◌, ◌++◌, Option, Some, None, length, get_or, map, sum, take, nat_eq, unwrap_or, length-append}
 use Rattle.std.specs.List.{All, find}
-use Rattle.std.specs.Option.{option_and_then, option_map, option_map_or, option_or}
+use Rattle.std.specs.Option.{option_and_then, option_map_or, option_or}
 use Rattle.std.proofs.lemmas.Bool.{eqb-true}
 use Rattle.std.proofs.lemmas.Int.{ints}
 use Rattle.std.proofs.lemmas.List.{take_all, take_at, take_more}
@@ -13,22 +13,16 @@ use Rattle.uac_clock.specs.Ticks.{ticks_in}
 use Rattle.uac_clock.specs.declared.values.Nominal.{Nominal}
 use Rattle.uac_store.specs.Rates.{rate_of}
 use Rattle.uac_device.specs.declared.clocks.Clock.{Clock}
-use Rattle.uac_entities.specs.declared.stream.StreamInterface.{StreamInterface}
-use Rattle.uac_device.specs.World.{DeviceWorld, Domain, OutStream, advanced, deviated, is_on, next_ticks, step_in, steps_with_next, stream_to}
+use Rattle.uac_flow.specs.Streams.{after_ticks}
+use Rattle.uac_device.specs.DeviceWorld.{DeviceWorld, Domain, advanced, changed_where, deviated, is_on, next_ticks, step_in, steps_with_next}
+use Rattle.uac_device.specs.declared.lane.Lane.{Lane}
+use Rattle.uac_device.specs.Lanes.{KeepsStreams}
 use Rattle.uac_device.specs.Kept.{DeviceFields, IsInRange, Stands, kept}
 use Rattle.uac_device.specs.Turns.{advanced_clock, deviated_clock, first_ticks, resting_clock, step_by, ticks_where}
 
 map_turned : {A B : Type 0} (f : A → B) (g : A → A) (h : B → B) → ((a : A) → f (g a) ≡ h (f a)) → (xs : List A) → map f (map g xs) ≡ map h (map f xs)
 map_turned f g h e [] = refl
 map_turned f g h e (x ∷ xs) = ap (λ b. b ∷ map f (map g xs)) (e x) ∙ ap (λ bs. h (f x) ∷ bs) (map_turned f g h e xs)
-
--- where no stream runs, none runs to a terminal
-pub no_stream_to : (w : DeviceWorld) → ((interface : ℕ) → w.outs interface ≡ None) → (id : ℕ) → stream_to w id ≡ None
-no_stream_to w none id = one (find (λ s. s.terminal == id) w.function.streams)
-  where
-    one : (o : Option StreamInterface) → option_and_then (λ s. w.outs s.number) o ≡ None
-    one None = refl
-    one (Some s) = none s.number
 
 -- ---- a deviation
 
@@ -50,10 +44,9 @@ deviated_stands device clocks clock millionths w turned stands = record {
   controls = stands.controls;
   settings = stands.settings;
   clocks = turned ∙ ap (map (deviated_clock clock millionths)) stands.clocks ∙ sym (deviated_kept clock millionths w.domains);
-  outs = stands.outs;
-  ins = stands.ins;
-  jacks = stands.jacks;
-  resting = stands.resting;
+  streams = stands.streams;
+  unlinked = stands.unlinked;
+  inputs = stands.inputs;
   outputs = stands.outputs;
 }
 
@@ -114,20 +107,19 @@ next_kept w clock values rated (d ∷ ds) = one (d.clock == clock) refl (next_ke
         ∙ sym (last_ticks d.steps (step_in w d))
     one false other others = others
 
-pub advanced_stands : (device : DeviceFields) (clocks : List Clock) (clock : ℕ) (values : Option Nominal) (w : DeviceWorld)
+pub advanced_stands : (device : DeviceFields) (clocks : List Clock) (lanes : List Lane) (clock : ℕ) (values : Option Nominal) (w : DeviceWorld)
     → values ≡ option_and_then nominal_of (rate_of device.function.entities device.controls clock) → clocks ≡ map (advanced_clock clock values) device.clocks
-    → Stands device w → Stands (record device { clocks = clocks }) (advanced clock w)
+    → KeepsStreams lanes (changed_where (is_on w clock) (λ interface. after_ticks (next_ticks clock w)) w.outs) w.ins
+    → Stands device w → Stands (record device { clocks = clocks; lanes = lanes }) (advanced clock w)
 unfolding advanced
-advanced_stands device clocks clock values w rated turned stands = record {
+advanced_stands device clocks lanes clock values w rated turned counted stands = record {
   function = stands.function;
   controls = stands.controls;
   settings = stands.settings;
   clocks = turned ∙ ap (map (advanced_clock clock values)) stands.clocks ∙ sym (advanced_kept w clock values (rated_in device w clock values stands rated) w.domains);
-  outs = λ interface.
-      ap (option_map (λ (o : OutStream). if is_on w clock interface then record o { ticks = o.ticks + next_ticks clock w } else o)) (stands.outs interface);
-  ins = stands.ins;
-  jacks = stands.jacks;
-  resting = λ id input other none. stands.resting id input other (no_stream_to w stands.outs id);
+  streams = counted;
+  unlinked = stands.unlinked;
+  inputs = stands.inputs;
   outputs = stands.outputs;
 }
   where

@@ -1,7 +1,16 @@
 pub mod Turning
+pub mod LaneLemmas
+pub mod LanesLemmas
+pub mod TurnedLanes
+pub mod GivenFrames
+pub mod LinkedLemmas
+pub mod StreamsLemmas
 pub mod Heard
 pub mod Kept
 pub mod Fastest
 pub mod Played
-pub mod Resting
+pub mod Streaming
+pub mod TickLemmas
+pub mod Asked
+pub mod Controlled
 pub mod Worked

@@ -1,11 +1,11 @@
 -- The frames on the wires are those of the world.
 use Rattle.std.proofs.Common.{◌≡◌, ◌∙◌, sym, refl, ap, subst, ℕ, zero, suc, ◌<◌, ◌==◌, Bool, true, false, if◌then◌else◌, ℤ, List, [], ◌∷◌, Option, Some, None, length, get_or, map, position, inl, inr, unwrap_or}
+use Rattle.std.specs.List.{find}
 use Rattle.std.specs.Option.{option_and_then, option_map}
-use Rattle.std.proofs.lemmas.Bool.{and_from, and_parts, eq-eqb, eqb-true, ne_eqb}
+use Rattle.std.proofs.lemmas.Bool.{and_parts, eq-eqb, eqb-true, ne_eqb}
 use Rattle.std.proofs.lemmas.List.{get_or_default}
+use Rattle.std.proofs.lemmas.List.Elements.{All-map}
 use Rattle.uac_entities.specs.declared.entity.Entity.{Entity}
-use Rattle.uac_entities.specs.declared.entity.EntityKind.{EntityKind}
-use Rattle.uac_entities.specs.declared.entity.EntityKind.TheVariants as kind
 use Rattle.uac_topology_rules.specs.Clusters.{is_input}
 use Rattle.uac_topology_rules.specs.Links.{is_clock, signal_sources}
 use Rattle.uac_topology_rules.specs.Rules.{is_output}
@@ -28,16 +28,15 @@ use Rattle.uac_graph.proofs.Walking.{given_kept, signal_channels}
 use Rattle.uac_alt.specs.Settings.{initial_settings}
 use Rattle.uac_alt.specs.declared.settings.InterfaceSetting.{InterfaceSetting}
 use Rattle.uac_device.specs.declared.clocks.Clock.{Clock}
-use Rattle.uac_device.specs.World.{DeviceWorld, InStream, OutStream, after_putting, after_taking, at_rest, entity_in, fresh, heard_of, input_of, is_input_jack, is_jack, is_on, is_output_jack, next_taken, played_at, played_to, renders_of, set_jack, stream_to, streamed, ticked}
+use Rattle.uac_entities.specs.declared.stream.StreamInterface.{StreamInterface}
+use Rattle.uac_flow.specs.Streams.{next_taken}
+use Rattle.uac_device.specs.declared.lane.Lane.{Lane}
+use Rattle.uac_device.specs.Lanes.{KeepsLane, KeepsStreams, idle_lane, port_of}
+use Rattle.uac_device.specs.DeviceWorld.{DeviceWorld, at_rest, entity_in, fresh, heard_of, input_of, is_input_jack, is_jack, is_output_jack, is_streamed, played_at, renders_of, set_jack, stream_to, streamed, ticked}
 use Rattle.uac_device.specs.Kept.{DeviceFields, IsDevice, Stands, kept}
 use Rattle.uac_device.specs.Turns.{frames_heard, resting_clock}
 use Rattle.uac_device.proofs.Heard.{heard_told}
-use Rattle.uac_device.proofs.Kept.{no_stream_to}
-
--- no entity is both
-apart : (k : EntityKind) → is_input k ≡ true → is_output k ≡ true → ⊥
-apart kind.OutputTerminal input output = cc
-apart _ input output = cc
+use Rattle.uac_device.proofs.GivenFrames.{apart}
 
 -- ---- renders
 
@@ -55,47 +54,29 @@ resting_kept : (ds : List ℕ) → map resting_clock ds ≡ map kept (map at_res
 resting_kept [] = refl
 resting_kept (d ∷ ds) = ap (λ clocks. resting_clock d ∷ clocks) (resting_kept ds)
 
-pub fresh_stands : (function : FunctionFields) (controls : List (Key × ℤ)) (settings : List InterfaceSetting) (clocks : List Clock) (wires : Frames)
+-- idle lanes keep no stream
+idle_keep : (entities : List Entity) (streams : List StreamInterface)
+    → KeepsStreams (map (λ s. idle_lane (port_of entities s)) streams) (λ interface. None) (λ interface. None)
+idle_keep entities streams = record {
+  each = All-map (λ (l : Lane). KeepsLane l None None) (λ s. idle_lane (port_of entities s)) streams (λ k d below. (refl, refl));
+  none = λ interface nowhere. (refl, refl);
+}
+
+pub fresh_stands : (function : FunctionFields) (controls : List (Key × ℤ)) (settings : List InterfaceSetting) (clocks : List Clock) (wires : Frames) (lanes : List Lane)
     → controls ≡ initial_controls function.entities → settings ≡ initial_settings function → clocks ≡ map resting_clock function.domains
-    → AreSilent function.entities wires
-    → Stands (record { function = function; controls = controls; settings = settings; clocks = clocks; wires = wires }) (fresh function)
+    → AreSilent function.entities wires → lanes ≡ map (λ s. idle_lane (port_of function.entities s)) function.streams
+    → Stands (record { function = function; controls = controls; settings = settings; clocks = clocks; wires = wires; lanes = lanes }) (fresh function)
 unfolding fresh
-fresh_stands function controls settings clocks wires start first resting silent = record {
+fresh_stands function controls settings clocks wires lanes start first resting silent idle = record {
   function = refl;
   controls = start;
   settings = first;
   clocks = resting ∙ resting_kept function.domains;
-  outs = λ interface. refl;
-  ins = λ interface. refl;
-  jacks = λ id jack.
-      let e = entity function.entities id in
-      silent_wire function.entities wires id silent (input_signal e.kind (and_parts (is_input e.kind) (is_jack e) jack).0);
-  resting = λ id input other none. silent_wire function.entities wires id silent (input_signal (entity function.entities id).kind input);
+  streams = subst (λ (ls : List Lane). KeepsStreams ls (λ interface. None) (λ interface. None)) (sym idle) (idle_keep function.entities function.streams);
+  unlinked = λ id input other nowhere. refl;
+  inputs = λ id input. silent_wire function.entities wires id silent (input_signal (entity function.entities id).kind input);
   outputs = λ id output. silent_wire function.entities wires id silent (output_signal (entity function.entities id).kind output);
 }
-
--- ---- the input terminals
-
--- a jack gives what it was given
-jack_gives : (w : DeviceWorld) (id : ℕ) → is_jack (entity_in w id) ≡ true → input_of w id ≡ w.given id
-unfolding input_of
-jack_gives w id jack = ap (λ (b : Bool). if b then w.given id else streamed w id) jack
-
--- a terminal of the bus, where no stream runs, gives silence
-rest_gives : (w : DeviceWorld) (id : ℕ) → ((interface : ℕ) → w.outs interface ≡ None) → is_jack (entity_in w id) ≡ false
-    → input_of w id ≡ silence (entity_in w id).cluster.channels
-unfolding input_of streamed
-rest_gives w id none other =
-    ap (λ (b : Bool). if b then w.given id else streamed w id) other
-    ∙ ap (λ (o : Option OutStream). unwrap_or (option_and_then next_taken o) (silence (entity_in w id).cluster.channels)) (no_stream_to w none id)
-
--- the wires of the input terminals hold what these give
-inputs_given : (device : DeviceFields) (w : DeviceWorld) → Stands device w → AreGiven w.function.entities (input_of w) device.wires
-inputs_given device w stands = record { inputs = λ id input. one id input (is_jack (entity_in w id)) refl }
-  where
-    one : (id : ℕ) → is_input (entity_in w id).kind ≡ true → (b : Bool) → is_jack (entity_in w id) ≡ b → frame_on device.wires id ≡ Some (input_of w id)
-    one id input true jack = stands.jacks id (and_from _ _ input jack) ∙ sym (ap Some (jack_gives w id jack))
-    one id input false other = stands.resting id input other (no_stream_to w stands.outs id) ∙ sym (ap Some (rest_gives w id stands.outs other))
 
 -- ---- a jack
 
@@ -117,10 +98,9 @@ jack_stands device wires terminal frame w jack set stands = record {
   controls = stands.controls;
   settings = stands.settings;
   clocks = stands.clocks;
-  outs = stands.outs;
-  ins = stands.ins;
-  jacks = λ id jacked. given id jacked (terminal == id) refl;
-  resting = λ id input other none. rests id input other none (terminal == id) refl;
+  streams = stands.streams;
+  unlinked = λ id input other nowhere. rests id input other nowhere (id == terminal) refl;
+  inputs = λ id input. given id input (terminal == id) refl;
   outputs = λ id output. kept_on id output (terminal == id) refl;
 }
   where
@@ -133,24 +113,24 @@ jack_stands device wires terminal frame w jack set stands = record {
     set_by : (id : ℕ) (b : Bool) → (terminal == id) ≡ b → frame_on wires id ≡ (if b then Some frame else frame_on device.wires id)
     set_by id b test = set id ∙ ap (λ (b : Bool). if b then Some frame else frame_on device.wires id) test
 
-    given : (id : ℕ) → is_input_jack (entity_in w id) ≡ true → (b : Bool) → (terminal == id) ≡ b
+    given : (id : ℕ) → is_input (entity_in w id).kind ≡ true → (b : Bool) → (terminal == id) ≡ b
         → frame_on wires id ≡ Some (if id == terminal then frame else w.given id)
-    given id jacked true test =
+    given id input true test =
         set_by id true test
         ∙ sym (ap (λ (b : Bool). Some (if b then frame else w.given id)) (eq-eqb id terminal (sym (eqb-true terminal id test))))
-    given id jacked false test =
+    given id input false test =
         let other : (id == terminal) ≡ false = ne_eqb id terminal (λ same. let here : (terminal == id) ≡ true = eq-eqb terminal id (sym same) in cc) in
         set_by id false test
-        ∙ stands.jacks id jacked
+        ∙ stands.inputs id input
         ∙ sym (ap (λ (b : Bool). Some (if b then frame else w.given id)) other)
 
-    rests : (id : ℕ) → is_input (entity_in w id).kind ≡ true → is_jack (entity_in w id) ≡ false → stream_to w id ≡ None → (b : Bool) → (terminal == id) ≡ b
-        → frame_on wires id ≡ Some (silence (entity_in w id).cluster.channels)
-    rests id input other none true test =
+    rests : (id : ℕ) → is_input (entity_in w id).kind ≡ true → is_jack (entity_in w id) ≡ false → find (λ s. s.terminal == id) w.function.streams ≡ None
+        → (b : Bool) → (id == terminal) ≡ b → (if b then frame else w.given id) ≡ silence (entity_in w id).cluster.channels
+    rests id input other nowhere true test =
         let jacked : is_jack (entity_in w id) ≡ true =
-        subst (λ (n : ℕ). is_jack (entity_in w n) ≡ true) (eqb-true terminal id test) (and_parts (is_input e.kind) (is_jack e) is).1 in
+        subst (λ (n : ℕ). is_jack (entity_in w n) ≡ true) (sym (eqb-true id terminal test)) (and_parts (is_input e.kind) (is_jack e) is).1 in
         absurd (cc)
-    rests id input other none false test = set_by id false test ∙ stands.resting id input other none
+    rests id input other nowhere false test = stands.unlinked id input other nowhere
 
     kept_on : (id : ℕ) → is_output (entity_in w id).kind ≡ true → (b : Bool) → (terminal == id) ≡ b → frame_on wires id ≡ Some (w.played id)
     kept_on id output true test =
@@ -160,6 +140,22 @@ jack_stands device wires terminal frame w jack set stands = record {
     kept_on id output false test = set_by id false test ∙ stands.outputs id output
 
 -- ---- a tick
+
+-- a terminal of the bus to which no interface links gives silence again
+unlinked_gives : (w : DeviceWorld) (domain id : ℕ) → find (λ s. s.terminal == id) w.function.streams ≡ None
+    → w.given id ≡ silence (entity_in w id).cluster.channels → input_of domain w id ≡ silence (entity_in w id).cluster.channels
+unfolding input_of streamed
+unlinked_gives w domain id nowhere silent = by (is_streamed domain (entity_in w id))
+  where
+    nothing : unwrap_or (option_and_then next_taken (stream_to w id)) (silence (entity_in w id).cluster.channels) ≡ silence (entity_in w id).cluster.channels
+    nothing =
+        ap (λ (o : Option StreamInterface). unwrap_or (option_and_then next_taken (option_and_then (λ (s : StreamInterface). w.outs s.number) o)) (silence (entity_in w id).cluster.channels))
+        nowhere
+
+    by : (b : Bool) → (if b then unwrap_or (option_and_then next_taken (stream_to w id)) (silence (entity_in w id).cluster.channels) else w.given id)
+        ≡ silence (entity_in w id).cluster.channels
+    by true = nothing
+    by false = silent
 
 -- a meaning depends on what the input terminals give
 samples_given : (entities : List Entity) (controls : Controls) (ins others : ℕ → List ℤ)
@@ -197,62 +193,73 @@ rendered_given entities controls ins done old new given rendered = record {
       (meaning_same entities controls (held old) ins (λ id input. ap (λ o. unwrap_or o []) (given.inputs id input)) id);
 }
 
--- what a tick makes of the wires, in the world's own words
-pub tick_stands : (device : DeviceFields) (wires : Frames) (domain : ℕ) (w : DeviceWorld) → IsSignalGraph device.function.entities
-    → ((id : ℕ) → is_output (entity device.function.entities id).kind ≡ true
-    → depended device.function.entities domain id ≡ is_end domain (entity device.function.entities id))
-    → AreRendered device.function.entities (held_in device.controls) (held device.wires) (depended device.function.entities domain) device.wires wires
-    → Stands device w → Stands (record device { wires = wires }) (ticked domain w)
-unfolding ticked
-tick_stands device wires domain w sound ends rendered stands = record {
-  function = stands.function;
-  controls = stands.controls;
-  settings = stands.settings;
-  clocks = stands.clocks;
-  outs = λ interface. ap (option_map (λ (o : OutStream). if is_on w domain interface then after_taking o else o)) (stands.outs interface);
-  ins = λ interface.
-      ap (option_map (λ (i : InStream). if is_on w domain interface then after_putting (played_to w (ticked domain w).played interface) i else i)) (stands.ins interface);
-  jacks = λ id jack.
-      let parts = and_parts (is_input (entity_in w id).kind) (is_jack (entity_in w id)) jack in
-      after id parts.0 ∙ ap Some (jack_gives w id parts.1);
-  resting = λ id input other none. after id input ∙ ap Some (rest_gives w id stands.outs other);
-  outputs = λ id output.
+-- what a tick makes of the wires, in the world's own words: of what the input terminals are given, and of what was on the others
+pub record Mid (frames : Frames) (domain : ℕ) (w : DeviceWorld) : Type 0 where
+  pub inputs : (id : ℕ) → is_input (entity_in w id).kind ≡ true → frame_on frames id ≡ Some (input_of domain w id)
+  pub outputs : (id : ℕ) → is_output (entity_in w id).kind ≡ true → frame_on frames id ≡ Some (w.played id)
+
+-- of the entities of a device
+pub record Rendered (device : DeviceFields) (mid wires : Frames) (domain : ℕ) : Type 0 where
+  pub sound : IsSignalGraph device.function.entities
+  pub ends :
+      (id : ℕ) → is_output (entity device.function.entities id).kind ≡ true
+      → depended device.function.entities domain id ≡ is_end domain (entity device.function.entities id)
+  pub rendered : AreRendered device.function.entities (held_in device.controls) (held mid) (depended device.function.entities domain) mid wires
+
+module _ (device : DeviceFields) (mid wires : Frames) (domain : ℕ) (w : DeviceWorld) (rendered : Rendered device mid wires domain) (given : Mid mid domain w)
+    (same : device.function ≡ w.function) (controlled : device.controls ≡ w.controls) where
+  entities : List Entity
+  entities = w.function.entities
+
+  controls : Controls
+  controls = held_in w.controls
+
+  sound_here : IsSignalGraph w.function.entities
+  sound_here = subst (λ (f : FunctionFields). IsSignalGraph f.entities) same rendered.sound
+
+  ends_here : (id : ℕ) → is_output (entity w.function.entities id).kind ≡ true → depended w.function.entities domain id ≡ is_end domain (entity w.function.entities id)
+  ends_here =
+      subst (λ (f : FunctionFields). (id : ℕ) → is_output (entity f.entities id).kind ≡ true → depended f.entities domain id ≡ is_end domain (entity f.entities id))
+      same rendered.ends
+
+  are_given : AreGiven w.function.entities (input_of domain w) mid
+  are_given = record { inputs = given.inputs }
+
+  rendered_here : AreRendered w.function.entities (held_in w.controls) (input_of domain w) (depended w.function.entities domain) mid wires
+  rendered_here =
+      rendered_given w.function.entities (held_in w.controls) (input_of domain w) (depended w.function.entities domain) mid wires are_given
+      (subst (λ (f : FunctionFields). AreRendered f.entities (held_in w.controls) (held mid) (depended f.entities domain) mid wires) same
+      (subst (λ (cs : List (Key × ℤ)). AreRendered device.function.entities (held_in cs) (held mid) (depended device.function.entities domain) mid wires)
+      controlled rendered.rendered))
+
+  pub inputs_after : (id : ℕ) → is_input (entity_in w id).kind ≡ true → frame_on wires id ≡ Some (input_of domain w id)
+  inputs_after = (given_kept w.function.entities (held_in w.controls) (input_of domain w) (depended w.function.entities domain) mid wires sound_here are_given rendered_here).inputs
+
+  pub outputs_after : (id : ℕ) → is_output (entity_in w id).kind ≡ true → frame_on wires id ≡ Some ((ticked domain w).played id)
+  unfolding ticked entities controls
+  outputs_after id output =
       rendered_here.wires id
-      ∙ ap (λ (b : Bool). if b then Some (meaning entities controls (input_of w) id) else frame_on device.wires id) (ends_here id output)
-      ∙ either (is_end domain (entity entities id)) (meaning entities controls (input_of w) id) (frame_on device.wires id) (w.played id) (stands.outputs id output);
-}
-  where
-    entities : List Entity
-    entities = w.function.entities
+      ∙ ap (λ (b : Bool). if b then Some (meaning entities controls (input_of domain w) id) else frame_on mid id) (ends_here id output)
+      ∙ either (is_end domain (entity entities id)) (meaning entities controls (input_of domain w) id) (frame_on mid id) (w.played id) (given.outputs id output)
+    where
+      either : (b : Bool) (now : List ℤ) (old : Option (List ℤ)) (before : List ℤ) → old ≡ Some before
+          → (if b then Some now else old) ≡ Some (if b then now else before)
+      either true now old before e = refl
+      either false now old before e = e
 
-    controls : Controls
-    controls = held_in w.controls
-
-    sound_here : IsSignalGraph w.function.entities
-    sound_here = subst (λ (f : FunctionFields). IsSignalGraph f.entities) stands.function sound
-
-    ends_here : (id : ℕ) → is_output (entity w.function.entities id).kind ≡ true → depended w.function.entities domain id ≡ is_end domain (entity w.function.entities id)
-    ends_here =
-        subst (λ (f : FunctionFields). (id : ℕ) → is_output (entity f.entities id).kind ≡ true → depended f.entities domain id ≡ is_end domain (entity f.entities id))
-        stands.function ends
-
-    given : AreGiven w.function.entities (input_of w) device.wires
-    given = inputs_given device w stands
-
-    rendered_here : AreRendered w.function.entities (held_in w.controls) (input_of w) (depended w.function.entities domain) device.wires wires
-    rendered_here =
-        rendered_given w.function.entities (held_in w.controls) (input_of w) (depended w.function.entities domain) device.wires wires given
-        (subst (λ (f : FunctionFields). AreRendered f.entities (held_in w.controls) (held device.wires) (depended f.entities domain) device.wires wires) stands.function
-        (subst (λ (cs : List (Key × ℤ)). AreRendered device.function.entities (held_in cs) (held device.wires) (depended device.function.entities domain) device.wires wires)
-        stands.controls rendered))
-
-    after : (id : ℕ) → is_input (entity_in w id).kind ≡ true → frame_on wires id ≡ Some (input_of w id)
-    after = (given_kept w.function.entities (held_in w.controls) (input_of w) (depended w.function.entities domain) device.wires wires sound_here given rendered_here).inputs
-
-    either : (b : Bool) (now : List ℤ) (old : Option (List ℤ)) (before : List ℤ) → old ≡ Some before
-        → (if b then Some now else old) ≡ Some (if b then now else before)
-    either true now old before e = refl
-    either false now old before e = e
+  pub tick_stands : (lanes : List Lane) → KeepsStreams lanes (ticked domain w).outs (ticked domain w).ins → Stands device w
+      → Stands (record device { wires = wires; lanes = lanes }) (ticked domain w)
+  unfolding ticked
+  tick_stands lanes keeps stands = record {
+    function = stands.function;
+    controls = stands.controls;
+    settings = stands.settings;
+    clocks = stands.clocks;
+    streams = keeps;
+    unlinked = λ id input other nowhere. unlinked_gives w domain id nowhere (stands.unlinked id input other nowhere);
+    inputs = inputs_after;
+    outputs = outputs_after;
+  }
 
 -- the frames that are heard on wires that stand for a world
 pub heard_in : (device : DeviceFields) (domain : ℕ) (w : DeviceWorld) → IsSignalGraph device.function.entities → Stands device w

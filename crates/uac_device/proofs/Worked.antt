@@ -1,5 +1,5 @@
 -- Worked values of the streams' definitions: a stream to a jack, and one from a jack.
-use Rattle.std.proofs.Common.{◌≡◌, ℕ, eqb, if◌then◌else◌, pos, List, [], ◌∷◌, Some, None, Bool, true, false, map, refl}
+use Rattle.std.proofs.Common.{◌≡◌, ℕ, eqb, if◌then◌else◌, pos, negsuc, List, [], ◌∷◌, ◌++◌, Some, None, Bool, true, false, map, refl}
 use Rattle.std.specs.List.{range_with_len}
 use Rattle.uac_entities.specs.declared.entity.Entity.{Entity}
 use Rattle.uac_entities.specs.declared.entity.EntityKind.{EntityKind}
@@ -14,7 +14,12 @@ use Rattle.uac_entities.specs.Streams.{named}
 use Rattle.uac_store.specs.Keyed.{value_of}
 use Rattle.uac_store.specs.Rates.{rate_of, rate_step, rate_within, source_rate}
 use Rattle.uac_graph.specs.Meaning.{entity, frame_of, meaning, samples, samples_by}
-use Rattle.uac_device.specs.World.{DeviceWorld, InStream, OutStream, advanced, after_putting, after_taking, bits_of, input_of, level_of, met_of, next_ticks, step_in, streamed, target_of, ticked}
+use Rattle.std.specs.Int.{int_wrap}
+use Rattle.uac_pcm.specs.Words.{cut, sample_of_word, word_of}
+use Rattle.uac_alt.specs.Streams.{StreamFields}
+use Rattle.uac_flow.specs.Streams.{InStream, OutStream, after_packet, after_putting, after_sending, after_taking, arrival_of, feedback_of, is_due, sent_packet, settled_in, settled_out, started_out}
+use Rattle.uac_device.specs.DeviceWorld.{DeviceWorld, advanced, bits_of, feedback_in, input_of, is_due_in, level_of, met_of, next_ticks, received, restarted, sent, settled, step_in, streamed, target_of, ticked}
+use Rattle.uac_flow.specs.declared.arrival.Arrival.TheVariants as arrival
 
 abbrev with : ℕ → EntityKind → ℕ → List ℕ → ℕ → Entity
 with id k type sources channels =
@@ -51,19 +56,24 @@ world out in_ =
       played = λ id. pos 0 ∷ [];
     }
 
+-- mono at 48,000 Hz, in samples of two bytes: at most 12 frames in a packet, a packet and a report every second microframe
+mono : Bool → StreamFields
+mono out =
+    record { channels = 1; subslot = 2; bits = 16; nominal = record { f = 393216; e = 393; lo = 5; hi = 7 }; out = out; most = 12; period = 2; service = 2 }
+
 -- of the two frames that arrived one was played
 half : OutStream
-half = record { microframes = 3; arrived = (pos 5 ∷ []) ∷ (pos 6 ∷ []) ∷ []; taken = 1; target = Some 2; lost = false; ticks = 0 }
+half = record { stream = mono true; microframes = 3; arrived = (pos 5 ∷ []) ∷ (pos 6 ∷ []) ∷ []; taken = 1; target = Some 2; lost = false; ticks = 0 }
 
 -- two frames arrived, and it isn't primed yet
 priming : OutStream
-priming = record { microframes = 1; arrived = (pos 5 ∷ []) ∷ (pos 6 ∷ []) ∷ []; taken = 0; target = None; lost = false; ticks = 0 }
+priming = record { stream = mono true; microframes = 1; arrived = (pos 5 ∷ []) ∷ (pos 6 ∷ []) ∷ []; taken = 0; target = None; lost = false; ticks = 0 }
 
 one_put : InStream
-one_put = record { made = (pos 9 ∷ []) ∷ []; gone = 0 }
+one_put = record { stream = mono false; microframes = 1; made = (pos 9 ∷ []) ∷ []; gone = 0 }
 
 full : InStream
-full = record { made = map (λ n. pos n ∷ []) (range_with_len 0 513); gone = 1 }
+full = record { stream = mono false; microframes = 1; made = map (λ n. pos n ∷ []) (range_with_len 0 2049); gone = 1 }
 
 -- the same with its clock at 48,000 Hz
 clocked : DeviceWorld
@@ -77,15 +87,18 @@ targets : (target_of (world half one_put) 1 ≡ Some 2) × (target_of (world pri
 unfolding target_of world half priming
 targets = (refl, refl, refl)
 
--- a primed stream gives its next frame, a priming one silence, and a jack what it was given
-gives : (input_of (world half one_put) 2 ≡ pos 6 ∷ []) × (input_of (world priming one_put) 2 ≡ pos 0 ∷ []) × (input_of (world half one_put) 5 ≡ pos 7 ∷ [])
+-- a primed stream gives its next frame, a priming one silence, and a jack what it was given; at a tick of another domain a terminal of the
+-- bus gives what it gave last
+gives : (input_of 1 (world half one_put) 2 ≡ pos 6 ∷ []) × (input_of 1 (world priming one_put) 2 ≡ pos 0 ∷ []) × (input_of 1 (world half one_put) 5 ≡ pos 7 ∷ [])
+    × (input_of 9 (world half one_put) 2 ≡ pos 7 ∷ [])
 unfolding input_of streamed world half priming function entities linked entity at place_of
-gives = (refl, refl, refl)
+gives = (refl, refl, refl, refl)
 
--- a tick of the domain: the jack plays the stream's frame, and the other stream has what its jack gave
-plays : ((ticked 1 (world half one_put)).played 4 ≡ pos 6 ∷ []) × ((ticked 1 (world half one_put)).ins 2 ≡ Some (record { made = (pos 9 ∷ []) ∷ (pos 7 ∷ []) ∷ []; gone = 0 }))
+-- a tick of the domain: the jack plays the stream's frame, which the terminal of the bus gave, and the other stream has what its jack gave
+plays : ((ticked 1 (world half one_put)).played 4 ≡ pos 6 ∷ []) × ((ticked 1 (world half one_put)).ins 2 ≡ Some (record one_put { made = (pos 9 ∷ []) ∷ (pos 7 ∷ []) ∷ [] }))
+    × ((ticked 1 (world half one_put)).given 2 ≡ pos 6 ∷ [])
 unfolding ticked input_of streamed world half one_put function entities linked entity at place_of meaning samples samples_by frame_of signal_sources after_putting
-plays = (refl, refl)
+plays = (refl, refl, refl)
 
 -- then its ring is empty: the next tick finds it so and plays silence, and it primes again
 plays_silence : (ticked 1 (ticked 1 (world half one_put))).played 4 ≡ pos 0 ∷ []
@@ -93,7 +106,7 @@ unfolding ticked input_of streamed world half one_put function entities linked e
 plays_silence = refl
 
 -- a terminal whose interface runs no stream gives silence, and meets nothing
-at_rest : (input_of (record (world half one_put) { outs = λ n. None }) 2 ≡ pos 0 ∷ []) × (met_of 1 (record (world half one_put) { outs = λ n. None; ins = λ n. None }) ≡ record { under = 0; over = 0 })
+at_rest : (input_of 1 (record (world half one_put) { outs = λ n. None }) 2 ≡ pos 0 ∷ []) × (met_of 1 (record (world half one_put) { outs = λ n. None; ins = λ n. None }) ≡ record { under = 0; over = 0 })
 unfolding input_of streamed met_of bits_of world function entities linked entity at place_of
 at_rest = (refl, refl)
 
@@ -103,7 +116,7 @@ unfolding advanced clocked next_ticks step_in rate_of rate_within rate_step sour
 counts = (refl, refl)
 
 runs_dry : (met_of 1 (ticked 1 (world half one_put)) ≡ record { under = 1; over = 0 }) × ((ticked 1 (ticked 1 (world half one_put))).outs 1
-    ≡ Some (record { microframes = 3; arrived = []; taken = 0; target = None; lost = false; ticks = 0 }))
+    ≡ Some (record half { arrived = []; taken = 0; target = None }))
 unfolding met_of bits_of ticked world half one_put function entities linked entity at place_of after_taking after_putting
 runs_dry = (refl, refl)
 
@@ -121,3 +134,75 @@ met_full = (refl, refl)
 elsewhere : (met_of 9 (world half full) ≡ record { under = 0; over = 0 }) × ((ticked 9 (world half full)).outs 1 ≡ Some half) × ((ticked 9 (world half full)).ins 2 ≡ Some full)
 unfolding met_of bits_of ticked world half full function entities linked entity at place_of
 elsewhere = (refl, refl, refl)
+
+-- the samples 1 and -2
+packet : List ℕ
+packet = 1 ∷ 0 ∷ 254 ∷ 255 ∷ []
+
+-- a packet that comes, one that is lost, and one for which the ring has no room
+arrives : (arrival_of (Some packet) half ≡ arrival.Taken) × (after_packet (Some packet) half ≡ record half { arrived = half.arrived ++ (pos 65536 ∷ []) ∷ (negsuc 131071 ∷ []) ∷ [] })
+unfolding arrival_of after_packet half mono packet cut sample_of_word int_wrap
+arrives = (refl, refl)
+
+is_lost : (arrival_of None half ≡ arrival.Lost) × (after_packet None half ≡ record half { lost = true })
+unfolding arrival_of after_packet
+is_lost = (refl, refl)
+
+crowded : OutStream
+crowded = record half { arrived = map (λ n. pos n ∷ []) (range_with_len 0 2048); lost = true }
+
+is_over : (arrival_of (Some packet) crowded ≡ arrival.Over) × (after_packet (Some packet) crowded ≡ record crowded { lost = false })
+unfolding arrival_of after_packet crowded half mono packet
+is_over = (refl, refl)
+
+-- a packet from the device has all that lies in the ring, here one frame; of 14 frames it has the oldest 12
+sends : (sent_packet (record one_put { made = (pos 65536 ∷ []) ∷ [] }) ≡ 1 ∷ 0 ∷ []) × (after_sending one_put ≡ record one_put { gone = 1 })
+unfolding sent_packet after_sending one_put mono cut word_of
+sends = (refl, refl)
+
+sends_most : (after_sending (record one_put { made = map (λ n. pos n ∷ []) (range_with_len 0 14) })).gone ≡ 12
+unfolding after_sending one_put mono
+sends_most = refl
+
+-- with a service interval of two microframes the second and the fourth are due
+due : (is_due (mono true) 0 ≡ false) × (is_due (mono true) 1 ≡ true) × (is_due (mono true) 2 ≡ false) × (is_due (mono true) 3 ≡ true)
+unfolding mono
+due = (refl, refl, refl, refl)
+
+-- at the end of a microframe that is due a lost packet is replaced by a zero frame for each tick; else only the count rises
+replaced : (settled_out (record half { lost = true; ticks = 2 }) ≡ record half { microframes = 4; arrived = (pos 5 ∷ []) ∷ (pos 6 ∷ []) ∷ (pos 0 ∷ []) ∷ (pos 0 ∷ []) ∷ []; lost = false; ticks = 0 })
+    × (settled_out (record half { microframes = 4; lost = true; ticks = 2 }) ≡ record half { microframes = 5; lost = true; ticks = 2 })
+    × (settled_out (record half { ticks = 2 }) ≡ record half { microframes = 4 })
+unfolding settled_out half mono
+replaced = (refl, refl, refl)
+
+-- a stream with a packet in each microframe is primed from 256 frames on, and another from 512 on
+holding : ℕ → ℕ → OutStream
+holding service level = record (started_out (record (mono true) { service = service })) { microframes = 7; arrived = map (λ n. pos n ∷ []) (range_with_len 0 level) }
+
+primes : ((settled_out (holding 1 255)).target ≡ None) × ((settled_out (holding 1 256)).target ≡ Some 256) × ((settled_out (holding 2 511)).target ≡ None) × ((settled_out (holding 2 512)).target ≡ Some 512)
+unfolding settled_out holding mono
+primes = (refl, refl, refl, refl)
+
+-- no report falls due before the second microframe has ended: 6 frames while the stream is priming, then 1,024 parts more for each frame that is
+-- missing
+reports : (feedback_of (started_out (mono true)) ≡ None) × (feedback_of half ≡ None) × (feedback_of (record half { microframes = 4 }) ≡ Some 394240) × (feedback_of (record priming { microframes = 2 }) ≡ Some 393216)
+unfolding feedback_of half priming mono
+reports = (refl, refl, refl, refl)
+
+-- each of these changes its own interface's stream alone
+by_interface : ((received 1 None (world half one_put)).outs 1 ≡ Some (record half { lost = true })) × ((received 2 None (world half one_put)).outs 1 ≡ Some half)
+    × ((sent 2 (world half one_put)).ins 2 ≡ Some (record one_put { gone = 1 })) × ((settled 2 (world half one_put)).outs 1 ≡ Some half)
+    × ((settled 2 (world half one_put)).ins 2 ≡ Some (record one_put { microframes = 2 }))
+unfolding received sent settled settled_in after_packet after_sending world half one_put mono
+by_interface = (refl, refl, refl, refl, refl)
+
+told : (is_due_in (world half one_put) 1 ≡ true) × (is_due_in (world half one_put) 2 ≡ true) × (is_due_in (world half one_put) 3 ≡ false) × (feedback_in (world half one_put) 2 ≡ None)
+unfolding is_due_in feedback_in world half one_put mono
+told = (refl, refl, refl, refl)
+
+-- a stream starts anew with an empty ring, or stops
+anew : ((restarted 1 (Some (mono true)) (world half one_put)).outs 1 ≡ Some (started_out (mono true))) × ((restarted 1 None (world half one_put)).outs 1 ≡ None)
+    × ((restarted 1 None (world half one_put)).ins 2 ≡ Some one_put)
+unfolding restarted world half one_put mono
+anew = (refl, refl, refl)

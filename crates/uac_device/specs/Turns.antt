@@ -6,7 +6,7 @@ use Rattle.uac_clock.specs.Nominal.{step_of}
 use Rattle.uac_clock.specs.declared.values.Nominal.{Nominal}
 use Rattle.uac_entities.specs.declared.entity.Entity.{Entity}
 use Rattle.uac_graph.specs.Wiring.{Frames, frame_on}
-use Rattle.uac_device.specs.World.{is_output_jack_of}
+use Rattle.uac_device.specs.DeviceWorld.{is_output_jack_of}
 use Rattle.uac_device.specs.declared.clocks.Clock.{Clock}
 
 -- a clock that is not off, at a tick

@@ -5,33 +5,43 @@ ghost use Rattle.uac_graph.specs.Meaning.{entity};
 ghost use Rattle.uac_graph.specs.Needs.{needed};
 ghost use Rattle.uac_units.specs.Fitting.{IsFitted};
 ghost use Rattle.uac_units.specs.Panel.{readings};
-ghost use Rattle.uac_device.specs.World.{DeviceWorld, advanced, after_frames, deviated, fresh, heard_of, is_input_jack, is_output_jack, level_of, met_of, next_ticks, played_at, renders_of, set_jack, target_of, ticked};
-ghost use Rattle.uac_device.specs.Kept.{Stands};
+ghost use Rattle.uac_device.specs.DeviceWorld.{DeviceWorld, ZerosFitIn, advanced, after_frames, arrival_in, deviated, feedback_in, frames_in, fresh, heard_of, is_due_in, is_input_jack, is_output_jack, level_of, met_of, next_ticks, packet_in, played_at, received, renders_of, sent, set_jack, settled, target_of, ticked};
+ghost use Rattle.uac_device.specs.Kept.{IsControlled, Stands};
+ghost use Rattle.uac_request.specs.Requests.{seen};
 
 use crate::clocks::{Clock, advance, deviate, resting_clocks};
 use crate::hearing::hear;
+use crate::lanes::Lanes;
+use crate::streams::{is_done, sets_interface, stream_asked};
 use crate::terminals::is_output_jack;
+use crate::ticking::Ticked;
 use std::alloc::Global;
 use std::marker::Model;
 use uac_alt::Settings;
 use uac_clock::nominal;
 use uac_descriptor::NoMemory;
+use uac_flow::Arrival;
 use uac_graph::{Graph, Wires};
-use uac_pcm::Frame;
+use uac_pcm::{Frame, Packet};
+use uac_request::laws::each_interface_starts_with_a_setting;
+use uac_request::{Answer, Setup, answer};
 use uac_store::Store;
 use uac_topology::Function;
-use uac_topology::laws::functions_are_sound;
+use uac_topology::laws::{
+    entities_have_channels, functions_are_sound, interfaces_are_numbered, sound_functions_are_small,
+};
 use uac_units::{Meter, Meters, Rack, Steps, Unit};
 
 /// A virtual audio device.
 #[derive(Drop)]
 pub struct Device {
     function: Function,
-    store: Store,
+    pub(crate) store: Store,
     settings: Settings,
     graph: Graph,
     wires: Wires,
     clocks: Vec<Clock>,
+    lanes: Lanes,
 }
 
 impl Model for Device {
@@ -40,17 +50,24 @@ impl Model for Device {
 
     ghost Value = { DeviceFields };
 
-    ghost view = { λ d. record { function = d.function; controls = d.store; settings = d.settings; clocks = d.clocks.items; wires = d.wires } };
+    ghost view = { λ d. record {
+      function = d.function;
+      controls = d.store;
+      settings = d.settings;
+      clocks = d.clocks.items;
+      wires = d.wires;
+      lanes = d.lanes;
+    } };
 
-    ghost invariant = { λ d. IsDevice (record { function = d.function; controls = d.store; settings = d.settings; clocks = d.clocks.items; wires = d.wires })
+    ghost invariant = { λ d. IsDevice (record {
+      function = d.function;
+      controls = d.store;
+      settings = d.settings;
+      clocks = d.clocks.items;
+      wires = d.wires;
+      lanes = d.lanes;
+    })
         × (d.graph ≡ d.function.entities) };
-}
-
-/// What a tick met, with a bit for each streaming interface, in block order: a ring that was empty, and one that was full.
-#[derive(Clone, Copy, Debug, PartialEq, Eq)]
-pub struct Ticked {
-    pub under: u8,
-    pub over: u8,
 }
 
 impl Device {
@@ -60,9 +77,11 @@ impl Device {
     {
         let store = Store::new(alloc, &function)?;
         let settings = Settings::new(&function);
+        each_interface_starts_with_a_setting();
         let graph = Graph::build(alloc, &function)?;
         let wires = Wires::new(alloc, &function)?;
         let clocks = resting_clocks(alloc, function.domains())?;
+        let lanes = Lanes::new(alloc, &function)?;
         Ok(Device {
             function,
             store,
@@ -70,6 +89,7 @@ impl Device {
             graph,
             wires,
             clocks,
+            lanes,
         })
     }
 
@@ -94,18 +114,84 @@ impl Device {
         &self.settings
     }
 
-    /// The level of an interface's ring in frames. No stream runs yet: it is 0.
-    pub fn level(&self, _interface: u8) -> u32
-        ensures { (w : DeviceWorld) → Stands self.now w → result ≡ level_of w _interface }
+    /// How many frames lie in the ring of an interface's stream; 0 where it runs none.
+    pub fn level(&self, interface: u8) -> u32
+        ensures { (w : DeviceWorld) → Stands self.now w → result ≡ level_of w interface }
     {
-        0
+        self.lanes.level(interface)
     }
 
-    /// The level at which an interface's stream was primed; None where none runs or it is priming. No stream runs yet.
-    pub fn target(&self, _interface: u8) -> Option<u32>
-        ensures { (w : DeviceWorld) → Stands self.now w → result ≡ target_of w _interface }
+    /// The level at which an interface's stream to the device was primed; None where none runs or it is priming.
+    pub fn target(&self, interface: u8) -> Option<u32>
+        ensures { (w : DeviceWorld) → Stands self.now w → result ≡ target_of w interface }
     {
-        None
+        self.lanes.target(interface)
+    }
+
+    /// Whether an interface runs a stream that has a packet in the next microframe.
+    pub fn due(&self, interface: u8) -> bool
+        ensures { (w : DeviceWorld) → Stands self.now w → result ≡ is_due_in w interface }
+    {
+        self.lanes.due(interface)
+    }
+
+    /// The report that is due of an interface's stream to the device (USB 2.0, 5.12.4.2); None where none is.
+    pub fn feedback(&self, interface: u8) -> Option<u32>
+        ensures { (w : DeviceWorld) → Stands self.now w → result ≡ feedback_in w interface }
+    {
+        self.lanes.feedback(interface)
+    }
+
+    /// A packet comes to an interface, or is lost. Its frames are taken where the ring has room for all of them, and none where it
+    /// hasn't. Where the interface runs no stream to the device, nothing takes it.
+    pub fn microframe_out(&mut self, interface: u8, packet: Option<&Packet>) -> Arrival
+        ensures stands { (w : DeviceWorld) → Stands self.old w
+            → Stands self.new (received interface (option_map (λ p. p.now.items) packet.entry) w) }
+        ensures arrival { (w : DeviceWorld) → Stands self.old w
+            → result ≡ arrival_in w interface (option_map (λ p. p.now.items) packet.entry) }
+        ensures function { self.new.function ≡ self.old.function }
+    {
+        self.lanes.receive(interface, packet)
+    }
+
+    /// Forms the packet that an interface sends: the oldest frames of the ring, as many as fit. Answers their number. It is empty
+    /// where the interface runs no stream from the device.
+    pub fn microframe_in(&mut self, interface: u8, packet: &mut Packet) -> u32
+        ensures stands { (w : DeviceWorld) → Stands self.old w → Stands self.new (sent interface w) }
+        ensures packet { (w : DeviceWorld) → Stands self.old w → packet.new.items ≡ packet_in w interface }
+        ensures frames { (w : DeviceWorld) → Stands self.old w → result ≡ frames_in w interface }
+        ensures function { self.new.function ≡ self.old.function }
+    {
+        self.lanes.send(interface, packet)
+    }
+
+    /// A microframe ends for an interface's stream. Where it was due, zeros replace a lost packet, one for each tick of its domain since
+    /// the last such microframe, and a stream whose ring has enough frames is primed.
+    pub fn settle(&mut self, interface: u8)
+        ensures stands { (w : DeviceWorld) → Stands self.old w → ZerosFitIn w interface → Stands self.new (settled interface w) }
+        ensures function { self.new.function ≡ self.old.function }
+    {
+        self.lanes.settle(interface);
+    }
+
+    /// Answers a control request (Audio Class 2.0, 5.2; USB 2.0, 9.4). `sent` are the bytes that came with it. A stall changes
+    /// nothing. An interface whose setting was set starts its stream anew, or stops it.
+    pub fn control(&mut self, setup: &Setup, sent: &[u8]) -> Answer
+        ensures { IsControlled setup.now sent.now (seen result) self.old self.new }
+    {
+        functions_are_sound(&self.function);
+        let begun = stream_asked(&self.function, &self.store, setup.index, setup.value);
+        let answer = answer(
+            &self.function,
+            &mut self.store,
+            &mut self.settings,
+            setup,
+            sent,
+        );
+        if sets_interface(setup) && is_done(&answer) {
+            self.lanes.restart(setup.index, begun);
+        }
+        answer
     }
 
     /// A domain's clock is off by `ppm` millionths from now on. A number of no domain changes nothing.
@@ -118,18 +204,23 @@ impl Device {
         deviate(&mut self.clocks, domain, ppm);
     }
 
-    /// A domain's clock goes on by one microframe; answers how often it ticks, at most 27 times.
+    /// A domain's clock goes on by one microframe; answers how often it ticks, at most 27 times. The streams to its terminals count
+    /// these ticks.
     pub fn ticks(&mut self, domain: u8) -> u32
         ensures stands { (w : DeviceWorld) → Stands self.old w → Stands self.new (advanced domain w) }
         ensures ticks { (w : DeviceWorld) → Stands self.old w → result ≡ next_ticks domain w }
         ensures few { result ≤ 27 }
         ensures function { self.new.function ≡ self.old.function }
     {
+        functions_are_sound(&self.function);
+        interfaces_are_numbered();
         let values = match self.store.rate(&self.function, domain) {
             Some(rate) => nominal(rate),
             None => None,
         };
-        advance(&mut self.clocks, domain, values)
+        let ticks = advance(&mut self.clocks, domain, values);
+        self.lanes.count(domain, ticks);
+        ticks
     }
 
     /// Sets the frame that an input jack gives at the next tick.
@@ -142,9 +233,9 @@ impl Device {
         self.wires.set(terminal, frame);
     }
 
-    /// One tick of a domain: its output terminals play the next frame, and the meters hear those of its output jacks, in block
-    /// order. Each unit that the domain needs is rendered once, and `steps` counts them. No stream runs yet, so no ring is empty or
-    /// full.
+    /// One tick of a domain: its terminals of the bus take the next frame of their streams, or silence; its output terminals play the
+    /// next frame; the streams from them take it; and the meters hear those of its output jacks, in block order. Each unit that the
+    /// domain needs is rendered once, and `steps` counts them. Answers which rings were found empty, and which full.
     pub fn tick(
         &mut self,
         domain: u8,
@@ -163,10 +254,16 @@ impl Device {
         ensures function { self.new.function ≡ self.old.function }
     {
         functions_are_sound(&self.function);
+        sound_functions_are_small();
+        interfaces_are_numbered();
+        entities_have_channels();
+        let met = self.lanes.met(domain);
+        self.lanes.give(domain, &mut self.wires);
         self.graph
             .tick(domain, &self.store, rack, &mut self.wires, steps);
+        self.lanes.put(domain, &self.wires);
         hear(self.function.entities(), &self.wires, domain, meters);
-        Ticked { under: 0, over: 0 }
+        met
     }
 
     /// The frame of the last tick of an output jack; None exactly for ids of no output jack.

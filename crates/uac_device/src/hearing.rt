@@ -3,7 +3,7 @@ ghost use Rattle.std.specs.Prelude.{◌≡◌};
 ghost use Rattle.std.specs.Option.{option_map};
 ghost use Rattle.uac_graph.specs.Wiring.{AreWiresOf};
 ghost use Rattle.uac_units.specs.Panel.{readings};
-ghost use Rattle.uac_device.specs.World.{after_frames};
+ghost use Rattle.uac_device.specs.DeviceWorld.{after_frames};
 ghost use Rattle.uac_device.specs.Turns.{frames_heard, heard_on};
 
 use crate::terminals::is_output_jack_of;

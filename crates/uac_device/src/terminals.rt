@@ -1,6 +1,6 @@
 // Which terminals carry no stream of the bus.
 ghost use Rattle.std.specs.Prelude.{◌≡◌};
-ghost use Rattle.uac_device.specs.World as spec;
+ghost use Rattle.uac_device.specs.DeviceWorld as spec;
 
 use uac_entities::{Entity, USB_STREAMING};
 use uac_graph::is_end;

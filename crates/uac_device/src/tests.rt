@@ -3,7 +3,7 @@
 ghost use Rattle.std.specs.Prelude.{◌≡◌, IsTrue, length, true};
 ghost use Rattle.uac_graph.specs.Meaning.{entity};
 ghost use Rattle.uac_units.specs.Fitting.{IsFitted};
-ghost use Rattle.uac_device.specs.World.{is_input_jack};
+ghost use Rattle.uac_device.specs.DeviceWorld.{is_input_jack};
 
 use crate::*;
 use arrayvec::ArrayVec;
@@ -15,6 +15,7 @@ use uac_descriptor::{
 use uac_entities::{Entity, EntityKind, USB_STREAMING};
 use uac_graph::laws::fresh_steps_have_room;
 use uac_pcm::Frame;
+use uac_request::{Answer, Setup};
 use uac_sentence::are_well_formed;
 use uac_store::Key;
 use uac_topology::check;
@@ -36,7 +37,7 @@ fn control() -> Block {
     })
 }
 
-fn push(blocks: &mut Vec<Block>, block: Block) -> Result<(), AllocError> {
+pub(crate) fn push(blocks: &mut Vec<Block>, block: Block) -> Result<(), AllocError> {
     match blocks.push(block) {
         Ok(()) => Ok(()),
         Err(_) => Err(AllocError),
@@ -144,7 +145,7 @@ fn is_taken(entity: &Entity, samples: usize) -> bool
     }
 }
 
-fn give(device: &mut Device, terminal: u8, samples: &[i32]) -> bool {
+pub(crate) fn give(device: &mut Device, terminal: u8, samples: &[i32]) -> bool {
     let mut frame: Frame = ArrayVec::new();
     let _ = frame.try_extend_from_slice(samples);
     if !takes(device, terminal, &frame) {
@@ -155,7 +156,7 @@ fn give(device: &mut Device, terminal: u8, samples: &[i32]) -> bool {
 }
 
 /// Whether an output jack last played these samples.
-fn played(device: &Device, terminal: u8, samples: &[i32]) -> bool {
+pub(crate) fn played(device: &Device, terminal: u8, samples: &[i32]) -> bool {
     match device.played(terminal) {
         Some(frame) => frame.as_slice() == samples,
         None => false,
@@ -163,7 +164,12 @@ fn played(device: &Device, terminal: u8, samples: &[i32]) -> bool {
 }
 
 /// One tick of a domain: what it met, and how often units were rendered.
-fn tick(device: &mut Device, domain: u8, rack: &Rack, meters: &mut Meters) -> (Ticked, u64)
+pub(crate) fn tick(
+    device: &mut Device,
+    domain: u8,
+    rack: &Rack,
+    meters: &mut Meters,
+) -> (Ticked, u64)
     requires { IsFitted (λ v x. (⟦<dyn Unit as Unit>⟧ v).kind_of x) rack.now }
 {
     let mut steps = Steps::new();
@@ -221,6 +227,41 @@ fn a_fast_clock_ticks_once_more(rt: HostRuntime) -> Result<(), Fail> {
     }
     assert_eq!(rt; device.ticks(1), 7);
     assert_eq!(rt; device.ticks(1), 6);
+    Ok(())
+}
+
+/// A request of these eight bytes, with these behind it.
+pub(crate) fn ask(device: &mut Device, setup: [u8; 8], sent: &[u8]) -> Option<bool> {
+    match device.control(&Setup::read(setup), sent) {
+        Answer::Done => Some(true),
+        Answer::Stall(_) => Some(false),
+        Answer::Bytes(_) | Answer::Descriptor { .. } => None,
+    }
+}
+
+#[test]
+fn a_request_sets_a_control(rt: HostRuntime) -> Result<(), Fail> {
+    let mut device = device(rt.alloc())?;
+    let mute = Key {
+        entity: 3,
+        selector: 1,
+        channel: 0,
+    };
+    assert_eq!(rt;
+        ask(&mut device, [0x21, 1, 0, 1, 0, 3, 1, 0], &[2]),
+        Some(false)
+    );
+    assert_eq!(rt; device.store().cur(mute), Some(0));
+    assert_eq!(rt;
+        ask(&mut device, [0x21, 1, 0, 1, 0, 3, 1, 0], &[1]),
+        Some(true)
+    );
+    assert_eq!(rt; device.store().cur(mute), Some(1));
+    assert_eq!(rt; ask(&mut device, [0xa1, 1, 0, 1, 0, 3, 1, 0], &[]), None);
+    assert_eq!(rt;
+        ask(&mut device, [1, 11, 0, 0, 0, 0, 0, 0], &[]),
+        Some(true)
+    );
     Ok(())
 }
 

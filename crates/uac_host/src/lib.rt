@@ -1,2 +1,17 @@
-//! The host. So far it is its part of the world, as definitions alone, since no stream runs yet.
+//! The host: the streams that it runs, and the tracks from which it sends.
 #![tactic(auto)]
+
+/// The host and its calls.
+mod host;
+/// What it keeps for an interface.
+mod lanes;
+/// How a running stream is sent.
+mod paces;
+/// What waits to be sent.
+mod tracks;
+
+pub use host::Host;
+pub use lanes::Lane;
+
+#[cfg(test)]
+mod tests;

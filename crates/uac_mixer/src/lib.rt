@@ -1,9 +1,32 @@
-//! The host's view of a device. So far it is its part of the world, as definitions alone, since no request is answered yet.
+//! The host's view of a device: its controls as the elements of a mixer, read and set over any link.
 #![tactic(auto)]
 
-/// When a transfer breaks: before the device acted, or after it.
-#[derive(Clone, Copy, PartialEq, Eq, Debug)]
-pub enum When {
-    Before,
-    After,
-}
+/// Answers that are kept.
+mod answers;
+/// Values as bytes.
+mod bytes;
+/// The controls that descriptors declare.
+mod declared;
+/// An element and its name.
+mod element;
+/// Why reading a view, or setting an element, failed.
+mod faults;
+/// What an element controls.
+mod kinds;
+pub mod laws;
+/// The link over which transfers go.
+mod link;
+/// The elements of a function.
+mod listing;
+/// The transfers of an element, and what a transfer makes of it.
+mod transfers;
+/// The view.
+#[cfg(test)]
+mod tests;
+mod view;
+
+pub use element::{Element, ElementName};
+pub use faults::{SetFault, ViewFault};
+pub use kinds::ElementKind;
+pub use link::{Broken, DeviceLink, Link, When};
+pub use view::View;

@@ -9,7 +9,7 @@ use Rattle.std.proofs.lemmas.List.Sums.{sum_by_push}
 use Rattle.std.proofs.lemmas.Map.Keys.{IsDistinct-head, IsDistinct-tail}
 use Rattle.uac_units.specs.Hearing.{held}
 use Rattle.uac_clock.specs.Ticks.{ticks_in}
-use Rattle.uac_device.specs.World.{Domain}
+use Rattle.uac_device.specs.DeviceWorld.{Domain}
 use Rattle.uac_running.specs.declared.counts.TickCount.{TickCount}
 use Rattle.uac_topology.specs.Function.{FunctionFields}
 use Rattle.uac_running.specs.Kept.{HasItsDomains, RunningFields, counted, more_counted}

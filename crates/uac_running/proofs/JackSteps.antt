@@ -8,7 +8,7 @@ use Rattle.std.proofs.lemmas.List.FromFn.{length-map-range_with_len}
 use Rattle.uac_pcm.specs.Tones.{tone_sample}
 use Rattle.uac_pcm.specs.declared.tones.Tone.{Tone}
 use Rattle.uac_device.specs.Kept.{DeviceFields, Stands}
-use Rattle.uac_device.specs.World.{DeviceWorld, is_input_jack, set_jack}
+use Rattle.uac_device.specs.DeviceWorld.{DeviceWorld, is_input_jack, set_jack}
 use Rattle.uac_topology.specs.Function.{FunctionFields}
 use Rattle.uac_graph.specs.Meaning.{entity}
 use Rattle.uac_running.specs.declared.jacks.Jack.{Jack}

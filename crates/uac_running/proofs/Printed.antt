@@ -24,7 +24,7 @@ use Rattle.uac_edges.specs.Writing.{Writes}
 use Rattle.uac_transcript.specs.declared.report.StreamCounts.{StreamCounts}
 use Rattle.uac_transcript.specs.Transcript.{Said, says_domain, says_meter, says_played, spelled}
 use Rattle.uac_device.specs.Kept.{DeviceFields, Stands}
-use Rattle.uac_device.specs.World.{Domain, DeviceWorld, is_jack, is_output_jack, level_of, played_at, target_of}
+use Rattle.uac_device.specs.DeviceWorld.{Domain, DeviceWorld, is_jack, is_output_jack, level_of, played_at, target_of}
 use Rattle.uac_running.specs.declared.counts.TickCount.{TickCount}
 use Rattle.uac_running.specs.Kept.{counted}
 use Rattle.uac_running.specs.Lines.{domain_line, played_line, played_lines, says_stream, stream_line}

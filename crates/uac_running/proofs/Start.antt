@@ -20,8 +20,8 @@ use Rattle.uac_units.specs.Hearing.{Reading}
 use Rattle.uac_graph.specs.Fitness.{IsSignalGraph}
 use Rattle.uac_graph.specs.Meaning.{entity}
 use Rattle.uac_device.specs.Kept as device
-use Rattle.uac_device.specs.World.{at_rest, fresh, is_input_jack, is_jack}
-use Rattle.uac_host.specs.World.{fresh_host}
+use Rattle.uac_device.specs.DeviceWorld.{at_rest, fresh, is_input_jack, is_jack}
+use Rattle.uac_host.specs.HostWorld.{fresh_host}
 use Rattle.uac_running.specs.declared.counts.TickCount.{TickCount}
 use Rattle.uac_running.specs.declared.jacks.Jack.{Jack}
 use Rattle.uac_running.specs.Kept.{HasItsDomains, HasItsJacks, RunningFields, Stands, counted, none_counted}

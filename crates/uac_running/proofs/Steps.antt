@@ -7,14 +7,14 @@ use Rattle.std.proofs.lemmas.List.{drop_all}
 use Rattle.uac_pcm.specs.declared.tones.Tone.{Tone}
 use Rattle.uac_units.specs.Hearing.{Reading, held}
 use Rattle.uac_device.specs.Kept as device
-use Rattle.uac_device.specs.World.{DeviceWorld, advanced, after_frames, deviated, heard_of, next_ticks, renders_of, set_jack, step_in, ticked}
+use Rattle.uac_device.specs.DeviceWorld.{DeviceWorld, advanced, after_frames, deviated, heard_of, next_ticks, renders_of, set_jack, step_in, ticked}
 use Rattle.uac_script.specs.Phrase.{Loss}
 use Rattle.uac_transcript.specs.Printing.{Prints}
 use Rattle.uac_running.specs.declared.counts.TickCount.{TickCount}
 use Rattle.uac_running.specs.declared.jacks.Jack.{Jack}
 use Rattle.uac_topology.specs.Function.{FunctionFields}
-use Rattle.uac_host.specs.World.{Rests}
-use Rattle.uac_mixer.specs.World.{known_view}
+use Rattle.uac_host.specs.HostWorld.{Rests}
+use Rattle.uac_mixer.specs.ViewWorld.{known_view}
 use Rattle.uac_running.specs.World.{RunningWorld, is_slight, is_steady, keeps_feedback, toned, with_detail, with_deviation, with_tone}
 use Rattle.uac_running.specs.Lines.{played_lines}
 use Rattle.uac_running.specs.Events.{all_given, behind, domain_microframe, domain_microframes, given, gone_on, microframe, microframes, next_frame, number_said, still, tick, tick_times}

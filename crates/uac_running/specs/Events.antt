@@ -3,7 +3,7 @@
 use Rattle.std.specs.Prelude.{ℕ, zero, suc, ◌+◌, ◌==◌, nat_le, if◌then◌else◌, ℤ, List, [], ◌∷◌, ◌++◌, map, filter}
 use Rattle.std.specs.List.{fold, range_with_len}
 use Rattle.uac_pcm.specs.Tones.{tone_sample}
-use Rattle.uac_device.specs.World.{DeviceWorld, advanced, next_ticks, renders_of, set_jack, ticked, heard_of, after_frames}
+use Rattle.uac_device.specs.DeviceWorld.{DeviceWorld, advanced, next_ticks, renders_of, set_jack, ticked, heard_of, after_frames}
 use Rattle.uac_units.specs.Hearing.{held}
 use Rattle.uac_script.specs.Phrase.{Loss}
 use Rattle.uac_transcript.specs.Transcript.{Said, says_time}

@@ -3,13 +3,13 @@ use Rattle.std.specs.Prelude.{◌≡◌, ℕ, ◌≤◌, ◌+◌, ◌==◌, nat_
 use Rattle.std.specs.List.{All, IsDistinct}
 use Rattle.uac_units.specs.Hearing.{Reading, held}
 use Rattle.uac_device.specs.Kept as device
-use Rattle.uac_device.specs.World.{Domain, is_input_jack}
+use Rattle.uac_device.specs.DeviceWorld.{Domain, is_input_jack}
 use Rattle.uac_graph.specs.Meaning.{entity}
 use Rattle.uac_transcript.specs.Printing.{Prints}
 use Rattle.uac_running.specs.declared.jacks.Jack.{Jack}
 use Rattle.uac_running.specs.declared.counts.TickCount.{TickCount}
-use Rattle.uac_host.specs.World.{Rests}
-use Rattle.uac_mixer.specs.World.{known_view}
+use Rattle.uac_host.specs.HostWorld.{Rests}
+use Rattle.uac_mixer.specs.ViewWorld.{known_view}
 use Rattle.uac_running.specs.World.{RunningWorld, is_steady, nothing_met}
 use Rattle.uac_running.specs.Events.{Told}
 use Rattle.uac_running.specs.Lines.{ticks_since}

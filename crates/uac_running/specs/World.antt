@@ -6,10 +6,10 @@ use Rattle.uac_pcm.specs.declared.tones.Tone.TheVariants.{Silent}
 use Rattle.uac_entities.specs.declared.entity.Entity.{Entity}
 use Rattle.uac_topology.specs.Function.{FunctionFields}
 use Rattle.uac_units.specs.Hearing.{Reading}
-use Rattle.uac_device.specs.World.{DeviceWorld, fresh, deviated, is_input_jack}
-use Rattle.uac_host.specs.World.{HostWorld, fresh_host}
-use Rattle.uac_mixer.specs.World.{ViewWorld, known_view}
-use Rattle.uac_mixer.specs.declared.When.{When}
+use Rattle.uac_device.specs.DeviceWorld.{DeviceWorld, fresh, deviated, is_input_jack}
+use Rattle.uac_host.specs.HostWorld.{HostWorld, fresh_host}
+use Rattle.uac_mixer.specs.ViewWorld.{ViewWorld, known_view}
+use Rattle.uac_mixer.specs.declared.link.When.{When}
 use Rattle.uac_transcript.specs.declared.report.StreamCounts.{StreamCounts}
 use Rattle.uac_running.specs.declared.jacks.Jack.{Jack}
 

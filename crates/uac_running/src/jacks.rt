@@ -3,8 +3,8 @@ ghost use Rattle.std.specs.Prelude.{◌≡◌, ◌==◌, ◌≤◌, true, IfOk, 
 ghost use Rattle.std.specs.List.{All, list_any};
 ghost use Rattle.uac_graph.specs.Meaning.{entity};
 ghost use Rattle.uac_device.specs.Kept.{Stands};
-ghost use Rattle.uac_device.specs.World.{DeviceWorld};
-ghost use Rattle.uac_device.specs.World as world;
+ghost use Rattle.uac_device.specs.DeviceWorld.{DeviceWorld};
+ghost use Rattle.uac_device.specs.DeviceWorld as world;
 ghost use Rattle.uac_running.specs.Events.{after_one, given, given_one, gone_on, next_frame};
 ghost use Rattle.uac_running.specs.World as spec;
 

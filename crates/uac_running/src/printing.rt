@@ -3,7 +3,7 @@ ghost use Rattle.std.specs.Prelude.{◌≡◌, if◌then◌else◌, [], ◌∷�
 ghost use Rattle.uac_edges.specs.Faults.{HasCause};
 ghost use Rattle.uac_graph.specs.Meaning as meaning;
 ghost use Rattle.uac_device.specs.Kept.{Stands};
-ghost use Rattle.uac_device.specs.World.{DeviceWorld, is_output_jack_of};
+ghost use Rattle.uac_device.specs.DeviceWorld.{DeviceWorld, is_output_jack_of};
 ghost use Rattle.uac_transcript.specs.Printing.{Prints};
 ghost use Rattle.uac_running.specs.Lines.{played_line, played_lines};
 

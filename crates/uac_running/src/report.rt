@@ -5,7 +5,7 @@ ghost use Rattle.uac_edges.specs.Writing.{Writes};
 ghost use Rattle.uac_store.specs.Rates.{rate_of};
 ghost use Rattle.uac_units.specs.Panel.{readings};
 ghost use Rattle.uac_device.specs.Kept.{Stands};
-ghost use Rattle.uac_device.specs.World.{DeviceWorld};
+ghost use Rattle.uac_device.specs.DeviceWorld.{DeviceWorld};
 ghost use Rattle.uac_transcript.specs.Printing.{Prints};
 ghost use Rattle.uac_transcript.specs.Transcript.{says_meter, says_passed, says_renders, says_steady, spelled};
 ghost use Rattle.uac_running.specs.Kept.{counted};

@@ -6,7 +6,7 @@ ghost use Rattle.uac_units.specs.Panel.{readings};
 ghost use Rattle.uac_edges.specs.Faults.{HasCause};
 ghost use Rattle.uac_edges.specs.Writing.{Writes};
 ghost use Rattle.uac_device.specs.Kept as device;
-ghost use Rattle.uac_device.specs.World.{DeviceWorld, advanced, next_ticks};
+ghost use Rattle.uac_device.specs.DeviceWorld.{DeviceWorld, advanced, next_ticks};
 ghost use Rattle.uac_running.specs.World.{RunningWorld, at_start, is_slight, with_detail, with_deviation, with_tone};
 ghost use Rattle.uac_running.specs.World as spec;
 ghost use Rattle.uac_transcript.specs.Printing.{Prints};

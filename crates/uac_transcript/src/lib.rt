@@ -11,6 +11,10 @@ mod report;
 mod starts;
 #[cfg(test)]
 mod tests;
+/// The lines of control transfers.
+mod transfers;
+/// The lines that name an element of the host's view.
+mod views;
 /// Words of several lines.
 mod words;
 
@@ -23,3 +27,5 @@ pub use report::{
     write_renders, write_steady,
 };
 pub use starts::{write_ready, write_time};
+pub use transfers::{write_broken, write_done, write_given, write_stalled};
+pub use views::{write_set, write_set_stalled, write_unknown, write_value, write_view_broken};

@@ -1,8 +1,10 @@
 // Each line as it is printed.
 use crate::{
-    Arrival, StreamCounts, write_domain, write_feedback, write_frame, write_in, write_in_stream,
-    write_level, write_meter, write_out, write_out_stream, write_over, write_passed, write_played,
-    write_ready, write_renders, write_steady, write_time, write_under,
+    Arrival, StreamCounts, write_broken, write_domain, write_done, write_feedback, write_frame,
+    write_given, write_in, write_in_stream, write_level, write_meter, write_out, write_out_stream,
+    write_over, write_passed, write_played, write_ready, write_renders, write_set,
+    write_set_stalled, write_stalled, write_steady, write_time, write_under, write_unknown,
+    write_value, write_view_broken,
 };
 use arrayvec::ArrayVec;
 use std::test::Fail;
@@ -26,6 +28,16 @@ l 1 128 -
 l 1 130 128
 f 1 00060000 ok
 f 1 0005fffd lost
+c bytes 0102ff
+c bytes -
+c done
+c stall Q12
+c broken
+h volume.3.1 -32768
+h mix.8.0 unknown
+h done
+h stall Q9
+h broken
 time 2
 steady no
 domain 1 rate 48000 ticks 12
@@ -63,6 +75,7 @@ fn write_lines(sink: &mut MemorySink) -> Result<(), Failed> {
     write_level(sink, 1, 130, Some(128))?;
     write_feedback(sink, 1, 393216, false)?;
     write_feedback(sink, 1, 393213, true)?;
+    write_transfers(sink)?;
     write_passed(sink, 2)?;
     write_steady(sink, false)?;
     write_domain(sink, 1, Some(48000), 12)?;
@@ -72,11 +85,37 @@ fn write_lines(sink: &mut MemorySink) -> Result<(), Failed> {
     write_renders(sink, 24)
 }
 
+// Writes each line of a transfer, and of the host's view.
+fn write_transfers(sink: &mut MemorySink) -> Result<(), Failed> {
+    write_given(sink, &[1, 2, 255])?;
+    write_given(sink, &[])?;
+    write_done(sink)?;
+    write_stalled(sink, 12)?;
+    write_broken(sink)?;
+    write_value(sink, b"volume.3.1", -32768)?;
+    write_unknown(sink, b"mix.8.0")?;
+    write_set(sink)?;
+    write_set_stalled(sink, 9)?;
+    write_view_broken(sink)
+}
+
 #[test]
 fn lines_are_printed(rt: HostRuntime) -> Result<(), Fail> {
     let never = WordList::from_vec(vec![in rt.alloc()]?);
     let mut sink = MemorySink::new(rt.alloc(), 3, 4096, never)?;
     assert_eq!(rt; write_lines(&mut sink), Ok(()));
     assert_eq!(rt; sink.written(), LINES);
+    Ok(())
+}
+
+/// A long answer is written in pieces: 600 bytes of 1.
+#[test]
+fn many_bytes_are_printed(rt: HostRuntime) -> Result<(), Fail> {
+    let never = WordList::from_vec(vec![in rt.alloc()]?);
+    let mut sink = MemorySink::new(rt.alloc(), 4096, 4096, never)?;
+    assert_eq!(rt; write_given(&mut sink, &[1; 600]), Ok(()));
+    let written = sink.written();
+    assert_eq!(rt; written.len(), 8 + 1200 + 1);
+    assert!(rt; written.ends_with(b"01\n"));
     Ok(())
 }

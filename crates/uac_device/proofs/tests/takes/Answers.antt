@@ -2,7 +2,7 @@ use Rattle.std.proofs.Common.{◌≡◌, ◌∙◌, ap, get_or, subst, sym, List
 use Rattle.uac_entities.specs.declared.entity.Entity.{Entity}
 use Rattle.uac_topology.specs.Function.{FunctionFields}
 use Rattle.uac_graph.specs.Meaning.{entity}
-use Rattle.uac_device.specs.World.{is_input_jack}
+use Rattle.uac_device.specs.DeviceWorld.{is_input_jack}
 use Rattle.uac_device.proofs.Played.{entity_found}
 use Rattle.uac_device.proofs.tests.takes.Goals as goal
 

@@ -2,7 +2,7 @@ use Rattle.std.proofs.Common.{◌≡◌, ◌∙◌, ◌≤◌, sym, subst, true,
 use Rattle.std.specs.List.{All}
 use Rattle.uac_topology.specs.Function.{FunctionFields}
 use Rattle.uac_graph.specs.Meaning.{entity}
-use Rattle.uac_device.specs.World.{is_input_jack}
+use Rattle.uac_device.specs.DeviceWorld.{is_input_jack}
 use Rattle.uac_running.specs.declared.jacks.Jack.{Jack}
 use Rattle.uac_running.specs.Events.{after_one}
 use Rattle.uac_device.proofs.Turning.{turned_all, turned_more, untouched_holds}

@@ -1,5 +1,5 @@
 use Rattle.std.proofs.Common.{refl, arith}
-use Rattle.uac_device.specs.World.{at_rest}
+use Rattle.uac_device.specs.DeviceWorld.{at_rest}
 use Rattle.uac_transcript.proofs.PrintingLemmas.{front_of_lines, one_line_more}
 use Rattle.uac_running.specs.Lines.{domain_line}
 use Rattle.uac_running.proofs.Printed.{below_domains, count_at}

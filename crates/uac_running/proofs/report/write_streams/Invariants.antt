@@ -1,7 +1,7 @@
 use Rattle.std.proofs.Common.{◌≡◌, ◌≤◌, ℕ, map, take}
 use Rattle.std.specs.Io.KnownBytes.{Appends}
 use Rattle.uac_device.specs.Kept.{Stands}
-use Rattle.uac_device.specs.World.{DeviceWorld}
+use Rattle.uac_device.specs.DeviceWorld.{DeviceWorld}
 use Rattle.uac_transcript.specs.declared.report.StreamCounts.{StreamCounts}
 use Rattle.uac_transcript.specs.Printing.{text_of}
 use Rattle.uac_running.specs.Lines.{stream_line}

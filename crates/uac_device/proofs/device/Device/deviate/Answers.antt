@@ -18,6 +18,8 @@ invariant_of-self c =
     ∙ ap (λ (millionths : ℤ). map (deviated_clock c.args.domain millionths) c.deref_mut.result.now) (to_z-of_z w32 c.args.ppm c.ranges.ppm)
     ∙ ap (map (deviated_clock c.args.domain c.args.ppm)) c.deref_mut.ensures.value in (
       record {
+        store = c.self.invariant.0.store;
+        interfaces = c.self.invariant.0.interfaces;
         wires = c.self.invariant.0.wires;
         domains =
             ap (map (λ k. k.clock)) turned
@@ -29,6 +31,7 @@ invariant_of-self c =
         phases =
             subst (λ (clocks : List Clock). All (λ k. k.phase < 65536) clocks) (sym turned)
             (deviated_phases c.args.domain c.args.ppm c.self.inside.clocks.items c.self.invariant.0.phases);
+        ports = c.self.invariant.0.ports;
       },
       c.self.invariant.1,
     )

@@ -1,5 +1,9 @@
-use Rattle.uac_device.proofs.Resting.{no_level}
+use Rattle.std.proofs.Common.{subst, sym}
+use Rattle.uac_device.specs.DeviceWorld.{level_of}
+use Rattle.uac_device.specs.Kept.{DeviceFields, Stands}
 use Rattle.uac_device.proofs.device.Device.level.Goals as goal
 
 pub returns : goal.returns
-returns c w stands = no_level c.args.self.now w c.args._interface stands
+unfolding level_of
+returns c w stands =
+    let here = subst (λ (device : DeviceFields). Stands device w) (sym c.self.view_is) stands in c.level.ensures w.outs w.ins here.streams

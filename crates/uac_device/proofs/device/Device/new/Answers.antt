@@ -1,25 +1,32 @@
 use Rattle.std.proofs.Common.{◌∙◌, ◌<◌, ap, map, subst, sym, List}
 use Rattle.std.specs.List.{All}
+use Rattle.uac_request.specs.Requests.{AreSettingsOf}
 use Rattle.uac_device.specs.declared.clocks.Clock.{Clock}
 use Rattle.uac_device.specs.Kept.{IsInRange}
 use Rattle.uac_device.specs.Turns.{resting_clock}
 use Rattle.uac_device.proofs.Kept.{resting_domains, resting_phases, resting_range}
+use Rattle.uac_device.specs.Lanes.{ports}
 use Rattle.uac_device.proofs.Played.{fresh_stands}
+use Rattle.uac_device.proofs.Streaming.{ports_idle}
 use Rattle.uac_device.proofs.device.Device.new.Goals as goal
 
 pub invariant_of-result : goal.invariant_of-result
 invariant_of-result c =
     let resting = c.in_ok-clocks.ensures ∙ ap (map resting_clock) c.domains.ensures in (
       record {
+        store = c.in_ok-store.ensures.of_function;
+        interfaces =
+            subst (AreSettingsOf c.args.function) (sym c.new-settings.ensures) (c.each_interface_starts_with_a_setting.ensures c.args.function);
         wires = c.in_ok-wires.ensures.fitting;
         domains = ap (map (λ k. k.clock)) resting ∙ resting_domains c.args.function.domains;
         clocks = subst (λ (clocks : List Clock). All (λ k. IsInRange k.ppm) clocks) (sym resting) (resting_range c.args.function.domains);
         phases = subst (λ (clocks : List Clock). All (λ k. k.phase < 65536) clocks) (sym resting) (resting_phases c.args.function.domains);
+        ports = ap ports c.in_ok-lanes.ensures ∙ ports_idle c.args.function.entities c.args.function.streams;
       },
       c.in_ok-graph.ensures,
     )
 
 pub returns : goal.returns
 returns c =
-    fresh_stands c.args.function c.in_ok-store.store c.new-settings.result c.in_ok-clocks.clocks.items c.in_ok-wires.wires c.in_ok-store.ensures.starts
-    c.new-settings.ensures (c.in_ok-clocks.ensures ∙ ap (map resting_clock) c.domains.ensures) c.in_ok-wires.ensures.silent
+    fresh_stands c.args.function c.in_ok-store.store c.new-settings.result c.in_ok-clocks.clocks.items c.in_ok-wires.wires c.in_ok-lanes.lanes c.in_ok-store.ensures.starts
+    c.new-settings.ensures (c.in_ok-clocks.ensures ∙ ap (map resting_clock) c.domains.ensures) c.in_ok-wires.ensures.silent c.in_ok-lanes.ensures

@@ -1,45 +1,117 @@
 use Rattle.std.proofs.Common.{◌∙◌, ◌+◌, ◌<◌, ◌^◌, ap, length, subst, sym, ℕ, List}
+use Rattle.std.specs.List.{All}
 use Rattle.uac_entities.specs.declared.entity.Entity.{Entity}
 use Rattle.uac_graph.specs.Controls.{held_in}
 use Rattle.uac_graph.specs.Needs.{depended, needed}
-use Rattle.uac_graph.specs.Wiring.{AreRendered, held}
+use Rattle.uac_graph.specs.Wiring.{AreRendered, AreWiresOf, held}
 use Rattle.uac_graph.proofs.Ends.{output_terminals}
 use Rattle.uac_graph.proofs.FromRules.{sound_graph}
 use Rattle.uac_units.specs.Panel.{readings}
-use Rattle.uac_device.specs.World.{after_frames, ticked}
+use Rattle.uac_device.specs.DeviceWorld.{after_frames, ticked}
 use Rattle.uac_device.specs.Kept.{DeviceFields, Stands}
+use Rattle.uac_device.specs.Lanes.{WiredOut}
 use Rattle.uac_device.specs.Turns.{frames_heard}
 use Rattle.uac_device.specs.contracts.device.Device.{the_view}
-use Rattle.uac_device.proofs.Played.{heard_in, renders_here, tick_stands}
-use Rattle.uac_device.proofs.Resting.{none_met}
+use Rattle.uac_device.proofs.LinkedLemmas.{linked}
+use Rattle.uac_device.proofs.Played.{heard_in, renders_here}
+use Rattle.uac_device.proofs.Streaming.{ports_few, ports_wired_in, ports_wired_out}
+use Rattle.uac_device.proofs.TickLemmas.{Turned, device_with_wires, input_channels, lanes_few, met_here, ticked_stands, wires_kept}
 use Rattle.uac_device.proofs.device.Device.tick.Goals as goal
+
+pub met-met-requires : goal.met-met-requires
+met-met-requires g c = lanes_few (the_view c.self.inside) c.self.invariant.0 (c.sound_functions_are_small.ensures c.self.inside.function c.functions_are_sound.ensures).1
+
+pub give-requires-clause-wired : goal.give-requires-clause-wired
+give-requires-clause-wired g c =
+    ports_wired_in (the_view c.self.inside) c.self.inside.wires (linked c.self.inside.function c.functions_are_sound.ensures) c.self.invariant.0.wires c.self.invariant.0
+
+pub give-requires-clause-few : goal.give-requires-clause-few
+give-requires-clause-few g c =
+    ports_few (the_view c.self.inside) (linked c.self.inside.function c.functions_are_sound.ensures)
+    (λ id input.
+    (input_channels c.self.inside.function.entities id (c.entities_have_channels.ensures c.self.inside.function c.functions_are_sound.ensures) input).1)
+    c.self.invariant.0
+
+pub tick-requires-clause-wires : goal.tick-requires-clause-wires
+tick-requires-clause-wires g c =
+    subst (λ (graph : List Entity). AreWiresOf graph c.give.new.wires) (sym c.self.invariant.1)
+    (wires_kept c.self.inside.function.entities c.self.inside.wires c.give.new.wires c.self.invariant.0.wires c.give.ensures.lengths)
+
+pub tick-requires-clause-room : goal.tick-requires-clause-room
+tick-requires-clause-room g c =
+    subst (λ (graph : List Entity). c.args.steps.now + length (needed graph c.args.domain) < 2 ^ 64) (sym c.self.invariant.1)
+    (subst (λ (device : DeviceFields). c.args.steps.now + length (needed device.function.entities c.args.domain) < 2 ^ 64) (sym c.self.view_is) c.requires.room)
+
+pub put-requires : goal.put-requires
+put-requires g c = record {
+  wired =
+      subst (All (WiredOut c.tick.new.wires)) (sym c.give.ensures.ports)
+      (ports_wired_out (the_view c.self.inside) c.tick.new.wires (linked c.self.inside.function c.functions_are_sound.ensures)
+      (subst (λ (graph : List Entity). AreWiresOf graph c.tick.new.wires) c.self.invariant.1 c.tick.ensures.fitting) c.self.invariant.0);
+}
+
+pub invariant_of-self : goal.invariant_of-self
+invariant_of-self g c = (
+  device_with_wires (the_view c.self.inside) c.tick.new.wires c.put.new.self c.self.invariant.0
+      (subst (λ (graph : List Entity). AreWiresOf graph c.tick.new.wires) c.self.invariant.1 c.tick.ensures.fitting) (c.put.ensures.ports ∙ c.give.ensures.ports),
+  c.self.invariant.1,
+)
 
 pub returns-clause-stands : goal.returns-clause-stands
 returns-clause-stands g c w stands =
-    let entities = c.self.inside.function.entities in
     let sound = c.functions_are_sound.ensures in
-    tick_stands (the_view c.self.inside) c.tick.new.wires c.args.domain w (sound_graph c.self.inside.function sound)
-    (output_terminals c.self.inside.function sound c.args.domain)
-    (subst (λ (graph : List Entity). AreRendered graph (held_in c.self.inside.store) (held c.self.inside.wires) (depended graph c.args.domain) c.self.inside.wires c.tick.new.wires)
-    c.self.invariant.1 c.tick.ensures.rendered)
-    (subst (λ (device : DeviceFields). Stands device w) (sym c.self.view_is) stands)
+    let here = subst (λ (device : DeviceFields). Stands device w) (sym c.self.view_is) stands in
+    let turned : Turned (the_view c.self.inside) c.give.new.wires c.tick.new.wires c.give.new.self c.put.new.self c.args.domain =
+    record {
+      frames = c.give.ensures.frames;
+      given = c.give.ensures.stands;
+      same = c.give.ensures.ports;
+      rendered =
+          record {
+            sound = sound_graph c.self.inside.function sound;
+            ends = output_terminals c.self.inside.function sound c.args.domain;
+            rendered =
+                subst (λ (graph : List Entity). AreRendered graph (held_in c.self.inside.store) (held c.give.new.wires) (depended graph c.args.domain) c.give.new.wires c.tick.new.wires)
+                c.self.invariant.1 c.tick.ensures.rendered;
+          };
+      put = c.put.ensures.stands;
+    } in
+    ticked_stands (the_view c.self.inside) c.give.new.wires c.tick.new.wires c.give.new.self c.put.new.self c.args.domain w
+    (c.interfaces_are_numbered.ensures c.self.inside.function sound) (linked c.self.inside.function sound)
+    (c.entities_have_channels.ensures c.self.inside.function sound) c.self.invariant.0 turned here
 
 pub returns-clause-heard : goal.returns-clause-heard
 returns-clause-heard g c w stands =
     let sound = c.functions_are_sound.ensures in
-    let after = tick_stands (the_view c.self.inside) c.tick.new.wires c.args.domain w (sound_graph c.self.inside.function sound)
-    (output_terminals c.self.inside.function sound c.args.domain)
-    (subst (λ (graph : List Entity). AreRendered graph (held_in c.self.inside.store) (held c.self.inside.wires) (depended graph c.args.domain) c.self.inside.wires c.tick.new.wires)
-    c.self.invariant.1 c.tick.ensures.rendered)
-    (subst (λ (device : DeviceFields). Stands device w) (sym c.self.view_is) stands) in
+    let here = subst (λ (device : DeviceFields). Stands device w) (sym c.self.view_is) stands in
+    let turned : Turned (the_view c.self.inside) c.give.new.wires c.tick.new.wires c.give.new.self c.put.new.self c.args.domain =
+    record {
+      frames = c.give.ensures.frames;
+      given = c.give.ensures.stands;
+      same = c.give.ensures.ports;
+      rendered =
+          record {
+            sound = sound_graph c.self.inside.function sound;
+            ends = output_terminals c.self.inside.function sound c.args.domain;
+            rendered =
+                subst (λ (graph : List Entity). AreRendered graph (held_in c.self.inside.store) (held c.give.new.wires) (depended graph c.args.domain) c.give.new.wires c.tick.new.wires)
+                c.self.invariant.1 c.tick.ensures.rendered;
+          };
+      put = c.put.ensures.stands;
+    } in
+    let after = ticked_stands (the_view c.self.inside) c.give.new.wires c.tick.new.wires c.give.new.self c.put.new.self c.args.domain w
+    (c.interfaces_are_numbered.ensures c.self.inside.function sound) (linked c.self.inside.function sound)
+    (c.entities_have_channels.ensures c.self.inside.function sound) c.self.invariant.0 turned here in
     c.hear.ensures
     ∙ ap (λ entities. after_frames (frames_heard c.tick.new.wires c.args.domain entities) (readings (λ v x. (goal.Meter-dyn g (v, x)).reading_of x) c.args.meters.now)) c.entities.ensures
     ∙ ap (λ frames. after_frames frames (readings (λ v x. (goal.Meter-dyn g (v, x)).reading_of x) c.args.meters.now))
-    (heard_in (record (the_view c.self.inside) { wires = c.tick.new.wires }) c.args.domain (ticked c.args.domain w) (sound_graph c.self.inside.function sound) after)
+    (heard_in (record (the_view c.self.inside) { wires = c.tick.new.wires; lanes = c.put.new.self }) c.args.domain (ticked c.args.domain w) (sound_graph c.self.inside.function sound) after)
 
 pub returns-clause-met : goal.returns-clause-met
 returns-clause-met g c w stands =
-    none_met (the_view c.self.inside) w c.args.domain (subst (λ (device : DeviceFields). Stands device w) (sym c.self.view_is) stands)
+    let here = subst (λ (device : DeviceFields). Stands device w) (sym c.self.view_is) stands in
+    c.met-met.ensures w.outs w.ins here.streams
+    ∙ met_here (the_view c.self.inside) w c.args.domain (c.interfaces_are_numbered.ensures c.self.inside.function c.functions_are_sound.ensures) c.self.invariant.0 here
 
 pub returns-clause-once : goal.returns-clause-once
 returns-clause-once g c w stands =
@@ -47,8 +119,3 @@ returns-clause-once g c w stands =
     c.tick.ensures.once
     ∙ ap (λ (graph : List Entity). c.args.steps.now + length (needed graph c.args.domain)) c.self.invariant.1
     ∙ ap (λ (n : ℕ). c.args.steps.now + n) (renders_here (the_view c.self.inside) w c.args.domain here)
-
-pub tick-requires-clause-room : goal.tick-requires-clause-room
-tick-requires-clause-room g c =
-    subst (λ (graph : List Entity). c.args.steps.now + length (needed graph c.args.domain) < 2 ^ 64) (sym c.self.invariant.1)
-    (subst (λ (device : DeviceFields). c.args.steps.now + length (needed device.function.entities c.args.domain) < 2 ^ 64) (sym c.self.view_is) c.requires.room)

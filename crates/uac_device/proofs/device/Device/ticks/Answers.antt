@@ -1,4 +1,4 @@
-use Rattle.std.proofs.Common.{◌≡◌, ◌∙◌, ◌++◌, ◌<◌, ap, arith, drop, length, map, subst, sym, take, List}
+use Rattle.std.proofs.Common.{◌≡◌, ◌∙◌, ◌++◌, ◌<◌, ap, arith, drop, length, map, subst, sym, take, ℕ, List}
 use Rattle.std.specs.List.{All}
 use Rattle.std.specs.Option.{option_and_then}
 use Rattle.uac_clock.specs.Nominal.{nominal_of}
@@ -9,17 +9,23 @@ use Rattle.uac_device.specs.Turns.{advanced_clock, first_ticks}
 use Rattle.uac_device.specs.contracts.device.Device.{the_view}
 use Rattle.uac_device.proofs.Fastest.{few_ticks, rated_nominal}
 use Rattle.uac_device.proofs.Kept.{advanced_domains, advanced_phases, advanced_range, advanced_stands, ticks_next}
+use Rattle.uac_flow.specs.Streams.{after_ticks}
+use Rattle.uac_device.specs.DeviceWorld.{changed_where, is_on, next_ticks}
+use Rattle.uac_device.specs.Lanes.{KeepsStreams}
+use Rattle.uac_device.proofs.Streaming.{ports_on}
 use Rattle.uac_device.proofs.Turning.{put_back}
 use Rattle.uac_device.proofs.device.Device.ticks.Goals as goal
 use Rattle.uac_device.proofs.device.Device.ticks.Goals.{in-Some, in-None}
 
 pub invariant_of-self : goal.invariant_of-self
 invariant_of-self c =
-    let turned : take c.self.inside.clocks.len (c.advance.new.clocks ++ drop (length c.advance.new.clocks) c.self.inside.clocks.items)
+    let turned : take c.self.inside.clocks.len (c.advance-ticks.new.clocks ++ drop (length c.advance-ticks.new.clocks) c.self.inside.clocks.items)
     ≡ map (advanced_clock c.args.domain c.match-rate.values) c.self.inside.clocks.items =
-    put_back c.self.inside.clocks.len c.advance.new.clocks c.self.inside.clocks.items (omega arith)
-    ∙ c.advance.ensures.clocks ∙ ap (map (advanced_clock c.args.domain c.match-rate.values)) c.deref_mut.ensures.value in (
+    put_back c.self.inside.clocks.len c.advance-ticks.new.clocks c.self.inside.clocks.items (omega arith)
+    ∙ c.advance-ticks.ensures.clocks ∙ ap (map (advanced_clock c.args.domain c.match-rate.values)) c.deref_mut.ensures.value in (
       record {
+        store = c.self.invariant.0.store;
+        interfaces = c.self.invariant.0.interfaces;
         wires = c.self.invariant.0.wires;
         domains =
             ap (map (λ k. k.clock)) turned
@@ -31,6 +37,7 @@ invariant_of-self c =
         phases =
             subst (λ (clocks : List Clock). All (λ k. k.phase < 65536) clocks) (sym turned)
             (advanced_phases c.args.domain c.match-rate.values c.self.inside.clocks.items c.self.invariant.0.phases);
+        ports = c.count.ensures.ports ∙ c.self.invariant.0.ports;
       },
       c.self.invariant.1,
     )
@@ -42,10 +49,18 @@ returns-clause-stands c w stands =
       | in-Some w ↦ w.values-is ∙ w.nominal-values.ensures ∙ ap (option_and_then nominal_of) (sym w.in-Some.is ∙ c.rate.ensures)
       | in-None w ↦ w.values-is ∙ ap (option_and_then nominal_of) (sym w.in-None.is ∙ c.rate.ensures)
     ] in
-    advanced_stands (the_view c.self.inside) _ c.args.domain c.match-rate.values w rated
-    (put_back c.self.inside.clocks.len c.advance.new.clocks c.self.inside.clocks.items (omega arith)
-    ∙ c.advance.ensures.clocks ∙ ap (map (advanced_clock c.args.domain c.match-rate.values)) c.deref_mut.ensures.value)
-    (subst (λ (device : DeviceFields). Stands device w) (sym c.self.view_is) stands)
+    let here = subst (λ (device : DeviceFields). Stands device w) (sym c.self.view_is) stands in
+    let numbered = c.interfaces_are_numbered.ensures c.self.inside.function c.functions_are_sound.ensures in
+    let ticks : c.advance-ticks.result ≡ next_ticks c.args.domain w =
+    c.advance-ticks.ensures.ticks
+    ∙ ap (first_ticks c.args.domain c.match-rate.values) c.deref_mut.ensures.value
+    ∙ ticks_next (the_view c.self.inside) c.args.domain c.match-rate.values w rated here in
+    advanced_stands (the_view c.self.inside) _ c.count.new.self c.args.domain c.match-rate.values w rated
+    (put_back c.self.inside.clocks.len c.advance-ticks.new.clocks c.self.inside.clocks.items (omega arith)
+    ∙ c.advance-ticks.ensures.clocks ∙ ap (map (advanced_clock c.args.domain c.match-rate.values)) c.deref_mut.ensures.value)
+    (subst (λ (n : ℕ). KeepsStreams c.count.new.self (changed_where (is_on w c.args.domain) (λ interface. after_ticks n) w.outs) w.ins) ticks
+    (c.count.ensures.stands (is_on w c.args.domain) w.outs w.ins (ports_on (the_view c.self.inside) w c.args.domain numbered c.self.invariant.0 here) here.streams))
+    here
 
 pub returns-clause-ticks : goal.returns-clause-ticks
 returns-clause-ticks c w stands =
@@ -54,7 +69,7 @@ returns-clause-ticks c w stands =
       | in-Some w ↦ w.values-is ∙ w.nominal-values.ensures ∙ ap (option_and_then nominal_of) (sym w.in-Some.is ∙ c.rate.ensures)
       | in-None w ↦ w.values-is ∙ ap (option_and_then nominal_of) (sym w.in-None.is ∙ c.rate.ensures)
     ] in
-    c.advance.ensures.ticks
+    c.advance-ticks.ensures.ticks
     ∙ ap (first_ticks c.args.domain c.match-rate.values) c.deref_mut.ensures.value
     ∙ ticks_next (the_view c.self.inside) c.args.domain c.match-rate.values w rated (subst (λ (device : DeviceFields). Stands device w) (sym c.self.view_is) stands)
 
@@ -69,5 +84,5 @@ returns-clause-few c =
     few_ticks c.args.domain c.match-rate.values c.self.inside.clocks.items
     (λ nominal is. rated_nominal (rate_of c.self.inside.function.entities c.self.inside.store c.args.domain) nominal (sym rated ∙ is))
     c.self.invariant.0.clocks c.self.invariant.0.phases in
-    let told = c.advance.ensures.ticks ∙ ap (first_ticks c.args.domain c.match-rate.values) c.deref_mut.ensures.value in
+    let told = c.advance-ticks.ensures.ticks ∙ ap (first_ticks c.args.domain c.match-rate.values) c.deref_mut.ensures.value in
     omega (arith, few, told)

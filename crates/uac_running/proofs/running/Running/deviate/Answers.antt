@@ -1,6 +1,6 @@
 use Rattle.std.proofs.Common.{◌≡◌, ◌∙◌, ap, sym, subst, refl, rules, ◌&&◌, ℤ, to_z, of_z, w32}
 use Rattle.uac_device.specs.Kept as device
-use Rattle.uac_device.specs.World.{deviated}
+use Rattle.uac_device.specs.DeviceWorld.{deviated}
 use Rattle.uac_running.specs.World.{is_slight}
 use Rattle.uac_running.specs.Kept.{RunningFields, Stands}
 use Rattle.uac_running.proofs.Steps.{off}

@@ -1,5 +1,5 @@
 use Rattle.std.proofs.Common.{subst}
-use Rattle.uac_device.specs.World.{advanced}
+use Rattle.uac_device.specs.DeviceWorld.{advanced}
 use Rattle.uac_units.specs.Panel.{readings}
 use Rattle.uac_running.specs.Events.{Told}
 use Rattle.uac_running.specs.Kept.{Tells}

@@ -1,7 +1,7 @@
 use Rattle.std.proofs.Common.{◌∙◌, ap, refl, List, map}
 use Rattle.std.specs.List.{filter}
 use Rattle.uac_entities.specs.declared.entity.Entity.{Entity}
-use Rattle.uac_device.specs.World.{is_input_jack}
+use Rattle.uac_device.specs.DeviceWorld.{is_input_jack}
 use Rattle.uac_running.specs.World.{silent_jack}
 use Rattle.uac_running.specs.Kept.{none_counted}
 use Rattle.uac_running.proofs.Start.{domains_start, function_kept, jacks_start, stands_start}

@@ -1,6 +1,6 @@
 use Rattle.std.proofs.Common.{◌≡◌, ◌∙◌, ◌+◌, ap, sym, subst, refl, zero-add}
 use Rattle.uac_device.specs.Kept as device
-use Rattle.uac_device.specs.World.{DeviceWorld, renders_of}
+use Rattle.uac_device.specs.DeviceWorld.{DeviceWorld, renders_of}
 use Rattle.uac_units.specs.Panel.{readings}
 use Rattle.uac_running.specs.Events.{after_one, gone_on}
 use Rattle.uac_running.specs.Kept.{RunningFields, Stands}

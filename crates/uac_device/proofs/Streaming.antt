@@ -1,0 +1,144 @@
+-- A device whose lanes change stands for the world in which their streams do.
+use Rattle.std.proofs.Common.{◌≡◌, ◌∙◌, sym, refl, ap, subst, arith, ℕ, ◌<◌, ◌≤◌, ◌==◌, true, false, nat_eq, ℤ, List, [], ◌∷◌, Option, Some, length, get_or, map}
+use Rattle.std.specs.List.{All, find}
+use Rattle.std.specs.Option.{option_map_or}
+use Rattle.std.proofs.lemmas.List.{get_or-map, length-map}
+use Rattle.std.proofs.lemmas.Map.Keys.{IsDistinct-tail}
+use Rattle.uac_entities.specs.declared.entity.Entity.{Entity}
+use Rattle.uac_entities.specs.declared.stream.StreamInterface.{StreamInterface}
+use Rattle.uac_topology_rules.specs.Clusters.{is_input}
+use Rattle.uac_topology_rules.specs.Rules.{is_output}
+use Rattle.uac_topology.specs.Function.{FunctionFields}
+use Rattle.uac_topology.specs.Kept.{AreNumbered}
+use Rattle.uac_graph.specs.Meaning.{entity}
+use Rattle.uac_graph.specs.Wiring.{AreWiresOf, Frames, frame_on}
+use Rattle.uac_graph.proofs.Ticking.{input_signal, output_signal}
+use Rattle.uac_graph.proofs.Walking.{signal_channels}
+use Rattle.uac_flow.specs.Streams.{InStream, OutStream, after_packet, after_sending, settled_in, settled_out}
+use Rattle.uac_device.specs.declared.lane.Lane.{Lane}
+use Rattle.uac_device.specs.declared.lane.Port.{Port}
+use Rattle.uac_device.specs.DeviceWorld.{DeviceWorld, changed_at, interface_in, is_on, played_to, received, sent, settled}
+use Rattle.uac_device.specs.Kept.{DeviceFields, IsDevice, Stands}
+use Rattle.uac_device.specs.Linked.{AreLinked}
+use Rattle.uac_device.specs.Lanes.{KeepsStreams, WiredIn, WiredOut, idle_lane, port_of, ports}
+use Rattle.uac_device.proofs.GivenFrames.{find_own}
+
+pub stands_streams : (device : DeviceFields) (lanes : List Lane) (w : DeviceWorld) (outs : ℕ → Option OutStream) (ins : ℕ → Option InStream) → Stands device w
+    → KeepsStreams lanes outs ins → Stands (record device { lanes = lanes }) (record w { outs = outs; ins = ins })
+stands_streams device lanes w outs ins stands keeps = record {
+  function = stands.function;
+  controls = stands.controls;
+  settings = stands.settings;
+  clocks = stands.clocks;
+  streams = keeps;
+  unlinked = stands.unlinked;
+  inputs = stands.inputs;
+  outputs = stands.outputs;
+}
+
+pub received_stands : (device : DeviceFields) (lanes : List Lane) (w : DeviceWorld) (interface : ℕ) (packet : Option (List ℕ)) → Stands device w
+    → KeepsStreams lanes (changed_at interface (after_packet packet) w.outs) w.ins → Stands (record device { lanes = lanes }) (received interface packet w)
+unfolding received
+received_stands device lanes w interface packet stands keeps = stands_streams device lanes w (changed_at interface (after_packet packet) w.outs) w.ins stands keeps
+
+pub sent_stands : (device : DeviceFields) (lanes : List Lane) (w : DeviceWorld) (interface : ℕ) → Stands device w
+    → KeepsStreams lanes w.outs (changed_at interface after_sending w.ins) → Stands (record device { lanes = lanes }) (sent interface w)
+unfolding sent
+sent_stands device lanes w interface stands keeps = stands_streams device lanes w w.outs (changed_at interface after_sending w.ins) stands keeps
+
+pub settled_stands : (device : DeviceFields) (lanes : List Lane) (w : DeviceWorld) (interface : ℕ) → Stands device w
+    → KeepsStreams lanes (changed_at interface settled_out w.outs) (changed_at interface settled_in w.ins) → Stands (record device { lanes = lanes }) (settled interface w)
+unfolding settled
+settled_stands device lanes w interface stands keeps =
+    stands_streams device lanes w (changed_at interface settled_out w.outs) (changed_at interface settled_in w.ins) stands keeps
+
+-- what every device keeps, with other lanes of the same ports
+pub device_with_lanes : (device : DeviceFields) (lanes : List Lane) → IsDevice device → ports lanes ≡ ports device.lanes → IsDevice (record device { lanes = lanes })
+device_with_lanes device lanes is same = record {
+  store = is.store;
+  interfaces = is.interfaces;
+  wires = is.wires;
+  domains = is.domains;
+  clocks = is.clocks;
+  phases = is.phases;
+  ports = same ∙ is.ports;
+}
+
+-- ---- the ports of a function
+
+-- idle lanes have the ports of the interfaces
+pub ports_idle : (entities : List Entity) (streams : List StreamInterface) → ports (map (λ s. idle_lane (port_of entities s)) streams) ≡ map (port_of entities) streams
+ports_idle entities [] = refl
+ports_idle entities (s ∷ ss) = ap (λ ps. port_of entities s ∷ ps) (ports_idle entities ss)
+
+-- what holds of each interface's port holds of the ports
+all_ports : (P : Port → Type 0) (device : DeviceFields) → IsDevice device
+    → ((k : ℕ) (d : StreamInterface) → k < length device.function.streams → P (port_of device.function.entities (get_or device.function.streams k d)))
+    → All P (ports device.lanes)
+all_ports P device is each =
+    subst (All P) (sym is.ports)
+    (λ k d below.
+    (let inside : k < length device.function.streams = omega (arith, below, length-map device.function.streams (port_of device.function.entities)) in
+    let e = no_interface in
+    subst P (sym (get_or-map (port_of device.function.entities) device.function.streams k e d inside)) (each k e inside)))
+  where
+    no_interface : StreamInterface
+    no_interface = record { number = 0; terminal = 0; out = false; settings = [] }
+
+-- an interface is the one with its number
+pub own_interface : (function : FunctionFields) (k : ℕ) (d : StreamInterface) → AreNumbered function → k < length function.streams
+    → find (λ t. t.number == (get_or function.streams k d).number) function.streams ≡ Some (get_or function.streams k d)
+own_interface function k d numbered below =
+    find_own (λ (s : StreamInterface). s.number) function.streams k d
+    (IsDistinct-tail nat_eq function.control_interface (map (λ (s : StreamInterface). s.number) function.streams) numbered.different) below
+
+-- its terminal is of the domain of its clock
+pub ports_on : (device : DeviceFields) (w : DeviceWorld) (domain : ℕ) → AreNumbered device.function → IsDevice device → Stands device w
+    → All (λ p. is_on w domain p.interface ≡ (p.clock == domain)) (ports device.lanes)
+ports_on device w domain numbered is stands =
+    all_ports (λ p. is_on w domain p.interface ≡ (p.clock == domain)) device is
+    (λ k d below.
+    subst (λ (f : FunctionFields). option_map_or (λ s. (entity f.entities s.terminal).clock == domain) (find (λ s. s.number == (get_or device.function.streams k d).number) f.streams) false
+    ≡ ((entity device.function.entities (get_or device.function.streams k d).terminal).clock == domain)) stands.function
+    (ap (λ (o : Option StreamInterface). option_map_or (λ s. (entity device.function.entities s.terminal).clock == domain) o false) (own_interface device.function k d numbered below)))
+
+-- a port that goes to the device has a wire, and so has one from an output terminal
+pub ports_wired_in : (device : DeviceFields) (wires : Frames) → AreLinked device.function → AreWiresOf device.function.entities wires → IsDevice device
+    → All (WiredIn wires) (ports device.lanes)
+ports_wired_in device wires linked fitting is =
+    all_ports (WiredIn wires) device is
+    (λ k d below out.
+    (let t = (get_or device.function.streams k d).terminal in
+    let input = (linked.inputs k d below out).0 in
+    fitting.channels t ∙ signal_channels device.function.entities t (input_signal (entity device.function.entities t).kind input)))
+
+pub ports_wired_out : (device : DeviceFields) (wires : Frames) → AreLinked device.function → AreWiresOf device.function.entities wires → IsDevice device
+    → All (WiredOut wires) (ports device.lanes)
+ports_wired_out device wires linked fitting is =
+    all_ports (WiredOut wires) device is
+    (λ k d below other some.
+    (let t = (get_or device.function.streams k d).terminal in
+    let output = linked.outputs k d below other some in
+    fitting.channels t ∙ signal_channels device.function.entities t (output_signal (entity device.function.entities t).kind output)))
+
+-- the channels of one that goes to the device
+pub ports_few : (device : DeviceFields) → AreLinked device.function
+    → ((id : ℕ) → is_input (entity device.function.entities id).kind ≡ true → (entity device.function.entities id).cluster.channels ≤ 32) → IsDevice device
+    → All (λ p. p.out ≡ true → p.channels ≤ 32) (ports device.lanes)
+ports_few device linked few is =
+    all_ports (λ p. p.out ≡ true → p.channels ≤ 32) device is
+    (λ k d below out. few (get_or device.function.streams k d).terminal (linked.inputs k d below out).0)
+
+-- what the output terminals of the bus played is on their wires
+pub ports_played : (device : DeviceFields) (wires : Frames) (w : DeviceWorld) (played : ℕ → List ℤ) → AreNumbered device.function → AreLinked device.function
+    → IsDevice device → device.function ≡ w.function
+    → ((id : ℕ) → is_output (entity w.function.entities id).kind ≡ true → frame_on wires id ≡ Some (played id))
+    → All (λ p. p.out ≡ false → 1 ≤ p.channels → frame_on wires p.terminal ≡ Some (played_to w played p.interface)) (ports device.lanes)
+ports_played device wires w played numbered linked is same outputs =
+    all_ports (λ p. p.out ≡ false → 1 ≤ p.channels → frame_on wires p.terminal ≡ Some (played_to w played p.interface)) device is
+    (λ k d below other some.
+    (let s = get_or device.function.streams k d in
+    let output = linked.outputs k d below other some in
+    let here : is_output (entity w.function.entities s.terminal).kind ≡ true = subst (λ (f : FunctionFields). is_output (entity f.entities s.terminal).kind ≡ true) same output in
+    let own : interface_in w s.number ≡ Some s = subst (λ (f : FunctionFields). find (λ t. t.number == s.number) f.streams ≡ Some s) same (own_interface device.function k d numbered below) in
+    outputs s.terminal here ∙ sym (ap (λ (o : Option StreamInterface). Some (option_map_or (λ t. played t.terminal) o [])) own)))

@@ -1,0 +1,15 @@
+use Rattle.std.proofs.Common.{subst, sym}
+use Rattle.uac_device.specs.DeviceWorld.{ZerosFitIn}
+use Rattle.uac_device.specs.Kept.{DeviceFields, Stands}
+use Rattle.uac_device.specs.contracts.device.Device.{the_view}
+use Rattle.uac_device.proofs.Streaming.{device_with_lanes, settled_stands}
+use Rattle.uac_device.proofs.device.Device.settle.Goals as goal
+
+pub invariant_of-self : goal.invariant_of-self
+invariant_of-self c = (device_with_lanes (the_view c.self.inside) c.settle.new.self c.self.invariant.0 c.settle.ensures.ports, c.self.invariant.1)
+
+pub returns-clause-stands : goal.returns-clause-stands
+unfolding ZerosFitIn
+returns-clause-stands c w stands fit =
+    let here = subst (λ (device : DeviceFields). Stands device w) (sym c.self.view_is) stands in
+    settled_stands (the_view c.self.inside) c.settle.new.self w c.args.interface here (c.settle.ensures.stands w.outs w.ins here.streams fit)

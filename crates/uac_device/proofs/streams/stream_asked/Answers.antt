@@ -1,0 +1,22 @@
+use Rattle.std.proofs.Common.{◌≡◌, ◌∙◌, ◌==◌, ℕ, ap, subst, sym, Some}
+use Rattle.std.specs.List.{find}
+use Rattle.std.specs.Option.{option_and_then}
+use Rattle.uac_entities.specs.declared.stream.StreamInterface.{StreamInterface}
+use Rattle.uac_alt.specs.Streams.{stream_of}
+use Rattle.uac_request.specs.Requests.{rate_at}
+use Rattle.uac_device.specs.DeviceWorld.{stream_in_setting}
+use Rattle.uac_device.proofs.Asked.{has_number}
+use Rattle.uac_device.proofs.streams.stream_asked.Goals as goal
+
+pub returns : goal.returns
+unfolding stream_in_setting
+returns c =
+    let f = c.args.function.now in
+    let s = c.in_ok-carrier.carrier.now in
+    let found : find (λ t. t.number == c.args.interface) f.streams ≡ Some s = sym c.in_ok-carrier.ensures in
+    let number = has_number f.streams c.args.interface s found in
+    let there : find (λ t. t.number == s.number) f.streams ≡ Some s = subst (λ (n : ℕ). find (λ t. t.number == n) f.streams ≡ Some s) (sym number) found in
+    c.stream_in.ensures there
+    ∙ ap (λ (n : ℕ). stream_of f c.in_ok-rate.rate n c.args.setting) number
+    ∙ ap (option_and_then (λ (rate : ℕ). stream_of f rate c.args.interface c.args.setting)) c.in_ok-rate.ensures
+    ∙ ap (option_and_then (λ (t : StreamInterface). option_and_then (λ (rate : ℕ). stream_of f rate c.args.interface c.args.setting) (rate_at f c.args.store.now t))) (sym found)

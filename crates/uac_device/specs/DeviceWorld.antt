@@ -1,0 +1,315 @@
+-- The device's part of the world: what it keeps, with the whole past of its clocks, and what each event does to it.
+-- Profile: the events and their order; the terms are those of Audio Class 2.0, 3.13.
+use Rattle.std.specs.Prelude.{ℕ, ◌+◌, ◌*◌, ◌==◌, ◌&&◌, not, Bool, false, true, if◌then◌else◌, ℤ, pos, List, [], ◌∷◌, ◌++◌, map, filter, length, Option, Some, None, IfSome, unwrap_or}
+use Rattle.std.specs.List.{fold, find}
+use Rattle.std.specs.Option.{option_and_then, option_map, option_map_or, option_or}
+use Rattle.uac_clock.specs.Nominal.{nominal_of, step_of}
+use Rattle.uac_clock.specs.Ticks.{ticks_in}
+use Rattle.uac_entities.specs.declared.entity.Entity.{Entity}
+use Rattle.uac_descriptor.specs.Standard.{USB_STREAMING}
+use Rattle.uac_entities.specs.declared.stream.StreamInterface.{StreamInterface}
+use Rattle.uac_topology_rules.specs.Clusters.{is_input}
+use Rattle.uac_topology_rules.specs.Rules.{is_output}
+use Rattle.uac_topology.specs.Function.{FunctionFields}
+use Rattle.uac_store.specs.declared.keys.Key.{Key}
+use Rattle.uac_store.specs.Controls.{initial_controls}
+use Rattle.uac_store.specs.Rates.{rate_of}
+use Rattle.uac_graph.specs.Controls.{held_in}
+use Rattle.uac_graph.specs.Meaning.{entity, meaning}
+use Rattle.uac_graph.specs.Needs.{is_end, needed}
+use Rattle.uac_graph.specs.Wiring.{silence}
+use Rattle.uac_units.specs.Hearing.{Reading, after_hearing}
+use Rattle.uac_alt.specs.declared.settings.InterfaceSetting.{InterfaceSetting}
+use Rattle.uac_alt.specs.Settings.{initial_settings}
+use Rattle.uac_alt.specs.Streams.{StreamFields, stream_of}
+use Rattle.uac_request.specs.Requests.{Told, after_request, held_by, is_done, is_stalled, rate_at, reply_of, with_bytes, with_descriptor}
+use Rattle.uac_request.specs.declared.setup.Setup.{Setup}
+use Rattle.uac_flow.specs.Streams.{InStream, OutStream, after_packet, after_putting, after_sending, after_taking, after_ticks, arrival_of, feedback_of, in_level, is_dry, is_due, is_full, next_taken, out_level, sent_frames, sent_packet, settled_in, settled_out, started_in, started_out}
+use Rattle.uac_flow.specs.Flows.{ZerosFit}
+use Rattle.uac_flow.specs.declared.arrival.Arrival.{Arrival}
+use Rattle.uac_flow.specs.declared.arrival.Arrival.TheVariants as arrival
+use Rattle.uac_device.specs.declared.ticking.Ticked.{Ticked}
+
+-- a clock domain: the clock that its terminals name, what that is off by in millionths, and its steps since the start, one
+-- for each microframe, in 65,536ths of a frame
+pub record Domain : Type 0 where
+  pub clock : ℕ
+  pub deviation : ℤ
+  pub steps : List ℕ
+
+-- the device
+pub record DeviceWorld : Type 0 where
+  pub function : FunctionFields
+  pub controls : List (Key × ℤ)
+  pub settings : List InterfaceSetting
+  pub domains : List Domain
+  -- by interface, the stream to the device, or from it, that it runs
+  pub outs : ℕ → Option OutStream
+  pub ins : ℕ → Option InStream
+  -- by input terminal, the frame that it last gave, and by output terminal, the frame that it last played
+  pub given : ℕ → List ℤ
+  pub played : ℕ → List ℤ
+
+-- the entity of the device's function with an id
+abbrev pub entity_in : DeviceWorld → ℕ → Entity
+entity_in w id = entity w.function.entities id
+
+-- not a terminal that carries a stream of the bus (USB Terminal Types 2.0, 2.1)
+abbrev pub is_jack : Entity → Bool
+is_jack e = not (e.terminal_type == USB_STREAMING)
+
+abbrev pub is_input_jack : Entity → Bool
+is_input_jack e = is_input e.kind && is_jack e
+
+-- an input terminal of a clock domain that carries a stream of the bus
+abbrev pub is_streamed : ℕ → Entity → Bool
+is_streamed clock e = is_input e.kind && (not (is_jack e) && e.clock == clock)
+
+abbrev pub is_output_jack : Entity → Bool
+is_output_jack e = is_output e.kind && is_jack e
+
+-- an output jack of a clock domain
+abbrev pub is_output_jack_of : ℕ → Entity → Bool
+is_output_jack_of clock e = is_end clock e && is_jack e
+
+-- ---- the start
+
+abbrev pub at_rest : ℕ → Domain
+at_rest clock = record { clock = clock; deviation = pos 0; steps = [] }
+
+-- just after the descriptor was accepted: each control at its start value, each interface in setting 0, no clock off, no stream,
+-- and silence everywhere
+unfoldable pub fresh : FunctionFields → DeviceWorld
+fresh function =
+    record {
+      function = function;
+      controls = initial_controls function.entities;
+      settings = initial_settings function;
+      domains = map at_rest function.domains;
+      outs = λ interface. None;
+      ins = λ interface. None;
+      given = λ id. silence (entity function.entities id).cluster.channels;
+      played = λ id. silence (entity function.entities id).cluster.channels;
+    }
+
+-- ---- streams
+
+-- by interface, streams of which that of one interface changes, or is another
+abbrev pub changed_at : {S : Type 0} → ℕ → (S → S) → (ℕ → Option S) → ℕ → Option S
+changed_at interface change streams k = if k == interface then option_map change (streams k) else streams k
+
+abbrev pub replaced_at : {S : Type 0} → ℕ → Option S → (ℕ → Option S) → ℕ → Option S
+replaced_at interface stream streams k = if k == interface then stream else streams k
+
+-- the same, of which those of some interfaces change
+abbrev pub changed_where : {S : Type 0} → (ℕ → Bool) → (ℕ → S → S) → (ℕ → Option S) → ℕ → Option S
+changed_where test change streams k = option_map (λ s. if test k then change k s else s) (streams k)
+
+-- the stream to the device of the interface that links to a terminal (Audio Class 2.0, 4.9.2)
+abbrev pub stream_to : DeviceWorld → ℕ → Option OutStream
+stream_to w id = option_and_then (λ s. w.outs s.number) (find (λ s. s.terminal == id) w.function.streams)
+
+-- the interface with a number, if there is one
+abbrev pub interface_in : DeviceWorld → ℕ → Option StreamInterface
+interface_in w number = find (λ s. s.number == number) w.function.streams
+
+-- the terminal to which the interface with a number links is of a clock domain
+abbrev pub is_on : DeviceWorld → ℕ → ℕ → Bool
+is_on w clock interface =
+    option_map_or (λ s. (entity_in w s.terminal).clock == clock) (interface_in w interface) false
+
+-- how many frames lie in the ring of a stream to the device, or from it
+abbrev pub level_in : Option OutStream → Option InStream → ℕ
+level_in out in_ = unwrap_or (option_or (option_map out_level out) (option_map in_level in_)) 0
+
+-- how many frames lie in the ring of an interface's stream; none where none runs
+unfoldable pub level_of : DeviceWorld → ℕ → ℕ
+level_of w interface = level_in (w.outs interface) (w.ins interface)
+
+-- the level at which an interface's stream to the device was primed; none where none runs, or while it is priming
+unfoldable pub target_of : DeviceWorld → ℕ → Option ℕ
+target_of w interface = option_and_then (λ o. o.target) (w.outs interface)
+
+-- a bit for each of these, the first being the lowest
+unfoldable pub bits_of : List Bool → ℕ
+bits_of [] = 0
+bits_of (b ∷ bs) = (if b then 1 else 0) + 2 * bits_of bs
+
+-- the streaming interfaces, in block order, whose primed ring is found empty, or whose ring is found full, in the next tick of a domain
+unfoldable pub met_of : ℕ → DeviceWorld → Ticked
+met_of clock w =
+    record {
+      under = bits_of (map (λ s. is_on w clock s.number && option_map_or is_dry (w.outs s.number) false) w.function.streams);
+      over = bits_of (map (λ s. is_on w clock s.number && option_map_or is_full (w.ins s.number) false) w.function.streams);
+    }
+
+-- ---- clocks
+
+-- what a domain's clock gives in a microframe, by the rate that it has now; without a rate it gives nothing
+unfoldable pub step_in : DeviceWorld → Domain → ℕ
+step_in w d =
+    option_map_or (λ values. step_of values d.deviation)
+    (option_and_then nominal_of (rate_of w.function.entities w.controls d.clock)) 0
+
+-- one domain changes
+abbrev pub with_domain : ℕ → (Domain → Domain) → DeviceWorld → DeviceWorld
+with_domain clock change w = record w { domains = map (λ d. if d.clock == clock then change d else d) w.domains }
+
+-- a domain's clock is off by so many millionths from now on
+unfoldable pub deviated : ℕ → ℤ → DeviceWorld → DeviceWorld
+deviated clock millionths w = with_domain clock (λ d. record d { deviation = millionths }) w
+
+-- the steps of a domain with that of the microframe that comes
+abbrev pub steps_with_next : DeviceWorld → Domain → List ℕ
+steps_with_next w d = d.steps ++ step_in w d ∷ []
+
+-- how often a domain ticks in the microframe that comes; an id that is no domain's never ticks
+unfoldable pub next_ticks : ℕ → DeviceWorld → ℕ
+next_ticks clock w = option_map_or (λ d. ticks_in (steps_with_next w d)) (find (λ d. d.clock == clock) w.domains) 0
+
+-- a domain's clock goes on by one microframe; the streams to its terminals count its ticks
+unfoldable pub advanced : ℕ → DeviceWorld → DeviceWorld
+advanced clock w =
+    record (with_domain clock (λ d. record d { steps = steps_with_next w d }) w) {
+      outs = changed_where (is_on w clock) (λ interface. after_ticks (next_ticks clock w)) w.outs;
+    }
+
+-- ---- signals
+
+-- a jack is given a frame
+unfoldable pub set_jack : ℕ → List ℤ → DeviceWorld → DeviceWorld
+set_jack terminal frame w = record w { given = λ id. if id == terminal then frame else w.given id }
+
+-- what a terminal of the bus gives: its stream's next frame, or silence where it has none
+unfoldable pub streamed : DeviceWorld → ℕ → List ℤ
+streamed w id = unwrap_or (option_and_then next_taken (stream_to w id)) (silence (entity_in w id).cluster.channels)
+
+-- what an input terminal gives at a tick of a domain: a terminal of the bus in that domain what its stream gives, and any other what it
+-- gave last, or was given since
+unfoldable pub input_of : ℕ → DeviceWorld → ℕ → List ℤ
+input_of clock w id = if is_streamed clock (entity_in w id) then streamed w id else w.given id
+
+-- the frame that the terminal to which an interface links last played
+abbrev pub played_to : DeviceWorld → (ℕ → List ℤ) → ℕ → List ℤ
+played_to w played interface = option_map_or (λ s. played s.terminal) (interface_in w interface) []
+
+-- one tick of a domain: each of its output terminals plays the samples of its wire, under the controls held now; the streams to
+-- its terminals gave their frames, and those from its terminals have what these played
+unfoldable pub ticked : ℕ → DeviceWorld → DeviceWorld
+ticked clock w =
+    let played : ℕ → List ℤ =
+    λ id. if is_end clock (entity_in w id) then meaning w.function.entities (held_in w.controls) (input_of clock w) id
+    else w.played id in
+    record w {
+      outs = changed_where (is_on w clock) (λ interface. after_taking) w.outs;
+      ins = changed_where (is_on w clock) (λ interface. after_putting (played_to w played interface)) w.ins;
+      given = input_of clock w;
+      played = played;
+    }
+
+-- how many renders a tick of a domain counts: one for each unit that the domain needs
+unfoldable pub renders_of : ℕ → DeviceWorld → ℕ
+renders_of clock w = length (needed w.function.entities clock)
+
+-- the frames that the meters hear after a tick of a domain: those of its output jacks, in block order
+unfoldable pub heard_of : ℕ → DeviceWorld → List (List ℤ)
+heard_of clock w = map (λ e. w.played e.id) (filter (is_output_jack_of clock) w.function.entities)
+
+-- what meters show after they heard these frames, one after the other
+unfoldable pub after_frames : List (List ℤ) → List Reading → List Reading
+after_frames frames readings = fold (λ shown frame. map (after_hearing frame) shown) readings frames
+
+-- the frame that an output jack last played; another id has none
+unfoldable pub played_at : DeviceWorld → ℕ → Option (List ℤ)
+played_at w id = if is_output_jack (entity_in w id) then Some (w.played id) else None
+
+-- ---- packets and the ends of microframes
+
+-- the stream to the device, or from it, of an interface changes
+abbrev pub at_out : ℕ → (OutStream → OutStream) → DeviceWorld → DeviceWorld
+at_out interface change w = record w { outs = changed_at interface change w.outs }
+
+abbrev pub at_in : ℕ → (InStream → InStream) → DeviceWorld → DeviceWorld
+at_in interface change w = record w { ins = changed_at interface change w.ins }
+
+-- a packet comes to the device, or is lost
+unfoldable pub received : ℕ → Option (List ℕ) → DeviceWorld → DeviceWorld
+received interface packet w = at_out interface (after_packet packet) w
+
+-- what becomes of that packet; where the interface runs no stream to the device, nothing takes it
+unfoldable pub arrival_in : DeviceWorld → ℕ → Option (List ℕ) → Arrival
+arrival_in w interface packet = option_map_or (arrival_of packet) (w.outs interface) arrival.Lost
+
+-- the device sends a packet
+unfoldable pub sent : ℕ → DeviceWorld → DeviceWorld
+sent interface w = at_in interface after_sending w
+
+-- that packet, and the number of its frames; where the interface runs no stream from the device, it is empty
+unfoldable pub packet_in : DeviceWorld → ℕ → List ℕ
+packet_in w interface = option_map_or sent_packet (w.ins interface) []
+
+unfoldable pub frames_in : DeviceWorld → ℕ → ℕ
+frames_in w interface = option_map_or sent_frames (w.ins interface) 0
+
+-- a microframe ends for an interface's stream
+unfoldable pub settled : ℕ → DeviceWorld → DeviceWorld
+settled interface w = at_in interface settled_in (at_out interface settled_out w)
+
+-- an interface runs a stream that has a packet in the next microframe
+abbrev pub either_due : Option OutStream → Option InStream → Bool
+either_due out in_ =
+    option_map_or (λ o. is_due o.stream o.microframes) out (option_map_or (λ i. is_due i.stream i.microframes) in_ false)
+
+unfoldable pub is_due_in : DeviceWorld → ℕ → Bool
+is_due_in w interface = either_due (w.outs interface) (w.ins interface)
+
+-- where a packet of an interface was lost, the ring of its stream to the device has room for the zeros that are due
+unfoldable pub ZerosFitIn : DeviceWorld → ℕ → Type 0
+ZerosFitIn w interface = IfSome (w.outs interface) ZerosFit
+
+-- the report that is due of an interface's stream to the device
+unfoldable pub feedback_in : DeviceWorld → ℕ → Option ℕ
+feedback_in w interface = option_and_then feedback_of (w.outs interface)
+
+-- ---- requests
+
+-- a request that sets an interface's setting (USB 2.0, 9.4.10)
+abbrev pub sets_interface : Setup → Bool
+sets_interface p = p.request_type == 1 && p.request == 11
+
+abbrev pub tells_done : Told → Bool
+tells_done (with_bytes bytes) = false
+tells_done (with_descriptor from to) = false
+tells_done is_done = true
+tells_done (is_stalled rule) = false
+
+-- the stream of an interface in a setting, at the rate of its terminal's clock
+unfoldable pub stream_in_setting : FunctionFields → List (Key × ℤ) → ℕ → ℕ → Option StreamFields
+stream_in_setting function controls interface setting =
+    option_and_then (λ s. option_and_then (λ rate. stream_of function rate interface setting) (rate_at function controls s))
+    (find (λ s. s.number == interface) function.streams)
+
+-- such a stream at its start, where it goes to the device, and where it comes from it
+abbrev pub out_from : StreamFields → Option OutStream
+out_from s = if s.out then Some (started_out s) else None
+
+abbrev pub in_from : StreamFields → Option InStream
+in_from s = if s.out then None else Some (started_in s)
+
+-- an interface's stream starts anew, or stops where none is given
+unfoldable pub restarted : ℕ → Option StreamFields → DeviceWorld → DeviceWorld
+restarted interface begun w =
+    record w {
+      outs = replaced_at interface (option_and_then out_from begun) w.outs;
+      ins = replaced_at interface (option_and_then in_from begun) w.ins;
+    }
+
+-- a control request: it changes what its answer says, and a setting that it sets starts the interface's stream anew, or stops it
+unfoldable pub controlled : Setup → List ℕ → DeviceWorld → DeviceWorld
+controlled p bytes w =
+    let held = held_by w.controls w.settings in
+    let after = after_request w.function held p bytes in
+    let asked = record w { controls = after.controls; settings = after.settings } in
+    if sets_interface p && tells_done (reply_of w.function held p bytes)
+    then restarted p.index (stream_in_setting w.function w.controls p.index p.value) asked
+    else asked

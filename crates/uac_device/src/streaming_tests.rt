@@ -1,0 +1,293 @@
+//! Streams of a small function: terminal 2 of the bus feeds jack 3, and jack 4 feeds terminal 5 of the bus, one channel each, under
+//! clock 1. Interface 7 goes to terminal 2, and interface 8 comes from terminal 5.
+
+ghost use Rattle.uac_units.specs.Fitting.{IsFitted};
+
+use crate::tests::{ask, give, played, push, tick};
+use crate::*;
+use arrayvec::ArrayVec;
+use std::alloc::{AllocError, Global};
+use std::test::Fail;
+use uac_descriptor::{
+    Block, ClockSource, Endpoint, General, InputTerminal, Interface, OutputTerminal, TypeOne,
+};
+use uac_pcm::Packet;
+use uac_sentence::are_well_formed;
+use uac_topology::check;
+use uac_units::{Meters, PlainEffect, PlainFeature, PlainMixer, PlainSelector, Rack, Unit};
+
+fn interface(number: u8, subclass: u8, setting: u8, endpoints: u8) -> Block {
+    Block::Interface(Interface {
+        number,
+        setting,
+        endpoints,
+        class: 1,
+        subclass,
+        protocol: 0x20,
+        name: 0,
+    })
+}
+
+fn input(id: u8, terminal_type: u16) -> Block {
+    Block::InputTerminal(InputTerminal {
+        id,
+        terminal_type,
+        assoc: 0,
+        clock: 1,
+        channels: 1,
+        locations: 0,
+        names: 0,
+        controls: 0,
+        name: 0,
+    })
+}
+
+fn output(id: u8, terminal_type: u16, source: u8) -> Block {
+    Block::OutputTerminal(OutputTerminal {
+        id,
+        terminal_type,
+        assoc: 0,
+        source,
+        clock: 1,
+        controls: 0,
+        name: 0,
+    })
+}
+
+fn endpoint(address: u8, attributes: u8, max_packet: u16, interval: u8) -> Block {
+    Block::Endpoint(Endpoint {
+        address,
+        attributes,
+        max_packet,
+        interval,
+    })
+}
+
+// A setting with endpoints: samples of two bytes, at most 10 frames a packet, a packet each microframe.
+fn push_setting(
+    blocks: &mut Vec<Block>,
+    number: u8,
+    link: u8,
+    endpoints: u8,
+    address: u8,
+) -> Result<(), AllocError> {
+    let general = General {
+        link,
+        controls: 0,
+        format_type: 1,
+        formats: 1,
+        channels: 1,
+        locations: 0,
+        names: 0,
+    };
+    push(blocks, interface(number, 2, 0, 0))?;
+    push(blocks, interface(number, 2, 1, endpoints))?;
+    push(blocks, Block::General(general))?;
+    push(
+        blocks,
+        Block::TypeOne(TypeOne {
+            subslot: 2,
+            bits: 16,
+        }),
+    )?;
+    push(blocks, endpoint(address, 5, 20, 1))
+}
+
+fn blocks(alloc: Global) -> Result<Vec<Block>, AllocError> {
+    let clock = ClockSource {
+        id: 1,
+        attributes: 3,
+        controls: 7,
+        assoc: 0,
+        name: 0,
+    };
+    let mut blocks = Vec::new(alloc);
+    push(&mut blocks, interface(0, 1, 0, 0))?;
+    push(&mut blocks, Block::ClockSource(clock))?;
+    push(&mut blocks, input(2, 0x0101))?;
+    push(&mut blocks, output(3, 0x0301, 2))?;
+    push(&mut blocks, input(4, 0x0201))?;
+    push(&mut blocks, output(5, 0x0101, 4))?;
+    push_setting(&mut blocks, 7, 2, 2, 0x01)?;
+    push(&mut blocks, endpoint(0x81, 0x11, 4, 4))?;
+    push_setting(&mut blocks, 8, 5, 1, 0x82)?;
+    Ok(blocks)
+}
+
+fn device(alloc: Global) -> Result<Device, AllocError> {
+    let blocks = blocks(alloc)?;
+    if !are_well_formed(blocks.as_slice()) {
+        return Err(AllocError);
+    }
+    let function = match check(alloc, blocks.as_slice()) {
+        Ok(function) => function,
+        Err(_) => return Err(AllocError),
+    };
+    match Device::new(alloc, function) {
+        Ok(device) => Ok(device),
+        Err(_) => Err(AllocError),
+    }
+}
+
+/// A packet of so many frames of one sample, whose word tells its number.
+fn packet(from: u8, frames: u8) -> Packet {
+    let mut packet: Packet = ArrayVec::new();
+    for number in 0..frames {
+        let _ = packet.try_push(0);
+        let _ = packet.try_push(from.wrapping_add(number));
+    }
+    packet
+}
+
+/// A full-scale sample whose upper byte is this.
+fn sample(number: u8) -> i32 {
+    i32::from(number) << 24
+}
+
+/// Sets an interface's setting.
+fn set(device: &mut Device, interface: u8, setting: u8) -> bool {
+    ask(device, [1, 11, setting, 0, interface, 0, 0, 0], &[]) == Some(true)
+}
+
+/// Whether so many packets of six frames are taken, each followed by a tick that plays silence and by the end of its microframe.
+fn fills(device: &mut Device, rack: &Rack, meters: &mut Meters, packets: u8) -> bool
+    requires { IsFitted (λ v x. (⟦<dyn Unit as Unit>⟧ v).kind_of x) rack.now }
+{
+    for number in 0..packets {
+        let arrival = device.microframe_out(7, Some(&packet(number.wrapping_mul(6), 6)));
+        let ticked = tick(device, 1, rack, meters).0;
+        device.settle(7);
+        if arrival != Arrival::Taken || ticked.under != 0 || !played(device, 3, &[0]) {
+            return false;
+        }
+    }
+    true
+}
+
+/// Whether so many ticks play the numbered samples, and none finds a ring empty or full.
+fn plays_on(device: &mut Device, rack: &Rack, meters: &mut Meters, count: u8) -> bool
+    requires { IsFitted (λ v x. (⟦<dyn Unit as Unit>⟧ v).kind_of x) rack.now }
+{
+    for number in 0..count {
+        let ticked = tick(device, 1, rack, meters).0;
+        if ticked != (Ticked { under: 0, over: 0 }) || !played(device, 3, &[sample(number)]) {
+            return false;
+        }
+    }
+    true
+}
+
+/// So many ticks; answers what the last one met.
+fn ticks_on(device: &mut Device, rack: &Rack, meters: &mut Meters, count: u32) -> Ticked
+    requires { IsFitted (λ v x. (⟦<dyn Unit as Unit>⟧ v).kind_of x) rack.now }
+{
+    let mut last = Ticked { under: 0, over: 0 };
+    for _ in 0..count {
+        last = tick(device, 1, rack, meters).0;
+    }
+    last
+}
+
+fn settles(device: &mut Device, microframes: u8) {
+    for _ in 0..microframes {
+        device.settle(7);
+    }
+}
+
+/// Whether a stream is primed by 43 packets of 6 frames, which are 258, and plays them. After 48 microframes its level is 100 below the
+/// target, and the report that is due is held at 7 frames. When its ring is empty it primes again.
+fn plays(device: &mut Device, rack: &Rack, meters: &mut Meters) -> bool
+    requires { IsFitted (λ v x. (⟦<dyn Unit as Unit>⟧ v).kind_of x) rack.now }
+{
+    if !set(device, 7, 1) || !fills(device, rack, meters, 43) {
+        return false;
+    }
+    if device.level(7) != 258 || device.target(7) != Some(258) || device.feedback(7).is_some() {
+        return false;
+    }
+    if !plays_on(device, rack, meters, 100) || device.level(7) != 158 {
+        return false;
+    }
+    settles(device, 5);
+    device.feedback(7) == Some(458752)
+        && ticks_on(device, rack, meters, 158).under == 0
+        && ticks_on(device, rack, meters, 1).under == 1
+        && device.target(7).is_none()
+        && played(device, 3, &[0])
+}
+
+/// Whether jack 4 gives the samples from 1 on, one at each tick.
+fn gives(device: &mut Device, rack: &Rack, meters: &mut Meters, count: u8) -> bool
+    requires { IsFitted (λ v x. (⟦<dyn Unit as Unit>⟧ v).kind_of x) rack.now }
+{
+    for number in 0..count {
+        if !give(device, 4, &[sample(number.wrapping_add(1))]) {
+            return false;
+        }
+        let _ticked = tick(device, 1, rack, meters);
+    }
+    true
+}
+
+/// Whether a stream takes what is played to it, at most 10 frames a packet, until its ring is full.
+fn records(device: &mut Device, rack: &Rack, meters: &mut Meters) -> bool
+    requires { IsFitted (λ v x. (⟦<dyn Unit as Unit>⟧ v).kind_of x) rack.now }
+{
+    let mut packet: Packet = ArrayVec::new();
+    if !set(device, 8, 1) || !gives(device, rack, meters, 12) || device.level(8) != 12 {
+        return false;
+    }
+    let ten = [0, 1, 0, 2, 0, 3, 0, 4, 0, 5, 0, 6, 0, 7, 0, 8, 0, 9, 0, 10];
+    if device.microframe_in(8, &mut packet) != 10 || packet.as_slice() != ten.as_slice() {
+        return false;
+    }
+    device.microframe_in(8, &mut packet) == 2
+        && device.microframe_in(7, &mut packet) == 0
+        && packet.len() == 0
+        && ticks_on(device, rack, meters, 2048).over == 0
+        && ticks_on(device, rack, meters, 1).over == 2
+}
+
+#[test]
+fn streams_play_and_record(rt: HostRuntime) -> Result<(), Fail> {
+    let alloc = rt.alloc();
+    let rack = Rack::new(
+        Box::new(alloc, PlainMixer)?,
+        Box::new(alloc, PlainSelector)?,
+        Box::new(alloc, PlainFeature)?,
+        Box::new(alloc, PlainEffect)?,
+    );
+    let mut meters = Meters::new(Vec::new(alloc));
+    let mut device = device(alloc)?;
+    assert!(rt; plays(&mut device, &rack, &mut meters));
+    assert!(rt; records(&mut device, &rack, &mut meters));
+    Ok(())
+}
+
+/// Whether zeros replace a lost packet, one for each of the 6 ticks of its microframe.
+fn replaces(device: &mut Device) -> bool {
+    device.microframe_out(7, None) == Arrival::Lost
+        && device.ticks(1) == 6
+        && {
+            device.settle(7);
+            device.level(7) == 6
+        }
+}
+
+/// Whether a setting that is set starts the stream anew, and setting 0 stops it.
+fn starts_anew(device: &mut Device) -> bool {
+    set(device, 7, 1)
+        && device.level(7) == 0
+        && device.due(7)
+        && set(device, 7, 0)
+        && !device.due(7)
+}
+
+#[test]
+fn a_lost_packet_is_replaced(rt: HostRuntime) -> Result<(), Fail> {
+    let mut device = device(rt.alloc())?;
+    assert!(rt; set(&mut device, 7, 1));
+    assert!(rt; replaces(&mut device));
+    assert!(rt; starts_anew(&mut device));
+    Ok(())
+}

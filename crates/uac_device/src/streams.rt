@@ -1,0 +1,91 @@
+// The stream that a request starts.
+ghost use Rattle.std.specs.Prelude.{◌≡◌, ◌==◌, if◌then◌else◌, Some, None};
+ghost use Rattle.std.specs.List.{find, list_any};
+ghost use Rattle.std.specs.Option.{option_map};
+ghost use Rattle.uac_alt.specs.Streams.{seen, stream_of};
+ghost use Rattle.uac_request.specs.Requests as requests;
+ghost use Rattle.uac_device.specs.DeviceWorld as spec;
+ghost use Rattle.uac_device.specs.DeviceWorld.{stream_in_setting};
+
+use uac_alt::{Stream, stream};
+use uac_request::{Answer, Setup};
+use uac_store::Store;
+use uac_topology::{Function, Setting, StreamInterface};
+
+/// Whether a request sets an interface's setting (USB 2.0, 9.4.10).
+pub(crate) fn sets_interface(setup: &Setup) -> bool
+    ensures { result ≡ spec.sets_interface setup.now }
+{
+    setup.request_type == 1 && setup.request == 11
+}
+
+/// Whether an answer is that the request is done.
+pub(crate) fn is_done(answer: &Answer) -> bool
+    ensures { result ≡ spec.tells_done (requests.seen answer.now) }
+{
+    match answer {
+        Answer::Done => true,
+        Answer::Bytes(_) | Answer::Descriptor { .. } | Answer::Stall(_) => false,
+    }
+}
+
+/// The stream of an interface in a setting, at the rate of its terminal's clock now; None where there is none.
+#[tactic(auto, unfolding(crate::specs::DeviceWorld::stream_in_setting))]
+pub(crate) fn stream_asked(
+    function: &Function,
+    store: &Store,
+    interface: u16,
+    setting: u16,
+) -> Option<Stream>
+    ensures { option_map seen result ≡ stream_in_setting function.now store.now interface setting }
+{
+    let carrier = carrier_of(function, interface)?;
+    let rate = rate_of(function, store, carrier)?;
+    stream_in(function, rate, carrier, setting)
+}
+
+// The streaming interface with a number.
+fn carrier_of(function: &Function, interface: u16) -> Option<&StreamInterface>
+    ensures { option_map (λ s. s.now) result ≡ find (λ s. s.number == interface) function.now.streams }
+{
+    function
+        .streams()
+        .iter()
+        .find(|stream| u16::from(stream.number) == interface)
+}
+
+// The stream of an interface in a setting, at a rate.
+fn stream_in(
+    function: &Function,
+    rate: u32,
+    carrier: &StreamInterface,
+    setting: u16,
+) -> Option<Stream>
+    ensures { find (λ s. s.number == carrier.now.number) function.now.streams ≡ Some carrier.now
+        → option_map seen result ≡ stream_of function.now rate carrier.now.number setting }
+{
+    match number_among(carrier.settings.as_slice(), setting) {
+        Some(number) => stream(function, rate, carrier.number, number),
+        None => None,
+    }
+}
+
+// The rate of the clock of an interface's terminal.
+fn rate_of(function: &Function, store: &Store, carrier: &StreamInterface) -> Option<u32>
+    ensures { result ≡ requests.rate_at function.now store.now carrier.now }
+{
+    let terminal = function.entity(carrier.terminal)?;
+    store.rate(function, terminal.clock)
+}
+
+// A number as that of one of the settings.
+fn number_among(settings: &[Setting], number: u16) -> Option<u8>
+    ensures { result ≡ (if list_any (λ t. t.number == number) settings.now then Some number else None) }
+{
+    for setting in settings {
+        if u16::from(setting.number) == number {
+            return Some(setting.number);
+        }
+    }
+    None
+}

@@ -1,0 +1,102 @@
+-- The frames of a ring as frames come and go.
+use Rattle.std.proofs.Common.{◌≡◌, ◌∙◌, sym, refl, ap, subst, arith, ℕ, zero, suc, ◌+◌, ◌-◌, ◌*◌, ◌<◌, ◌≤◌, ℤ, List, [], ◌∷◌, ◌++◌, length, take, drop, slice_get, Some, Result, Ok, Err, IsErr, OnOk, ◌↔◌, Bool, IsTrue, OnErr, replicate, add-one, append_assoc, length-append}
+use Rattle.std.specs.Bool.{OnTrue}
+use Rattle.std.proofs.Math.Nat.{mul-le-mul_right, suc-mul}
+use Rattle.std.proofs.lemmas.Bool.{OnTrue_at}
+use Rattle.std.proofs.lemmas.List.{drop-append-le, length-drop, length-replicate, length-take, replicate-append-replicate}
+use Rattle.std.proofs.lemmas.List.Elements.{All-push, All-take}
+use Rattle.std.proofs.lemmas.Option.{slice_get_within}
+use Rattle.uac_pcm.specs.Packets.{packed}
+use Rattle.uac_pcm.proofs.PacketsLemmas.{drop-drop, length-packed}
+use Rattle.uac_ring.specs.Rings.{Holds, ring_frames}
+use Rattle.uac_flow.specs.Flows.{AreFrames}
+
+-- the level
+pub level_kept : (came ring : List (List ℤ)) (gone : ℕ) → Holds came gone ring → length ring ≡ length came - gone
+level_kept came ring gone held = ap length held.1 ∙ length-drop gone came
+
+-- frames that come
+pub holds_more : (came more ring : List (List ℤ)) (gone : ℕ) → Holds came gone ring → Holds (came ++ more) gone (ring ++ more)
+holds_more came more ring gone held =
+    (omega (arith, length-append came more, held.0), ap (λ (r : List (List ℤ)). r ++ more) held.1 ∙ sym (drop-append-le gone came more held.0))
+
+-- frames that go
+pub holds_less : (came ring : List (List ℤ)) (gone count : ℕ) → Holds came gone ring → count ≤ length ring → Holds came (gone + count) (drop count ring)
+holds_less came ring gone count held there =
+    let level = level_kept came ring gone held in
+    (omega (arith, held.0, there, level), ap (λ (r : List (List ℤ)). drop count r) held.1 ∙ drop-drop gone count came)
+
+-- one more of a list's front
+take_further : {X : Type 0} (n : ℕ) (xs : List X) (x : X) → slice_get xs n ≡ Some x → take (suc n) xs ≡ take n xs ++ x ∷ []
+take_further zero [] x there = cc
+take_further zero (y ∷ ys) x there =
+    let same : y ≡ x = cc in ap (λ z. z ∷ []) same
+take_further (suc n) [] x there = cc
+take_further (suc n) (y ∷ ys) x there = ap (λ zs. y ∷ zs) (take_further n ys x there)
+
+pub one_more : {X : Type 0} (n : ℕ) (xs : List X) (x : X) → slice_get xs n ≡ Some x → take (n + 1) xs ≡ take n xs ++ x ∷ []
+one_more n xs x there = rw add-one (take_further n xs x there)
+
+-- a ring that isn't full takes a frame
+pub put_there : {T E : Type 0} (r : Result T E) (P : Type 0) (level : ℕ) → IsErr r ↔ (level ≡ ring_frames) → level < ring_frames → OnOk r P → P
+put_there (Ok u) P level full room put = put
+put_there (Err e) P level full room put =
+    let is_full : level ≡ ring_frames = full.0 refl in absurd (omega arith)
+
+-- the frames of a packet that lie in a ring, and one more
+pub put_further : {T E : Type 0} (r : Result T E) (n : ℕ) (before ring after frames : List (List ℤ)) (frame : List ℤ) → ring ≡ before ++ take n frames
+    → length before + length frames ≤ ring_frames → slice_get frames n ≡ Some frame → IsErr r ↔ (length ring ≡ ring_frames) → OnOk r (after ≡ ring ++ frame ∷ [])
+    → after ≡ before ++ take (n + 1) frames
+put_further r n before ring after frames frame so_far fits there full put =
+    let inside : n < length frames = slice_get_within frames n frame there in
+    let level : length ring ≡ length before + length (take n frames) = ap length so_far ∙ length-append before (take n frames) in
+    let room : length ring < ring_frames = omega (arith, length-take n frames) in
+    put_there r (after ≡ ring ++ frame ∷ []) (length ring) full room put
+    ∙ ap (λ (r : List (List ℤ)). r ++ frame ∷ []) so_far
+    ∙ append_assoc before (take n frames) (frame ∷ [])
+    ∙ ap (λ (r : List (List ℤ)). before ++ r) (sym (one_more n frames frame there))
+
+-- and one more frame of zeros
+pub zero_further : {T E : Type 0} (r : Result T E) (n count : ℕ) (before ring after : List (List ℤ)) (frame silence : List ℤ)
+    → (length before + count ≤ ring_frames → ring ≡ before ++ replicate n silence) → n < count → frame ≡ silence → IsErr r ↔ (length ring ≡ ring_frames)
+    → OnOk r (after ≡ ring ++ frame ∷ []) → length before + count ≤ ring_frames → after ≡ before ++ replicate (n + 1) silence
+zero_further r n count before ring after frame silence so_far inside is_zero full put fits =
+    let now : ring ≡ before ++ replicate n silence = so_far fits in
+    let level : length ring ≡ length before + length (replicate n silence) = ap length now ∙ length-append before (replicate n silence) in
+    let room : length ring < ring_frames = omega (arith, length-replicate n silence) in
+    put_there r (after ≡ ring ++ frame ∷ []) (length ring) full room put
+    ∙ ap (λ (r : List (List ℤ)). r ++ frame ∷ []) now
+    ∙ append_assoc before (replicate n silence) (frame ∷ [])
+    ∙ ap (λ (f : List ℤ). before ++ (replicate n silence ++ f ∷ [])) is_zero
+    ∙ ap (λ (r : List (List ℤ)). before ++ r) (replicate-append-replicate n 1 silence)
+
+-- each frame still has a sample for each channel
+pub frames_put : {T E : Type 0} (r : Result T E) (channels : ℕ) (ring after : List (List ℤ)) (frame : List ℤ) → length frame ≡ channels
+    → OnOk r (after ≡ ring ++ frame ∷ []) → OnErr r (after ≡ ring) → AreFrames channels ring → AreFrames channels after
+frames_put (Ok u) channels ring after frame whole put kept frames =
+    subst (λ (r : List (List ℤ)). AreFrames channels r) (sym put) (All-push (λ (f : List ℤ). length f ≡ channels) ring frame frames whole)
+frames_put (Err e) channels ring after frame whole put kept frames = subst (λ (r : List (List ℤ)). AreFrames channels r) (sym kept) frames
+
+-- the oldest frame of those that are left
+oldest_at : (n : ℕ) (frames : List (List ℤ)) → slice_get (drop n frames) 0 ≡ slice_get frames n
+oldest_at zero frames = refl
+oldest_at (suc n) [] = refl
+oldest_at (suc n) (f ∷ fs) = oldest_at n fs
+
+-- the frames that a packet has, and one more
+pub packed_further : (channels size bits n count : ℕ) (frames : List (List ℤ)) (frame : List ℤ) (fitted : Bool) (old new : List ℕ) → AreFrames channels frames
+    → count ≤ length frames → n < count → count * (channels * size) ≤ 3072 → Some frame ≡ slice_get (drop n frames) 0 → old ≡ packed size bits (take n frames)
+    → IsTrue fitted ↔ (length old + channels * size ≤ 3072)
+    → ((fs : List (List ℤ)) → old ≡ packed size bits fs → OnTrue fitted (new ≡ packed size bits (fs ++ frame ∷ [])))
+    → new ≡ packed size bits (take (n + 1) frames)
+packed_further channels size bits n count frames frame fitted old new whole there inside fits oldest so_far room appended =
+    let width : ℕ = channels * size in
+    let bytes : length old ≡ length (take n frames) * width =
+    ap length so_far ∙ length-packed channels size bits (take n frames) (All-take (λ (f : List ℤ). length f ≡ channels) n frames whole) in
+    let many : length (take n frames) ≡ n = omega (arith, length-take n frames) in
+    let so_many : length old ≡ n * width = bytes ∙ ap (λ (m : ℕ). m * width) many in
+    let step : suc n * width ≡ n * width + width = suc-mul n width in
+    let rest : suc n * width ≤ count * width = mul-le-mul_right width (omega arith) in
+    let has_room : length old + width ≤ 3072 = omega arith in
+    OnTrue_at (room.1 has_room) (appended (take n frames) so_far)
+    ∙ ap (packed size bits) (sym (one_more n frames frame (sym (oldest_at n frames) ∙ sym oldest)))

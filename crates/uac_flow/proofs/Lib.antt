@@ -1,0 +1,4 @@
+pub mod HeldFrames
+pub mod KeptCounts
+pub mod Settling
+mod Worked

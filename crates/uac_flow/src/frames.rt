@@ -1,0 +1,62 @@
+// Frames between packets and rings.
+ghost use Rattle.std.specs.Prelude.{◌≡◌, ◌≤◌, ◌+◌, ◌*◌, ◌++◌, [], length, take, drop, replicate, pos};
+ghost use Rattle.uac_pcm.specs.Packets.{packed, unpacked, whole_frames};
+ghost use Rattle.uac_ring.specs.Rings.{ring_frames};
+ghost use Rattle.uac_flow.specs.Flows.{AreFrames};
+
+use arrayvec::ArrayVec;
+use uac_pcm::{Format, Frame, Packet};
+use uac_ring::Ring;
+
+/// Puts the frames of a packet into a ring that has room for them.
+pub(crate) fn put_frames(ring: &mut Ring, format: &Format, packet: &Packet)
+    requires { length ring.old + whole_frames format.now.channels format.now.subslot packet.now.items ≤ ring_frames }
+    ensures put { ring.new ≡ ring.old ++ unpacked format.now.channels format.now.subslot format.now.bits packet.now.items }
+    ensures frames { AreFrames format.now.channels ring.old → AreFrames format.now.channels ring.new }
+{
+    let mut frame: Frame = ArrayVec::new();
+    for number in 0..format.frames_in(packet) {
+        let _ = format.frame_at(packet, number, &mut frame);
+        let _ = ring.put(&frame);
+    }
+}
+
+/// Puts so many silent frames into a ring; all of them where it has room for them.
+pub(crate) fn put_zeros(ring: &mut Ring, channels: u8, count: u32)
+    requires { channels ≤ 32 }
+    ensures put { length ring.old + count ≤ ring_frames → ring.new ≡ ring.old ++ replicate count (replicate channels (pos 0)) }
+    ensures frames { AreFrames channels ring.old → AreFrames channels ring.new }
+{
+    let zero = silent(channels);
+    for _each in 0..count {
+        let _ = ring.put(&zero);
+    }
+}
+
+// A frame of zeros.
+fn silent(channels: u8) -> Frame
+    requires { channels ≤ 32 }
+    ensures { result.items ≡ replicate channels (pos 0) }
+{
+    let mut frame: Frame = ArrayVec::new();
+    for _each in 0..channels {
+        frame.push(0);
+    }
+    frame
+}
+
+/// Moves the oldest frames of a ring, so many, into a packet that is emptied before.
+pub(crate) fn take_frames(ring: &mut Ring, format: &Format, count: u32, packet: &mut Packet)
+    requires there { count ≤ length ring.old }
+    requires frames { AreFrames format.now.channels ring.old }
+    requires fits { count * (format.now.channels * format.now.subslot) ≤ 3072 }
+    ensures packet { packet.new.items ≡ packed format.now.subslot format.now.bits (take count ring.old) }
+    ensures ring { ring.new ≡ drop count ring.old }
+{
+    packet.clear();
+    for _each in 0..count {
+        if let Some(frame) = ring.take() {
+            let _ = format.pack(&frame, packet);
+        }
+    }
+}

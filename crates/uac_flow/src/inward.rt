@@ -1,0 +1,88 @@
+// A running stream from the device.
+ghost use Rattle.std.specs.Prelude.{◌≡◌, ◌≤◌, ℕ, ℤ, List, length};
+ghost use Rattle.uac_alt.specs.Streams.{seen};
+ghost use Rattle.uac_ring.specs.Rings.{ring_frames};
+ghost use Rattle.uac_flow.specs.Flows.{CanRun, IsInFlow, KeepsIn};
+ghost use Rattle.uac_flow.specs.Streams as spec;
+ghost use Rattle.uac_flow.specs.Streams.{InStream, after_putting, after_sending, sent_frames, sent_packet, settled_in, started_in};
+
+use crate::counting::{is_due, next_count};
+use crate::frames::take_frames;
+use uac_alt::Stream;
+use uac_pcm::{Frame, Packet};
+use uac_ring::{RING_FRAMES, Ring};
+
+/// What the device keeps of a stream from it, beside its ring.
+#[derive(Clone, Copy, Debug, PartialEq, Eq)]
+pub struct InFlow {
+    pub stream: Stream,
+    /// The microframes since its start: 8 is followed by 1, since every interval divides 8.
+    pub microframes: u32,
+}
+
+impl InFlow {
+    /// A stream at its start; its ring is emptied.
+    pub fn start(stream: Stream, ring: &mut Ring) -> InFlow
+        requires { CanRun (seen stream) }
+        ensures stands { KeepsIn ring.new result (started_in (seen stream)) }
+        ensures sound { IsInFlow ring.new result }
+    {
+        ring.clear();
+        InFlow {
+            stream,
+            microframes: 0,
+        }
+    }
+
+    /// Moves the oldest frames of the ring, as many as fit, into an emptied packet, and answers their number.
+    #[tactic(auto, unfolding(crate::specs::Streams::after_sending, crate::specs::Streams::sent_packet))]
+    pub fn send(&self, ring: &mut Ring, packet: &mut Packet) -> u32
+        requires sound { IsInFlow ring.old self.now }
+        ensures stands { (i : InStream) → KeepsIn ring.old self.now i → KeepsIn ring.new self.now (after_sending i) }
+        ensures packet { (i : InStream) → KeepsIn ring.old self.now i → packet.new.items ≡ sent_packet i }
+        ensures frames { (i : InStream) → KeepsIn ring.old self.now i → result ≡ sent_frames i }
+        ensures sound { IsInFlow ring.new self.now }
+    {
+        let count = ring.level().min(self.stream.most);
+        take_frames(ring, &self.stream.format, count, packet);
+        count
+    }
+
+    /// Puts the frame that its terminal played into the ring, where there is room.
+    #[tactic(auto, unfolding(crate::specs::Streams::after_putting))]
+    pub fn put(&self, ring: &mut Ring, frame: &Frame)
+        requires sound { IsInFlow ring.old self.now }
+        requires channels { length frame.now.items ≡ self.now.stream.format.channels }
+        ensures stands { (i : InStream) → KeepsIn ring.old self.now i → KeepsIn ring.new self.now (after_putting frame.now.items i) }
+        ensures sound { IsInFlow ring.new self.now }
+    {
+        let _ = ring.put(frame);
+    }
+
+    /// Whether its ring is full.
+    pub fn is_full(&self, ring: &Ring) -> bool
+        ensures { (i : InStream) → KeepsIn ring.now self.now i → result ≡ spec.is_full i }
+    {
+        ring.level() == RING_FRAMES
+    }
+
+    /// Whether it has a packet in the next microframe.
+    pub fn is_due(&self) -> bool
+        requires runs { CanRun (seen self.now.stream) }
+        requires counted { self.now.microframes ≤ 8 }
+        ensures { (ring : List (List ℤ)) (i : InStream) → KeepsIn ring self.now i → result ≡ spec.is_due i.stream i.microframes }
+    {
+        is_due(self.stream.service, self.microframes)
+    }
+
+    /// The end of a microframe.
+    #[tactic(auto, unfolding(crate::specs::Streams::settled_in))]
+    pub fn settle(&mut self)
+        requires { self.old.microframes ≤ 8 }
+        ensures stands { (ring : List (List ℤ)) (i : InStream) → KeepsIn ring self.old i → KeepsIn ring self.new (settled_in i) }
+        ensures sound { (ring : List (List ℤ)) → IsInFlow ring self.old → IsInFlow ring self.new }
+        ensures stream { self.new.stream ≡ self.old.stream }
+    {
+        self.microframes = next_count(self.microframes);
+    }
+}

@@ -1,0 +1,17 @@
+//! A stream that a device runs: how packets, ticks and the ends of microframes change its ring and what is kept beside it.
+#![tactic(auto)]
+
+/// What becomes of a packet.
+mod arrival;
+/// Counts of microframes.
+mod counting;
+/// Frames between packets and rings.
+mod frames;
+/// A running stream from the device.
+mod inward;
+/// A running stream to the device.
+mod outward;
+
+pub use arrival::Arrival;
+pub use inward::InFlow;
+pub use outward::OutFlow;

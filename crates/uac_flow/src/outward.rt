@@ -1,0 +1,208 @@
+// A running stream to the device.
+ghost use Rattle.std.specs.Prelude.{◌≡◌, ℕ, ◌+◌, ◌≤◌, nat_le, ℤ, List, length, Some, None, IfSome, true};
+ghost use Rattle.std.specs.Option.{option_map};
+ghost use Rattle.uac_alt.specs.Streams.{seen};
+ghost use Rattle.uac_pcm.specs.Packets.{whole_frames};
+ghost use Rattle.uac_ring.specs.Rings.{ring_frames};
+ghost use Rattle.uac_flow.specs.Flows.{CanRun, IsOutFlow, KeepsOut, ZerosFit};
+ghost use Rattle.uac_flow.specs.Streams as spec;
+ghost use Rattle.uac_flow.specs.Streams.{OutStream, after_packet, after_taking, arrival_of, feedback_of, next_taken, out_level};
+ghost use Rattle.uac_flow.specs.Streams.{settled_out, settled_when_due, started_out, zeros_due};
+
+use crate::arrival::Arrival;
+use crate::counting::{is_due, next_count, reports_now};
+use crate::frames::{put_frames, put_zeros};
+use uac_alt::Stream;
+use uac_pcm::laws::unpacked_frames_are_whole;
+use uac_pcm::{Frame, Packet};
+use uac_rate::report;
+use uac_ring::{RING_FRAMES, Ring};
+
+/// What the device keeps of a stream to it, beside its ring.
+#[derive(Clone, Copy, Debug, PartialEq, Eq)]
+pub struct OutFlow {
+    pub stream: Stream,
+    /// The microframes since its start: 8 is followed by 1, since every interval divides 8.
+    pub microframes: u32,
+    /// The level at which it was primed; None while it is priming.
+    pub target: Option<u32>,
+    /// Whether its packet was lost, since the end of the last microframe in which it was due.
+    pub lost: bool,
+    /// The ticks of its domain since then.
+    pub ticks: u32,
+}
+
+impl OutFlow {
+    /// A stream at its start; its ring is emptied.
+    pub fn start(stream: Stream, ring: &mut Ring) -> OutFlow
+        requires runs { CanRun (seen stream) }
+        requires out { stream.out ≡ true }
+        ensures stands { KeepsOut ring.new result (started_out (seen stream)) }
+        ensures sound { IsOutFlow ring.new result }
+    {
+        ring.clear();
+        OutFlow {
+            stream,
+            microframes: 0,
+            target: None,
+            lost: false,
+            ticks: 0,
+        }
+    }
+
+    /// Takes a packet's frames, where the ring has room for all; None is a lost packet.
+    #[tactic(auto, unfolding(crate::specs::Streams::after_packet, crate::specs::Streams::arrival_of))]
+    pub fn receive(&mut self, ring: &mut Ring, packet: Option<&Packet>) -> Arrival
+        requires sound { IsOutFlow ring.old self.old }
+        ensures stands { (o : OutStream) → KeepsOut ring.old self.old o
+            → KeepsOut ring.new self.new (after_packet (option_map (λ p. p.now.items) packet.entry) o) }
+        ensures arrival { (o : OutStream) → KeepsOut ring.old self.old o
+            → result ≡ arrival_of (option_map (λ p. p.now.items) packet.entry) o }
+        ensures sound { IsOutFlow ring.new self.new }
+        ensures stream { self.new.stream ≡ self.old.stream }
+    {
+        let Some(packet) = packet else {
+            self.lost = true;
+            return Arrival::Lost;
+        };
+        self.receive_bytes(ring, packet)
+    }
+
+    // The packet came. A ring that has no room for all its frames takes none.
+    #[tactic(auto, unfolding(crate::specs::Streams::after_packet, crate::specs::Streams::arrival_of))]
+    fn receive_bytes(&mut self, ring: &mut Ring, packet: &Packet) -> Arrival
+        requires sound { IsOutFlow ring.old self.old }
+        ensures stands { (o : OutStream) → KeepsOut ring.old self.old o
+            → KeepsOut ring.new self.new (after_packet (Some packet.now.items) o) }
+        ensures arrival { (o : OutStream) → KeepsOut ring.old self.old o → result ≡ arrival_of (Some packet.now.items) o }
+        ensures sound { IsOutFlow ring.new self.new }
+        ensures stream { self.new.stream ≡ self.old.stream }
+    {
+        let takes_all = self.takes_all(ring, packet);
+        self.lost = false;
+        if !takes_all {
+            return Arrival::Over;
+        }
+        put_frames(ring, &self.stream.format, packet);
+        Arrival::Taken
+    }
+
+    // Whether the ring has room for all frames of a packet.
+    fn takes_all(&self, ring: &Ring, packet: &Packet) -> bool
+        ensures room { let format = self.now.stream.format in
+            result ≡ nat_le (length ring.now + whole_frames format.channels format.subslot packet.now.items) ring_frames }
+        ensures of_stream { (o : OutStream) → KeepsOut ring.now self.now o → result ≡ spec.takes_all o packet.now.items }
+    {
+        unpacked_frames_are_whole();
+        ring.level() + self.stream.format.frames_in(packet) <= RING_FRAMES
+    }
+
+    /// So many ticks of its domain came.
+    pub fn count(&mut self, ticks: u32)
+        ensures stands { (ring : List (List ℤ)) (o : OutStream) → KeepsOut ring self.old o
+            → KeepsOut ring self.new (spec.after_ticks ticks o) }
+        ensures sound { (ring : List (List ℤ)) → IsOutFlow ring self.old → IsOutFlow ring self.new }
+        ensures stream { self.new.stream ≡ self.old.stream }
+    {
+        self.ticks = self.ticks.saturating_add(ticks);
+    }
+
+    /// The frame that its terminal takes at a tick; None while it is priming, and where its ring is empty, and then it primes again.
+    #[tactic(auto, unfolding(crate::specs::Streams::after_taking))]
+    pub fn play(&mut self, ring: &mut Ring) -> Option<Frame>
+        requires sound { IsOutFlow ring.old self.old }
+        ensures stands { (o : OutStream) → KeepsOut ring.old self.old o → KeepsOut ring.new self.new (after_taking o) }
+        ensures frame { (o : OutStream) → KeepsOut ring.old self.old o → option_map (λ frame. frame.items) result ≡ next_taken o }
+        ensures channels { IfSome result (λ frame. length frame.items ≡ self.old.stream.format.channels) }
+        ensures sound { IsOutFlow ring.new self.new }
+        ensures stream { self.new.stream ≡ self.old.stream }
+    {
+        if self.target.is_none() {
+            return None;
+        }
+        match ring.take() {
+            Some(frame) => Some(frame),
+            None => {
+                self.target = None;
+                None
+            }
+        }
+    }
+
+    /// Whether it is primed and its ring is empty.
+    pub fn is_dry(&self, ring: &Ring) -> bool
+        ensures { (o : OutStream) → KeepsOut ring.now self.now o → result ≡ spec.is_dry o }
+    {
+        self.target.is_some() && ring.level() == 0
+    }
+
+    /// Whether it has a packet in the next microframe.
+    pub fn is_due(&self) -> bool
+        requires runs { CanRun (seen self.now.stream) }
+        requires counted { self.now.microframes ≤ 8 }
+        ensures { (ring : List (List ℤ)) (o : OutStream) → KeepsOut ring self.now o → result ≡ spec.is_due o.stream o.microframes }
+    {
+        is_due(self.stream.service, self.microframes)
+    }
+
+    /// The end of a microframe. Where it was due, zeros replace a lost packet, and a stream whose ring has enough frames is primed.
+    pub fn settle(&mut self, ring: &mut Ring)
+        requires sound { IsOutFlow ring.old self.old }
+        ensures stands { (o : OutStream) → KeepsOut ring.old self.old o → ZerosFit o → KeepsOut ring.new self.new (settled_out o) }
+        ensures sound { IsOutFlow ring.new self.new }
+        ensures stream { self.new.stream ≡ self.old.stream }
+    {
+        let is_due = self.is_due();
+        self.microframes = next_count(self.microframes);
+        if is_due {
+            self.settle_packet(ring);
+        }
+    }
+
+    // The end of a microframe in which it was due.
+    fn settle_packet(&mut self, ring: &mut Ring)
+        requires sound { IsOutFlow ring.old self.old }
+        ensures stands { (o : OutStream) → KeepsOut ring.old self.old o → out_level o + length (zeros_due o) ≤ ring_frames
+            → KeepsOut ring.new self.new (settled_when_due o) }
+        ensures sound { IsOutFlow ring.new self.new }
+        ensures stream { self.new.stream ≡ self.old.stream }
+    {
+        if self.lost {
+            put_zeros(ring, self.stream.format.channels, self.ticks);
+        }
+        self.prime(ring.level());
+        self.lost = false;
+        self.ticks = 0;
+    }
+
+    // A priming stream whose ring has enough frames is primed.
+    fn prime(&mut self, level: u32)
+        ensures primed { self.new ≡ record self.old { target = spec.target_after self.old.target level (seen self.old.stream) } }
+    {
+        if self.target.is_none() && level >= priming_level(&self.stream) {
+            self.target = Some(level);
+        }
+    }
+
+    /// The report that is due at the end of a microframe (USB 2.0, 5.12.4.2): the nominal value while the stream is priming.
+    #[tactic(auto, unfolding(crate::specs::Streams::feedback_of))]
+    pub fn feedback(&self, ring: &Ring) -> Option<u32>
+        requires sound { IsOutFlow ring.now self.now }
+        ensures { (o : OutStream) → KeepsOut ring.now self.now o → result ≡ feedback_of o }
+    {
+        if !reports_now(self.stream.period, self.microframes) {
+            return None;
+        }
+        match self.target {
+            Some(target) => Some(report(&self.stream.nominal, target, ring.level())),
+            None => Some(self.stream.nominal.f),
+        }
+    }
+}
+
+// The level from which on a stream is primed.
+fn priming_level(stream: &Stream) -> u32
+    ensures { result ≡ spec.priming_level (seen stream.now) }
+{
+    if stream.service > 1 { 512 } else { 256 }
+}

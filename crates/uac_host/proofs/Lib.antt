@@ -1,0 +1,5 @@
+pub mod CallsLemmas
+pub mod StreamsLemmas
+pub mod KeptLemmas
+pub mod StandsLemmas
+mod Worked

@@ -1,0 +1,11 @@
+-- What the proofs of views rest on.
+pub mod ByteLemmas
+pub mod KindLemmas
+pub mod Members
+pub mod Setting
+pub mod Stored
+pub mod Agreed
+pub mod Made
+pub mod Calls
+pub mod Steps
+pub mod Reading

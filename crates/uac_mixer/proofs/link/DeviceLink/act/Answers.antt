@@ -1,0 +1,6 @@
+-- The device keeps a value for each control.
+use Rattle.uac_mixer.proofs.Made.{stored_by}
+use Rattle.uac_mixer.proofs.link.DeviceLink.act.Goals as goal
+
+pub invariant_of-self : goal.invariant_of-self
+invariant_of-self c = record { stored = stored_by _ _ _ _ _ c.control-answer.ensures c.args.self.now.stored }

@@ -1,0 +1,40 @@
+-- Each element in turn, and where it broke.
+use Rattle.std.proofs.Common.{◌∙◌, ap, arith, length, refl}
+use Rattle.uac_mixer.proofs.Reading.{as_long, element_there, read_broke, read_more, read_none, read_whole}
+use Rattle.uac_mixer.proofs.view.View.read_all.Goals as goal
+
+pub loop-at-init : goal.loop-at-init
+loop-at-init g c = record { place = refl; read = read_none c.args.self.now (g.L.Link.state c.args.link.now) c.requires }
+
+pub loop-at-preserved : goal.loop-at-preserved
+loop-at-preserved g c =
+    let e = element_there c.loop-at.self.elements c.loop-at.at (let long = as_long c.loop-at.at c.args.self.now c.loop-at.self (g.L.Link.state c.args.link.now) (g.L.Link.state c.loop-at.link) c.loop-at.invariant.read c.requires in omega (arith, c.loop-at-test.true, c.loop-at.auto.at-end, ap length c.elements-at-end.ensures, long)) in
+    record {
+      place = c.in-Ok.ensures.place ∙ c.loop-at.invariant.place;
+      read = read_more c.loop-at.at e.0 _ c.loop-at.self c.get.new.self (g.L.Link.state c.args.link.now) (g.L.Link.state c.loop-at.link) (g.L.Link.state c.get.new.link) c.loop-at.invariant.read e.1 (c.in-Ok.ensures.made e.0 e.1) c.in-Ok.ensures.kept c.in-Ok.ensures.as_before;
+    }
+
+pub returns-in-Err-clause-asked : goal.returns-in-Err-clause-asked
+returns-in-Err-clause-asked g c =
+    let e = element_there c.loop-at.self.elements c.loop-at.at (let long = as_long c.loop-at.at c.args.self.now c.loop-at.self (g.L.Link.state c.args.link.now) (g.L.Link.state c.loop-at.link) c.loop-at.invariant.read c.requires in omega (arith, c.loop-at-test.true, c.loop-at.auto.at-end, ap length c.elements-at-end.ensures, long)) in
+    (read_broke c.loop-at.at e.0 c.loop-at.self c.get.new.self (g.L.Link.state c.args.link.now) (g.L.Link.state c.loop-at.link) (g.L.Link.state c.get.new.link) c.loop-at.invariant.read (c.in-Err.ensures.made e.0 e.1) c.in-Err.ensures.as_before).reading
+
+pub returns-in-Err-clause-broken : goal.returns-in-Err-clause-broken
+returns-in-Err-clause-broken g c =
+    let e = element_there c.loop-at.self.elements c.loop-at.at (let long = as_long c.loop-at.at c.args.self.now c.loop-at.self (g.L.Link.state c.args.link.now) (g.L.Link.state c.loop-at.link) c.loop-at.invariant.read c.requires in omega (arith, c.loop-at-test.true, c.loop-at.auto.at-end, ap length c.elements-at-end.ensures, long)) in
+    (read_broke c.loop-at.at e.0 c.loop-at.self c.get.new.self (g.L.Link.state c.args.link.now) (g.L.Link.state c.loop-at.link) (g.L.Link.state c.get.new.link) c.loop-at.invariant.read (c.in-Err.ensures.made e.0 e.1) c.in-Err.ensures.as_before).broken
+
+pub returns-in-Err-clause-told : goal.returns-in-Err-clause-told
+returns-in-Err-clause-told g c =
+    let e = element_there c.loop-at.self.elements c.loop-at.at (let long = as_long c.loop-at.at c.args.self.now c.loop-at.self (g.L.Link.state c.args.link.now) (g.L.Link.state c.loop-at.link) c.loop-at.invariant.read c.requires in omega (arith, c.loop-at-test.true, c.loop-at.auto.at-end, ap length c.elements-at-end.ensures, long)) in
+    (read_broke c.loop-at.at e.0 c.loop-at.self c.get.new.self (g.L.Link.state c.args.link.now) (g.L.Link.state c.loop-at.link) (g.L.Link.state c.get.new.link) c.loop-at.invariant.read (c.in-Err.ensures.made e.0 e.1) c.in-Err.ensures.as_before).told
+
+pub returns-clause-view : goal.returns-clause-view
+returns-clause-view g c =
+    let long = as_long c.loop-at.at c.args.self.now c.loop-at.self (g.L.Link.state c.args.link.now) (g.L.Link.state c.loop-at.link) c.loop-at.invariant.read c.requires in
+    (read_whole c.loop-at.at c.loop-at.self (g.L.Link.state c.args.link.now) (g.L.Link.state c.loop-at.link) c.loop-at.invariant.read (omega (arith, c.loop-at-test.false, c.loop-at.auto.at-end, ap length c.elements-at-end.ensures, long))).view
+
+pub returns-clause-of_function : goal.returns-clause-of_function
+returns-clause-of_function g c =
+    let long = as_long c.loop-at.at c.args.self.now c.loop-at.self (g.L.Link.state c.args.link.now) (g.L.Link.state c.loop-at.link) c.loop-at.invariant.read c.requires in
+    (read_whole c.loop-at.at c.loop-at.self (g.L.Link.state c.args.link.now) (g.L.Link.state c.loop-at.link) c.loop-at.invariant.read (omega (arith, c.loop-at-test.false, c.loop-at.auto.at-end, ap length c.elements-at-end.ensures, long))).of

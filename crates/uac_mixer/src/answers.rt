@@ -1,0 +1,31 @@
+// Answers that are kept.
+ghost use Rattle.std.specs.Prelude.{◌≡◌};
+ghost use Rattle.uac_request.specs.Requests.{seen};
+
+use arrayvec::ArrayVec;
+use uac_request::{Answer, Reply};
+
+/// The same answer once more.
+pub(crate) fn copy_of(answer: &Answer) -> Answer
+    ensures { seen result ≡ seen answer.now }
+{
+    match answer {
+        Answer::Bytes(reply) => Answer::Bytes(copied(reply)),
+        Answer::Descriptor { from, to } => Answer::Descriptor {
+            from: *from,
+            to: *to,
+        },
+        Answer::Done => Answer::Done,
+        Answer::Stall(rule) => Answer::Stall(*rule),
+    }
+}
+
+fn copied(reply: &Reply) -> Reply
+    ensures { result.items ≡ reply.now.items }
+{
+    let mut copy = ArrayVec::new();
+    match copy.try_extend_from_slice(reply.as_slice()) {
+        Ok(()) => copy,
+        Err(_) => unreachable!(),
+    }
+}

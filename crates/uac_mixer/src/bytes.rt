@@ -1,0 +1,103 @@
+// Values as the bytes of controls (Audio Class 2.0, 5.2.3.1 to 5.2.3.3).
+ghost use Rattle.std.specs.Prelude.{◌≡◌, ◌≤◌, ◌<◌, ◌+◌, ◌-◌, ◌^◌, ◌++◌, get_or, length};
+ghost use Rattle.arrayvec.specs.ArrayVec.{array_vec_len};
+ghost use Rattle.uac_request.specs.Requests as spec;
+ghost use Rattle.uac_request.specs.Requests.{little_bytes, value_bytes};
+
+use arrayvec::ArrayVec;
+
+/// The bytes of a control, at most four.
+pub(crate) type ControlBytes = ArrayVec<u8, 4>;
+
+/// A value in so many bytes, the lowest first, in two's complement where it is negative.
+#[tactic(auto, unfolding(uac_request::specs::Requests::value_bytes))]
+pub(crate) fn value_bytes(width: u8, value: i32) -> ControlBytes
+    requires { width ≤ 4 }
+    ensures bytes { result.items ≡ value_bytes width value }
+    ensures len { array_vec_len result ≡ width }
+{
+    number_bytes(width, complement(width, value))
+}
+
+// So many bytes of a number, the lowest first.
+#[tactic(auto, unfolding(uac_request::specs::Requests::little_bytes))]
+fn number_bytes(width: u8, number: u64) -> ControlBytes
+    requires { width ≤ 4 }
+    ensures bytes { result.items ≡ little_bytes width number }
+    ensures len { array_vec_len result ≡ width }
+{
+    let mut bytes = ArrayVec::new();
+    let mut rest = number;
+    for _place in 0..width {
+        bytes.push((rest % 256) as u8);
+        rest /= 256;
+    }
+    bytes
+}
+
+// The number that a value is in so many bytes.
+fn complement(width: u8, value: i32) -> u64
+    requires { width ≤ 4 }
+    ensures { result ≡ spec.complement width value }
+{
+    match u64::try_from(value) {
+        Ok(number) => number,
+        Err(_) => (numbers(width) - 1).saturating_sub((-1 - i64::from(value)) as u64),
+    }
+}
+
+// How many numbers so many bytes have.
+fn numbers(width: u8) -> u64
+    requires { width ≤ 4 }
+    ensures value { result ≡ 256 ^ width }
+    ensures some { 1 ≤ result }
+    ensures most { result ≤ 2 ^ 32 }
+{
+    match width {
+        0 => 1,
+        1 => 1 << 8,
+        2 => 1 << 16,
+        3 => 1 << 24,
+        _ => 1 << 32,
+    }
+}
+
+/// The value that at most four bytes are, the lowest first; a signed one in two's complement.
+#[tactic(auto, unfolding(uac_request::specs::Requests::value_from))]
+pub(crate) fn value_from(signed: bool, bytes: &[u8]) -> i64
+    requires { length bytes.now ≤ 4 }
+    ensures { result ≡ spec.value_from signed bytes.now }
+{
+    let numbers = numbers(bytes.len() as u8);
+    let number = number_from(bytes);
+    if signed && number >= numbers / 2 {
+        -1 - (numbers - 1).saturating_sub(number) as i64
+    } else {
+        number as i64
+    }
+}
+
+// The number that at most four bytes are, the lowest first.
+#[tactic(auto, using(uac_request::proofs::Little::four_bytes, uac_request::proofs::Little::below_power))]
+fn number_from(bytes: &[u8]) -> u64
+    requires { length bytes.now ≤ 4 }
+    ensures value { result ≡ spec.little_number bytes.now }
+    ensures most { result < 256 ^ length bytes.now }
+    ensures four { result < 2 ^ 32 }
+{
+    byte_at(bytes, 0)
+        + (byte_at(bytes, 1) << 8)
+        + (byte_at(bytes, 2) << 16)
+        + (byte_at(bytes, 3) << 24)
+}
+
+// A byte, 0 past the last.
+fn byte_at(bytes: &[u8], place: usize) -> u64
+    ensures value { result ≡ get_or bytes.now place 0 }
+    ensures most { result < 256 }
+{
+    match bytes.get(place) {
+        Some(byte) => u64::from(*byte),
+        None => 0,
+    }
+}

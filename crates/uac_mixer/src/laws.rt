@@ -1,0 +1,27 @@
+//! What holds of views and of the devices behind them.
+ghost use Rattle.uac_mixer.specs.Agreement.{ControlsStart, ControlsStay, KnownValuesStay};
+
+use uac_store::laws::sound_functions_have_keys_and_rates;
+use uac_topology::laws::entities_have_pins;
+
+/// At the start each control of a sound function has a value that it takes.
+#[tactic(auto, using(crate::proofs::Stored::starts))]
+pub fn controls_start_with_values()
+    ensures { ControlsStart }
+{
+    entities_have_pins();
+    sound_functions_have_keys_and_rates();
+}
+
+/// No request changes that each control has such a value.
+#[tactic(auto, using(crate::proofs::Stored::stays))]
+pub fn controls_keep_values()
+    ensures { ControlsStay }
+{}
+
+/// What a view knows of a device stays so, whatever came back of a transfer.
+pub fn known_values_stay()
+    ensures { KnownValuesStay }
+{
+    sound_functions_have_keys_and_rates();
+}

@@ -1,0 +1,126 @@
+// The link over which transfers go to a device.
+ghost use Rattle.uac_store.specs.Controls.{IsStoreOf};
+
+use crate::answers::copy_of;
+use uac_device::Device;
+use uac_request::{Answer, Setup};
+use uac_topology::Function;
+
+/// A transfer broke: the host doesn't know whether the device acted.
+#[derive(Clone, Copy, PartialEq, Eq, Debug)]
+pub struct Broken;
+
+/// When a transfer breaks: before the device acted, or after it.
+#[derive(Clone, Copy, PartialEq, Eq, Debug)]
+pub enum When {
+    Before,
+    After,
+}
+
+/// A way to a device, on which transfers may break. It has the device behind it, the last answer that the device gave
+/// through it, a count of breaks that never falls and, where it tells it, the fault of its next transfer.
+pub trait Link {
+    ghost use Rattle.std.specs.Prelude.{◌≡◌};
+    ghost use base.Fml.{GName};
+    ghost use Rattle.uac_mixer.specs.Links.{LinkFields, IsTransferred};
+    ghost use Rattle.uac_mixer.specs.Transfers.{came_of};
+
+    // What it is seen as.
+    ghost state: { Self → LinkFields };
+
+    // The place of the device, where it is lent: who lends it to the link knows by that what became of it.
+    ghost place: { Self → GName };
+
+    /// The device's function.
+    fn function(&self) -> &Function
+        ensures function { result.now ≡ (state self.now).device.function }
+        ensures stored { IsStoreOf (state self.now).device.function.entities (state self.now).device.controls };
+
+    /// One transfer. `Broken` comes only where the count of breaks rose, and then the device and the last answer are those
+    /// before the transfer, or those that the device's answer leaves. Else the device answered this, and the last answer is
+    /// this one. Where the fault is told, the transfer breaks exactly by that, and behind it the fault told is none.
+    fn control(&mut self, setup: &Setup, sent: &[u8]) -> Result<Answer, Broken>
+        ensures place { place self.new ≡ place self.old }
+        ensures transfer { IsTransferred setup.now sent.now (came_of result) (state self.old) (state self.new) };
+}
+
+/// The link of a device in memory, whose first transfer breaks where the caller says so.
+#[derive(Drop)]
+pub struct DeviceLink<'a> {
+    device: &'a mut Device,
+    last: Option<Answer>,
+    fault: Option<When>,
+    ghost stored: { IsStoreOf device.now.function.entities device.now.controls },
+}
+
+impl<'a> DeviceLink<'a> {
+    ghost use Rattle.std.specs.Prelude.{◌≡◌, None, Some};
+    ghost use Rattle.std.specs.Option.{option_map};
+    ghost use Rattle.uac_request.specs.Requests.{seen};
+    ghost use Rattle.uac_device.specs.Kept.{IsControlled};
+
+    /// A link to a device. It tells `fault` and has no last answer.
+    pub fn new(device: &'a mut Device, fault: Option<When>) -> DeviceLink<'a>
+        requires { IsStoreOf device.old.function.entities device.old.controls }
+        ensures same_reference { result.device.ghost_name ≡ device.entry.ghost_name }
+        ensures device { result.device.now ≡ device.old }
+        ensures last { result.last ≡ None }
+        ensures fault { result.fault ≡ fault }
+    {
+        DeviceLink {
+            device,
+            last: None,
+            fault,
+        }
+    }
+
+    /// The last answer; None exactly where no transfer through this link reached the device.
+    pub fn last(&self) -> Option<&Answer>
+        ensures { option_map (λ answer. seen answer.now) result ≡ option_map seen self.now.last }
+    {
+        self.last.as_ref()
+    }
+
+    // The device acts.
+    fn act(&mut self, setup: &Setup, sent: &[u8]) -> Answer
+        ensures same_reference { self.new.device.ghost_name ≡ self.old.device.ghost_name }
+        ensures device { IsControlled setup.now sent.now (seen result) self.old.device.now self.new.device.now }
+        ensures last { option_map seen self.new.last ≡ Some (seen result) }
+        ensures fault { self.new.fault ≡ self.old.fault }
+    {
+        let answer = self.device.control(setup, sent);
+        self.last = Some(copy_of(&answer));
+        answer
+    }
+}
+
+impl<'a> Link for DeviceLink<'a> {
+    ghost use Rattle.std.specs.Prelude.{◌≡◌, Some, is_some, if◌then◌else◌};
+    ghost use Rattle.std.specs.Option.{option_map};
+    ghost use Rattle.uac_request.specs.Requests.{seen};
+
+    // Its count of breaks is 0 while its one break lies ahead.
+    ghost state = { λ l. record {
+      device = l.device.now;
+      last = option_map seen l.last;
+      breaks = if is_some l.fault then 0 else 1;
+      fault = Some l.fault;
+    } };
+
+    ghost place = { λ l. l.device.ghost_name };
+
+    fn function(&self) -> &Function {
+        self.device.function()
+    }
+
+    fn control(&mut self, setup: &Setup, sent: &[u8]) -> Result<Answer, Broken> {
+        match self.fault.take() {
+            None => Ok(self.act(setup, sent)),
+            Some(When::Before) => Err(Broken),
+            Some(When::After) => {
+                let _answer = self.act(setup, sent);
+                Err(Broken)
+            }
+        }
+    }
+}

@@ -1,0 +1,217 @@
+//! A view of a small device: a jack through a feature to a jack, under one clock that can be set.
+ghost use Rattle.std.specs.Prelude.{◌≡◌, IfOk};
+ghost use Rattle.uac_device.specs.Kept.{DeviceFields};
+ghost use Rattle.uac_store.specs.Controls.{IsStoreOf};
+
+use crate::*;
+use std::alloc::{AllocError, Global};
+use std::test::Fail;
+use uac_descriptor::{
+    Block, ClockSource, Feature, InputTerminal, Interface, OutputTerminal, WordList,
+};
+use uac_device::Device;
+use uac_request::{Answer, Setup};
+use uac_sentence::are_well_formed;
+use uac_store::Key;
+use uac_topology::check;
+use uac_topology::laws::functions_are_sound;
+
+fn push(blocks: &mut Vec<Block>, block: Block) -> Result<(), AllocError> {
+    match blocks.push(block) {
+        Ok(()) => Ok(()),
+        Err(_) => Err(AllocError),
+    }
+}
+
+// The control interface, with which blocks begin.
+fn control() -> Block {
+    Block::Interface(Interface {
+        number: 0,
+        setting: 0,
+        endpoints: 0,
+        class: 1,
+        subclass: 1,
+        protocol: 0x20,
+        name: 0,
+    })
+}
+
+fn input() -> Block {
+    Block::InputTerminal(InputTerminal {
+        id: 2,
+        terminal_type: 0x0201,
+        assoc: 0,
+        clock: 1,
+        channels: 2,
+        locations: 3,
+        names: 0,
+        controls: 0,
+        name: 0,
+    })
+}
+
+fn output() -> Block {
+    Block::OutputTerminal(OutputTerminal {
+        id: 4,
+        terminal_type: 0x0301,
+        assoc: 0,
+        source: 3,
+        clock: 1,
+        controls: 0,
+        name: 0,
+    })
+}
+
+/// Clock 1, whose frequency can be set; jack 2 of two channels feeds feature 3, which feeds jack 4. The feature's mute is on
+/// the master alone, and can only be read; its volume is on both channels, and on the second can only be read.
+fn blocks(alloc: Global) -> Result<Vec<Block>, AllocError> {
+    let mut blocks = Vec::new(alloc);
+    push(&mut blocks, control())?;
+    push(
+        &mut blocks,
+        Block::ClockSource(ClockSource {
+            id: 1,
+            attributes: 3,
+            controls: 7,
+            assoc: 0,
+            name: 0,
+        }),
+    )?;
+    push(&mut blocks, input())?;
+    let words = Vec::from_slice(alloc, &[1, 12, 4])?;
+    push(
+        &mut blocks,
+        Block::Feature(Feature {
+            id: 3,
+            source: 2,
+            words: WordList::from_vec(words),
+            name: 0,
+        }),
+    )?;
+    push(&mut blocks, output())?;
+    Ok(blocks)
+}
+
+fn device(alloc: Global) -> Result<Device, AllocError>
+    ensures { IfOk result (λ device. IsStoreOf device.function.entities device.controls) }
+{
+    let blocks = blocks(alloc)?;
+    if !are_well_formed(blocks.as_slice()) {
+        return Err(AllocError);
+    }
+    let function = match check(alloc, blocks.as_slice()) {
+        Ok(function) => function,
+        Err(_) => return Err(AllocError),
+    };
+    functions_are_sound(&function);
+    laws::controls_start_with_values();
+    match Device::new(alloc, function) {
+        Ok(device) => Ok(device),
+        Err(_) => Err(AllocError),
+    }
+}
+
+/// The view of a device, where nothing breaks.
+fn view(alloc: Global, device: &mut Device) -> Result<View, AllocError>
+    requires { IsStoreOf device.old.function.entities device.old.controls }
+{
+    match View::read(alloc, &mut DeviceLink::new(device, None)) {
+        Ok(view) => Ok(view),
+        Err(_) => Err(AllocError),
+    }
+}
+
+const FIRST_VOLUME: Key = Key {
+    entity: 3,
+    selector: 2,
+    channel: 1,
+};
+
+#[test]
+fn a_view_lists_what_is_declared(rt: HostRuntime) -> Result<(), Fail> {
+    let alloc = rt.alloc();
+    let mut device = device(alloc)?;
+    let view = view(alloc, &mut device)?;
+    assert_eq!(rt; view.elements().len(), 4);
+    for (at, name, writable, value) in [
+        (0, "rate.1.0", true, 48000),
+        (1, "mute.3.0", false, 0),
+        (2, "volume.3.1", true, 0),
+        (3, "volume.3.2", false, 0),
+    ] {
+        assert!(rt; at < view.elements().len());
+        let element = view.elements()[at];
+        assert!(rt; element.name().as_bytes() == name.as_bytes());
+        assert_eq!(rt; element.writable, writable);
+        assert_eq!(rt; element.value, Some(value));
+        assert_eq!(rt; view.find(name.as_bytes()), Some(at));
+    }
+    assert_eq!(rt; view.find(b"volume.3.0"), None);
+    assert_eq!(rt; view.find(b"volume.3.1 "), None);
+    assert_eq!(rt; view.find(b""), None);
+    Ok(())
+}
+
+/// A SET CUR of the first volume.
+fn volume(length: u16) -> Setup {
+    Setup {
+        request_type: 0x21,
+        request: 1,
+        value: 0x0201,
+        index: 0x0300,
+        length,
+    }
+}
+
+/// Whether an element of a view has this value.
+fn has(view: &View, at: usize, value: Option<i32>) -> bool {
+    match view.elements().get(at) {
+        Some(element) => element.value == value,
+        None => false,
+    }
+}
+
+#[test]
+fn a_transfer_keeps_the_view_right(rt: HostRuntime) -> Result<(), Fail> {
+    let alloc = rt.alloc();
+    let mut device = device(alloc)?;
+    let mut link = DeviceLink::new(&mut device, None);
+    let mut view = match View::read(alloc, &mut link) {
+        Ok(view) => view,
+        Err(_) => return Err(AllocError.into()),
+    };
+    assert!(rt;
+        matches!(
+            view.transfer(&mut link, &volume(2), &[0, 0xFF]),
+            Ok(Answer::Done)
+        )
+    );
+    assert!(rt; has(&view, 2, Some(-256)));
+    assert!(rt;
+        matches!(
+            view.transfer(&mut link, &volume(2), &[1, 0xFF]),
+            Ok(Answer::Stall(9))
+        )
+    );
+    assert!(rt; has(&view, 2, Some(-256)));
+    assert!(rt; matches!(link.last(), Some(Answer::Stall(9))));
+    assert_eq!(rt; device.store().cur(FIRST_VOLUME), Some(-256));
+    Ok(())
+}
+
+#[test]
+fn nothing_is_read_over_a_broken_link(rt: HostRuntime) -> Result<(), Fail> {
+    let alloc = rt.alloc();
+    let mut device = device(alloc)?;
+    let mut link = DeviceLink::new(&mut device, Some(When::Before));
+    assert!(rt; matches!(View::read(alloc, &mut link), Err(ViewFault::Broken)));
+    assert!(rt; link.last().is_none());
+    let mut view = match View::read(alloc, &mut link) {
+        Ok(view) => view,
+        Err(_) => return Err(AllocError.into()),
+    };
+    assert!(rt; matches!(link.last(), Some(Answer::Bytes(_))));
+    assert!(rt; 2 < view.elements().len());
+    assert!(rt; matches!(view.get(2, &mut link), Ok(0)));
+    Ok(())
+}
