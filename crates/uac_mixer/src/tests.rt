@@ -12,7 +12,6 @@ use uac_descriptor::{
 use uac_device::Device;
 use uac_request::{Answer, Setup};
 use uac_sentence::are_well_formed;
-use uac_store::Key;
 use uac_topology::check;
 use uac_topology::laws::functions_are_sound;
 
@@ -121,11 +120,17 @@ fn view(alloc: Global, device: &mut Device) -> Result<View, AllocError>
     }
 }
 
-const FIRST_VOLUME: Key = Key {
-    entity: 3,
-    selector: 2,
-    channel: 1,
-};
+/// Whether an element has this name and this value, and a host may set it or not.
+fn is_at(view: &View, at: usize, name: &[u8], writable: bool, value: i32) -> bool {
+    match view.elements().get(at) {
+        Some(element) => {
+            element.name().as_bytes() == name
+                && element.writable == writable
+                && element.value == Some(value)
+        }
+        None => false,
+    }
+}
 
 #[test]
 fn a_view_lists_what_is_declared(rt: HostRuntime) -> Result<(), Fail> {
@@ -133,70 +138,21 @@ fn a_view_lists_what_is_declared(rt: HostRuntime) -> Result<(), Fail> {
     let mut device = device(alloc)?;
     let view = view(alloc, &mut device)?;
     assert_eq!(rt; view.elements().len(), 4);
-    for (at, name, writable, value) in [
-        (0, "rate.1.0", true, 48000),
-        (1, "mute.3.0", false, 0),
-        (2, "volume.3.1", true, 0),
-        (3, "volume.3.2", false, 0),
-    ] {
-        assert!(rt; at < view.elements().len());
-        let element = view.elements()[at];
-        assert!(rt; element.name().as_bytes() == name.as_bytes());
-        assert_eq!(rt; element.writable, writable);
-        assert_eq!(rt; element.value, Some(value));
-        assert_eq!(rt; view.find(name.as_bytes()), Some(at));
-    }
+    assert!(rt; is_at(&view, 0, b"rate.1.0", true, 48000));
+    assert!(rt; is_at(&view, 1, b"mute.3.0", false, 0));
+    assert!(rt; is_at(&view, 2, b"volume.3.1", true, 0));
+    assert!(rt; is_at(&view, 3, b"volume.3.2", false, 0));
+    assert_eq!(rt; view.find(b"volume.3.2"), Some(3));
     assert_eq!(rt; view.find(b"volume.3.0"), None);
-    assert_eq!(rt; view.find(b"volume.3.1 "), None);
-    assert_eq!(rt; view.find(b""), None);
     Ok(())
 }
 
-/// A SET CUR of the first volume.
-fn volume(length: u16) -> Setup {
-    Setup {
-        request_type: 0x21,
-        request: 1,
-        value: 0x0201,
-        index: 0x0300,
-        length,
+/// Whether the device behind a link can be read.
+fn is_read<L: Link>(alloc: Global, link: &mut L) -> bool {
+    match View::read(alloc, link) {
+        Ok(_) => true,
+        Err(_) => false,
     }
-}
-
-/// Whether an element of a view has this value.
-fn has(view: &View, at: usize, value: Option<i32>) -> bool {
-    match view.elements().get(at) {
-        Some(element) => element.value == value,
-        None => false,
-    }
-}
-
-#[test]
-fn a_transfer_keeps_the_view_right(rt: HostRuntime) -> Result<(), Fail> {
-    let alloc = rt.alloc();
-    let mut device = device(alloc)?;
-    let mut link = DeviceLink::new(&mut device, None);
-    let mut view = match View::read(alloc, &mut link) {
-        Ok(view) => view,
-        Err(_) => return Err(AllocError.into()),
-    };
-    assert!(rt;
-        matches!(
-            view.transfer(&mut link, &volume(2), &[0, 0xFF]),
-            Ok(Answer::Done)
-        )
-    );
-    assert!(rt; has(&view, 2, Some(-256)));
-    assert!(rt;
-        matches!(
-            view.transfer(&mut link, &volume(2), &[1, 0xFF]),
-            Ok(Answer::Stall(9))
-        )
-    );
-    assert!(rt; has(&view, 2, Some(-256)));
-    assert!(rt; matches!(link.last(), Some(Answer::Stall(9))));
-    assert_eq!(rt; device.store().cur(FIRST_VOLUME), Some(-256));
-    Ok(())
 }
 
 #[test]
@@ -204,14 +160,40 @@ fn nothing_is_read_over_a_broken_link(rt: HostRuntime) -> Result<(), Fail> {
     let alloc = rt.alloc();
     let mut device = device(alloc)?;
     let mut link = DeviceLink::new(&mut device, Some(When::Before));
-    assert!(rt; matches!(View::read(alloc, &mut link), Err(ViewFault::Broken)));
+    assert!(rt; !is_read(alloc, &mut link));
     assert!(rt; link.last().is_none());
-    let mut view = match View::read(alloc, &mut link) {
+    assert!(rt; is_read(alloc, &mut link));
+    assert!(rt; link.last().is_some());
+    Ok(())
+}
+
+/// A SET CUR of the first volume.
+const SET_VOLUME: Setup = Setup {
+    request_type: 0x21,
+    request: 1,
+    value: 0x0201,
+    index: 0x0300,
+    length: 2,
+};
+
+/// What a view knows of the first volume, once these bytes were sent to it.
+fn volume_after<L: Link>(alloc: Global, link: &mut L, sent: &[u8]) -> Option<i32> {
+    let mut view = match View::read(alloc, link) {
         Ok(view) => view,
-        Err(_) => return Err(AllocError.into()),
+        Err(_) => return None,
     };
-    assert!(rt; matches!(link.last(), Some(Answer::Bytes(_))));
-    assert!(rt; 2 < view.elements().len());
-    assert!(rt; matches!(view.get(2, &mut link), Ok(0)));
+    let _came = view.transfer(link, &SET_VOLUME, sent);
+    view.elements().get(2)?.value
+}
+
+#[test]
+fn a_transfer_keeps_the_view_right(rt: HostRuntime) -> Result<(), Fail> {
+    let alloc = rt.alloc();
+    let mut device = device(alloc)?;
+    let mut link = DeviceLink::new(&mut device, None);
+    assert_eq!(rt; volume_after(alloc, &mut link, &[0, 0xFF]), Some(-256));
+    assert!(rt; matches!(link.last(), Some(Answer::Done)));
+    assert_eq!(rt; volume_after(alloc, &mut link, &[1, 0xFF]), Some(-256));
+    assert!(rt; matches!(link.last(), Some(Answer::Stall(9))));
     Ok(())
 }
