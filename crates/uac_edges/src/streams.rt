@@ -75,7 +75,8 @@ impl<W: Write + Drop> StdSink<W> {
         requires { 0 < length piece.now }
         ensures some { IfOk result (λ n. 0 < n) }
         ensures fits { IfOk result (λ n. n ≤ length piece.now) }
-        ensures bytes { WriteAppends (without_last self.old.unflushed (W.contents self.old.output)) (without_last self.new.unflushed (W.contents self.new.output)) result piece.now }
+        ensures bytes { WriteAppends (without_last self.old.unflushed (W.contents self.old.output))
+            (without_last self.new.unflushed (W.contents self.new.output)) result piece.now }
         ensures faults { self.new.faults ≡ self.old.faults }
         ensures stuck { 0 < self.old.unflushed → IsErr result × (self.new ≡ self.old) }
     {
@@ -107,11 +108,13 @@ impl<W: Write + Drop> Sink for StdSink<W> {
         requires { 0 < length piece.now }
         ensures some { IfOk result (λ n. 0 < n) }
         ensures fits { IfOk result (λ n. n ≤ length piece.now) }
-        ensures bytes { WriteAppends (without_last self.old.unflushed (W.contents self.old.output)) (without_last self.new.unflushed (W.contents self.new.output)) result piece.now }
+        ensures bytes { WriteAppends (without_last self.old.unflushed (W.contents self.old.output))
+            (without_last self.new.unflushed (W.contents self.new.output)) result piece.now }
         ensures cause { HasCause self.old.faults self.new.faults result }
         ensures faultless { OnOk result (self.new.faults ≡ self.old.faults) }
         ensures counted { OnErr result (self.new.faults ≡ one_more self.old.faults) }
-        ensures stuck { 0 < self.old.unflushed → IsErr result × (self.new.output ≡ self.old.output) × (self.new.unflushed ≡ self.old.unflushed) }
+        ensures stuck { 0 < self.old.unflushed
+            → IsErr result × (self.new.output ≡ self.old.output) × (self.new.unflushed ≡ self.old.unflushed) }
     {
         let given = self.write(piece);
         self.faults = faults_after(self.faults, given);

@@ -1,4 +1,4 @@
-//! The lines of a script: how they are cut from a source's bytes, and what each says.
+//! The lines of a script: how they are cut from a source's bytes, what each says, and the script that a number generates.
 #![tactic(auto)]
 
 /// Bytes as words of HEX spell them.
@@ -23,5 +23,7 @@ mod words;
 pub use line::{Line, Mark, MarkKind, Name};
 pub use lines::{LineStop, Lines, Next};
 pub use uac_edges::{
-    Failed, MemorySink, MemorySource, Sink, Source, SteadySource, TextLine, give_all,
+    Failed, MemorySink, MemorySource, Sink, Source, StdSink, StdSource, SteadySource, TextLine,
+    give_all,
 };
+pub use uac_gen::Gen;

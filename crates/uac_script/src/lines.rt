@@ -82,10 +82,14 @@ impl Lines {
     /// in the bytes at hand is answered without a call of the source. `Ok` means that no call of the
     /// source met a fault. All calls together take at most 268,435,457 bytes.
     pub fn next<S: Source>(&mut self, source: &mut S) -> Result<Next, LineStop>
-        ensures splits { self.old.stop ≡ None → self.old.ended ≡ false → Splits self.old self.new (S.left source.old) (S.left source.new) (S.faults source.old) (S.faults source.new) result }
-        ensures ended { self.old.stop ≡ None → self.old.ended ≡ true → (result ≡ Ok Next.End) × (self.new ≡ self.old) × (source.new ≡ source.old) }
-        ensures again { (why : LineStop) → self.old.stop ≡ Some why → (result ≡ Err why) × (self.new ≡ self.old) × (source.new ≡ source.old) }
-        ensures told { self.old.stop ≡ None → self.old.ended ≡ false → IsTold (head_of self.old.spare self.old.unread) → source.new ≡ source.old }
+        ensures splits { self.old.stop ≡ None → self.old.ended ≡ false
+            → Splits self.old self.new (S.left source.old) (S.left source.new) (S.faults source.old) (S.faults source.new) result }
+        ensures ended { self.old.stop ≡ None → self.old.ended ≡ true
+            → (result ≡ Ok Next.End) × (self.new ≡ self.old) × (source.new ≡ source.old) }
+        ensures again { (why : LineStop) → self.old.stop ≡ Some why
+            → (result ≡ Err why) × (self.new ≡ self.old) × (source.new ≡ source.old) }
+        ensures told { self.old.stop ≡ None → self.old.ended ≡ false → IsTold (head_of self.old.spare self.old.unread)
+            → source.new ≡ source.old }
         ensures faultless { OnOk result (S.faults source.new ≡ S.faults source.old) }
         ensures never_falls { S.faults source.old ≤ S.faults source.new }
         ensures bounded { self.new.stop ≡ None → self.new.number + self.new.spare ≤ most_of_input }
@@ -142,7 +146,8 @@ impl Lines {
     fn fill<S: Source>(&mut self, source: &mut S) -> Result<usize, Failed>
         requires fits { length self.old.unread ≤ most_of_line }
         requires counted { length self.old.unread ≤ self.old.spare }
-        ensures ok { IfOk result (λ n. Grows self.old.unread self.new.unread (S.left source.old) (S.left source.new) (self.old.spare + 1 - length self.old.unread) n) }
+        ensures ok { IfOk result (λ n. Grows self.old.unread self.new.unread (S.left source.old) (S.left source.new)
+            (self.old.spare + 1 - length self.old.unread) n) }
         ensures others { self.new ≡ record self.old { unread = self.new.unread } }
         ensures err { OnErr result (self.new ≡ self.old) }
         ensures kept { OnErr result (Keeps (S.left source.old) (S.left source.new)) }

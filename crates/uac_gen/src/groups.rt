@@ -1,0 +1,60 @@
+// The lines of a group: 32 microframes under one deviation of the clock.
+ghost use Rattle.std.specs.Prelude.{◌≡◌, ℕ, List, ◌∷◌, ◌++◌};
+ghost use Rattle.uac_gen.specs.Generator.{unreported_lines, unpacked_lines, rest_line};
+ghost use Rattle.uac_gen.specs.Left.{lines_left, from_groups};
+
+use crate::draws::Draws;
+use crate::lines::{LineText, deviation_line, fixed_line, run_line};
+use crate::places::{Group, Place};
+
+/// Draws the next of so many groups: its first line, and the place behind it. Behind the last group
+/// is the report.
+pub fn next_group(draws: &mut Draws, count: u8) -> (LineText, Place)
+    ensures { (number hertz : ℕ) (bytes : List ℕ)
+        → from_groups count draws.old.x ≡ result.0 ∷ lines_left number hertz bytes draws.new.x result.1 }
+{
+    if count == 0 {
+        return (fixed_line(b"q"), Place::End);
+    }
+    let drawn = draws.draw(2001);
+    let eights = draws.draw(4) as u8;
+    let lost = draws.draw(2) == 1;
+    let group = Group {
+        eights,
+        lost,
+        behind: count - 1,
+    };
+    (deviation_line(drawn), behind_deviation(group))
+}
+
+// The place behind a group's first line.
+fn behind_deviation(group: Group) -> Place
+    ensures { (number hertz x : ℕ) (bytes : List ℕ) → lines_left number hertz bytes x result
+        ≡ unreported_lines group.eights ++ (unpacked_lines group.lost ++ rest_line group.eights group.lost ∷ from_groups group.behind x) }
+{
+    if group.eights > 0 {
+        Place::Unreported(group)
+    } else {
+        behind_unreported(group)
+    }
+}
+
+/// The place behind the microframes of a group that have no report.
+pub fn behind_unreported(group: Group) -> Place
+    ensures { (number hertz x : ℕ) (bytes : List ℕ) → lines_left number hertz bytes x result
+        ≡ unpacked_lines group.lost ++ rest_line group.eights group.lost ∷ from_groups group.behind x }
+{
+    if group.lost {
+        Place::Unpacked(group)
+    } else {
+        Place::Rest(group)
+    }
+}
+
+/// What is left of the 32 microframes.
+pub fn rest_line(group: Group) -> LineText
+    ensures { result ≡ rest_line group.eights group.lost }
+{
+    let whole = if group.lost { 31 } else { 32 };
+    run_line(whole - 8 * u64::from(group.eights), b"")
+}

@@ -1,0 +1,20 @@
+//! The generator: a whole script, line by line, from one number.
+#![tactic(auto)]
+
+/// The bytes of the script's descriptor.
+mod descriptor;
+/// The numbers that are drawn.
+mod draws;
+/// The script, one line after the other.
+mod generator;
+/// The lines of a group.
+mod groups;
+/// The lines' texts.
+mod lines;
+/// The places that a script has come to.
+mod places;
+
+pub use generator::Gen;
+
+#[cfg(test)]
+mod tests;
