@@ -1,0 +1,308 @@
+-- Words that ask for something are a command line.
+use Rattle.std.proofs.Common.{◌≡◌, ◌⊎◌, ◌∙◌, ◌<◌, ◌≤◌, ◌^◌, ap, sym, subst, refl, inl, inr, true, false, Bool, ℕ, List, [], ◌∷◌, ◌++◌, length, take, drop, codes, decimal, Option, None, Some, unwrap_or, Result, Ok, Err, arith, true≢false}
+use Rattle.std.specs.Prelude.{◌==◌, ◌&&◌, ◌||◌, if◌then◌else◌, not, nat_le}
+use Rattle.std.specs.List.{slice_index}
+use Rattle.std.specs.Option.{is_some, option_map}
+use Rattle.std.specs.Str.{bytes_eq}
+use Rattle.std.specs.Str.Parse.{digits_value}
+use Rattle.std.proofs.lemmas.Bool.{and_parts, eqb-true, leb-true, ltb-true}
+use Rattle.std.proofs.lemmas.Fmt.{decimal-digits_value}
+use Rattle.std.proofs.lemmas.List.{take-append-drop}
+use Rattle.std.proofs.lemmas.Str.Parse.{numerals_by_value, tells_digits}
+use Rattle.uac_words.specs.declared.commands.Command.{Command}
+use Rattle.uac_words.specs.declared.commands.Command.TheVariants.{Check, Show, Elements, Run, Gen, Settle}
+use Rattle.uac_words.specs.declared.commands.RackChoice.{RackChoice}
+use Rattle.uac_words.specs.declared.commands.RackChoice.TheVariants.{Plain, Lanes}
+use Rattle.uac_words.specs.declared.commands.Words.{Words}
+use Rattle.uac_words.specs.declared.commands.WordsFault.{WordsFault}
+use Rattle.uac_words.specs.declared.commands.WordsFault.TheVariants.{NoMemory, Usage}
+use Rattle.uac_words.specs.ByClap.{IsAnswer}
+use Rattle.uac_words.specs.Asked.{both, is_decimal, number_of}
+use Rattle.uac_words.specs.Lines.{AnswersLine, IsInRange, IsLine, name_of, spelled}
+use Rattle.uac_words.specs.Plain.{Places, Text, asked_at, command_in, ends_options, has_value, is_dashed, is_option, placed, plainly, rack_in, with_bare, with_rack}
+use Rattle.uac_words.proofs.LineLemmas.{line_asks}
+use Rattle.uac_words.proofs.NumberLemmas.{digits_all}
+use Rattle.uac_words.proofs.WordLemmas.{bytes_same}
+
+-- ---- options
+
+nothing : {X R : Type 0} (x : X) → None ≡ Some x → R
+nothing x e = absurd (true≢false (sym (ap is_some e)))
+
+inside : {X : Type 0} (x y : X) → Some x ≡ Some y → x ≡ y
+inside x y e = ap (λ o. unwrap_or o x) e
+
+mapped : {X Y : Type 0} (f : X → Y) (o : Option X) (y : Y) → option_map f o ≡ Some y → (x : X) × (o ≡ Some x) × (f x ≡ y)
+mapped f None y e = nothing y e
+mapped f (Some x) y e = (x, refl, inside (f x) y e)
+
+-- ---- a number
+
+lead_one : (first len : ℕ) → (not (first == 48) || (len == 1)) ≡ true → first ≡ 48 → len ≡ 1
+lead_one first len h e = eqb-true len 1 (subst (λ x. (not (x == 48) || (len == 1)) ≡ true) e h)
+
+written : (text : Text) → is_decimal text ≡ true → digits_value 10 text ≤ 4294967295 → decimal (digits_value 10 text) ≡ text
+unfolding is_decimal
+written text h small =
+    let parts = and_parts _ _ h in
+    let more = and_parts _ _ parts.0 in
+    let some = ltb-true 0 (length text) more.0 in
+    decimal-digits_value (numerals_by_value _ tells_digits) text (digits_all text parts.1) (omega arith)
+    (lead_one (slice_index text 0) (length text) more.1) (omega arith)
+
+number_written : (text : Text) (n : ℕ) → number_of text ≡ Some n → (text ≡ decimal n) × (n < 2 ^ 32)
+unfolding number_of
+number_written text n h = go (is_decimal text && nat_le (digits_value 10 text) 4294967295) refl h
+  where
+    go : (t : Bool) → (is_decimal text && nat_le (digits_value 10 text) 4294967295) ≡ t → (if t then Some (digits_value 10 text) else None) ≡ Some n
+        → (text ≡ decimal n) × (n < 2 ^ 32)
+    go false e h = nothing n h
+    go true e h =
+        let parts = and_parts _ _ e in
+        let small = leb-true (digits_value 10 text) 4294967295 parts.1 in
+        let value = inside (digits_value 10 text) n h in
+        (sym (written text parts.0 small) ∙ ap decimal value, omega (arith, value))
+
+-- ---- a command and a rack
+
+abbrev IsSpelled : List Text → Command → Type 0
+IsSpelled bare command = (bare ≡ spelled command) × IsInRange command
+
+named : (word name : Text) (this command : Command) (others : Option Command) → IsSpelled (name ∷ []) this → (t : Bool) → bytes_eq word name ≡ t
+    → (if t then Some this else others) ≡ Some command → (others ≡ Some command → IsSpelled (word ∷ []) command) → IsSpelled (word ∷ []) command
+named word name this command others is false e h next = next h
+named word name this command others is true e h next =
+    let same = inside this command h in
+    subst (λ (c : Command). IsSpelled (word ∷ []) c) same (ap (λ w. w ∷ []) (bytes_same word name e) ∙ is.0, is.1)
+
+command_written : (bare : List Text) (command : Command) → command_in bare ≡ Some command → IsSpelled bare command
+command_written [] command h = nothing command h
+command_written (word ∷ []) command h =
+    named word (codes "check") Check command _ (refl, tt) _ refl h (λ h.
+    named word (codes "show") Show command _ (refl, tt) _ refl h (λ h.
+    named word (codes "elements") Elements command _ (refl, tt) _ refl h (λ h.
+    named word (codes "run") Run command _ (refl, tt) _ refl h (λ h.
+    named word (codes "settle") Settle command _ (refl, tt) _ refl h (λ h. nothing command h)))))
+command_written (word ∷ number ∷ []) command h = go (bytes_eq word (codes "gen")) refl h
+  where
+    go : (t : Bool) → bytes_eq word (codes "gen") ≡ t → (if t then option_map Gen (number_of number) else None) ≡ Some command
+        → IsSpelled (word ∷ number ∷ []) command
+    go false e h = nothing command h
+    go true e h =
+        let found = mapped Gen (number_of number) command h in
+        let is = number_written number found.0 found.1 in
+        subst (λ (c : Command). IsSpelled (word ∷ number ∷ []) c) found.2
+        (ap (λ w. w ∷ number ∷ []) (bytes_same word (codes "gen") e) ∙ ap (λ d. codes "gen" ∷ d ∷ []) is.0, is.1)
+command_written (word ∷ number ∷ third ∷ more) command h = nothing command h
+
+rack_written : (racks : List Text) (rack : RackChoice) → rack_in racks ≡ Some rack → (racks ≡ []) × (rack ≡ Plain) ⊎ (racks ≡ name_of rack ∷ [])
+rack_written [] rack h = inl (refl, sym (inside Plain rack h))
+rack_written (word ∷ []) rack h = first (bytes_eq word (codes "plain")) refl h
+  where
+    second : (t : Bool) → bytes_eq word (codes "lanes") ≡ t → (if t then Some Lanes else None) ≡ Some rack
+        → (word ∷ [] ≡ []) × (rack ≡ Plain) ⊎ (word ∷ [] ≡ name_of rack ∷ [])
+    second false e h = nothing rack h
+    second true e h = inr (ap (λ w. w ∷ []) (bytes_same word (codes "lanes") e) ∙ ap (λ r. name_of r ∷ []) (inside Lanes rack h))
+
+    first : (t : Bool) → bytes_eq word (codes "plain") ≡ t → (if t then Some Plain else (if bytes_eq word (codes "lanes") then Some Lanes else None)) ≡ Some rack
+        → (word ∷ [] ≡ []) × (rack ≡ Plain) ⊎ (word ∷ [] ≡ name_of rack ∷ [])
+    first true e h = inr (ap (λ w. w ∷ []) (bytes_same word (codes "plain") e) ∙ ap (λ r. name_of r ∷ []) (inside Plain rack h))
+    first false e h = second (bytes_eq word (codes "lanes")) refl h
+rack_written (word ∷ other ∷ more) rack h = nothing rack h
+
+both_there : (c : Option Command) (r : Option RackChoice) (line : Words) → both c r ≡ Some line → (c ≡ Some line.command) × (r ≡ Some line.rack)
+both_there None r line h = nothing line h
+both_there (Some c) None line h = nothing line h
+both_there (Some c) (Some r) line h =
+    let same = inside (record { command = c; rack = r }) line h in
+    (ap (λ w. Some w.command) same, ap (λ w. Some w.rack) same)
+
+-- ---- the words one after the other
+
+data First (word : Text) (rest : List Text) : Type 0 where
+  ends : word ≡ codes "--" → placed false (word ∷ rest) ≡ Some (record { bare = rest; racks = [] }) → First word rest
+  apart : word ≡ codes "--rack" → placed false (word ∷ rest) ≡ placed true rest → First word rest
+  joined : (v : Text) → word ≡ codes "--rack=" ++ v → placed false (word ∷ rest) ≡ option_map (with_rack v) (placed false rest) → First word rest
+  unknown : placed false (word ∷ rest) ≡ None → First word rest
+  usual : placed false (word ∷ rest) ≡ option_map (with_bare word) (placed false rest) → First word rest
+
+first_of : (word : Text) (rest : List Text) → First word rest
+first_of word rest = at (ends_options word) refl (is_option word) refl (has_value word) refl (is_dashed word) refl
+  where
+    at : (a : Bool) → ends_options word ≡ a → (b : Bool) → is_option word ≡ b → (v : Bool) → has_value word ≡ v → (d : Bool) → is_dashed word ≡ d
+        → First word rest
+    at true ea b eb v ev d ed = ends (bytes_same word (codes "--") ea) (rw ea refl)
+    at false ea true eb v ev d ed = apart (bytes_same word (codes "--rack") eb) (rw (ea, eb) refl)
+    at false ea false eb true ev d ed =
+        joined (drop 7 word) (sym (take-append-drop 7 word) ∙ ap (λ xs. xs ++ drop 7 word) (bytes_same (take 7 word) (codes "--rack=") ev)) (rw (ea, eb, ev) refl)
+    at false ea false eb false ev true ed = unknown (rw (ea, eb, ev, ed) refl)
+    at false ea false eb false ev false ed = usual (rw (ea, eb, ev, ed) refl)
+
+-- the value behind `--rack`
+valued : (words : List Text) (p : Places) → placed true words ≡ Some p
+    → (value : Text) × (rest : List Text) × (q : Places) × (words ≡ value ∷ rest) × (placed false rest ≡ Some q) × (with_rack value q ≡ p)
+valued [] p h = nothing p h
+valued (word ∷ rest) p h = at (is_dashed word) refl h
+  where
+    at : (t : Bool) → is_dashed word ≡ t → (if t then None else option_map (with_rack word) (placed false rest)) ≡ Some p
+        → (value : Text) × (rest_ : List Text) × (q : Places) × (word ∷ rest ≡ value ∷ rest_) × (placed false rest_ ≡ Some q) × (with_rack value q ≡ p)
+    at true e h = nothing p h
+    at false e h = let found = mapped (with_rack word) (placed false rest) p h in (word, rest, found.0, refl, found.1, found.2)
+
+-- words that choose no rack
+record IsRest (words bare : List Text) : Type 0 where
+  between : List Text
+  dashes : List Text
+  behind : List Text
+  whole : words ≡ between ++ (dashes ++ behind)
+  parts : between ++ behind ≡ bare
+  end : (dashes ≡ []) ⊎ (dashes ≡ codes "--" ∷ [])
+
+one_more : (value : Text) (more : List Text) → value ∷ more ≡ [] → ⊥
+one_more value more e = let lengths = ap length e in omega arith
+
+no_choice : (words : List Text) (p : Places) → placed false words ≡ Some p → p.racks ≡ [] → IsRest words p.bare
+no_choice [] p h none = record { between = []; dashes = []; behind = []; whole = refl; parts = ap (λ q. q.bare) (inside _ p h); end = inl refl }
+no_choice (word ∷ rest) p h none = elim (first_of word rest) [
+  | ends is e ↦ record {
+    between = [];
+    dashes = codes "--" ∷ [];
+    behind = rest;
+    whole = ap (λ w. w ∷ rest) is;
+    parts = ap (λ q. q.bare) (inside _ p (sym e ∙ h));
+    end = inr refl;
+  }
+  | apart is e ↦ let found = valued rest p (sym e ∙ h) in absurd (one_more found.0 found.2.racks (ap (λ q. q.racks) found.5 ∙ none))
+  | joined v is e ↦ let found = mapped (with_rack v) (placed false rest) p (sym e ∙ h) in absurd (one_more v found.0.racks (ap (λ q. q.racks) found.2 ∙ none))
+  | unknown e ↦ nothing p (sym e ∙ h)
+  | usual e ↦
+      let found = mapped (with_bare word) (placed false rest) p (sym e ∙ h) in
+      let more = no_choice rest found.0 found.1 (ap (λ q. q.racks) found.2 ∙ none) in
+      record {
+        between = word ∷ more.between;
+        dashes = more.dashes;
+        behind = more.behind;
+        whole = ap (λ ws. word ∷ ws) more.whole;
+        parts = ap (λ ws. word ∷ ws) more.parts ∙ ap (λ q. q.bare) found.2;
+        end = more.end;
+      }
+]
+
+-- words that choose this rack
+record IsChoice (words bare : List Text) (value : Text) : Type 0 where
+  before : List Text
+  option : List Text
+  between : List Text
+  dashes : List Text
+  behind : List Text
+  whole : words ≡ before ++ (option ++ (between ++ (dashes ++ behind)))
+  parts : before ++ (between ++ behind) ≡ bare
+  chosen : (option ≡ codes "--rack" ∷ value ∷ []) ⊎ (option ≡ (codes "--rack=" ++ value) ∷ [])
+  end : (dashes ≡ []) ⊎ (dashes ≡ codes "--" ∷ [])
+
+head_of : List Text → Text
+head_of [] = []
+head_of (word ∷ more) = word
+
+tail_of : List Text → List Text
+tail_of [] = []
+tail_of (word ∷ more) = more
+
+one_choice : (words : List Text) (p : Places) (value : Text) → placed false words ≡ Some p → p.racks ≡ value ∷ [] → IsChoice words p.bare value
+unfolding head_of tail_of
+one_choice [] p value h one = absurd (one_more value [] (sym (ap (λ q. q.racks) (inside _ p h) ∙ one)))
+one_choice (word ∷ rest) p value h one = elim (first_of word rest) [
+  | ends is e ↦ absurd (one_more value [] (sym (ap (λ q. q.racks) (inside _ p (sym e ∙ h)) ∙ one)))
+  | apart is e ↦
+      let found = valued rest p (sym e ∙ h) in
+      let racks = ap (λ q. q.racks) found.5 ∙ one in
+      let more = no_choice found.1 found.2 found.4 (ap tail_of racks) in
+      record {
+        before = [];
+        option = codes "--rack" ∷ value ∷ [];
+        between = more.between;
+        dashes = more.dashes;
+        behind = more.behind;
+        whole = ap (λ w. w ∷ rest) is ∙ ap (λ ws. codes "--rack" ∷ ws) (found.3 ∙ ap (λ w. w ∷ found.1) (ap head_of racks) ∙ ap (λ ws. value ∷ ws) more.whole);
+        parts = more.parts ∙ ap (λ q. q.bare) found.5;
+        chosen = inl refl;
+        end = more.end;
+      }
+  | joined v is e ↦
+      let found = mapped (with_rack v) (placed false rest) p (sym e ∙ h) in
+      let racks = ap (λ q. q.racks) found.2 ∙ one in
+      let more = no_choice rest found.0 found.1 (ap tail_of racks) in
+      record {
+        before = [];
+        option = (codes "--rack=" ++ value) ∷ [];
+        between = more.between;
+        dashes = more.dashes;
+        behind = more.behind;
+        whole = ap (λ w. w ∷ rest) (is ∙ ap (λ w. codes "--rack=" ++ w) (ap head_of racks)) ∙ ap (λ ws. (codes "--rack=" ++ value) ∷ ws) more.whole;
+        parts = more.parts ∙ ap (λ q. q.bare) found.2;
+        chosen = inr refl;
+        end = more.end;
+      }
+  | unknown e ↦ nothing p (sym e ∙ h)
+  | usual e ↦
+      let found = mapped (with_bare word) (placed false rest) p (sym e ∙ h) in
+      let more = one_choice rest found.0 value found.1 (ap (λ q. q.racks) found.2 ∙ one) in
+      record {
+        before = word ∷ more.before;
+        option = more.option;
+        between = more.between;
+        dashes = more.dashes;
+        behind = more.behind;
+        whole = ap (λ ws. word ∷ ws) more.whole;
+        parts = ap (λ ws. word ∷ ws) more.parts ∙ ap (λ q. q.bare) found.2;
+        chosen = more.chosen;
+        end = more.end;
+      }
+]
+
+-- what asks for something is a command line
+pub nothing_else_asks : (words : List Text) (line : Words) → plainly words ≡ Some line → IsLine words line
+unfolding plainly
+nothing_else_asks words line h = go (placed false words) refl h
+  where
+    go : (o : Option Places) → placed false words ≡ o → asked_at o ≡ Some line → IsLine words line
+    go None e h = nothing line h
+    go (Some p) e h =
+        let there = both_there (command_in p.bare) (rack_in p.racks) line h in
+        let command = command_written p.bare line.command there.0 in
+        elim (rack_written p.racks line.rack there.1) [
+          | inl none ↦
+              let rest = no_choice words p e none.0 in
+              record {
+                before = [];
+                option = [];
+                between = rest.between;
+                dashes = rest.dashes;
+                behind = rest.behind;
+                whole = rest.whole;
+                command = rest.parts ∙ command.0;
+                range = command.1;
+                rack = inl (refl, none.1);
+                end = rest.end;
+              }
+          | inr one ↦
+              let choice = one_choice words p (name_of line.rack) e one in
+              record {
+                before = choice.before;
+                option = choice.option;
+                between = choice.between;
+                dashes = choice.dashes;
+                behind = choice.behind;
+                whole = choice.whole;
+                command = choice.parts ∙ command.0;
+                range = command.1;
+                rack = inr choice.chosen;
+                end = choice.end;
+              }
+        ]
+
+-- the answer to what is said of the words is right for command lines
+pub answers_line : (words : List Text) (r : Result Words WordsFault) → IsAnswer (plainly words) r → AnswersLine words r
+answers_line words (Ok line) h = nothing_else_asks words line h
+answers_line words (Err Usage) h = λ line is. nothing line (sym h ∙ line_asks words line is)
+answers_line words (Err NoMemory) h = tt

@@ -1,0 +1,50 @@
+-- Profile: what COMMAND, NUMBER and the name of a rack ask for.
+use Rattle.std.specs.Prelude.{ℕ, ◌==◌, ◌&&◌, ◌||◌, not, nat_lt, nat_le, Bool, if◌then◌else◌, List, length, slice_index, codes, Option, Some, None}
+use Rattle.std.specs.List.{list_all}
+use Rattle.std.specs.Char.{is_ascii_digit}
+use Rattle.std.specs.Str.{bytes_eq}
+use Rattle.std.specs.Option.{option_map}
+use Rattle.std.specs.Str.Parse.{digits_value}
+use Rattle.uac_words.specs.declared.commands.Command.{Command}
+use Rattle.uac_words.specs.declared.commands.Command.TheVariants.{Check, Show, Elements, Run, Gen, Settle}
+use Rattle.uac_words.specs.declared.commands.RackChoice.{RackChoice}
+use Rattle.uac_words.specs.declared.commands.RackChoice.TheVariants.{Plain, Lanes}
+use Rattle.uac_words.specs.declared.commands.Words.{Words}
+
+-- one decimal digit or more and nothing else; a 0 stands in front only where it stands alone
+unfoldable pub is_decimal : List ℕ → Bool
+is_decimal text = nat_lt 0 (length text) && (not (slice_index text 0 == 48) || length text == 1) && list_all is_ascii_digit text
+
+-- the NUMBER that a word spells: a decimal number of 0 to 4294967295 without leading zeros
+unfoldable pub number_of : List ℕ → Option ℕ
+number_of text = if is_decimal text && nat_le (digits_value 10 text) 4294967295 then Some (digits_value 10 text) else None
+
+-- the command of this name, of those that take no NUMBER
+abbrev pub command_named : List ℕ → Option Command
+command_named word =
+    if bytes_eq word (codes "check") then Some Check
+    else if bytes_eq word (codes "show") then Some Show
+    else if bytes_eq word (codes "elements") then Some Elements
+    else if bytes_eq word (codes "run") then Some Run
+    else if bytes_eq word (codes "settle") then Some Settle
+    else None
+
+-- the command of this name with this NUMBER: `gen` alone takes one
+abbrev pub command_with : List ℕ → List ℕ → Option Command
+command_with word number = if bytes_eq word (codes "gen") then option_map Gen (number_of number) else None
+
+abbrev pub command_of : List ℕ → Option (List ℕ) → Option Command
+command_of word None = command_named word
+command_of word (Some number) = command_with word number
+
+-- the rack of this name
+abbrev pub rack_named : List ℕ → Option RackChoice
+rack_named word =
+    if bytes_eq word (codes "plain") then Some Plain
+    else if bytes_eq word (codes "lanes") then Some Lanes
+    else None
+
+-- a command and a rack, where there are both
+abbrev pub both : Option Command → Option RackChoice → Option Words
+both (Some command) (Some rack) = Some (record { command = command; rack = rack })
+both _ _ = None

@@ -1,0 +1,4 @@
+pub mod Asked
+pub mod ByClap
+pub mod Lines
+pub mod Plain

@@ -1,0 +1,73 @@
+-- Profile: what a command line may look like, said of the words themselves, one after the other.
+use Rattle.std.specs.Prelude.{ℕ, ◌==◌, Bool, true, false, if◌then◌else◌, List, [], ◌∷◌, take, drop, codes, Option, Some, None}
+use Rattle.std.specs.Option.{option_map}
+use Rattle.std.specs.Str.{bytes_eq}
+use Rattle.uac_words.specs.declared.commands.Command.{Command}
+use Rattle.uac_words.specs.declared.commands.RackChoice.{RackChoice}
+use Rattle.uac_words.specs.declared.commands.RackChoice.TheVariants.{Plain}
+use Rattle.uac_words.specs.declared.commands.Words.{Words}
+use Rattle.uac_words.specs.Asked.{both, command_named, command_with, rack_named}
+
+abbrev pub Text : Type 0
+Text = List ℕ
+
+-- the words in their places: those for COMMAND and NUMBER, and the values of `--rack`, each in their order
+pub record Places : Type 0 where
+  pub bare : List Text
+  pub racks : List Text
+
+abbrev pub with_bare : Text → Places → Places
+with_bare word places = record places { bare = word ∷ places.bare }
+
+abbrev pub with_rack : Text → Places → Places
+with_rack word places = record places { racks = word ∷ places.racks }
+
+-- the word begins with a hyphen (45), and isn't a hyphen alone
+abbrev pub is_dashed : Text → Bool
+is_dashed [] = false
+is_dashed (byte ∷ []) = false
+is_dashed (byte ∷ rest) = byte == 45
+
+abbrev pub ends_options : Text → Bool
+ends_options word = bytes_eq word (codes "--")
+
+abbrev pub is_option : Text → Bool
+is_option word = bytes_eq word (codes "--rack")
+
+-- the word is `--rack=` with a value behind it
+abbrev pub has_value : Text → Bool
+has_value word = bytes_eq (take 7 word) (codes "--rack=")
+
+-- the words in their places; `waits` says that the word before was `--rack`, whose value comes next. Any other dashed word is refused,
+-- until a word `--`, behind which nothing is an option
+abbrev pub placed : Bool → List Text → Option Places
+placed true [] = None
+placed true (word ∷ rest) = if is_dashed word then None else option_map (with_rack word) (placed false rest)
+placed false [] = Some (record { bare = []; racks = [] })
+placed false (word ∷ rest) =
+    if ends_options word then Some (record { bare = rest; racks = [] })
+    else if is_option word then placed true rest
+    else if has_value word then option_map (with_rack (drop 7 word)) (placed false rest)
+    else if is_dashed word then None
+    else option_map (with_bare word) (placed false rest)
+
+-- COMMAND alone, or COMMAND and NUMBER, and nothing more
+abbrev pub command_in : List Text → Option Command
+command_in [] = None
+command_in (word ∷ []) = command_named word
+command_in (word ∷ number ∷ []) = command_with word number
+command_in (word ∷ number ∷ more) = None
+
+-- the rack, which is named once, or not at all and is the plain one
+abbrev pub rack_in : List Text → Option RackChoice
+rack_in [] = Some Plain
+rack_in (word ∷ []) = rack_named word
+rack_in (word ∷ more) = None
+
+abbrev pub asked_at : Option Places → Option Words
+asked_at None = None
+asked_at (Some places) = both (command_in places.bare) (rack_in places.racks)
+
+-- what the words ask for
+unfoldable pub plainly : List Text → Option Words
+plainly words = asked_at (placed false words)

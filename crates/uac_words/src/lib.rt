@@ -1,0 +1,11 @@
+//! The words of the command line: which command they ask for, and over which rack.
+#![tactic(auto)]
+
+mod commands;
+pub mod laws;
+mod reading;
+#[cfg(test)]
+mod tests;
+
+pub use commands::{Command, RackChoice, Words, WordsFault};
+pub use reading::read;
