@@ -1,2 +1,3 @@
 pub mod DescriptorLemmas
 pub mod LineLemmas
+pub mod SourceLemmas

@@ -1,4 +1,5 @@
--- The generator: the descriptor of a generated script, its lines, and those that are left.
+-- The generator: the descriptor of a generated script, its lines, those that are left, and its bytes.
 pub mod Descriptor
 pub mod Generator
 pub mod Left
+pub mod Script

@@ -13,8 +13,11 @@ mod groups;
 mod lines;
 /// The places that a script has come to.
 mod places;
+/// The script as a source of bytes.
+mod source;
 
 pub use generator::Gen;
+pub use source::GenSource;
 
 #[cfg(test)]
 mod tests;

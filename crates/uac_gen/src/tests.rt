@@ -1,7 +1,8 @@
 // Whole scripts beside those of another program, which was written from the rules of the draws.
-use crate::Gen;
+use crate::{Gen, GenSource};
 use arrayvec::ArrayVec;
 use std::process::Abort;
+use uac_edges::Source;
 
 // The lines of this place, from 0, in the script of 1.
 const KNOWN: [(u32, &[u8]); 6] = [
@@ -16,12 +17,12 @@ const KNOWN: [(u32, &[u8]); 6] = [
     (828, b"q"),
 ];
 
-// The line, and its newline, mixed into a sum that tells texts apart (FNV-1a).
-fn mixed(mut sum: u32, line: &[u8]) -> u32 {
-    for byte in line {
+// The text, mixed into a sum that tells texts apart (FNV-1a).
+fn mixed(mut sum: u32, text: &[u8]) -> u32 {
+    for byte in text {
         sum = (sum ^ u32::from(*byte)).wrapping_mul(16777619);
     }
-    (sum ^ 10).wrapping_mul(16777619)
+    sum
 }
 
 // The script of this number has so many lines, and their text has this sum.
@@ -39,7 +40,7 @@ fn expect(rt: &impl Abort, number: u32, lines: u32, text: u32) {
                 assert_eq!(rt; line.as_slice(), known, "at line {place}");
             }
         }
-        sum = mixed(sum, line.as_slice());
+        sum = mixed(mixed(sum, line.as_slice()), b"\n");
         count = count.saturating_add(1);
     }
     assert_eq!(rt; count, lines, "of number {number}");
@@ -61,4 +62,32 @@ fn script_of_one(rt: HostRuntime) {
 #[test]
 fn script_of_the_last_number(rt: HostRuntime) {
     expect(&rt, 4294967295, 817, 1084418934);
+}
+
+// The bytes of the source are the same text, whatever their pieces.
+#[test]
+fn source_of_one(rt: HostRuntime) {
+    let mut source = GenSource::new(1);
+    let mut piece = [0; 7];
+    let mut sum = 2166136261;
+    for _ in 0..20000 {
+        match source.take(&mut piece) {
+            Ok(count) => sum = mixed(sum, &piece[..count]),
+            Err(_) => break,
+        }
+    }
+    assert_eq!(rt; sum, 983417299);
+    assert_eq!(rt; source.take(&mut piece), Ok(0));
+}
+
+#[test]
+fn source_begins_with_the_first_line(rt: HostRuntime) {
+    let mut line = ArrayVec::new();
+    assert!(rt; Gen::new(1).next(&mut line));
+    let mut source = GenSource::new(1);
+    let mut piece = [0; 160];
+    let count = source.take(&mut piece).unwrap_or(0);
+    assert_eq!(rt; &piece[..count], line.as_slice());
+    assert_eq!(rt; source.take(&mut piece), Ok(1));
+    assert_eq!(rt; piece[0], b'\n');
 }
