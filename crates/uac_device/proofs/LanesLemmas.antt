@@ -24,7 +24,7 @@ use Rattle.uac_flow.specs.Streams.{InStream, OutStream}
 use Rattle.uac_device.specs.declared.lane.Port.{Port}
 use Rattle.uac_device.specs.declared.lane.Lane.{Lane}
 use Rattle.uac_device.specs.DeviceWorld.{changed_at, replaced_at}
-use Rattle.uac_device.specs.Lanes.{AreLanes, FitsPort, IsLane, KeepsLane, KeepsStreams, idle_lane, lane_at, port_of, ports}
+use Rattle.uac_device.specs.Lanes.{AreLanes, FitsPort, IsLane, KeepsLane, KeepsStreams, idle_lane, lane_at, port_of, port_with, ports}
 
 -- the lane at the place of an interface
 pub lane_found : (lanes : List Lane) (interface place : ℕ) (d : Lane) → lane_at lanes interface ≡ Some place
@@ -296,21 +296,9 @@ entity_unnamed entities id missing =
       | inr past ↦ get_or_past entities (position_or_len p entities) nothing past
     ]
 
-port_with : StreamInterface → ℕ → ℕ → Port
-port_with s clock channels = record { interface = s.number; terminal = s.terminal; clock = clock; channels = channels; out = s.out }
+pub port_named : (entities : List Entity) (s : StreamInterface) (e : Entity) → named entities s.terminal ≡ Some e
+    → port_with s e.clock e.cluster.channels ≡ port_of entities s
+port_named entities s e found = ap (λ (f : Entity). port_with s f.clock f.cluster.channels) (sym (entity_named entities s.terminal e found))
 
-pub port_named : (entities : List Entity) (s : StreamInterface) (e : Entity) (clock channels : ℕ) → named entities s.terminal ≡ Some e → clock ≡ e.clock → channels ≡ e.cluster.channels
-    → record { interface = s.number; terminal = s.terminal; clock = clock; channels = channels; out = s.out } ≡ port_of entities s
-unfolding port_with
-port_named entities s e clock channels found a b =
-    let is = entity_named entities s.terminal e found in
-    ap (λ (n : ℕ). port_with s n channels) (a ∙ sym (ap (λ (f : Entity). f.clock) is))
-    ∙ ap (λ (n : ℕ). port_with s (entity entities s.terminal).clock n) (b ∙ sym (ap (λ (f : Entity). f.cluster.channels) is))
-
-pub port_unnamed : (entities : List Entity) (s : StreamInterface) (clock channels : ℕ) → named entities s.terminal ≡ None → clock ≡ 0 → channels ≡ 0
-    → record { interface = s.number; terminal = s.terminal; clock = clock; channels = channels; out = s.out } ≡ port_of entities s
-unfolding port_with
-port_unnamed entities s clock channels missing a b =
-    let is = entity_unnamed entities s.terminal missing in
-    ap (λ (n : ℕ). port_with s n channels) (a ∙ sym (ap (λ (f : Entity). f.clock) is))
-    ∙ ap (λ (n : ℕ). port_with s (entity entities s.terminal).clock n) (b ∙ sym (ap (λ (f : Entity). f.cluster.channels) is))
+pub port_unnamed : (entities : List Entity) (s : StreamInterface) → named entities s.terminal ≡ None → port_with s 0 0 ≡ port_of entities s
+port_unnamed entities s missing = ap (λ (f : Entity). port_with s f.clock f.cluster.channels) (sym (entity_unnamed entities s.terminal missing))

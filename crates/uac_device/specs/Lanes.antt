@@ -16,16 +16,13 @@ use Rattle.uac_device.specs.declared.lane.Lane.{Lane}
 use Rattle.uac_device.specs.declared.ticking.Ticked.{Ticked}
 use Rattle.uac_device.specs.DeviceWorld.{bits_of}
 
+-- an interface with a terminal of this clock and so many channels
+abbrev pub port_with : StreamInterface → ℕ → ℕ → Port
+port_with s clock channels = record { interface = s.number; terminal = s.terminal; clock = clock; channels = channels; out = s.out }
+
 -- an interface with the terminal to which it links
 abbrev pub port_of : List Entity → StreamInterface → Port
-port_of entities s =
-    record {
-      interface = s.number;
-      terminal = s.terminal;
-      clock = (entity entities s.terminal).clock;
-      channels = (entity entities s.terminal).cluster.channels;
-      out = s.out;
-    }
+port_of entities s = port_with s (entity entities s.terminal).clock (entity entities s.terminal).cluster.channels
 
 -- the lane of an interface that runs no stream
 abbrev pub idle_lane : Port → Lane

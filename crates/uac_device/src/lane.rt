@@ -19,7 +19,7 @@ use uac_pcm::{Frame, Packet};
 use uac_ring::Ring;
 
 /// A streaming interface, and the terminal of the bus to which it links: its id, its clock and its channels (Audio Class 2.0, 4.9.2).
-#[derive(Clone, Copy, Debug, PartialEq, Eq)]
+#[derive(Clone, Copy)]
 pub struct Port {
     pub interface: u8,
     pub terminal: u8,
@@ -30,7 +30,7 @@ pub struct Port {
 }
 
 /// The stream that an interface runs, beside its ring.
-#[derive(Clone, Copy, Debug, PartialEq, Eq)]
+#[derive(Clone, Copy)]
 pub enum Flow {
     Idle,
     Out(OutFlow),

@@ -7,7 +7,7 @@ ghost use Rattle.uac_flow.specs.Flows.{ZerosFit};
 ghost use Rattle.uac_flow.specs.Streams.{InStream, OutStream, after_packet, after_sending, arrival_of, feedback_of, sent_frames, sent_packet, settled_in, settled_out};
 ghost use Rattle.uac_flow.specs.declared.arrival.Arrival.TheVariants as arrival;
 ghost use Rattle.uac_device.specs.DeviceWorld.{changed_at, either_due, in_from, level_in, out_from, replaced_at};
-ghost use Rattle.uac_device.specs.Lanes.{FitsPort, KeepsStreams, idle_lane, lane_at, port_of, ports};
+ghost use Rattle.uac_device.specs.Lanes.{FitsPort, KeepsStreams, idle_lane, lane_at, port_of, port_with, ports};
 ghost use Rattle.uac_device.specs.declared.lane.Port as ported;
 
 use crate::lane::{Lane, Port};
@@ -171,14 +171,20 @@ impl Lanes {
     }
 }
 
-// The terminal to which an interface links.
+// An interface with the terminal to which it links.
 fn port(function: &Function, stream: &StreamInterface) -> Port
     ensures { result ≡ port_of function.now.entities stream.now }
 {
-    let (clock, channels) = match function.entity(stream.terminal) {
-        Some(terminal) => (terminal.clock, terminal.cluster.channels),
-        None => (0, 0),
-    };
+    match function.entity(stream.terminal) {
+        Some(terminal) => port_to(stream, terminal.clock, terminal.cluster.channels),
+        None => port_to(stream, 0, 0),
+    }
+}
+
+// An interface with a terminal of this clock and so many channels.
+fn port_to(stream: &StreamInterface, clock: u8, channels: u8) -> Port
+    ensures { result ≡ port_with stream.now clock channels }
+{
     Port {
         interface: stream.number,
         terminal: stream.terminal,

@@ -21,6 +21,7 @@ mod ticking;
 
 pub use clocks::Clock;
 pub use device::Device;
+pub use streams::{is_done, sets_interface, stream_asked};
 pub use terminals::{is_input_jack, is_output_jack, is_output_jack_of};
 pub use ticking::Ticked;
 pub use uac_flow::Arrival;

@@ -1,7 +1,7 @@
 // The stream that a request starts.
 ghost use Rattle.std.specs.Prelude.{◌≡◌, ◌==◌, if◌then◌else◌, Some, None};
 ghost use Rattle.std.specs.List.{find, list_any};
-ghost use Rattle.std.specs.Option.{option_map};
+ghost use Rattle.std.specs.Option.{option_and_then, option_map};
 ghost use Rattle.uac_alt.specs.Streams.{seen, stream_of};
 ghost use Rattle.uac_request.specs.Requests as requests;
 ghost use Rattle.uac_device.specs.DeviceWorld as spec;
@@ -13,14 +13,14 @@ use uac_store::Store;
 use uac_topology::{Function, Setting, StreamInterface};
 
 /// Whether a request sets an interface's setting (USB 2.0, 9.4.10).
-pub(crate) fn sets_interface(setup: &Setup) -> bool
+pub fn sets_interface(setup: &Setup) -> bool
     ensures { result ≡ spec.sets_interface setup.now }
 {
     setup.request_type == 1 && setup.request == 11
 }
 
 /// Whether an answer is that the request is done.
-pub(crate) fn is_done(answer: &Answer) -> bool
+pub fn is_done(answer: &Answer) -> bool
     ensures { result ≡ spec.tells_done (requests.seen answer.now) }
 {
     match answer {
@@ -30,8 +30,7 @@ pub(crate) fn is_done(answer: &Answer) -> bool
 }
 
 /// The stream of an interface in a setting, at the rate of its terminal's clock now; None where there is none.
-#[tactic(auto, unfolding(crate::specs::DeviceWorld::stream_in_setting))]
-pub(crate) fn stream_asked(
+pub fn stream_asked(
     function: &Function,
     store: &Store,
     interface: u16,
@@ -39,9 +38,10 @@ pub(crate) fn stream_asked(
 ) -> Option<Stream>
     ensures { option_map seen result ≡ stream_in_setting function.now store.now interface setting }
 {
-    let carrier = carrier_of(function, interface)?;
-    let rate = rate_of(function, store, carrier)?;
-    stream_in(function, rate, carrier, setting)
+    match carrier_of(function, interface) {
+        Some(carrier) => stream_now(function, store, carrier, setting),
+        None => None,
+    }
 }
 
 // The streaming interface with a number.
@@ -52,6 +52,23 @@ fn carrier_of(function: &Function, interface: u16) -> Option<&StreamInterface>
         .streams()
         .iter()
         .find(|stream| u16::from(stream.number) == interface)
+}
+
+// The stream of an interface in a setting, at the rate of its terminal's clock now.
+fn stream_now(
+    function: &Function,
+    store: &Store,
+    carrier: &StreamInterface,
+    setting: u16,
+) -> Option<Stream>
+    ensures { find (λ s. s.number == carrier.now.number) function.now.streams ≡ Some carrier.now
+        → option_map seen result ≡ option_and_then (λ rate. stream_of function.now rate carrier.now.number setting)
+        (requests.rate_at function.now store.now carrier.now) }
+{
+    match rate_of(function, store, carrier) {
+        Some(rate) => stream_in(function, rate, carrier, setting),
+        None => None,
+    }
 }
 
 // The stream of an interface in a setting, at a rate.
