@@ -1,0 +1,112 @@
+-- The host's stream of an interface: of one that the function has, and of one that it hasn't.
+use Rattle.std.proofs.Common.{◌≡◌, ◌∙◌, sym, refl, ap, subst, arith, ℕ, ◌==◌, Bool, true, if◌then◌else◌, List, [], ◌∷◌, Option, Some, None, IfSome, is_some, inl, inr}
+use Rattle.std.specs.List.{find}
+use Rattle.std.specs.Option.{option_map}
+use Rattle.std.proofs.lemmas.Bool.{cases_Bool, cases_eq}
+use Rattle.uac_entities.specs.declared.stream.StreamInterface.{StreamInterface}
+use Rattle.uac_topology.specs.Function.{FunctionFields}
+use Rattle.uac_rate.specs.Steadiness as steadiness
+use Rattle.uac_alt.specs.Streams.{StreamFields, seen}
+use Rattle.uac_alt.specs.declared.values.Stream.{Stream}
+use Rattle.uac_device.specs.Kept as devices
+use Rattle.uac_host.specs.HostWorld.{HostWorld, Pace}
+use Rattle.uac_host.specs.Calls.{IsStreamOf, at_interface, interface_in, with_stream}
+use Rattle.uac_host.specs.Kept as hosts
+use Rattle.uac_host.specs.declared.lanes.Lane.{Lane}
+use Rattle.uac_host.proofs.StandsLemmas.{elsewhere, here}
+use Rattle.uac_host.proofs.StreamsLemmas.{carried_by}
+use Rattle.uac_streaming.specs.StreamingWorld.{StreamingWorld, followed, given_at, place_of}
+use Rattle.uac_streaming.specs.Kept.{StreamingFields, Stands}
+
+eq_of : (m n : ℕ) → (m == n) ≡ true → m ≡ n
+eq_of m n e = grind arith
+
+some_same : {A : Type 0} (x y : A) → Some x ≡ Some y → x ≡ y
+some_same x y e = cc
+
+-- the interface that was found has the number
+pub found_number : (interface : ℕ) (streams : List StreamInterface) (s : StreamInterface) → find (λ t. t.number == interface) streams ≡ Some s → s.number ≡ interface
+found_number interface [] s e = absurd cc
+found_number interface (t ∷ ts) s e =
+    elim (cases_Bool (t.number == interface)) [
+      | inl same ↦ (let first = rw same at e in ap (λ (i : StreamInterface). i.number) (sym (some_same t s first)) ∙ eq_of t.number interface same)
+      | inr other ↦ found_number interface ts s (rw other at e)
+    ]
+
+pub number_is : (function : FunctionFields) (interface number : ℕ) → Some number ≡ option_map (λ s. s.number) (interface_in function interface) → number ≡ interface
+number_is function interface number e = by (interface_in function interface) refl where
+  by : (o : Option StreamInterface) → interface_in function interface ≡ o → number ≡ interface
+  by None none = absurd (let f : Some number ≡ None = e ∙ ap (option_map (λ s. s.number)) none in cc)
+  by (Some s) found =
+      some_same number s.number (e ∙ ap (option_map (λ s. s.number)) found) ∙ found_number interface function.streams s found
+
+pub none_found : (function : FunctionFields) (interface : ℕ) → None ≡ option_map (λ (s : StreamInterface). s.number) (interface_in function interface) → interface_in function interface ≡ None
+none_found function interface e = by (interface_in function interface) refl where
+  by : (o : Option StreamInterface) → interface_in function interface ≡ o → interface_in function interface ≡ None
+  by None none = none
+  by (Some s) found = absurd (let f : None ≡ Some s.number = e ∙ ap (option_map (λ s. s.number)) found in cc)
+
+-- no stream is of an interface that the function hasn't
+pub none_begun : (function : FunctionFields) (interface : ℕ) (begun : Option Stream) → IfSome begun (λ s. IsStreamOf function interface (seen s))
+    → interface_in function interface ≡ None → option_map seen begun ≡ None
+none_begun function interface None of none = refl
+none_begun function interface (Some s) of none =
+    let carried = carried_by function interface (seen s) of in absurd (let f : None ≡ Some carried.0 = sym none ∙ carried.1 in cc)
+
+-- where there is no such interface, the host has nothing to stop
+pub no_lane : (lanes : List Lane) (w : HostWorld) (interface : ℕ) → hosts.Stands lanes w → interface_in w.function interface ≡ None
+    → hosts.Stands lanes (with_stream interface None w)
+unfolding with_stream
+no_lane lanes w interface stands none = record {
+  lanes = λ k.
+      elim (cases_eq k interface) [
+        | inl same ↦
+            (let nothing : interface_in w.function k ≡ None = ap (interface_in w.function) same ∙ none in
+            stands.lanes k ∙ ap (option_map (λ (s : StreamInterface). hosts.kept_lane w k)) nothing
+            ∙ sym (ap (option_map (λ (s : StreamInterface). hosts.kept_lane (with_stream interface None w) k)) nothing))
+        | inr other ↦
+            stands.lanes k
+            ∙ ap (λ (p : Option Pace). option_map (λ (s : StreamInterface). hosts.kept_lane (record w { paces = λ (n : ℕ). p }) k) (interface_in w.function k))
+            (sym (elsewhere interface None w.paces k other))
+      ];
+  whole = stands.whole;
+  streams = λ k p runs.
+      elim (cases_eq k interface) [
+        | inl same ↦ absurd (let f : None ≡ Some p = sym (here interface None w.paces) ∙ ap (at_interface interface None w.paces) (sym same) ∙ runs in cc)
+        | inr other ↦ stands.streams k p (sym (elsewhere interface None w.paces k other) ∙ runs)
+      ];
+}
+
+stopped : (p : StreamingFields) (d : devices.DeviceFields) (w : StreamingWorld) (interface : ℕ) → Stands p d w → hosts.Stands p.host (with_stream interface None w.host)
+    → Stands p d (followed interface None w)
+unfolding followed with_stream
+stopped p d w interface stands of_host = record {
+  device = stands.device;
+  host = of_host;
+  same = stands.same;
+  order = stands.order;
+  met = stands.met;
+  steady = stands.steady;
+}
+
+pub followed_nowhere : (p : StreamingFields) (d : devices.DeviceFields) (w : StreamingWorld) (function : FunctionFields) (interface : ℕ) (begun : Option Stream) → Stands p d w
+    → w.device.function ≡ function → IfSome begun (λ s. IsStreamOf function interface (seen s))
+    → None ≡ option_map (λ (s : StreamInterface). s.number) (interface_in function interface) → Stands p d (followed interface (option_map seen begun) w)
+followed_nowhere p d w function interface begun stands same of none =
+    let nothing = none_found function interface none in
+    subst (λ (o : Option StreamFields). Stands p d (followed interface o w)) (sym (none_begun function interface begun of nothing))
+    (stopped p d w interface stands
+    (no_lane p.host w.host interface stands.host (ap (λ (f : FunctionFields). interface_in f interface) (stands.same ∙ same) ∙ nothing)))
+
+-- one that it has
+pub followed_so : (p : StreamingFields) (d : devices.DeviceFields) (w : StreamingWorld) (interface : ℕ) (begun : Option StreamFields) (b : Bool) → is_some begun ≡ b
+    → Stands p d (record w { host = with_stream interface begun w.host; given = if b then given_at (place_of w.device.function interface) steadiness.restarted w.given else w.given })
+    → Stands p d (followed interface begun w)
+unfolding followed
+followed_so p d w interface begun b is stands =
+    subst (λ (b : Bool). Stands p d (record w { host = with_stream interface begun w.host; given = if b then given_at (place_of w.device.function interface) steadiness.restarted w.given else w.given }))
+    (sym is) stands
+
+pub seen_some : (begun : Option Stream) → is_some (option_map seen begun) ≡ is_some begun
+seen_some None = refl
+seen_some (Some s) = refl

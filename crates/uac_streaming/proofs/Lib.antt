@@ -1,0 +1,14 @@
+pub mod Counted
+pub mod Founds
+pub mod Standing
+pub mod Followed
+pub mod Numbered
+pub mod SoFar
+pub mod Lost
+pub mod PacketLines
+pub mod Turned
+pub mod Ticking
+pub mod RoomLemmas
+pub mod RoomOfDevices
+pub mod RoomKept
+pub mod RoomTurns

@@ -1,0 +1,120 @@
+-- What is kept after each event stands for the world after it.
+use Rattle.std.proofs.Common.{◌≡◌, ◌∙◌, sym, refl, ap, subst, ℕ, Bool, true, false, if◌then◌else◌, List, Option, Some, None, Result, Ok, Err, OnOk}
+use Rattle.uac_topology.specs.Function.{FunctionFields}
+use Rattle.uac_rate.specs.Steadiness as steadiness
+use Rattle.uac_device.specs.Kept as devices
+use Rattle.uac_device.specs.DeviceWorld.{DeviceWorld, fresh}
+use Rattle.uac_host.specs.Kept as hosts
+use Rattle.uac_host.specs.HostWorld.{HostWorld, fresh_host}
+use Rattle.uac_host.specs.Calls.{packet_of}
+use Rattle.uac_host.specs.declared.lanes.Lane.{Lane}
+use Rattle.uac_transcript.specs.declared.report.StreamCounts.{StreamCounts}
+use Rattle.uac_streaming.specs.StreamingWorld.{StreamingWorld, counted_at, given_at, met_in, nothing_met, numbers, packet_to, place_of, streaming_start}
+use Rattle.uac_streaming.specs.Kept.{StreamingFields, Stands}
+use Rattle.uac_streaming.proofs.Counted.{counts_changed}
+
+-- at the start
+pub stands_start : (function : FunctionFields) (d : devices.DeviceFields) (lanes : List Lane) (order packet : List ℕ) (met : List StreamCounts) (steady : steadiness.SteadyFields)
+    → devices.Stands d (fresh function) → hosts.Stands lanes (fresh_host function) → order ≡ numbers function → met ≡ met_in (λ interface. nothing_met) function
+    → steadiness.Stands steady steadiness.nothing_given
+    → Stands (record { host = lanes; order = order; met = met; steady = steady; packet = packet }) d (streaming_start function)
+unfolding streaming_start fresh fresh_host
+stands_start function d lanes order packet met steady of_device of_host ordered counts given = record {
+  device = of_device;
+  host = of_host;
+  same = refl;
+  order = ordered;
+  met = counts;
+  steady = given;
+}
+
+-- the packet that comes to the device
+pub packet_is : (lost : Bool) (interface : ℕ) (w : StreamingWorld) (items : List ℕ) → items ≡ packet_of w.host interface
+    → (if lost then None else Some items) ≡ packet_to lost interface w
+packet_is true interface w items is = refl
+packet_is false interface w items is = ap (λ (b : List ℕ). Some b) is
+
+module _ (p : StreamingFields) (d : devices.DeviceFields) (w : StreamingWorld) (stands : Stands p d w) where
+  -- the host alone changes
+  pub hosted : (lanes : List Lane) (after : HostWorld) → hosts.Stands lanes after → after.function ≡ w.host.function
+      → Stands (record p { host = lanes }) d (record w { host = after })
+  hosted lanes after of_host same = record {
+    device = stands.device;
+    host = of_host;
+    same = same ∙ stands.same;
+    order = stands.order;
+    met = stands.met;
+    steady = stands.steady;
+  }
+
+  -- the device and the host change, and the last packet
+  pub carried : (after : devices.DeviceFields) (lanes : List Lane) (packet : List ℕ) (device : DeviceWorld) (host : HostWorld) → devices.Stands after device
+      → hosts.Stands lanes host → device.function ≡ w.device.function → host.function ≡ w.host.function
+      → Stands (record p { host = lanes; packet = packet }) after (record w { device = device; host = host })
+  carried after lanes packet device host of_device of_host device_same host_same = record {
+    device = of_device;
+    host = of_host;
+    same = host_same ∙ stands.same ∙ sym device_same;
+    order = stands.order ∙ ap numbers (sym device_same);
+    met = stands.met ∙ ap (met_in w.met) (sym device_same);
+    steady = stands.steady;
+  }
+
+  -- what was given alone changes
+  pub steadied : (steady : steadiness.SteadyFields) (given : steadiness.Given) → steadiness.Stands steady given
+      → Stands (record p { steady = steady }) d (record w { given = given })
+  steadied steady given kept = record {
+    device = stands.device;
+    host = stands.host;
+    same = stands.same;
+    order = stands.order;
+    met = stands.met;
+    steady = kept;
+  }
+
+  -- what was met alone changes
+  pub met_so : (met : ℕ → StreamCounts) (counts : List StreamCounts) → counts ≡ met_in met w.device.function
+      → Stands (record p { met = counts }) d (record w { met = met })
+  met_so met counts is = record {
+    device = stands.device;
+    host = stands.host;
+    same = stands.same;
+    order = stands.order;
+    met = is;
+    steady = stands.steady;
+  }
+
+-- the counts of an interface change
+pub set_so : (p q : StreamingFields) (d : devices.DeviceFields) (w : StreamingWorld) (asked told : FunctionFields) (interface : ℕ) (change : StreamCounts → StreamCounts)
+    (was counts : StreamCounts) → Stands p d w → asked ≡ w.device.function → told ≡ w.device.function
+    → ((met : ℕ → StreamCounts) (place : ℕ) → p.met ≡ met_in met asked → place_of asked interface ≡ Some place → was ≡ met interface)
+    → ((met : ℕ → StreamCounts) → p.met ≡ met_in met told → q.met ≡ met_in (counted_at interface (λ c. counts) met) told)
+    → counts ≡ change was → q ≡ record p { met = q.met }
+    → Stands q d (record w { met = counted_at interface change w.met })
+set_so p q d w asked told interface change was counts stands of_asked of_told read puts is others =
+    let function = w.device.function in
+    let own : (place : ℕ) → place_of function interface ≡ Some place → was ≡ w.met interface = λ place there.
+    subst (λ (f : FunctionFields). p.met ≡ met_in w.met f → place_of f interface ≡ Some place → was ≡ w.met interface) of_asked (read w.met place) stands.met there in
+    let put : q.met ≡ met_in (counted_at interface (λ c. counts) w.met) function =
+    subst (λ (f : FunctionFields). p.met ≡ met_in w.met f → q.met ≡ met_in (counted_at interface (λ c. counts) w.met) f) of_told (puts w.met) stands.met in
+    subst (λ (r : StreamingFields). Stands r d (record w { met = counted_at interface change w.met })) (sym others)
+    (met_so p d w stands (counted_at interface change w.met) q.met
+    (put ∙ counts_changed function interface w.met change counts (λ place there. is ∙ ap change (own place there))))
+
+-- an event of the reports of an interface, at its place, and of one that there isn't
+pub given_there : (f function : FunctionFields) (interface place : ℕ) (event : ℕ → steadiness.Given → steadiness.Given) (steady : steadiness.SteadyFields)
+    (given : steadiness.Given) → f ≡ function → Some place ≡ place_of function interface → steadiness.Stands steady (event place given)
+    → steadiness.Stands steady (given_at (place_of f interface) event given)
+given_there f function interface place event steady given same there =
+    subst (λ (o : Option ℕ). steadiness.Stands steady (given_at o event given)) (there ∙ ap (λ (g : FunctionFields). place_of g interface) (sym same))
+
+pub given_nowhere : (f function : FunctionFields) (interface : ℕ) (event : ℕ → steadiness.Given → steadiness.Given) (steady : steadiness.SteadyFields)
+    (given : steadiness.Given) → f ≡ function → None ≡ place_of function interface → steadiness.Stands steady given
+    → steadiness.Stands steady (given_at (place_of f interface) event given)
+given_nowhere f function interface event steady given same none =
+    subst (λ (o : Option ℕ). steadiness.Stands steady (given_at o event given)) (none ∙ ap (λ (g : FunctionFields). place_of g interface) (sym same))
+
+-- what follows where a call went well
+pub where_ok : {T E P Q : Type 0} (r : Result T E) → (P → Q) → OnOk r P → OnOk r Q
+where_ok (Ok x) f holds = f holds
+where_ok (Err e) f holds = holds

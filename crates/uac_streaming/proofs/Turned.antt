@@ -1,0 +1,231 @@
+-- The events of a microframe at one interface, from what their parts are seen to do.
+use Rattle.std.proofs.Common.{◌≡◌, ◌∙◌, sym, ap, subst, refl, arith, ℕ, ◌+◌, ◌<◌, ◌≤◌, ◌==◌, ◌&&◌, not, nat_le, Bool, true, false, if◌then◌else◌, ℤ, List, [], ◌∷◌, length, map, filter, get_or, Option, Some, None, is_some, Result, Ok, Err, OnOk}
+use Rattle.std.specs.List.{range_with_len}
+use Rattle.std.specs.List.Sorted.{IsStrictlyIncreasing}
+use Rattle.std.proofs.lemmas.Bool.{le-leb}
+use Rattle.std.proofs.lemmas.List.FromFn.{get_or-range_with_len, length-range_with_len}
+use Rattle.std.proofs.lemmas.List.Kept.{AllPairs-from_increasing, IsStrictlyIncreasing-filter}
+use Rattle.std.specs.Option.{option_map_or}
+use Rattle.std.specs.Io.KnownBytes.{Appends}
+use Rattle.uac_edges.specs.Writing.{AppendsFront}
+use Rattle.uac_topology.specs.Function.{FunctionFields}
+use Rattle.uac_flow.specs.declared.arrival.Arrival.{Arrival}
+use Rattle.uac_device.specs.Kept as devices
+use Rattle.uac_device.specs.DeviceWorld.{DeviceWorld, ZerosFitIn, arrival_in, feedback_in, frames_in, is_due_in, packet_in, settled}
+use Rattle.uac_host.specs.Kept as hosts
+use Rattle.uac_host.specs.HostWorld.{HostWorld}
+use Rattle.uac_host.specs.Calls.{heard_in, interface_in, size_of}
+use Rattle.uac_script.specs.Phrase.{Loss}
+use Rattle.uac_transcript.specs.Transcript.{Said, says_feedback, says_frame, says_in}
+use Rattle.uac_transcript.specs.Printing.{Prints, text_of}
+use Rattle.uac_transcript.proofs.PrintingLemmas.{Prints-after}
+use Rattle.uac_streaming.specs.Telling.{Telling, at_rest, in_turn}
+use Rattle.uac_streaming.specs.StreamingWorld.{StreamingWorld, all_reported, all_settled, comes_in, fetched_lines, goes_out, in_lines, in_packet_turn, in_packets, loses_in, loses_out, loses_report, numbers, out_lines, out_packets, out_turn, packet_fetched, packet_sent, packet_to, report_lines, report_made, report_turn, sent_lines, settled_lines, settled_turn}
+use Rattle.uac_streaming.specs.Kept.{StreamingFields, Stands, Tells}
+use Rattle.uac_streaming.proofs.SoFar.{Appends-nothing}
+
+-- what holds in any case holds at Ok
+pub at_ok : {T E : Type 0} (P : Type 0) (r : Result T E) → P → OnOk r P
+at_ok P (Ok x) p = p
+at_ok P (Err e) p = tt
+
+-- nothing happened, and nothing was printed
+pub rests : (told : Telling StreamingWorld) (p : StreamingFields) (d : devices.DeviceFields) (old : Option (List ℕ)) (w : StreamingWorld) → at_rest w ≡ told → Stands p d w
+    → Appends old old (text_of told.lines) × Stands p d told.world
+rests told p d old w is stands =
+    subst (λ (t : Telling StreamingWorld). Appends old old (text_of t.lines) × Stands p d t.world) is (Appends-nothing old, stands)
+
+-- ---- packets to the device
+
+module _ (detail interface : ℕ) (losses : List Loss) (w : StreamingWorld) (due : Bool) (is : due ≡ (goes_out w.device.function interface && is_due_in w.device interface)) where
+  pub out_rests : due ≡ false → at_rest w ≡ out_turn detail losses interface w
+  unfolding out_turn
+  out_rests idle =
+      let lost : Bool = loses_out losses interface in
+      let runs : Telling StreamingWorld = record { lines = sent_lines detail lost interface w; world = packet_sent lost interface w } in
+      ap (λ (b : Bool). if b then runs else at_rest w) (sym idle ∙ is)
+
+  pub out_told : {T E : Type 0} (q : StreamingFields) (e : devices.DeviceFields) (old new : Option (List ℕ)) (r : Result T E) (frames : ℕ) (arrival : Arrival) (lost : Bool)
+      → due ≡ true → lost ≡ loses_out losses interface → frames ≡ size_of w.host interface → arrival ≡ arrival_in w.device interface (packet_to lost interface w)
+      → Stands q e (packet_sent lost interface w) → Prints old new r (out_lines detail interface frames arrival) → Tells (out_turn detail losses interface w) q e old new r
+  unfolding out_turn
+  out_told q e old new r frames arrival lost ran own frames_are arrives stands prints =
+      let loses : Bool = loses_out losses interface in
+      let runs : Telling StreamingWorld = record { lines = sent_lines detail loses interface w; world = packet_sent loses interface w } in
+      let happens : runs ≡ out_turn detail losses interface w = ap (λ (b : Bool). if b then runs else at_rest w) (sym ran ∙ is) in
+      let lines : out_lines detail interface frames arrival ≡ sent_lines detail loses interface w =
+      ap (λ (n : ℕ). out_lines detail interface n arrival) frames_are
+      ∙ ap (out_lines detail interface (size_of w.host interface)) (arrives ∙ ap (λ (b : Bool). arrival_in w.device interface (packet_to b interface w)) own) in
+      subst (λ (told : Telling StreamingWorld). Tells told q e old new r) happens (
+        subst (λ (ls : List Said). Prints old new r ls) lines prints,
+        at_ok (Stands q e (packet_sent loses interface w)) r (subst (λ (b : Bool). Stands q e (packet_sent b interface w)) own stands),
+      )
+
+-- ---- packets from the device
+
+-- how a packet came, and then its frames
+pub fetched_told : {T E : Type 0} (old mid new : Option (List ℕ)) (r : Result T E) (detail interface frames : ℕ) (lost : Bool) (heard : List (List ℤ)) → 1 ≤ detail → lost ≡ false
+    → Appends old mid (text_of (if nat_le 2 detail then says_in interface frames lost ∷ [] else [])) → Prints mid new r (map (says_frame interface) heard)
+    → Prints old new r (in_lines detail lost interface frames heard)
+fetched_told old mid new r detail interface frames lost heard some came before after =
+    let both : true ≡ (nat_le 1 detail && not lost) = ap (λ (b : Bool). b && true) (sym (le-leb 1 detail some)) ∙ ap (λ (b : Bool). nat_le 1 detail && not b) (sym came) in
+    let frames_said : map (says_frame interface) heard ≡ (if nat_le 1 detail && not lost then map (says_frame interface) heard else []) =
+    ap (λ (b : Bool). if b then map (says_frame interface) heard else []) both in
+    Prints-after old mid new r (if nat_le 2 detail then says_in interface frames lost ∷ [] else []) (if nat_le 1 detail && not lost then map (says_frame interface) heard else [])
+    before (subst (λ (ls : List Said). Prints mid new r ls) frames_said after)
+
+-- the host is as it was
+host_still : (lost : Bool) (interface : ℕ) (w : StreamingWorld) → (packet_fetched lost interface w).host ≡ w.host
+unfolding packet_fetched
+host_still lost interface w = refl
+
+module _ (detail interface : ℕ) (losses : List Loss) (w : StreamingWorld) (due : Bool) (is : due ≡ (comes_in w.device.function interface && is_due_in w.device interface)) where
+  pub in_rests : due ≡ false → at_rest w ≡ in_packet_turn detail losses interface w
+  unfolding in_packet_turn
+  in_rests idle =
+      let lost : Bool = loses_in losses interface in
+      let runs : Telling StreamingWorld = record { lines = fetched_lines detail lost interface w; world = packet_fetched lost interface w } in
+      ap (λ (b : Bool). if b then runs else at_rest w) (sym idle ∙ is)
+
+  pub in_told : {T E : Type 0} (q : StreamingFields) (e : devices.DeviceFields) (old new : Option (List ℕ)) (r : Result T E) (frames : ℕ) (lost : Bool)
+      → due ≡ true → lost ≡ loses_in losses interface → frames ≡ frames_in w.device interface → q.packet ≡ packet_in w.device interface
+      → Stands q e (packet_fetched lost interface w)
+      → ((h : HostWorld) → hosts.Stands q.host h → Prints old new r (in_lines detail lost interface frames (heard_in h interface q.packet)))
+      → Tells (in_packet_turn detail losses interface w) q e old new r
+  unfolding in_packet_turn
+  in_told q e old new r frames lost ran own frames_are packet stands prints =
+      let loses : Bool = loses_in losses interface in
+      let runs : Telling StreamingWorld = record { lines = fetched_lines detail loses interface w; world = packet_fetched loses interface w } in
+      let happens : runs ≡ in_packet_turn detail losses interface w = ap (λ (b : Bool). if b then runs else at_rest w) (sym ran ∙ is) in
+      let lines : in_lines detail lost interface frames (heard_in w.host interface q.packet) ≡ fetched_lines detail loses interface w =
+      ap (λ (b : Bool). in_lines detail b interface frames (heard_in w.host interface q.packet)) own
+      ∙ ap (λ (n : ℕ). in_lines detail loses interface n (heard_in w.host interface q.packet)) frames_are
+      ∙ ap (λ (bytes : List ℕ). in_lines detail loses interface (frames_in w.device interface) (heard_in w.host interface bytes)) packet in
+      let of_host = subst (hosts.Stands q.host) (host_still lost interface w) stands.host in
+      subst (λ (told : Telling StreamingWorld). Tells told q e old new r) happens (
+        subst (λ (ls : List Said). Prints old new r ls) lines (prints w.host of_host),
+        at_ok (Stands q e (packet_fetched loses interface w)) r (subst (λ (b : Bool). Stands q e (packet_fetched b interface w)) own stands),
+      )
+
+-- ---- reports
+
+module _ (detail interface : ℕ) (losses : List Loss) (w : StreamingWorld) (report : Option ℕ) (is : report ≡ feedback_in w.device interface) where
+  pub report_rests : report ≡ None → at_rest w ≡ report_turn detail losses interface w
+  unfolding report_turn
+  report_rests none =
+      let lost : Bool = loses_report losses interface in
+      let made : ℕ → Telling StreamingWorld = λ value. record { lines = report_lines detail lost value interface; world = report_made lost value interface w } in
+      ap (λ (o : Option ℕ). option_map_or made o (at_rest w)) (sym none ∙ is)
+
+  pub report_told : {T E : Type 0} (q : StreamingFields) (e : devices.DeviceFields) (old new : Option (List ℕ)) (r : Result T E) (value : ℕ) (lost : Bool)
+      → report ≡ Some value → lost ≡ loses_report losses interface → Stands q e (report_made lost value interface w)
+      → Prints old new r (if nat_le 2 detail then says_feedback interface value lost ∷ [] else []) → Tells (report_turn detail losses interface w) q e old new r
+  unfolding report_turn
+  report_told q e old new r value lost some own stands prints =
+      let loses : Bool = loses_report losses interface in
+      let made : ℕ → Telling StreamingWorld = λ v. record { lines = report_lines detail loses v interface; world = report_made loses v interface w } in
+      let happens : made value ≡ report_turn detail losses interface w = ap (λ (o : Option ℕ). option_map_or made o (at_rest w)) (sym some ∙ is) in
+      subst (λ (told : Telling StreamingWorld). Tells told q e old new r) happens (
+        subst (λ (b : Bool). Prints old new r (report_lines detail b value interface)) own prints,
+        at_ok (Stands q e (report_made loses value interface w)) r (subst (λ (b : Bool). Stands q e (report_made b value interface w)) own stands),
+      )
+
+-- ---- the ends of microframes
+
+-- the device alone changes
+settled_stands : (p : StreamingFields) (d e : devices.DeviceFields) (w : StreamingWorld) (detail interface : ℕ) → Stands p d w → devices.Stands e (settled interface w.device)
+    → Stands p e (settled_turn detail interface w).world
+unfolding settled_turn settled
+settled_stands p d e w detail interface stands after = record {
+  device = after;
+  host = stands.host;
+  same = stands.same;
+  order = stands.order;
+  met = stands.met;
+  steady = stands.steady;
+}
+
+-- what is due at another interface stays as it was
+zeros_elsewhere : (w : DeviceWorld) (interface other : ℕ) → (other == interface) ≡ false → ZerosFitIn w other → ZerosFitIn (settled interface w) other
+unfolding ZerosFitIn settled
+zeros_elsewhere w interface other differs fits = rw differs fits
+
+-- of those that come, each has room for the zeros that are due
+abbrev pub ZerosFitFrom : List ℕ → ℕ → DeviceWorld → Type 0
+ZerosFitFrom order i w = (k : ℕ) → i ≤ k → k < length order → ZerosFitIn w (get_or order k 0)
+
+-- the same, and what is kept stands
+abbrev pub StandsBefore : StreamingFields → devices.DeviceFields → List ℕ → ℕ → StreamingWorld → Type 0
+StandsBefore p d order i w = Stands p d w × ZerosFitFrom order i w.device
+
+range_rises : (a n : ℕ) → IsStrictlyIncreasing (range_with_len a n)
+range_rises a n = λ k below.
+    let many = length-range_with_len a n in
+    let here = get_or-range_with_len a n k 0 (omega (arith, below, many)) in
+    let next = get_or-range_with_len a n (k + 1) 0 (omega (arith, below, many)) in
+    omega (arith, here, next)
+
+-- each number stands once
+numbers_differ : (function : FunctionFields) (i k : ℕ) → i < k → k < length (numbers function) → get_or (numbers function) i 0 < get_or (numbers function) k 0
+unfolding numbers
+numbers_differ function i k before below =
+    let test : ℕ → Bool = λ n. is_some (interface_in function n) in
+    AllPairs-from_increasing (filter test (range_with_len 0 256)) (IsStrictlyIncreasing-filter test (range_with_len 0 256) (range_rises 0 256)) i k 0 before below
+
+above_differs : (m n : ℕ) → m < n → (n == m) ≡ false
+above_differs m n less = grind arith
+
+-- the device is settled at one, and what comes still fits
+pub settled_one : (p : StreamingFields) (d e : devices.DeviceFields) (w : StreamingWorld) (detail interface i : ℕ) → interface ≡ get_or p.order i 0
+    → StandsBefore p d p.order i w → devices.Stands e (settled interface w.device) → StandsBefore p e p.order (i + 1) (settled_turn detail interface w).world
+unfolding settled_turn
+settled_one p d e w detail interface i is before after =
+    let order = before.0.order in (
+      settled_stands p d e w detail interface before.0 after,
+      λ k above below.
+          let there : k < length (numbers w.device.function) = subst (λ (ns : List ℕ). k < length ns) order below in
+          let less : get_or p.order i 0 < get_or p.order k 0 =
+          subst (λ (ns : List ℕ). get_or ns i 0 < get_or ns k 0) (sym order) (numbers_differ w.device.function i k (omega (arith, above)) there) in
+          let differs = above_differs interface (get_or p.order k 0) (subst (λ (n : ℕ). n < get_or p.order k 0) (sym is) less) in
+          zeros_elsewhere w.device interface (get_or p.order k 0) differs (before.1 k (omega (arith, above)) below),
+    )
+
+module _ (p : StreamingFields) (d e : devices.DeviceFields) (detail interface i : ℕ) (mid new : Option (List ℕ)) (is : interface ≡ get_or p.order i 0) (below : i < length p.order) where
+  -- the next one is settled
+  pub settled_next : ((v : DeviceWorld) → devices.Stands d v → ZerosFitIn v interface → Appends mid new (text_of (settled_lines detail interface v)) × devices.Stands e (settled interface v))
+      → (w : StreamingWorld) → StandsBefore p d p.order i w
+      → Appends mid new (text_of (settled_turn detail interface w).lines) × StandsBefore p e p.order (i + 1) (settled_turn detail interface w).world
+  unfolding settled_turn
+  settled_next tells w before =
+      let fits = subst (ZerosFitIn w.device) (sym is) (before.1 i (omega arith) below) in
+      let t = tells w.device before.0.device fits in
+      (t.0, settled_one p d e w detail interface i is before t.1)
+
+  -- or its line fails
+  pub settled_failed : ((v : DeviceWorld) → devices.Stands d v → ZerosFitIn v interface → AppendsFront mid new (text_of (settled_lines detail interface v)) × devices.Stands e (settled interface v))
+      → (w : StreamingWorld) → StandsBefore p d p.order i w → AppendsFront mid new (text_of (settled_turn detail interface w).lines)
+  unfolding settled_turn
+  settled_failed tells w before =
+      let fits = subst (ZerosFitIn w.device) (sym is) (before.1 i (omega arith) below) in
+      (tells w.device before.0.device fits).0
+
+-- ---- of all interfaces, by number
+
+pub out_packets_are : (detail : ℕ) (losses : List Loss) (w : StreamingWorld) (order : List ℕ) → order ≡ numbers w.device.function
+    → in_turn (out_turn detail losses) order w ≡ out_packets detail losses w
+unfolding out_packets
+out_packets_are detail losses w order is = ap (λ (ns : List ℕ). in_turn (out_turn detail losses) ns w) is
+
+pub in_packets_are : (detail : ℕ) (losses : List Loss) (w : StreamingWorld) (order : List ℕ) → order ≡ numbers w.device.function
+    → in_turn (in_packet_turn detail losses) order w ≡ in_packets detail losses w
+unfolding in_packets
+in_packets_are detail losses w order is = ap (λ (ns : List ℕ). in_turn (in_packet_turn detail losses) ns w) is
+
+pub all_settled_are : (detail : ℕ) (w : StreamingWorld) (order : List ℕ) → order ≡ numbers w.device.function → in_turn (settled_turn detail) order w ≡ all_settled detail w
+unfolding all_settled
+all_settled_are detail w order is = ap (λ (ns : List ℕ). in_turn (settled_turn detail) ns w) is
+
+pub all_reported_are : (detail : ℕ) (losses : List Loss) (w : StreamingWorld) (order : List ℕ) → order ≡ numbers w.device.function
+    → in_turn (report_turn detail losses) order w ≡ all_reported detail losses w
+unfolding all_reported
+all_reported_are detail losses w order is = ap (λ (ns : List ℕ). in_turn (report_turn detail losses) ns w) is

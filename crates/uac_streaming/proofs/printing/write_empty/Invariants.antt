@@ -1,0 +1,16 @@
+use Rattle.std.proofs.Common.{◌≡◌, ◌≤◌, Bool, map, take, drop, flat_map, if◌then◌else◌, [], ◌∷◌}
+use Rattle.std.specs.Io.KnownBytes.{Appends}
+use Rattle.uac_entities.specs.declared.stream.StreamInterface.{StreamInterface}
+use Rattle.uac_device.specs.DeviceWorld.{bits_of}
+use Rattle.uac_transcript.specs.Transcript.{says_under}
+use Rattle.uac_transcript.specs.Printing.{text_of}
+use Rattle.uac_streaming.proofs.printing.write_empty.Given as goal
+
+abbrev pub invariant-loop-stream : goal.invariant-loop-stream
+invariant-loop-stream g l = record {
+  rest : (test : StreamInterface → Bool) → l.bits ≡ bits_of (map test l.streams) → l.rest ≡ bits_of (map test (drop l.stream-index l.streams));
+  written : (test : StreamInterface → Bool) → l.bits ≡ bits_of (map test l.streams)
+      → Appends (g.K.Sink.written l.fn.sink) (g.K.Sink.written l.sink)
+      (text_of (flat_map (λ (s : StreamInterface). if test s then says_under s.number ∷ [] else []) (take l.stream-index l.streams)));
+  never_falls : g.K.Sink.faults l.fn.sink ≤ g.K.Sink.faults l.sink;
+}

@@ -1,0 +1,31 @@
+use Rattle.std.proofs.Common.{◌≡◌, ◌∙◌, refl, sym, subst, ap, Option, List, ℕ}
+use Rattle.uac_flow.specs.declared.arrival.Arrival.{Arrival}
+use Rattle.uac_device.specs.Kept as devices
+use Rattle.uac_device.specs.DeviceWorld.{arrival_in, received}
+use Rattle.uac_host.specs.Calls.{after_packet}
+use Rattle.uac_streaming.specs.StreamingWorld.{StreamingWorld, after_arrival, packet_sent, packet_to}
+use Rattle.uac_streaming.specs.Kept.{StreamingFields, Stands}
+use Rattle.uac_streaming.specs.contracts.streaming.Streaming.{the_view}
+use Rattle.uac_streaming.proofs.Standing.{carried, packet_is, set_so}
+use Rattle.uac_streaming.proofs.streaming.Streaming.send.Goals as goal
+
+pub returns-clause-stands : goal.returns-clause-stands
+unfolding packet_sent received after_packet
+returns-clause-stands c w stands =
+    let p = the_view c.self.inside in
+    let here = subst (λ (p : StreamingFields). Stands p c.args.device.now w) (sym c.self.view_is) stands in
+    let q : StreamingFields = record p { host = c.packet-frames.new.self; packet = c.packet-frames.new.packet.items } in
+    let to = packet_to c.args.lost c.args.interface w in
+    let comes = packet_is c.args.lost c.args.interface w c.packet-frames.new.packet.items (c.packet-frames.ensures.packet w.host here.host) in
+    let device : devices.Stands c.arrive-arrival.new.device (received c.args.interface to w.device) =
+    subst (λ (b : Option (List ℕ)). devices.Stands c.arrive-arrival.new.device (received c.args.interface b w.device)) comes (c.arrive-arrival.ensures.stands w.device here.device) in
+    let arrival : c.arrive-arrival.result ≡ arrival_in w.device c.args.interface to =
+    c.arrive-arrival.ensures.arrival w.device here.device ∙ ap (arrival_in w.device c.args.interface) comes in
+    let after : StreamingWorld = record w { device = received c.args.interface to w.device; host = after_packet c.args.interface w.host } in
+    let mid : Stands q c.arrive-arrival.new.device after =
+    carried p c.args.device.now w here c.arrive-arrival.new.device c.packet-frames.new.self c.packet-frames.new.packet.items (received c.args.interface to w.device)
+    (after_packet c.args.interface w.host) device (c.packet-frames.ensures.stands w.host here.host) refl refl in
+    set_so q c.set_met.new.self c.arrive-arrival.new.device after
+    c.function.result.now c.function-2.result.now c.args.interface (after_arrival (arrival_in w.device c.args.interface to)) c.met_on.result c.after_arrival-counts.result mid
+    (c.function.ensures ∙ device.function) (c.function-2.ensures ∙ device.function) c.met_on.ensures c.set_met.ensures.met
+    (c.after_arrival-counts.ensures ∙ ap (λ (a : Arrival). after_arrival a c.met_on.result) arrival) c.set_met.ensures.others

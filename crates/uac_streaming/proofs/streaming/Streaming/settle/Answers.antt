@@ -1,0 +1,69 @@
+use Rattle.std.proofs.Common.{◌∙◌, ap, subst, refl, arith, ◌+◌, ◌<◌, ◌≤◌, length, get_or}
+use Rattle.std.specs.Io.KnownBytes.{Appends}
+use Rattle.uac_edges.specs.Writing.{AppendsFront}
+use Rattle.uac_transcript.specs.Printing.{text_of}
+use Rattle.uac_streaming.specs.Telling.{Telling, in_turn}
+use Rattle.uac_streaming.specs.StreamingWorld.{StreamingWorld, settled_turn}
+use Rattle.uac_streaming.specs.Kept.{StreamingFields, Stands}
+use Rattle.uac_streaming.proofs.SoFar.{at_place, begun, turn_more, turn_stopped, turns_finished}
+use Rattle.uac_streaming.proofs.Turned.{StandsBefore, all_settled_are, settled_failed, settled_next}
+use Rattle.uac_streaming.proofs.streaming.Streaming.settle.Goals as goal
+
+pub loop-at-init : goal.loop-at-init
+loop-at-init g c = record {
+  told = λ w stands fit.
+      let event = settled_turn c.args.detail in
+      let order = c.args.self.now.order in
+      begun (in_turn event order w) (in_turn event order) (StandsBefore c.args.self.now c.args.device.now order 0) (g.K.Sink.written c.args.sink.now) w
+      (stands, λ k above below. fit (get_or order k 0)) refl;
+  never_falls = omega arith;
+  function = refl;
+}
+
+pub returns-in-Err-clause-tells : goal.returns-in-Err-clause-tells
+returns-in-Err-clause-tells g c = λ w stands fit.
+    let event = settled_turn c.args.detail in
+    let p = c.args.self.now in
+    let order = c.args.self.now.order in
+    let many = ap (λ (q : StreamingFields). length q.order) c.self.view_is in
+    let below : c.loop-at.at < length c.args.self.now.order = omega (arith, many, c.len-at-end.ensures, c.self.inside.order.ok.0, c.loop-at-test.true) in
+    let here = at_place order c.self.inside.order.items order c.loop-at.at c.index-interface.result.now (ap (λ (q : StreamingFields). q.order) c.self.view_is) refl below c.index-interface.ensures in
+    let all = turn_stopped event order w (StandsBefore p c.loop-at.device order c.loop-at.at) (StandsBefore p c.loop-at.device order c.loop-at.at)
+    (g.K.Sink.written c.args.sink.now) (g.K.Sink.written c.loop-at.sink) (g.K.Sink.written c.settle_one.new.sink) c.loop-at.at c.index-interface.result.now
+    below here (c.loop-at.invariant.told w stands fit)
+    (settled_failed p c.loop-at.device c.settle_one.new.device c.args.detail c.index-interface.result.now c.loop-at.at (g.K.Sink.written c.loop-at.sink) (g.K.Sink.written c.settle_one.new.sink)
+    here below c.in-Err.ensures.tells) in (
+      subst (λ (told : Telling StreamingWorld). AppendsFront (g.K.Sink.written c.args.sink.now) (g.K.Sink.written c.settle_one.new.sink) (text_of told.lines))
+          (all_settled_are c.args.detail w order stands.order) all,
+      tt,
+    )
+
+pub loop-at-preserved : goal.loop-at-preserved
+loop-at-preserved g c = record {
+  told = λ w stands fit.
+      let event = settled_turn c.args.detail in
+      let p = c.args.self.now in
+      let order = c.args.self.now.order in
+      let many = ap (λ (q : StreamingFields). length q.order) c.self.view_is in
+      let below : c.loop-at.at < length c.args.self.now.order = omega (arith, many, c.len-at-end.ensures, c.self.inside.order.ok.0, c.loop-at-test.true) in
+      let here = at_place order c.self.inside.order.items order c.loop-at.at c.index-interface.result.now (ap (λ (q : StreamingFields). q.order) c.self.view_is) refl below c.index-interface.ensures in
+      turn_more event order w (StandsBefore p c.loop-at.device order c.loop-at.at) (StandsBefore p c.settle_one.new.device order (c.loop-at.at + 1))
+      (g.K.Sink.written c.args.sink.now) (g.K.Sink.written c.loop-at.sink) (g.K.Sink.written c.settle_one.new.sink) c.loop-at.at c.index-interface.result.now
+      below here (c.loop-at.invariant.told w stands fit)
+      (settled_next p c.loop-at.device c.settle_one.new.device c.args.detail c.index-interface.result.now c.loop-at.at (g.K.Sink.written c.loop-at.sink) (g.K.Sink.written c.settle_one.new.sink)
+      here below c.in-Ok.ensures.tells);
+  never_falls = (let risen = c.settle_one.ensures.cause.never_falls in omega (arith, risen, c.loop-at.invariant.never_falls));
+  function = c.settle_one.ensures.function ∙ c.loop-at.invariant.function;
+}
+
+pub returns-clause-tells : goal.returns-clause-tells
+returns-clause-tells g c = λ w stands fit.
+    let event = settled_turn c.args.detail in
+    let order = c.args.self.now.order in
+    let many = ap (λ (q : StreamingFields). length q.order) c.self.view_is in
+    let past : length c.args.self.now.order ≤ c.loop-at.at = omega (arith, many, c.len-at-end.ensures, c.self.inside.order.ok.0, c.loop-at-test.false) in
+    let all = turns_finished event order w (StandsBefore c.args.self.now c.loop-at.device order c.loop-at.at) (g.K.Sink.written c.args.sink.now) (g.K.Sink.written c.loop-at.sink) c.loop-at.at past
+    (c.loop-at.invariant.told w stands fit) in
+    subst (λ (told : Telling StreamingWorld). Appends (g.K.Sink.written c.args.sink.now) (g.K.Sink.written c.loop-at.sink) (text_of told.lines)
+    × Stands c.args.self.now c.loop-at.device told.world)
+    (all_settled_are c.args.detail w order stands.order) (all.0, all.1.0)

@@ -1,0 +1,290 @@
+-- Streams between a host and a device: what packets, feedback reports and the ends of microframes make of both, and what is said of
+-- them. Profile: the order of events, and what is printed. The direction of an interface is that of its data endpoint (USB 2.0, 9.6.6);
+-- feedback is that of 5.12.4.2.
+use Rattle.std.specs.Prelude.{ℕ, ◌+◌, ◌==◌, ◌&&◌, not, nat_le, Bool, true, false, if◌then◌else◌, ℤ, pos, negsuc, List, [], ◌∷◌, ◌++◌, map, filter, position, Option, Some, None, is_some}
+use Rattle.std.specs.List.{list_any, range_with_len}
+use Rattle.std.specs.Option.{option_map_or}
+use Rattle.uac_topology.specs.Function.{FunctionFields}
+use Rattle.uac_alt.specs.Streams.{StreamFields}
+use Rattle.uac_rate.specs.Steadiness.{Given, nothing_given, reported, restarted}
+use Rattle.uac_flow.specs.Streams.{is_dry, is_full}
+use Rattle.uac_flow.specs.declared.arrival.Arrival.{Arrival}
+use Rattle.uac_flow.specs.declared.arrival.Arrival.TheVariants as arrivals
+use Rattle.uac_units.specs.Hearing.{held}
+use Rattle.uac_device.specs.DeviceWorld.{DeviceWorld, arrival_in, feedback_in, frames_in, fresh, is_due_in, is_on, level_of, packet_in, received, sent, settled, target_of}
+use Rattle.uac_host.specs.HostWorld.{HostWorld, fresh_host}
+use Rattle.uac_host.specs.Calls.{after_packet, heard_in, interface_in, packet_of, size_of, with_report, with_stream}
+use Rattle.uac_script.specs.Phrase.{Loss}
+use Rattle.uac_script.specs.declared.line.MarkKind.{MarkKind}
+use Rattle.uac_script.specs.declared.line.MarkKind.TheVariants as marks
+use Rattle.uac_transcript.specs.declared.packets.Arrival as printed
+use Rattle.uac_transcript.specs.declared.packets.Arrival.TheVariants as arrived
+use Rattle.uac_transcript.specs.declared.report.StreamCounts.{StreamCounts}
+use Rattle.uac_transcript.specs.Transcript.{Said, says_feedback, says_frame, says_in, says_level, says_out, says_over, says_under}
+use Rattle.uac_streaming.specs.Telling.{Telling, at_rest, in_turn}
+
+-- a host and a device, and what happened between them
+pub record StreamingWorld : Type 0 where
+  pub device : DeviceWorld
+  pub host : HostWorld
+  -- by interface, what its streams met
+  pub met : ℕ → StreamCounts
+  -- the deviations that were given, and by streaming interface, in block order, of each start the feedback reports
+  pub given : Given
+
+-- streams that met nothing
+abbrev pub nothing_met : StreamCounts
+nothing_met = record { under = 0; over = 0; lost = 0; missed = 0 }
+
+-- just after the descriptor was accepted
+unfoldable pub streaming_start : FunctionFields → StreamingWorld
+streaming_start function =
+    record { device = fresh function; host = fresh_host function; met = λ interface. nothing_met; given = nothing_given }
+
+-- ---- interfaces
+
+-- the numbers of the streaming interfaces, the least first
+unfoldable pub numbers : FunctionFields → List ℕ
+numbers function = filter (λ n. is_some (interface_in function n)) (range_with_len 0 256)
+
+-- an interface carries a stream to the device
+abbrev pub goes_out : FunctionFields → ℕ → Bool
+goes_out function interface = option_map_or (λ s. s.out) (interface_in function interface) false
+
+-- an interface carries a stream from the device
+abbrev pub comes_in : FunctionFields → ℕ → Bool
+comes_in function interface = option_map_or (λ s. not s.out) (interface_in function interface) false
+
+-- the place of an interface among the streaming ones, in block order
+abbrev pub place_of : FunctionFields → ℕ → Option ℕ
+place_of function interface = position (λ s. s.number == interface) function.streams
+
+-- ---- losses
+
+-- a mark names this interface
+abbrev pub is_at : ℤ → ℕ → Bool
+is_at (pos n) interface = n == interface
+is_at (negsuc n) interface = false
+
+-- marks are of packets to the device, of packets from it, or of reports
+abbrev pub marks_out : MarkKind → Bool
+marks_out marks.Out = true
+marks_out marks.In = false
+marks_out marks.Feedback = false
+
+abbrev pub marks_in : MarkKind → Bool
+marks_in marks.Out = false
+marks_in marks.In = true
+marks_in marks.Feedback = false
+
+abbrev pub marks_report : MarkKind → Bool
+marks_report marks.Out = false
+marks_report marks.In = false
+marks_report marks.Feedback = true
+
+-- the packet to the device of an interface is lost, that from it, or its report
+abbrev pub loses_out : List Loss → ℕ → Bool
+loses_out losses interface = list_any (λ l. marks_out l.letter && is_at l.place interface) losses
+
+abbrev pub loses_in : List Loss → ℕ → Bool
+loses_in losses interface = list_any (λ l. marks_in l.letter && is_at l.place interface) losses
+
+abbrev pub loses_report : List Loss → ℕ → Bool
+loses_report losses interface = list_any (λ l. marks_report l.letter && is_at l.place interface) losses
+
+-- ---- counts
+
+-- the counts of one interface change
+abbrev pub counted_at : ℕ → (StreamCounts → StreamCounts) → (ℕ → StreamCounts) → ℕ → StreamCounts
+counted_at interface change met k = if k == interface then change (met k) else met k
+
+-- the counts of these interfaces, in block order
+abbrev pub met_in : (ℕ → StreamCounts) → FunctionFields → List StreamCounts
+met_in met function = map (λ s. met s.number) function.streams
+
+-- a packet was lost
+abbrev pub one_lost : StreamCounts → StreamCounts
+one_lost c = record c { lost = held (c.lost + 1) }
+
+-- a ring had no room for a packet, or for a frame
+abbrev pub one_over : StreamCounts → StreamCounts
+one_over c = record c { over = held (c.over + 1) }
+
+-- a primed ring was found empty
+abbrev pub one_under : StreamCounts → StreamCounts
+one_under c = record c { under = held (c.under + 1) }
+
+-- a report was lost
+abbrev pub one_missed : StreamCounts → StreamCounts
+one_missed c = record c { missed = held (c.missed + 1) }
+
+-- ---- packets to the device
+
+abbrev pub after_arrival : Arrival → StreamCounts → StreamCounts
+after_arrival arrivals.Taken c = c
+after_arrival arrivals.Lost c = one_lost c
+after_arrival arrivals.Over c = one_over c
+
+-- how a packet arrived, as its line says it
+abbrev pub arrived_as : Arrival → printed.Arrival
+arrived_as arrivals.Taken = arrived.Ok
+arrived_as arrivals.Lost = arrived.Lost
+arrived_as arrivals.Over = arrived.Over
+
+-- a packet that was over is said at any detail
+abbrev pub over_lines : ℕ → Arrival → List Said
+over_lines interface arrivals.Taken = []
+over_lines interface arrivals.Lost = []
+over_lines interface arrivals.Over = says_over interface ∷ []
+
+-- from detail 2 on each packet is said
+abbrev pub out_lines : ℕ → ℕ → ℕ → Arrival → List Said
+out_lines detail interface frames arrival =
+    (if nat_le 2 detail then says_out interface frames (arrived_as arrival) ∷ [] else []) ++ over_lines interface arrival
+
+-- the packet that comes to the device; none where it is lost
+abbrev pub packet_to : Bool → ℕ → StreamingWorld → Option (List ℕ)
+packet_to lost interface w = if lost then None else Some (packet_of w.host interface)
+
+-- the host sends a packet, which is lost or comes to the device
+unfoldable pub packet_sent : Bool → ℕ → StreamingWorld → StreamingWorld
+packet_sent lost interface w =
+    let packet = packet_to lost interface w in
+    record w {
+      device = received interface packet w.device;
+      host = after_packet interface w.host;
+      met = counted_at interface (after_arrival (arrival_in w.device interface packet)) w.met;
+    }
+
+-- what is said of it
+abbrev pub sent_lines : ℕ → Bool → ℕ → StreamingWorld → List Said
+sent_lines detail lost interface w =
+    out_lines detail interface (size_of w.host interface) (arrival_in w.device interface (packet_to lost interface w))
+
+-- an interface runs a stream to the device that is due
+abbrev pub is_out_due : StreamingWorld → ℕ → Bool
+is_out_due w interface = goes_out w.device.function interface && is_due_in w.device interface
+
+-- the same where the interface runs a stream to the device that is due
+unfoldable pub out_turn : ℕ → List Loss → ℕ → StreamingWorld → Telling StreamingWorld
+out_turn detail losses interface w =
+    if is_out_due w interface
+    then record { lines = sent_lines detail (loses_out losses interface) interface w; world = packet_sent (loses_out losses interface) interface w }
+    else at_rest w
+
+-- the packets to the device, by interface number
+unfoldable pub out_packets : ℕ → List Loss → StreamingWorld → Telling StreamingWorld
+out_packets detail losses w = in_turn (out_turn detail losses) (numbers w.device.function) w
+
+-- ---- packets from the device
+
+-- from detail 2 on each packet is said, and from detail 1 on the frames of one that came
+abbrev pub in_lines : ℕ → Bool → ℕ → ℕ → List (List ℤ) → List Said
+in_lines detail lost interface frames heard =
+    (if nat_le 2 detail then says_in interface frames lost ∷ [] else [])
+    ++ (if nat_le 1 detail && not lost then map (says_frame interface) heard else [])
+
+-- the device sends a packet, which is lost or comes to the host
+unfoldable pub packet_fetched : Bool → ℕ → StreamingWorld → StreamingWorld
+packet_fetched lost interface w =
+    record w { device = sent interface w.device; met = counted_at interface (λ c. if lost then one_lost c else c) w.met }
+
+-- what is said of it
+abbrev pub fetched_lines : ℕ → Bool → ℕ → StreamingWorld → List Said
+fetched_lines detail lost interface w =
+    in_lines detail lost interface (frames_in w.device interface) (heard_in w.host interface (packet_in w.device interface))
+
+-- an interface runs a stream from the device that is due
+abbrev pub is_in_due : StreamingWorld → ℕ → Bool
+is_in_due w interface = comes_in w.device.function interface && is_due_in w.device interface
+
+-- the same where the interface runs a stream from the device that is due
+unfoldable pub in_packet_turn : ℕ → List Loss → ℕ → StreamingWorld → Telling StreamingWorld
+in_packet_turn detail losses interface w =
+    if is_in_due w interface
+    then record { lines = fetched_lines detail (loses_in losses interface) interface w; world = packet_fetched (loses_in losses interface) interface w }
+    else at_rest w
+
+-- the packets from the device, by interface number
+unfoldable pub in_packets : ℕ → List Loss → StreamingWorld → Telling StreamingWorld
+in_packets detail losses w = in_turn (in_packet_turn detail losses) (numbers w.device.function) w
+
+-- ---- ticks
+
+-- a tick of a domain finds the primed ring of an interface empty, or its ring full
+abbrev pub finds_empty : ℕ → DeviceWorld → ℕ → Bool
+finds_empty clock w interface = is_on w clock interface && option_map_or is_dry (w.outs interface) false
+
+abbrev pub finds_full : ℕ → DeviceWorld → ℕ → Bool
+finds_full clock w interface = is_on w clock interface && option_map_or is_full (w.ins interface) false
+
+-- what a tick of a domain finds, at any detail: first the rings found empty, in block order, and then those found full
+unfoldable pub found_lines : ℕ → DeviceWorld → List Said
+found_lines clock w =
+    map (λ s. says_under s.number) (filter (λ s. finds_empty clock w s.number) w.function.streams)
+    ++ map (λ s. says_over s.number) (filter (λ s. finds_full clock w s.number) w.function.streams)
+
+-- these are counted
+unfoldable pub found_counts : ℕ → DeviceWorld → (ℕ → StreamCounts) → ℕ → StreamCounts
+found_counts clock w met k =
+    let c = if finds_empty clock w k then one_under (met k) else met k in
+    if finds_full clock w k then one_over c else c
+
+-- ---- the ends of microframes
+
+-- from detail 2 on the level of a stream to the device that was due is said
+abbrev pub settled_lines : ℕ → ℕ → DeviceWorld → List Said
+settled_lines detail interface w =
+    if nat_le 2 detail && (goes_out w.function interface && is_due_in w interface)
+    then says_level interface (level_of (settled interface w) interface) (target_of (settled interface w) interface) ∷ []
+    else []
+
+-- a microframe ends for an interface's stream
+unfoldable pub settled_turn : ℕ → ℕ → StreamingWorld → Telling StreamingWorld
+settled_turn detail interface w =
+    record { lines = settled_lines detail interface w.device; world = record w { device = settled interface w.device } }
+
+-- it ends for all of them, by interface number
+unfoldable pub all_settled : ℕ → StreamingWorld → Telling StreamingWorld
+all_settled detail w = in_turn (settled_turn detail) (numbers w.device.function) w
+
+-- ---- feedback
+
+-- what happens to the reports of the interface at a place, where there is one
+abbrev pub given_at : Option ℕ → (ℕ → Given → Given) → Given → Given
+given_at None event given = given
+given_at (Some place) event given = event place given
+
+-- a report is lost, or comes to the host
+unfoldable pub report_made : Bool → ℕ → ℕ → StreamingWorld → StreamingWorld
+report_made lost value interface w =
+    record w {
+      host = if lost then w.host else with_report interface value w.host;
+      met = counted_at interface (λ c. if lost then one_missed c else c) w.met;
+      given = given_at (place_of w.device.function interface) (λ place. reported place lost) w.given;
+    }
+
+-- from detail 2 on it is said
+abbrev pub report_lines : ℕ → Bool → ℕ → ℕ → List Said
+report_lines detail lost value interface = if nat_le 2 detail then says_feedback interface value lost ∷ [] else []
+
+-- the same where a report of the interface's stream is due
+unfoldable pub report_turn : ℕ → List Loss → ℕ → StreamingWorld → Telling StreamingWorld
+report_turn detail losses interface w =
+    let lost = loses_report losses interface in
+    option_map_or (λ value. record { lines = report_lines detail lost value interface; world = report_made lost value interface w })
+    (feedback_in w.device interface) (at_rest w)
+
+-- the reports, by interface number
+unfoldable pub all_reported : ℕ → List Loss → StreamingWorld → Telling StreamingWorld
+all_reported detail losses w = in_turn (report_turn detail losses) (numbers w.device.function) w
+
+-- ---- starts
+
+-- the host's stream of an interface follows the device's: it starts anew, with no reports yet, or stops where none is given
+unfoldable pub followed : ℕ → Option StreamFields → StreamingWorld → StreamingWorld
+followed interface begun w =
+    record w {
+      host = with_stream interface begun w.host;
+      given = if is_some begun then given_at (place_of w.device.function interface) restarted w.given else w.given;
+    }

@@ -1,0 +1,17 @@
+//! Streams between a host and a device: packets both ways, what ticks find, the ends of microframes and feedback, each as it happens and
+//! as it is printed.
+#![tactic(auto)]
+
+/// Counts of what streams met.
+mod counts;
+/// Losses that marks tell.
+mod losses;
+/// Lines of packets, ticks and reports.
+mod printing;
+/// What the host streams with, and its events.
+mod streaming;
+/// The events of a microframe, interface by interface, printed.
+mod turns;
+
+pub use streaming::Streaming;
+pub use turns::write_found;

@@ -1,0 +1,63 @@
+// Which packets and reports are lost.
+ghost use Rattle.std.specs.Prelude.{◌≡◌, map};
+ghost use Rattle.uac_script.specs.Line.{loss_of};
+ghost use Rattle.uac_streaming.specs.StreamingWorld as spec;
+
+use uac_script::{Mark, MarkKind};
+
+/// Whether the packet to the device of an interface is lost.
+pub(crate) fn loses_out(marks: &[Mark], interface: u8) -> bool
+    ensures { result ≡ spec.loses_out (map loss_of marks.now) interface }
+{
+    marks
+        .iter()
+        .any(|mark| is_out(mark.kind) && mark.interface == interface)
+}
+
+/// Whether the packet from the device of an interface is lost.
+pub(crate) fn loses_in(marks: &[Mark], interface: u8) -> bool
+    ensures { result ≡ spec.loses_in (map loss_of marks.now) interface }
+{
+    marks
+        .iter()
+        .any(|mark| is_in(mark.kind) && mark.interface == interface)
+}
+
+/// Whether the report of an interface is lost.
+pub(crate) fn loses_report(marks: &[Mark], interface: u8) -> bool
+    ensures { result ≡ spec.loses_report (map loss_of marks.now) interface }
+{
+    marks
+        .iter()
+        .any(|mark| is_report(mark.kind) && mark.interface == interface)
+}
+
+fn is_out(kind: MarkKind) -> bool
+    ensures { result ≡ spec.marks_out kind }
+{
+    match kind {
+        MarkKind::Out => true,
+        MarkKind::In => false,
+        MarkKind::Feedback => false,
+    }
+}
+
+fn is_in(kind: MarkKind) -> bool
+    ensures { result ≡ spec.marks_in kind }
+{
+    match kind {
+        MarkKind::Out => false,
+        MarkKind::In => true,
+        MarkKind::Feedback => false,
+    }
+}
+
+fn is_report(kind: MarkKind) -> bool
+    ensures { result ≡ spec.marks_report kind }
+{
+    match kind {
+        MarkKind::Out => false,
+        MarkKind::In => false,
+        MarkKind::Feedback => true,
+    }
+}

@@ -1,0 +1,243 @@
+// Lines of packets, ticks and reports.
+ghost use Rattle.std.specs.Prelude.{◌≡◌, ◌++◌, ◌∷◌, [], ◌&&◌, nat_le, if◌then◌else◌, ℕ, ℤ, List, Bool, length, map};
+ghost use Rattle.std.specs.List.{filter};
+ghost use Rattle.uac_edges.specs.Faults.{HasCause};
+ghost use Rattle.uac_entities.specs.declared.stream.StreamInterface as streamed;
+ghost use Rattle.uac_host.specs.HostWorld.{HostWorld};
+ghost use Rattle.uac_host.specs.Calls.{heard_in};
+ghost use Rattle.uac_host.specs.Kept as kept;
+ghost use Rattle.uac_transcript.specs.Printing.{Prints};
+ghost use Rattle.uac_transcript.specs.Transcript.{says_feedback, says_frame, says_in, says_level, says_out, says_over, says_under};
+ghost use Rattle.uac_device.specs.DeviceWorld.{bits_of};
+ghost use Rattle.uac_streaming.specs.StreamingWorld as spec;
+
+use uac_edges::{Failed, Sink};
+use uac_entities::StreamInterface;
+use uac_flow::Arrival;
+use uac_host::Host;
+use uac_pcm::{Frame, Packet};
+use uac_transcript::{
+    Arrival as Printed, write_feedback, write_frame, write_in, write_level, write_out, write_over,
+    write_under,
+};
+
+/// Prints a packet to the device: from detail 2 on how it arrived, and at any detail that it was over.
+pub(crate) fn write_sent<K: Sink>(
+    sink: &mut K,
+    detail: u8,
+    interface: u8,
+    frames: u32,
+    arrival: Arrival,
+) -> Result<(), Failed>
+    ensures printed { Prints (K.written sink.old) (K.written sink.new) result (spec.out_lines detail interface frames arrival) }
+    ensures cause { HasCause (K.faults sink.old) (K.faults sink.new) result }
+{
+    match write_arrival(sink, detail, interface, frames, arrival) {
+        Ok(()) => {}
+        Err(failed) => return Err(failed),
+    }
+    match arrival {
+        Arrival::Taken => Ok(()),
+        Arrival::Lost => Ok(()),
+        Arrival::Over => write_over(sink, interface),
+    }
+}
+
+/// Prints how a packet to the device arrived, from detail 2 on.
+fn write_arrival<K: Sink>(
+    sink: &mut K,
+    detail: u8,
+    interface: u8,
+    frames: u32,
+    arrival: Arrival,
+) -> Result<(), Failed>
+    ensures printed { Prints (K.written sink.old) (K.written sink.new) result
+        (if nat_le 2 detail then says_out interface frames (spec.arrived_as arrival) ∷ [] else []) }
+    ensures cause { HasCause (K.faults sink.old) (K.faults sink.new) result }
+{
+    if detail < 2 {
+        return Ok(());
+    }
+    write_out(sink, interface, frames, printed(arrival))
+}
+
+/// How a packet arrived, as its line says it.
+fn printed(arrival: Arrival) -> Printed
+    ensures { result ≡ spec.arrived_as arrival }
+{
+    match arrival {
+        Arrival::Taken => Printed::Ok,
+        Arrival::Lost => Printed::Lost,
+        Arrival::Over => Printed::Over,
+    }
+}
+
+/// A packet from the device: its interface, how many frames it has, and whether it was lost.
+#[derive(Clone, Copy, Debug, PartialEq, Eq)]
+pub(crate) struct Fetched {
+    pub(crate) interface: u8,
+    pub(crate) frames: u32,
+    pub(crate) lost: bool,
+}
+
+/// Prints a packet from the device: from detail 2 on how it came, and from detail 1 on the frames of one that did.
+pub(crate) fn write_fetched<K: Sink>(
+    sink: &mut K,
+    detail: u8,
+    fetched: Fetched,
+    host: &Host,
+    packet: &Packet,
+    frame: &mut Frame,
+) -> Result<(), Failed>
+    ensures printed { (w : HostWorld) → kept.Stands host.now w → Prints (K.written sink.old) (K.written sink.new) result
+        (spec.in_lines detail fetched.lost fetched.interface fetched.frames (heard_in w fetched.interface packet.now.items)) }
+    ensures cause { HasCause (K.faults sink.old) (K.faults sink.new) result }
+{
+    match write_arrived(sink, detail, fetched) {
+        Ok(()) => {}
+        Err(failed) => return Err(failed),
+    }
+    if detail < 1 || fetched.lost {
+        return Ok(());
+    }
+    write_heard(sink, fetched.interface, host, packet, frame)
+}
+
+/// Prints how a packet from the device came, from detail 2 on.
+fn write_arrived<K: Sink>(sink: &mut K, detail: u8, fetched: Fetched) -> Result<(), Failed>
+    ensures printed { Prints (K.written sink.old) (K.written sink.new) result
+        (if nat_le 2 detail then says_in fetched.interface fetched.frames fetched.lost ∷ [] else []) }
+    ensures cause { HasCause (K.faults sink.old) (K.faults sink.new) result }
+{
+    if detail < 2 {
+        return Ok(());
+    }
+    write_in(sink, fetched.interface, fetched.frames, fetched.lost)
+}
+
+/// Prints the frames that the host hears in a packet. It has no more frames than bytes.
+fn write_heard<K: Sink>(
+    sink: &mut K,
+    interface: u8,
+    host: &Host,
+    packet: &Packet,
+    frame: &mut Frame,
+) -> Result<(), Failed>
+    ensures printed { (w : HostWorld) → kept.Stands host.now w → Prints (K.written sink.old) (K.written sink.new) result
+        (map (says_frame interface) (heard_in w interface packet.now.items)) }
+    ensures cause { HasCause (K.faults sink.old) (K.faults sink.new) result }
+{
+    for at in 0..packet.len() as u32 {
+        if !host.hear(interface, packet, at, frame) {
+            return Ok(());
+        }
+        match write_frame(sink, interface, frame) {
+            Ok(()) => {}
+            Err(failed) => return Err(failed),
+        }
+    }
+    Ok(())
+}
+
+/// Prints the rings that a tick found empty, a bit for each of these interfaces, the lowest for the first.
+pub(crate) fn write_empty<K: Sink>(
+    sink: &mut K,
+    streams: &[StreamInterface],
+    bits: u8,
+) -> Result<(), Failed>
+    ensures printed { (test : streamed.StreamInterface → Bool) → bits ≡ bits_of (map test streams.now)
+        → Prints (K.written sink.old) (K.written sink.new) result (map (λ s. says_under s.number) (filter test streams.now)) }
+    ensures cause { HasCause (K.faults sink.old) (K.faults sink.new) result }
+{
+    let mut rest = bits;
+    for stream in streams {
+        let found = rest % 2 == 1;
+        rest /= 2;
+        match write_if_empty(sink, stream.number, found) {
+            Ok(()) => {}
+            Err(failed) => return Err(failed),
+        }
+    }
+    Ok(())
+}
+
+/// Prints that a ring was found empty, where it was.
+fn write_if_empty<K: Sink>(sink: &mut K, interface: u8, found: bool) -> Result<(), Failed>
+    ensures printed { Prints (K.written sink.old) (K.written sink.new) result (if found then says_under interface ∷ [] else []) }
+    ensures cause { HasCause (K.faults sink.old) (K.faults sink.new) result }
+{
+    if found {
+        return write_under(sink, interface);
+    }
+    Ok(())
+}
+
+/// Prints the rings that a tick found full, a bit for each of these interfaces, the lowest for the first.
+pub(crate) fn write_full<K: Sink>(
+    sink: &mut K,
+    streams: &[StreamInterface],
+    bits: u8,
+) -> Result<(), Failed>
+    ensures printed { (test : streamed.StreamInterface → Bool) → bits ≡ bits_of (map test streams.now)
+        → Prints (K.written sink.old) (K.written sink.new) result (map (λ s. says_over s.number) (filter test streams.now)) }
+    ensures cause { HasCause (K.faults sink.old) (K.faults sink.new) result }
+{
+    let mut rest = bits;
+    for stream in streams {
+        let found = rest % 2 == 1;
+        rest /= 2;
+        match write_if_full(sink, stream.number, found) {
+            Ok(()) => {}
+            Err(failed) => return Err(failed),
+        }
+    }
+    Ok(())
+}
+
+/// Prints that a ring was found full, where it was.
+fn write_if_full<K: Sink>(sink: &mut K, interface: u8, found: bool) -> Result<(), Failed>
+    ensures printed { Prints (K.written sink.old) (K.written sink.new) result (if found then says_over interface ∷ [] else []) }
+    ensures cause { HasCause (K.faults sink.old) (K.faults sink.new) result }
+{
+    if found {
+        return write_over(sink, interface);
+    }
+    Ok(())
+}
+
+/// Prints the level and the target of a stream to the device that was due, from detail 2 on.
+pub(crate) fn write_settled<K: Sink>(
+    sink: &mut K,
+    detail: u8,
+    interface: u8,
+    due: bool,
+    level: u32,
+    target: Option<u32>,
+) -> Result<(), Failed>
+    ensures printed { Prints (K.written sink.old) (K.written sink.new) result
+        (if nat_le 2 detail && due then says_level interface level target ∷ [] else []) }
+    ensures cause { HasCause (K.faults sink.old) (K.faults sink.new) result }
+{
+    if detail < 2 || !due {
+        return Ok(());
+    }
+    write_level(sink, interface, level, target)
+}
+
+/// Prints a report, from detail 2 on.
+pub(crate) fn write_report<K: Sink>(
+    sink: &mut K,
+    detail: u8,
+    interface: u8,
+    value: u32,
+    lost: bool,
+) -> Result<(), Failed>
+    ensures printed { Prints (K.written sink.old) (K.written sink.new) result
+        (if nat_le 2 detail then says_feedback interface value lost ∷ [] else []) }
+    ensures cause { HasCause (K.faults sink.old) (K.faults sink.new) result }
+{
+    if detail < 2 {
+        return Ok(());
+    }
+    write_feedback(sink, interface, value, lost)
+}

@@ -1,0 +1,353 @@
+// What a host streams with, beside its device, and the events of both.
+ghost use Rattle.std.specs.Prelude.{◌≡◌, ◌<◌, ◌≤◌, if◌then◌else◌, ℕ, Some, None, IfOk, IfSome, OnOk, OnErr, length, set, slice_get};
+ghost use Rattle.std.specs.Option.{option_map};
+ghost use Rattle.uac_topology.specs.Topology.{IsSoundFunction};
+ghost use Rattle.uac_alt.specs.Streams.{seen};
+ghost use Rattle.uac_rate.specs.Steadiness.{deviated, is_steady, reported, restarted};
+ghost use Rattle.uac_device.specs.Kept as devices;
+ghost use Rattle.uac_device.specs.DeviceWorld.{DeviceWorld, arrival_in, frames_in, fresh, met_of, packet_in, received};
+ghost use Rattle.uac_host.specs.Calls.{AreWhole, IsStreamOf, interface_in, size_of, with_report, with_samples, with_tone};
+ghost use Rattle.uac_transcript.specs.declared.report.StreamCounts as counted;
+ghost use Rattle.uac_streaming.specs.StreamingWorld.{StreamingWorld, followed, found_counts, packet_fetched, packet_sent, packet_to, report_made, streaming_start};
+ghost use Rattle.uac_streaming.specs.StreamingWorld as spec;
+ghost use Rattle.uac_streaming.specs.Kept.{Stands};
+
+use crate::counts::{after_arrival, nothing_met, one_lost, one_missed, one_over, one_under};
+use std::alloc::Global;
+use std::marker::Model;
+use uac_alt::Stream;
+use uac_descriptor::NoMemory;
+use uac_device::{Device, Ticked};
+use uac_flow::Arrival;
+use uac_host::Host;
+use uac_pcm::{Frame, Packet, Tone};
+use uac_rate::Steady;
+use uac_topology::Function;
+use uac_topology::laws::{functions_are_sound, interfaces_are_numbered, sound_functions_are_small};
+use uac_transcript::StreamCounts;
+
+/// A host's side of the streams of a device, and what these met.
+#[derive(Drop)]
+pub struct Streaming {
+    pub(crate) host: Host,
+    /// The numbers of the streaming interfaces, the least first.
+    pub(crate) order: Vec<u8>,
+    /// What the streams of each interface met, in block order.
+    met: Vec<StreamCounts>,
+    steady: Steady,
+    /// The last packet, and its last frame.
+    pub(crate) packet: Packet,
+    pub(crate) frame: Frame,
+}
+
+impl Model for Streaming {
+    ghost use Rattle.uac_streaming.specs.Kept.{StreamingFields};
+
+    ghost Value = { StreamingFields };
+
+    ghost view = { λ s. record { host = s.host; order = s.order.items; met = s.met.items; steady = s.steady; packet = s.packet.items } };
+}
+
+/// A packet that was sent to the device: its frames, and how it arrived.
+#[derive(Clone, Copy, Debug, PartialEq, Eq)]
+pub(crate) struct Sent {
+    pub(crate) frames: u32,
+    pub(crate) arrival: Arrival,
+}
+
+impl Streaming {
+    /// A host of a function, of which no stream runs, with all the memory that it will use but for its tracks.
+    pub fn new(alloc: Global, function: &Function) -> Result<Streaming, NoMemory>
+        ensures { IfOk result (λ streaming. (d : devices.DeviceFields) → devices.Stands d (fresh function.now)
+            → Stands streaming d (streaming_start function.now)) }
+    {
+        let host = Host::new(alloc, function)?;
+        let order = in_order(alloc, function)?;
+        let met = none_met(alloc, function)?;
+        Ok(Streaming {
+            host,
+            order,
+            met,
+            steady: Steady::new(),
+            packet: Packet::new(),
+            frame: Frame::new(),
+        })
+    }
+
+    /// What the streams of the interface at a place met, in block order.
+    pub fn met(&self, place: usize) -> StreamCounts
+        requires { place < length self.now.met }
+        ensures { slice_get self.now.met place ≡ Some result }
+    {
+        self.met[place]
+    }
+
+    /// Whether all that was given is steady: no deviation passed a thousandth, and no stream lost four feedback reports in succession.
+    pub fn is_steady(&self) -> bool
+        ensures { (d : devices.DeviceFields) (w : StreamingWorld) → Stands self.now d w → result ≡ is_steady w.given }
+    {
+        self.steady.holds()
+    }
+
+    /// A clock is off by so many millionths from now on.
+    pub fn deviate(&mut self, ppm: i32)
+        ensures { (d : devices.DeviceFields) (w : StreamingWorld) → Stands self.old d w
+            → Stands self.new d (record w { given = deviated ppm w.given }) }
+    {
+        self.steady.deviate(ppm);
+    }
+
+    /// Frames wait behind those that do on an interface: samples of full scale, channel after channel, in whole frames of its terminal.
+    /// After `NoMemory` all is as it was.
+    pub fn append(&mut self, interface: u8, samples: &[i32]) -> Result<(), NoMemory>
+        ensures stands { (d : devices.DeviceFields) (w : StreamingWorld) → Stands self.old d w
+            → AreWhole w.host.function interface samples.now
+            → OnOk result (Stands self.new d (record w { host = with_samples interface samples.now w.host })) }
+        ensures unchanged { OnErr result (self.new ≡ self.old) }
+    {
+        self.host.append(interface, samples)
+    }
+
+    /// A tone follows the frames that wait on an interface, from its first frame.
+    pub fn track(&mut self, interface: u8, tone: Tone)
+        ensures { (d : devices.DeviceFields) (w : StreamingWorld) → Stands self.old d w
+            → Stands self.new d (record w { host = with_tone interface tone w.host }) }
+    {
+        self.host.track(interface, tone);
+    }
+
+    /// The host's stream of an interface follows the device's: it starts anew, or stops where none is given.
+    pub fn follow(&mut self, function: &Function, interface: u16, begun: Option<Stream>)
+        requires { IfSome begun (λ s. IsStreamOf function.now interface (seen s)) }
+        ensures { (d : devices.DeviceFields) (w : StreamingWorld) → Stands self.old d w → w.device.function ≡ function.now
+            → Stands self.new d (followed interface (option_map seen begun) w) }
+    {
+        functions_are_sound(function);
+        sound_functions_are_small();
+        match number_of(function, interface) {
+            Some(number) => self.set_stream(function, number, begun),
+            None => {}
+        }
+    }
+
+    /// The host's stream of an interface that the function has starts anew, or stops.
+    fn set_stream(&mut self, function: &Function, interface: u8, begun: Option<Stream>)
+        requires sound { IsSoundFunction function.now }
+        requires few { length function.now.streams ≤ 8 }
+        requires begun { IfSome begun (λ s. IsStreamOf function.now interface (seen s)) }
+        ensures { (d : devices.DeviceFields) (w : StreamingWorld) → Stands self.old d w → w.device.function ≡ function.now
+            → Stands self.new d (followed interface (option_map seen begun) w) }
+    {
+        self.host.set_stream(interface, begun);
+        if begun.is_some() {
+            self.start_reports(function, interface);
+        }
+    }
+
+    /// The reports of an interface begin anew.
+    fn start_reports(&mut self, function: &Function, interface: u8)
+        requires { length function.now.streams ≤ 8 }
+        ensures { (d : devices.DeviceFields) (w : StreamingWorld) → Stands self.old d w → w.device.function ≡ function.now
+            → Stands self.new d (record w { given = spec.given_at (spec.place_of w.device.function interface) restarted w.given }) }
+    {
+        match function.stream_at(interface) {
+            Some(place) => self.steady.restart(place as u8),
+            None => {}
+        }
+    }
+
+    /// The host sends a packet to the device, unless it is lost.
+    pub(crate) fn send(&mut self, device: &mut Device, interface: u8, lost: bool) -> Sent
+        ensures stands { (w : StreamingWorld) → Stands self.old device.old w → Stands self.new device.new (packet_sent lost interface w) }
+        ensures frames { (w : StreamingWorld) → Stands self.old device.old w → result.frames ≡ size_of w.host interface }
+        ensures arrival { (w : StreamingWorld) → Stands self.old device.old w
+            → result.arrival ≡ arrival_in w.device interface (packet_to lost interface w) }
+        ensures function { device.new.function ≡ device.old.function }
+        ensures order { self.new.order ≡ self.old.order }
+    {
+        let frames = self.host.packet(interface, &mut self.packet);
+        let arrival = arrive(device, interface, &self.packet, lost);
+        let counts = after_arrival(arrival, self.met_on(device.function(), interface));
+        self.set_met(device.function(), interface, counts);
+        Sent { frames, arrival }
+    }
+
+    /// The device sends a packet, which is kept, unless it is lost. Answers the number of its frames.
+    pub(crate) fn fetch(&mut self, device: &mut Device, interface: u8, lost: bool) -> u32
+        ensures stands { (w : StreamingWorld) → Stands self.old device.old w
+            → Stands self.new device.new (packet_fetched lost interface w) }
+        ensures frames { (w : StreamingWorld) → Stands self.old device.old w → result ≡ frames_in w.device interface }
+        ensures packet { (w : StreamingWorld) → Stands self.old device.old w → self.new.packet ≡ packet_in w.device interface }
+        ensures function { device.new.function ≡ device.old.function }
+        ensures order { self.new.order ≡ self.old.order }
+    {
+        let frames = device.microframe_in(interface, &mut self.packet);
+        let counts = one_lost(lost, self.met_on(device.function(), interface));
+        self.set_met(device.function(), interface, counts);
+        frames
+    }
+
+    /// A tick found these rings empty and full.
+    pub fn find(&mut self, function: &Function, found: Ticked)
+        ensures { (d : devices.DeviceFields) (w : StreamingWorld) (before : DeviceWorld) (clock : ℕ) → Stands self.old d w
+            → w.device.function ≡ function.now → before.function ≡ function.now → found ≡ met_of clock before
+            → Stands self.new d (record w { met = found_counts clock before w.met }) }
+    {
+        count_found(&mut self.met, found);
+    }
+
+    /// A report comes to the host, unless it is lost.
+    pub(crate) fn report(&mut self, function: &Function, interface: u8, value: u32, lost: bool)
+        ensures stands { (d : devices.DeviceFields) (w : StreamingWorld) → Stands self.old d w → w.device.function ≡ function.now
+            → Stands self.new d (report_made lost value interface w) }
+        ensures order { self.new.order ≡ self.old.order }
+    {
+        functions_are_sound(function);
+        sound_functions_are_small();
+        self.take_report(interface, value, lost);
+        self.count_report(function, interface, lost);
+        let counts = one_missed(lost, self.met_on(function, interface));
+        self.set_met(function, interface, counts);
+    }
+
+    /// The host takes a report, unless it is lost.
+    fn take_report(&mut self, interface: u8, value: u32, lost: bool)
+        ensures stands { (d : devices.DeviceFields) (w : StreamingWorld) → Stands self.old d w
+            → Stands self.new d (record w { host = if lost then w.host else with_report interface value w.host }) }
+        ensures order { self.new.order ≡ self.old.order }
+    {
+        if lost {
+            return;
+        }
+        self.host.take_report(interface, value);
+    }
+
+    /// One more report of an interface is known to be lost, or to have come.
+    fn count_report(&mut self, function: &Function, interface: u8, lost: bool)
+        requires { length function.now.streams ≤ 8 }
+        ensures stands { (d : devices.DeviceFields) (w : StreamingWorld) → Stands self.old d w → w.device.function ≡ function.now
+            → Stands self.new d (record w {
+              given = spec.given_at (spec.place_of w.device.function interface) (λ place. reported place lost) w.given;
+            }) }
+        ensures order { self.new.order ≡ self.old.order }
+    {
+        match function.stream_at(interface) {
+            Some(place) => self.steady.report(place as u8, lost),
+            None => {}
+        }
+    }
+
+    /// What the streams of an interface met; nothing where there is no such interface.
+    pub fn met_on(&self, function: &Function, interface: u8) -> StreamCounts
+        ensures { (met : ℕ → counted.StreamCounts) (place : ℕ) → self.now.met ≡ spec.met_in met function.now
+            → spec.place_of function.now interface ≡ Some place → result ≡ met interface }
+    {
+        match function.stream_at(interface) {
+            Some(place) => counts_at(&self.met, place),
+            None => nothing_met(),
+        }
+    }
+
+    /// The streams of an interface met this so far. Where there is no such interface, nothing changes.
+    fn set_met(&mut self, function: &Function, interface: u8, counts: StreamCounts)
+        ensures met { (met : ℕ → counted.StreamCounts) → self.old.met ≡ spec.met_in met function.now
+            → self.new.met ≡ spec.met_in (spec.counted_at interface (λ c. counts) met) function.now }
+        ensures others { self.new ≡ record self.old { met = self.new.met } }
+    {
+        functions_are_sound(function);
+        interfaces_are_numbered();
+        match function.stream_at(interface) {
+            Some(place) => put_at(&mut self.met, place, counts),
+            None => {}
+        }
+    }
+}
+
+/// A packet comes to the device, unless it is lost.
+fn arrive(device: &mut Device, interface: u8, packet: &Packet, lost: bool) -> Arrival
+    ensures stands { (w : DeviceWorld) → devices.Stands device.old w
+        → devices.Stands device.new (received interface (if lost then None else Some packet.now.items) w) }
+    ensures arrival { (w : DeviceWorld) → devices.Stands device.old w
+        → result ≡ arrival_in w interface (if lost then None else Some packet.now.items) }
+    ensures function { device.new.function ≡ device.old.function }
+{
+    if lost {
+        return device.microframe_out(interface, None);
+    }
+    device.microframe_out(interface, Some(packet))
+}
+
+/// The number of the streaming interface with this number, as a byte; None exactly where none has it.
+fn number_of(function: &Function, interface: u16) -> Option<u8>
+    ensures { result ≡ option_map (λ s. s.number) (interface_in function.now interface) }
+{
+    function
+        .streams()
+        .iter()
+        .find(|stream| u16::from(stream.number) == interface)
+        .map(|stream| stream.number)
+}
+
+/// A tick found these rings empty and full: a bit for each, the first being the lowest.
+fn count_found(met: &mut [StreamCounts], found: Ticked)
+    ensures { (before : ℕ → counted.StreamCounts) (w : DeviceWorld) (clock : ℕ) → met.old ≡ spec.met_in before w.function
+        → found ≡ met_of clock w → met.new ≡ spec.met_in (found_counts clock w before) w.function }
+{
+    let mut empty = found.under;
+    let mut full = found.over;
+    for counts in met.iter_mut() {
+        *counts = one_over(full % 2 == 1, one_under(empty % 2 == 1, *counts));
+        empty /= 2;
+        full /= 2;
+    }
+}
+
+/// These counts at a place, where there is one.
+fn put_at(met: &mut [StreamCounts], place: usize, counts: StreamCounts)
+    ensures { place < length met.old → met.new ≡ set met.old place counts }
+{
+    if place < met.len() {
+        met[place] = counts;
+    }
+}
+
+/// The counts at a place; of nothing met where there is none.
+fn counts_at(met: &[StreamCounts], place: usize) -> StreamCounts
+    ensures { place < length met.now → slice_get met.now place ≡ Some result }
+{
+    if place < met.len() {
+        return met[place];
+    }
+    nothing_met()
+}
+
+/// For each interface nothing met.
+fn none_met(alloc: Global, function: &Function) -> Result<Vec<StreamCounts>, NoMemory>
+    ensures { IfOk result (λ met. met.items ≡ spec.met_in (λ interface. spec.nothing_met) function.now) }
+{
+    let mut met = Vec::new(alloc);
+    for _stream in function.streams() {
+        match met.push(nothing_met()) {
+            Ok(()) => {}
+            Err(_) => return Err(NoMemory),
+        }
+    }
+    Ok(met)
+}
+
+/// The numbers of the streaming interfaces, the least first.
+fn in_order(alloc: Global, function: &Function) -> Result<Vec<u8>, NoMemory>
+    ensures { IfOk result (λ order. order.items ≡ spec.numbers function.now) }
+{
+    let mut order = Vec::new(alloc);
+    for at in 0..256u32 {
+        let number = at as u8;
+        if function.interface(number).is_some() {
+            match order.push(number) {
+                Ok(()) => {}
+                Err(_) => return Err(NoMemory),
+            }
+        }
+    }
+    Ok(order)
+}

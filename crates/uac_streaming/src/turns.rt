@@ -1,0 +1,271 @@
+// The events of a microframe, interface by interface, each printed as it happens.
+ghost use Rattle.std.specs.Prelude.{◌≡◌, ◌&&◌, ◌<◌, ℕ, length, map};
+ghost use Rattle.uac_edges.specs.Faults.{HasCause};
+ghost use Rattle.uac_script.specs.Line.{loss_of};
+ghost use Rattle.uac_device.specs.DeviceWorld.{DeviceWorld, ZerosFitIn, is_due_in, met_of, settled};
+ghost use Rattle.uac_device.specs.Kept as device_kept;
+ghost use Rattle.uac_transcript.specs.Printing.{Prints};
+ghost use Rattle.uac_streaming.specs.StreamingWorld.{StreamingWorld, all_reported, all_settled, found_lines, in_packet_turn, in_packets, out_packets, out_turn, report_turn, settled_turn};
+ghost use Rattle.uac_streaming.specs.StreamingWorld as spec;
+ghost use Rattle.uac_streaming.specs.Kept.{Stands, Tells};
+
+use crate::losses::{loses_in, loses_out, loses_report};
+use crate::printing::{
+    Fetched, write_empty, write_fetched, write_full, write_report, write_sent, write_settled,
+};
+use crate::streaming::Streaming;
+use uac_device::{Device, Ticked};
+use uac_edges::{Failed, Sink};
+use uac_entities::StreamInterface;
+use uac_script::Mark;
+use uac_topology::Function;
+
+impl Streaming {
+    /// The packets to the device of a microframe, by interface number, with these losses.
+    pub fn out_packets<K: Sink>(
+        &mut self,
+        device: &mut Device,
+        detail: u8,
+        marks: &[Mark],
+        sink: &mut K,
+    ) -> Result<(), Failed>
+        ensures tells { (w : StreamingWorld) → Stands self.old device.old w
+            → Tells (out_packets detail (map loss_of marks.now) w) self.new device.new (K.written sink.old) (K.written sink.new) result }
+        ensures function { device.new.function ≡ device.old.function }
+        ensures cause { HasCause (K.faults sink.old) (K.faults sink.new) result }
+    {
+        for at in 0..self.order.len() {
+            let interface = self.order[at];
+            match self.out_packet(device, interface, detail, marks, sink) {
+                Ok(()) => {}
+                Err(failed) => return Err(failed),
+            }
+        }
+        Ok(())
+    }
+
+    /// The packet to the device of an interface, where its stream is due.
+    fn out_packet<K: Sink>(
+        &mut self,
+        device: &mut Device,
+        interface: u8,
+        detail: u8,
+        marks: &[Mark],
+        sink: &mut K,
+    ) -> Result<(), Failed>
+        ensures tells { (w : StreamingWorld) → Stands self.old device.old w
+            → Tells (out_turn detail (map loss_of marks.now) interface w) self.new device.new (K.written sink.old) (K.written sink.new) result }
+        ensures order { self.new.order ≡ self.old.order }
+        ensures function { device.new.function ≡ device.old.function }
+        ensures cause { HasCause (K.faults sink.old) (K.faults sink.new) result }
+    {
+        if !is_out_due(device, interface) {
+            return Ok(());
+        }
+        let sent = self.send(device, interface, loses_out(marks, interface));
+        write_sent(sink, detail, interface, sent.frames, sent.arrival)
+    }
+
+    /// The packets from the device of a microframe, by interface number, with these losses.
+    pub fn in_packets<K: Sink>(
+        &mut self,
+        device: &mut Device,
+        detail: u8,
+        marks: &[Mark],
+        sink: &mut K,
+    ) -> Result<(), Failed>
+        ensures tells { (w : StreamingWorld) → Stands self.old device.old w
+            → Tells (in_packets detail (map loss_of marks.now) w) self.new device.new (K.written sink.old) (K.written sink.new) result }
+        ensures function { device.new.function ≡ device.old.function }
+        ensures cause { HasCause (K.faults sink.old) (K.faults sink.new) result }
+    {
+        for at in 0..self.order.len() {
+            let interface = self.order[at];
+            match self.in_packet(device, interface, detail, marks, sink) {
+                Ok(()) => {}
+                Err(failed) => return Err(failed),
+            }
+        }
+        Ok(())
+    }
+
+    /// The packet from the device of an interface, where its stream is due.
+    fn in_packet<K: Sink>(
+        &mut self,
+        device: &mut Device,
+        interface: u8,
+        detail: u8,
+        marks: &[Mark],
+        sink: &mut K,
+    ) -> Result<(), Failed>
+        ensures tells { (w : StreamingWorld) → Stands self.old device.old w
+            → Tells (in_packet_turn detail (map loss_of marks.now) interface w) self.new device.new (K.written sink.old) (K.written sink.new) result }
+        ensures order { self.new.order ≡ self.old.order }
+        ensures function { device.new.function ≡ device.old.function }
+        ensures cause { HasCause (K.faults sink.old) (K.faults sink.new) result }
+    {
+        if !is_in_due(device, interface) {
+            return Ok(());
+        }
+        let lost = loses_in(marks, interface);
+        let frames = self.fetch(device, interface, lost);
+        let fetched = Fetched {
+            interface,
+            frames,
+            lost,
+        };
+        write_fetched(
+            sink,
+            detail,
+            fetched,
+            &self.host,
+            &self.packet,
+            &mut self.frame,
+        )
+    }
+
+    /// A microframe ends for each stream, by interface number. Where a packet to the device was lost, its ring has room for the zeros
+    /// that are due.
+    pub fn settle<K: Sink>(
+        &mut self,
+        device: &mut Device,
+        detail: u8,
+        sink: &mut K,
+    ) -> Result<(), Failed>
+        ensures tells { (w : StreamingWorld) → Stands self.old device.old w → ((interface : ℕ) → ZerosFitIn w.device interface)
+            → Tells (all_settled detail w) self.new device.new (K.written sink.old) (K.written sink.new) result }
+        ensures function { device.new.function ≡ device.old.function }
+        ensures cause { HasCause (K.faults sink.old) (K.faults sink.new) result }
+    {
+        for at in 0..self.order.len() {
+            let interface = self.order[at];
+            match settle_one(device, interface, detail, sink) {
+                Ok(()) => {}
+                Err(failed) => return Err(failed),
+            }
+        }
+        Ok(())
+    }
+
+    /// The feedback reports of a microframe, by interface number, with these losses.
+    pub fn reports<K: Sink>(
+        &mut self,
+        device: &Device,
+        detail: u8,
+        marks: &[Mark],
+        sink: &mut K,
+    ) -> Result<(), Failed>
+        ensures tells { (w : StreamingWorld) → Stands self.old device.now w
+            → Tells (all_reported detail (map loss_of marks.now) w) self.new device.now (K.written sink.old) (K.written sink.new) result }
+        ensures cause { HasCause (K.faults sink.old) (K.faults sink.new) result }
+    {
+        for at in 0..self.order.len() {
+            let interface = self.order[at];
+            match self.report_one(device, interface, detail, marks, sink) {
+                Ok(()) => {}
+                Err(failed) => return Err(failed),
+            }
+        }
+        Ok(())
+    }
+
+    /// The feedback report of an interface, where one is due.
+    fn report_one<K: Sink>(
+        &mut self,
+        device: &Device,
+        interface: u8,
+        detail: u8,
+        marks: &[Mark],
+        sink: &mut K,
+    ) -> Result<(), Failed>
+        ensures tells { (w : StreamingWorld) → Stands self.old device.now w
+            → Tells (report_turn detail (map loss_of marks.now) interface w) self.new device.now (K.written sink.old) (K.written sink.new) result }
+        ensures order { self.new.order ≡ self.old.order }
+        ensures cause { HasCause (K.faults sink.old) (K.faults sink.new) result }
+    {
+        let Some(value) = device.feedback(interface) else {
+            return Ok(());
+        };
+        let lost = loses_report(marks, interface);
+        self.report(device.function(), interface, value, lost);
+        write_report(sink, detail, interface, value, lost)
+    }
+}
+
+/// A microframe ends for the stream of an interface.
+fn settle_one<K: Sink>(
+    device: &mut Device,
+    interface: u8,
+    detail: u8,
+    sink: &mut K,
+) -> Result<(), Failed>
+    ensures tells { (w : DeviceWorld) → device_kept.Stands device.old w → ZerosFitIn w interface
+        → Prints (K.written sink.old) (K.written sink.new) result (spec.settled_lines detail interface w)
+        × device_kept.Stands device.new (settled interface w) }
+    ensures function { device.new.function ≡ device.old.function }
+    ensures cause { HasCause (K.faults sink.old) (K.faults sink.new) result }
+{
+    let due = is_out_due(device, interface);
+    device.settle(interface);
+    write_settled(
+        sink,
+        detail,
+        interface,
+        due,
+        device.level(interface),
+        device.target(interface),
+    )
+}
+
+/// Prints what a tick found: the rings that were empty, and then those that were full.
+pub fn write_found<K: Sink>(
+    sink: &mut K,
+    streams: &[StreamInterface],
+    found: Ticked,
+) -> Result<(), Failed>
+    ensures printed { (w : DeviceWorld) (clock : ℕ) → w.function.streams ≡ streams.now → found ≡ met_of clock w
+        → Prints (K.written sink.old) (K.written sink.new) result (found_lines clock w) }
+    ensures cause { HasCause (K.faults sink.old) (K.faults sink.new) result }
+{
+    match write_empty(sink, streams, found.under) {
+        Ok(()) => {}
+        Err(failed) => return Err(failed),
+    }
+    write_full(sink, streams, found.over)
+}
+
+/// Whether an interface runs a stream to the device that is due.
+fn is_out_due(device: &Device, interface: u8) -> bool
+    ensures { (w : DeviceWorld) → device_kept.Stands device.now w
+        → result ≡ (spec.goes_out w.function interface && is_due_in w interface) }
+{
+    goes_out(device.function(), interface) && device.due(interface)
+}
+
+/// Whether an interface runs a stream from the device that is due.
+fn is_in_due(device: &Device, interface: u8) -> bool
+    ensures { (w : DeviceWorld) → device_kept.Stands device.now w
+        → result ≡ (spec.comes_in w.function interface && is_due_in w interface) }
+{
+    comes_in(device.function(), interface) && device.due(interface)
+}
+
+/// Whether an interface carries a stream to the device.
+fn goes_out(function: &Function, interface: u8) -> bool
+    ensures { result ≡ spec.goes_out function.now interface }
+{
+    match function.interface(interface) {
+        Some(stream) => stream.out,
+        None => false,
+    }
+}
+
+/// Whether an interface carries a stream from the device.
+fn comes_in(function: &Function, interface: u8) -> bool
+    ensures { result ≡ spec.comes_in function.now interface }
+{
+    match function.interface(interface) {
+        Some(stream) => !stream.out,
+        None => false,
+    }
+}
