@@ -1,5 +1,5 @@
 -- The blocks and the function that a descriptor's bytes describe.
-use Rattle.std.proofs.Common.{◌≡◌, ◌≢◌, ℕ, List, [], ◌∷◌, ◌++◌, refl, sym, ap, subst, ◌∙◌, true, Option, None, Some, Ok, Err}
+use Rattle.std.proofs.Common.{◌≡◌, ◌≢◌, ℕ, List, [], ◌∷◌, ◌++◌, refl, sym, ap, subst, ◌∙◌, true, flat_map, Option, None, Some, Result, Ok, Err, IfOk, IfErr}
 use Rattle.std.proofs.KnownBytes.{Appends-nil}
 use Rattle.uac_descriptor.specs.declared.context.Context.{Context}
 use Rattle.uac_descriptor.specs.declared.context.Context.TheVariants as context
@@ -26,13 +26,15 @@ use Rattle.uac_topology.specs.Function.{FunctionFields}
 use Rattle.uac_topology.specs.Topology.{first_broken, IsSound, IsFunctionOf}
 use Rattle.uac_units.specs.Hearing.{Reading}
 use Rattle.uac_running.specs.Lines.{ready_line}
-use Rattle.uac_running.specs.World.{at_start}
+use Rattle.uac_running.specs.RunningWorld.{at_start}
 use Rattle.uac_bus.specs.declared.fault.BusFault.{BusFault}
 use Rattle.uac_bus.specs.declared.fault.BusFault.TheVariants as faults
 use Rattle.uac_bus.specs.declared.bus.Stage.TheVariants as stages
 use Rattle.uac_bus.specs.Description.{first_then, blocks_from, blocks_of, function_of}
 use Rattle.uac_bus.specs.World.{Step, done, describing, running, if_no_fault, if_sound, silently, fed, gone}
 use Rattle.uac_bus.specs.Kept.{StandsFor, Reaches, Prevents}
+use Rattle.uac_running.specs.Transfers.{configuration_of}
+use Rattle.uac_bus.specs.declared.describing.SoundDescriptor.{SoundDescriptor}
 use Rattle.uac_bus.specs.Rows.{Describes, fault_of}
 
 abbrev the_fields : List Entity → List ℕ → List StreamInterface → ℕ → ℕ → FunctionFields
@@ -70,12 +72,20 @@ function_is function blocks is =
         → the_fields es ds ss k t ≡ the_fields es' ds' ss' k' t'
     same_fields es es' ds ds' ss ss' k k' t t' e d s c l = cc
 
--- the descriptor's bytes were read, and their function is sound
-pub described_well : (bytes : List ℕ) (blocks lent : List Block) (function : FunctionFields) → IsSentence bytes blocks → first_fault bytes ≡ None → lent ≡ blocks
-    → IsSound lent × IsFunctionOf function lent → Describes bytes (Ok function)
-described_well bytes blocks lent function sentence none same sound =
-    let all : blocks_of bytes ≡ lent = blocks_of_sentence bytes blocks sentence ∙ sym same in
-    (none, ap first_broken all ∙ sound.0, function_is function lent sound.1 ∙ ap function_of (sym all))
+-- the descriptor's bytes were read, their function is sound, and the configuration's bytes were kept
+pub described_with : (bytes : List ℕ) (blocks lent again : List Block) (function : FunctionFields) (result : Result SoundDescriptor BusFault)
+    → IsSentence bytes blocks → first_fault bytes ≡ None → lent ≡ blocks → again ≡ blocks → IsSound lent × IsFunctionOf function lent
+    → IfOk result (λ d. (d.function ≡ function) × (d.configuration ≡ configuration_of (flat_map spelling again)))
+    → IfErr result (λ fault. fault ≡ faults.NoMemory) → Describes bytes result
+described_with bytes blocks lent again function (Ok d) sentence none same back sound is other =
+    let all : blocks_of bytes ≡ lent = blocks_of_sentence bytes blocks sentence ∙ sym same in (
+      none,
+      ap first_broken all ∙ sound.0,
+      is.0 ∙ function_is function lent sound.1 ∙ ap function_of (sym all),
+      is.1 ∙ ap (λ (bs : List Block). configuration_of (flat_map spelling bs)) back ∙ ap configuration_of (sym sentence.spelt),
+    )
+described_with bytes blocks lent again function (Err fault) sentence none same back sound is other =
+    subst (λ (f : BusFault). Describes bytes (Err f)) (sym other) tt
 
 -- or it breaks a rule
 pub described_broken : (bytes : List ℕ) (blocks lent : List Block) (fault : TopologyFault) → IsSentence bytes blocks → first_fault bytes ≡ None → lent ≡ blocks
@@ -92,10 +102,10 @@ pub described_refused : (bytes : List ℕ) (stop : ReadStop) (fault : BusFault) 
 described_refused bytes stop fault told is = subst (λ (f : BusFault). Describes bytes (Err f)) (sym is) (stopped_there bytes stop told)
 
 -- the end of such a descriptor
-pub gone_well : (bytes : List ℕ) (function : FunctionFields) (shown : List Reading) → Describes bytes (Ok function)
-    → gone bytes shown ≡ done (running (at_start bytes function shown)) (ready_line function ∷ [])
+pub gone_well : (bytes : List ℕ) (d : SoundDescriptor) (shown : List Reading) → Describes bytes (Ok d)
+    → gone bytes shown ≡ done (running (at_start bytes d.function shown)) (ready_line d.function ∷ [])
 unfolding gone
-gone_well bytes function shown d =
+gone_well bytes sound shown d =
     let began : FunctionFields → Step = λ f. done (running (at_start bytes f shown)) (ready_line f ∷ []) in
     let whole : Step = began (function_of (blocks_of bytes)) in
     ap (λ (o : Option GrammarFault). if_no_fault o (if_sound (first_broken (blocks_of bytes)) whole)) d.0

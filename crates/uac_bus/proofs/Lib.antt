@@ -1,5 +1,8 @@
 -- What the lines' proofs share.
+pub mod Configuring
 pub mod Described
 pub mod Stepping
 pub mod Rowing
+pub mod Framing
+pub mod TransferRows
 pub mod AfterLemmas

@@ -11,14 +11,14 @@ use Rattle.uac_graph.specs.Meaning.{entity}
 use Rattle.uac_units.specs.Hearing.{Reading}
 use Rattle.uac_script.specs.declared.line.Mark.{Mark}
 use Rattle.uac_script.specs.Line.{loss_of}
-use Rattle.uac_script.specs.Phrase.{deviates}
+use Rattle.uac_script.specs.Phrase.{appends, controls, deviates, sets}
 use Rattle.uac_topology.specs.Function.{FunctionFields}
-use Rattle.uac_running.specs.World.{RunningWorld}
-use Rattle.uac_running.specs.Kept.{RunningFields, Stands}
+use Rattle.uac_running.specs.RunningWorld.{RunningWorld}
+use Rattle.uac_running.specs.Kept.{RunningFields, StandsBetween}
 use Rattle.uac_bus.specs.declared.bus.Stage.TheVariants as stages
 use Rattle.uac_bus.specs.declared.fault.BusFault.{BusFault}
-use Rattle.uac_bus.specs.World.{World, Step, step_running, unless, breaks_rule, unbuilt, is_placed, is_empty, has_out, are_frames}
-use Rattle.uac_bus.specs.Kept.{StandsFor, Reaches, Does}
+use Rattle.uac_bus.specs.World.{World, Step, step_running, unless, breaks_rule, is_placed, has_out, are_frames}
+use Rattle.uac_bus.specs.Kept.{StandsFor, Reaches, IsCut, Does}
 use Rattle.uac_bus.proofs.Stepping.{unless_holds, unless_fails}
 
 -- the rule holds, and the step was made
@@ -27,21 +27,54 @@ pub unless_reached : (b : Bool) (rule : ℕ) (s : Step) (Holds : World → Type 
 unless_reached true rule s Holds written written' e r = r
 unless_reached false rule s Holds written written' e r = absurd (cc)
 
+-- the rule holds, and a write failed in the middle of the step's lines
+pub unless_cut : (b : Bool) (rule : ℕ) (s : Step) (written written' : Option (List ℕ)) → b ≡ true → IsCut s written written'
+    → IsCut (unless b rule s) written written'
+unless_cut true rule s written written' e cut = cut
+unless_cut false rule s written written' e cut = absurd (cc)
+
 -- a deviation that was passed on is the line's
 pub deviates_said : (domain : ℕ) (passed ppm : ℤ) (p p' : RunningFields) (result : Result (Unit {0}) BusFault) → passed ≡ ppm
-    → ((shown : List Reading) (r : RunningWorld) (written : Option (List ℕ)) → Stands p shown r
+    → ((shown : List Reading) (r : RunningWorld) (written : Option (List ℕ)) → StandsBetween p shown r
     → Does (step_running r (deviates (pos domain) passed)) false (StandsFor (stages.Running p') shown) written written result)
-    → (shown : List Reading) (r : RunningWorld) (written : Option (List ℕ)) → Stands p shown r
+    → (shown : List Reading) (r : RunningWorld) (written : Option (List ℕ)) → StandsBetween p shown r
     → Does (step_running r (deviates (pos domain) ppm)) false (StandsFor (stages.Running p') shown) written written result
 deviates_said domain passed ppm p p' result same does shown r written s =
     subst (λ (z : ℤ). Does (step_running r (deviates (pos domain) z)) false (StandsFor (stages.Running p') shown) written written result) same (does shown r written s)
 
--- the second rule is broken, or the line isn't built
-pub append_broken : (b c : Bool) → b ≡ true → c ≡ false → unless b 6 (unless c 7 unbuilt) ≡ breaks_rule 7
-append_broken b c h k = unless_holds b 6 (unless c 7 unbuilt) h ∙ unless_fails c 7 unbuilt k
+-- the bytes that were passed on are the line's
+pub controls_said : (setup passed sent : List ℕ) (p p' : RunningFields) (written written' : Option (List ℕ)) (result : Result (Unit {0}) BusFault) → passed ≡ sent
+    → ((shown : List Reading) (r : RunningWorld) → StandsBetween p shown r
+    → Does (step_running r (controls setup passed)) false (StandsFor (stages.Running p') shown) written written' result)
+    → (shown : List Reading) (r : RunningWorld) → StandsBetween p shown r
+    → Does (step_running r (controls setup sent)) false (StandsFor (stages.Running p') shown) written written' result
+controls_said setup passed sent p p' written written' result same does shown r s =
+    subst (λ (bytes : List ℕ). Does (step_running r (controls setup bytes)) false (StandsFor (stages.Running p') shown) written written' result) same (does shown r s)
 
-pub append_late : (b c : Bool) → b ≡ true → c ≡ true → unless b 6 (unless c 7 unbuilt) ≡ unbuilt
-append_late b c h k = unless_holds b 6 (unless c 7 unbuilt) h ∙ unless_holds c 7 unbuilt k
+-- the name and the value that were passed on are the line's
+pub sets_said : (passed name : List ℕ) (kept value : ℤ) (p p' : RunningFields) (written written' : Option (List ℕ)) (result : Result (Unit {0}) BusFault)
+    → passed ≡ name → kept ≡ value
+    → ((shown : List Reading) (r : RunningWorld) → StandsBetween p shown r
+    → Does (step_running r (sets passed kept)) false (StandsFor (stages.Running p') shown) written written' result)
+    → (shown : List Reading) (r : RunningWorld) → StandsBetween p shown r
+    → Does (step_running r (sets name value)) false (StandsFor (stages.Running p') shown) written written' result
+sets_said passed name kept value p p' written written' result same exact does shown r s =
+    subst (λ (bytes : List ℕ). Does (step_running r (sets bytes value)) false (StandsFor (stages.Running p') shown) written written' result) same
+    (subst (λ (z : ℤ). Does (step_running r (sets passed z)) false (StandsFor (stages.Running p') shown) written written' result) exact (does shown r s))
+
+-- the samples that were passed on are the line's
+pub appends_said : (interface : ℕ) (passed samples : List ℤ) (p p' : RunningFields) (result : Result (Unit {0}) BusFault) → passed ≡ samples
+    → ((shown : List Reading) (r : RunningWorld) (written : Option (List ℕ)) → StandsBetween p shown r
+    → Does (step_running r (appends (pos interface) passed)) true (StandsFor (stages.Running p') shown) written written result)
+    → (shown : List Reading) (r : RunningWorld) (written : Option (List ℕ)) → StandsBetween p shown r
+    → Does (step_running r (appends (pos interface) samples)) true (StandsFor (stages.Running p') shown) written written result
+appends_said interface passed samples p p' result same does shown r written s =
+    subst (λ (zs : List ℤ). Does (step_running r (appends (pos interface) zs)) true (StandsFor (stages.Running p') shown) written written result) same
+    (does shown r written s)
+
+-- the second rule is broken
+pub append_broken : (b c : Bool) (s : Step) → b ≡ true → c ≡ false → unless b 6 (unless c 7 s) ≡ breaks_rule 7
+append_broken b c s h k = unless_holds b 6 (unless c 7 s) h ∙ unless_fails c 7 s k
 
 -- the channels of the entity that was found
 pub channels_at : (es : List Entity) (id place : ℕ) (found : List Entity) (default : Entity) → position (λ e. e.id == id) es ≡ Some place → found ≡ es
@@ -63,17 +96,13 @@ channels_nowhere es id e =
 -- ---- what is said of the kept function holds in the world
 
 -- these are the streaming interfaces of the device
-pub streams_in : (r : RunningWorld) (p : RunningFields) (shown : List Reading) (function : FunctionFields) (streams : List StreamInterface) → Stands p shown r
+pub streams_in : (r : RunningWorld) (p : RunningFields) (shown : List Reading) (function : FunctionFields) (streams : List StreamInterface) → StandsBetween p shown r
     → function ≡ p.device.function → streams ≡ function.streams → streams ≡ r.device.function.streams
-streams_in r p shown function streams s same is = is ∙ ap (λ (f : FunctionFields). f.streams) (same ∙ s.device.function)
+streams_in r p shown function streams s same is = is ∙ ap (λ (f : FunctionFields). f.streams) (same ∙ s.now.streaming.device.function)
 
 placed : (streams : List StreamInterface) (marks : List Mark) → list_all (λ mark. is_placed streams (loss_of mark)) marks ≡ list_all (is_placed streams) (map loss_of marks)
 placed streams [] = refl
 placed streams (mark ∷ marks) = ap (λ (b : Bool). is_placed streams (loss_of mark) && b) (placed streams marks)
-
-pub marked : (marks : List Mark) → (length marks == 0) ≡ false → is_empty (map loss_of marks) ≡ false
-marked [] some = absurd (cc)
-marked (mark ∷ marks) some = refl
 
 pub has_out_in : (streams streams' : List StreamInterface) (number : ℕ) (b : Bool) → streams ≡ streams' → b ≡ has_out streams number → b ≡ has_out streams' number
 has_out_in streams streams' number b same e = e ∙ ap (λ (ss : List StreamInterface). has_out ss number) same

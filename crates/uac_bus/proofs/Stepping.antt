@@ -7,7 +7,7 @@ use Rattle.uac_script.specs.declared.line.Line.{Line}
 use Rattle.uac_script.specs.declared.line.Line.TheVariants as lines
 use Rattle.uac_running.specs.Kept as play
 use Rattle.uac_running.specs.Kept.{RunningFields}
-use Rattle.uac_running.specs.World.{RunningWorld}
+use Rattle.uac_running.specs.RunningWorld.{RunningWorld}
 use Rattle.uac_bus.specs.declared.bus.Stage.TheVariants as stages
 use Rattle.uac_pcm.specs.declared.tones.Tone.{Tone}
 use Rattle.uac_pcm.specs.declared.tones.Tone.TheVariants.{Silent, Ramp, Noise}
@@ -15,9 +15,8 @@ use Rattle.uac_units.specs.Hearing.{Reading}
 use Rattle.uac_script.specs.Line.{voice_of_tone, phrase_of}
 use Rattle.uac_script.specs.Phrase.{Phrase, idle, feeds, goes}
 use Rattle.uac_bus.specs.declared.fault.BusFault.{BusFault}
-use Rattle.uac_bus.specs.declared.fault.BusFault.TheVariants as faults
 use Rattle.uac_bus.specs.World.{World, describing, running, Step, done, refused, unless, breaks_rule, tone_of, fed, gone, step, step_running}
-use Rattle.uac_bus.specs.Kept.{BusFields, Stands, StandsFor, Reaches, Prevents, Does, may_want}
+use Rattle.uac_bus.specs.Kept.{BusFields, Stands, StandsFor, Reaches, Prevents, Does, is_append, may_want}
 
 -- a tone is what its words spell
 pub tone_back : (tone : Tone) → tone_of (voice_of_tone tone) ≡ tone
@@ -114,7 +113,7 @@ early_in r lines.Report shown (describing bs heard) s nothing bytes go = refl
 -- a line of the running device
 pub played_in : (p p' : RunningFields) (phrase : Phrase) (shown shown' : List Reading) (w : World) (written written' : Option (List ℕ)) (result : Result (Unit {0}) BusFault)
     → StandsFor (stages.Running p) shown w
-    → ((r : RunningWorld) → play.Stands p shown r → Does (step_running r phrase) false (StandsFor (stages.Running p') shown') written written' result)
+    → ((r : RunningWorld) → play.StandsBetween p shown r → Does (step_running r phrase) (is_append phrase) (StandsFor (stages.Running p') shown') written written' result)
     → Does (step phrase w) (may_want phrase w) (StandsFor (stages.Running p') shown') written written' result
 unfolding step
 played_in p p' phrase shown shown' (describing bytes heard) written written' result s does = absurd s

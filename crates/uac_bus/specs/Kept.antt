@@ -1,8 +1,8 @@
 -- What the bus keeps, for which worlds it stands, and what a line is answered.
-use Rattle.std.specs.Prelude.{◌≡◌, ℕ, ◌&&◌, Bool, true, false, List, Option, None, Result, Ok, Err}
+use Rattle.std.specs.Prelude.{◌≡◌, ℕ, Bool, true, false, List, Option, None, Result, Ok, Err}
 use Rattle.std.specs.Io.KnownBytes.{Appends}
 use Rattle.uac_edges.specs.Writing.{AppendsFront}
-use Rattle.uac_script.specs.Phrase.{Phrase, feeds, goes}
+use Rattle.uac_script.specs.Phrase.{Phrase, appends, feeds, goes}
 use Rattle.uac_transcript.specs.Printing.{text_of}
 use Rattle.uac_units.specs.Hearing.{Reading}
 use Rattle.uac_running.specs.Kept as play
@@ -22,17 +22,18 @@ abbrev pub StandsFor : Stage → List Reading → World → Type 0
 StandsFor (stages.Describing reader) meters (describing bytes shown) = (reader.taken ≡ bytes) × (reader.stop ≡ None) × (meters ≡ shown)
 StandsFor (stages.Describing reader) meters (running r) = ⊥
 StandsFor (stages.Running p) meters (describing bytes shown) = ⊥
-StandsFor (stages.Running p) meters (running r) = play.Stands p meters r
+StandsFor (stages.Running p) meters (running r) = play.StandsBetween p meters r
 
 -- the bus, with meters that show this, stands for the world: it keeps no fault
 pub record Stands (bus : BusFields) (meters : List Reading) (w : World) : Type 0 where
   pub going : bus.fault ≡ None
   pub stage : StandsFor bus.stage meters w
 
--- a line for which memory may be wanted
+-- a line for which memory may be wanted: one of the descriptor, and samples for a track
 abbrev pub takes_memory : Phrase → Bool
 takes_memory (feeds bytes) = true
 takes_memory goes = true
+takes_memory (appends number samples) = true
 takes_memory _ = false
 
 -- the descriptor's end hasn't come
@@ -40,9 +41,15 @@ abbrev pub is_describing : World → Bool
 is_describing (describing bytes meters) = true
 is_describing (running r) = false
 
--- memory may be wanted for what is said before the descriptor's end, and for nothing behind it
+-- a line of samples
+abbrev pub is_append : Phrase → Bool
+is_append (appends number samples) = true
+is_append _ = false
+
+-- before the descriptor's end memory may be wanted for its lines, and behind it for samples alone
 abbrev pub may_want : Phrase → World → Bool
-may_want phrase w = is_describing w && takes_memory phrase
+may_want phrase (describing bytes meters) = takes_memory phrase
+may_want phrase (running r) = is_append phrase
 
 -- the step was done: this holds of the next world, and its lines were written
 abbrev pub Reaches : Step → (World → Type 0) → Option (List ℕ) → Option (List ℕ) → Type 0

@@ -3,13 +3,13 @@ use Rattle.std.specs.Prelude.{◌≡◌, ℕ, true, List, Option, None, Some, Re
 use Rattle.uac_sentence.specs.Grammar.{first_fault}
 use Rattle.uac_grammar.specs.declared.fault.ReadStop.{ReadStop}
 use Rattle.uac_grammar.specs.declared.fault.ReadStop.TheVariants as reads
-use Rattle.uac_topology.specs.Function.{FunctionFields}
+use Rattle.uac_bus.specs.declared.describing.SoundDescriptor.{SoundDescriptor}
+use Rattle.uac_running.specs.Transfers.{configuration_of}
 use Rattle.uac_topology.specs.Topology.{first_broken}
 use Rattle.uac_units.specs.Hearing.{Reading}
 use Rattle.uac_running.specs.Kept.{RunningFields}
 use Rattle.uac_bus.specs.declared.fault.BusFault.{BusFault}
 use Rattle.uac_bus.specs.declared.fault.BusFault.TheVariants as faults
-use Rattle.uac_bus.specs.declared.bus.Stage.{Stage}
 use Rattle.uac_bus.specs.declared.bus.Stage.TheVariants as stages
 use Rattle.uac_bus.specs.Description.{blocks_of, function_of}
 use Rattle.uac_bus.specs.World.{Step}
@@ -26,9 +26,10 @@ fault_of (reads.Fault fault) = faults.Grammar fault
 fault_of reads.NoMemory = faults.NoMemory
 
 -- what the descriptor's bytes come to
-abbrev pub Describes : List ℕ → Result FunctionFields BusFault → Type 0
-Describes bytes (Ok function) =
-    (first_fault bytes ≡ None) × (first_broken (blocks_of bytes) ≡ None) × (function ≡ function_of (blocks_of bytes))
+abbrev pub Describes : List ℕ → Result SoundDescriptor BusFault → Type 0
+Describes bytes (Ok described) =
+    (first_fault bytes ≡ None) × (first_broken (blocks_of bytes) ≡ None) × (described.function ≡ function_of (blocks_of bytes))
+    × (described.configuration ≡ configuration_of bytes)
 Describes bytes (Err (faults.Grammar fault)) = first_fault bytes ≡ Some fault
 Describes bytes (Err (faults.Topology fault)) = (first_fault bytes ≡ None) × (first_broken (blocks_of bytes) ≡ Some fault)
 Describes bytes (Err faults.NoMemory) = Unit {0}

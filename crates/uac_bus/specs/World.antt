@@ -17,8 +17,12 @@ use Rattle.uac_script.specs.declared.line.MarkKind.{MarkKind}
 use Rattle.uac_script.specs.declared.line.MarkKind.TheVariants.{Out, In, Feedback}
 use Rattle.uac_script.specs.Phrase.{Voice, silent, ramps, hisses, Loss, Phrase, idle, feeds, goes, controls, gets, sets, shows, breaks, appends, tracks, jacks, deviates, runs, details, reports}
 use Rattle.uac_transcript.specs.Transcript.{Said}
-use Rattle.uac_running.specs.World.{RunningWorld, at_start, has_jack, has_domain, with_tone, with_deviation, with_detail}
+use Rattle.uac_running.specs.RunningWorld.{RunningWorld, at_start, has_jack, has_domain, with_tone, with_deviation, with_detail, with_samples_on, with_track}
 use Rattle.uac_running.specs.Events.{Told, microframes}
+use Rattle.uac_running.specs.Transfers.{element_named, read_element, set_element, show_element, transfer, with_break}
+use Rattle.uac_request.specs.Requests.{setup_of}
+use Rattle.uac_mixer.specs.Elements.{fits_element}
+use Rattle.uac_mixer.specs.declared.element.Element.{Element}
 use Rattle.uac_running.specs.Lines.{ready_line, report_lines}
 use Rattle.uac_bus.specs.declared.fault.BusFault.{BusFault}
 use Rattle.uac_bus.specs.declared.fault.BusFault.TheVariants as faults
@@ -118,35 +122,35 @@ unfoldable pub are_frames : FunctionFields → ℕ → ℕ → Bool
 are_frames function number count =
     option_map_or (λ s. count % (entity function.entities s.terminal).cluster.channels == 0) (find (is_out number) function.streams) false
 
--- a line that isn't built yet
-abbrev pub unbuilt : Step
-unbuilt = breaks_rule 9
-
 abbrev pub told : Told → Step
 told t = done (running t.world) t.lines
 
-abbrev pub is_empty : List Loss → Bool
-is_empty [] = true
-is_empty (loss ∷ losses) = false
+-- what a line makes of the element that it names; there is to be one
+abbrev pub on_element : Option Element → (Element → Step) → Step
+on_element None step = breaks_rule 6
+on_element (Some x) step = step x
 
 abbrev pub step_running : RunningWorld → Phrase → Step
 step_running r idle = silently (running r)
 step_running r (feeds more) = breaks_rule 5
 step_running r goes = breaks_rule 5
-step_running r (controls setup sent) = unbuilt
-step_running r (gets name) = unbuilt
-step_running r (sets name value) = unbuilt
-step_running r (shows name) = unbuilt
-step_running r (breaks after) = unbuilt
+step_running r (controls setup sent) = told (transfer (setup_of setup) sent r)
+step_running r (gets name) = on_element (element_named r name) (λ x. told (read_element x r))
+step_running r (sets name value) =
+    on_element (element_named r name) (λ x. unless (fits_element x.kind value) 7 (told (set_element x value r)))
+step_running r (shows name) = on_element (element_named r name) (λ x. told (show_element x r))
+step_running r (breaks after) = silently (running (with_break after r))
 step_running r (appends number samples) =
-    unless (has_out r.device.function.streams (size_of number)) 6 (unless (are_frames r.device.function (size_of number) (length samples)) 7 unbuilt)
-step_running r (tracks number voice) = unless (has_out r.device.function.streams (size_of number)) 6 unbuilt
+    unless (has_out r.device.function.streams (size_of number)) 6
+    (unless (are_frames r.device.function (size_of number) (length samples)) 7 (silently (running (with_samples_on (size_of number) samples r))))
+step_running r (tracks number voice) =
+    unless (has_out r.device.function.streams (size_of number)) 6 (silently (running (with_track (size_of number) (tone_of voice) r)))
 step_running r (jacks terminal voice) =
     unless (has_jack r (size_of terminal)) 6 (silently (running (with_tone (size_of terminal) (tone_of voice) r)))
 step_running r (deviates clock millionths) =
     unless (has_domain r (size_of clock)) 6 (silently (running (with_deviation (size_of clock) millionths r)))
 step_running r (runs count losses) =
-    unless (list_all (is_placed r.device.function.streams) losses) 6 (unless (is_empty losses) 9 (told (microframes losses (size_of count) r)))
+    unless (list_all (is_placed r.device.function.streams) losses) 6 (told (microframes losses (size_of count) r))
 step_running r (details level) = silently (running (with_detail (size_of level) r))
 step_running r reports = done (running r) (report_lines r)
 

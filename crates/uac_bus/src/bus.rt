@@ -57,7 +57,7 @@ impl Bus {
         }
     }
 
-    /// Does one line and prints its text. The lines `d` and `g` alone take memory.
+    /// Does one line and prints its text. The lines `d`, `g` and `a` alone take memory.
     ///
     /// # Errors
     ///

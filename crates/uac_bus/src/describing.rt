@@ -1,5 +1,8 @@
 // The lines of the descriptor.
-ghost use Rattle.std.specs.Prelude.{◌≡◌, ◌≢◌, ◌≤◌, ◌++◌, ℕ, List, Option, None, true, IfErr};
+ghost use Rattle.std.specs.Prelude.{◌≡◌, ◌≢◌, ◌≤◌, ◌++◌, ℕ, List, flat_map, Option, None, true, IfErr, IfOk};
+ghost use Rattle.uac_descriptor.specs.Spelling.{spelling};
+ghost use Rattle.uac_running.specs.Transfers as transfers;
+ghost use Rattle.uac_running.specs.Transfers.{configuration_of};
 ghost use Rattle.uac_units.specs.Hearing.{Reading};
 ghost use Rattle.uac_edges.specs.Faults.{Rose};
 ghost use Rattle.uac_bus.specs.World.{fed, gone};
@@ -9,6 +12,7 @@ ghost use Rattle.uac_bus.specs.Rows.{Begins, Describes, fault_of};
 use crate::bus::Stage;
 use crate::fault::BusFault;
 use std::alloc::Global;
+use uac_descriptor::{Block, ByteList, NoMemory};
 use uac_edges::Sink;
 use uac_grammar::{ReadStop, Reader};
 use uac_running::Running;
@@ -38,19 +42,80 @@ fn stopped(stop: ReadStop) -> BusFault
     }
 }
 
-/// The function that the bytes describe.
-fn described(alloc: Global, reader: Reader) -> Result<Function, BusFault>
+/// What a descriptor's bytes come to: the function that they describe, and those of them of which descriptors are answered.
+#[derive(Drop)]
+pub struct SoundDescriptor {
+    pub(crate) function: Function,
+    pub(crate) configuration: ByteList,
+}
+
+/// What the bytes describe.
+fn described(alloc: Global, reader: Reader) -> Result<SoundDescriptor, BusFault>
     ensures { Describes reader.taken result }
 {
     sentences_are_well_formed();
     match reader.finish() {
         Ok(blocks) => match check(alloc, blocks.as_slice()) {
-            Ok(function) => Ok(function),
+            Ok(function) => with_bytes(alloc, function, blocks.as_slice()),
             Err(CheckStop::Fault(fault)) => Err(BusFault::Topology(fault)),
             Err(CheckStop::NoMemory) => Err(BusFault::NoMemory),
         },
         Err(stop) => Err(stopped(stop)),
     }
+}
+
+/// A function, with the configuration's bytes, which are those of its blocks.
+fn with_bytes(
+    alloc: Global,
+    function: Function,
+    blocks: &[Block],
+) -> Result<SoundDescriptor, BusFault>
+    ensures ok { IfOk result (λ described. (described.function ≡ function) × (described.configuration ≡ configuration_of (flat_map spelling blocks.now))) }
+    ensures err { IfErr result (λ fault. fault ≡ BusFault.NoMemory) }
+{
+    let bytes = match bytes_of(alloc, blocks) {
+        Ok(bytes) => bytes,
+        Err(NoMemory) => return Err(BusFault::NoMemory),
+    };
+    match configuration_of(alloc, bytes.as_slice()) {
+        Ok(configuration) => Ok(SoundDescriptor {
+            function,
+            configuration,
+        }),
+        Err(NoMemory) => Err(BusFault::NoMemory),
+    }
+}
+
+/// The bytes of blocks, one after the other.
+pub fn bytes_of(alloc: Global, blocks: &[Block]) -> Result<ByteList, NoMemory>
+    ensures { IfOk result (λ bytes. bytes ≡ flat_map spelling blocks.now) }
+{
+    let mut bytes = ByteList::from_vec(Vec::new(alloc));
+    for block in blocks {
+        match block.write(&mut bytes) {
+            Ok(()) => {}
+            Err(NoMemory) => return Err(NoMemory),
+        }
+    }
+    Ok(bytes)
+}
+
+/// A descriptor's bytes without a device descriptor in front (USB 2.0, 9.6.1).
+fn configuration_of(alloc: Global, bytes: &[u8]) -> Result<ByteList, NoMemory>
+    ensures { IfOk result (λ configuration. configuration ≡ configuration_of bytes.now) }
+{
+    let front = if begins_with_device(bytes) { 18 } else { 0 };
+    match Vec::from_slice(alloc, &bytes[bytes.len().min(front)..]) {
+        Ok(configuration) => Ok(ByteList::from_vec(configuration)),
+        Err(_) => Err(NoMemory),
+    }
+}
+
+/// Whether a device descriptor stands in front.
+fn begins_with_device(bytes: &[u8]) -> bool
+    ensures { result ≡ transfers.begins_with_device bytes.now }
+{
+    bytes.first().copied().unwrap_or(0) == 18 && bytes.get(1).copied().unwrap_or(0) == 1
 }
 
 /// The descriptor's end: the device that it describes begins to run, and says so.
@@ -65,11 +130,11 @@ pub(crate) fn begin<K: Sink>(
     ensures cause { IfErr result (λ fault. fault ≡ BusFault.WriteFault → Rose (K.faults sink.old) (K.faults sink.new)) }
     ensures never_falls { K.faults sink.old ≤ K.faults sink.new }
 {
-    let function = match described(alloc, reader) {
-        Ok(function) => function,
+    let described = match described(alloc, reader) {
+        Ok(described) => described,
         Err(fault) => return Err(fault),
     };
-    let running = match Running::new(alloc, function) {
+    let running = match Running::new(alloc, described.function, described.configuration) {
         Ok(running) => running,
         Err(_) => return Err(BusFault::NoMemory),
     };

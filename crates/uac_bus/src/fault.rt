@@ -6,7 +6,7 @@ use uac_topology::TopologyFault;
 /// Why a line of a script isn't done.
 #[derive(Clone, Copy, Debug, PartialEq, Eq, Error)]
 pub enum BusFault {
-    /// The line breaks a rule of the script: 5, 6 or 7, or 9 where it isn't built yet; at the end rule 8.
+    /// The line breaks a rule of the script: 5, 6 or 7; at the end rule 8.
     #[error("the line breaks rule S{0}")]
     Script(u8),
     /// The descriptor has this first fault.

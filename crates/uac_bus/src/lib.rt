@@ -13,6 +13,9 @@ pub mod laws;
 mod naming;
 /// The lines of the running device.
 mod rows;
+/// The lines of transfers, and those that name an element.
+mod transfers;
 
 pub use bus::Bus;
+pub use describing::bytes_of;
 pub use fault::BusFault;

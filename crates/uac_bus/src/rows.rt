@@ -1,56 +1,66 @@
 // The lines of the running device.
-ghost use Rattle.std.specs.Prelude.{◌≡◌, ◌≢◌, ◌≤◌, ◌≤ℤ◌, ℕ, List, Option, false, pos, negsuc, map, IfErr, OnErr};
+ghost use Rattle.std.specs.Prelude.{◌≡◌, ◌≢◌, ◌≤◌, ◌≤ℤ◌, ℕ, List, Option, true, false, pos, negsuc, map, IfErr, OnErr};
 ghost use Rattle.uac_units.specs.Fitting.{IsFitted};
 ghost use Rattle.uac_units.specs.Hearing.{Reading};
 ghost use Rattle.uac_units.specs.Panel.{readings};
 ghost use Rattle.uac_edges.specs.Faults.{Rose};
 ghost use Rattle.uac_script.specs.Line.{phrase_of, voice_of_tone, loss_of, Keeps};
 ghost use Rattle.uac_script.specs.Phrase as phrase;
-ghost use Rattle.uac_running.specs.World.{RunningWorld};
-ghost use Rattle.uac_running.specs.Kept.{Stands};
-ghost use Rattle.uac_bus.specs.World.{step_running, refused};
-ghost use Rattle.uac_bus.specs.Kept.{StandsFor, Does, is_final};
+ghost use Rattle.uac_running.specs.RunningWorld.{RunningWorld};
+ghost use Rattle.uac_running.specs.Kept.{StandsBetween};
+ghost use Rattle.uac_bus.specs.World.{step_running};
+ghost use Rattle.uac_bus.specs.Kept.{StandsFor, Does, is_append, is_final};
 
 use crate::bus::Stage;
 use crate::fault::BusFault;
 use crate::naming::{are_frames, are_placed, has_out};
+use crate::transfers::{control, get, set, show};
 use uac_edges::Sink;
 use uac_pcm::Tone;
 use uac_running::Running;
 use uac_script::{Line, Mark};
+use uac_topology::laws::{functions_are_sound, interfaces_are_numbered};
 use uac_units::{Meter, Meters, Rack, Unit};
 
-/// Samples for a track. Tracks aren't built yet.
-fn append(running: &Running, interface: u8, samples: &[i32]) -> BusFault
-    ensures refused { (shown : List Reading) (r : RunningWorld) → Stands running.now shown r
-        → step_running r (phrase.appends (pos interface) samples.now) ≡ refused result }
-    ensures rule { is_final result ≡ false }
+/// Samples for a track.
+fn append(running: &mut Running, interface: u8, samples: &[i32]) -> Result<(), BusFault>
+    ensures does { (shown : List Reading) (r : RunningWorld) (written : Option (List ℕ)) → StandsBetween running.old shown r
+        → Does (step_running r (phrase.appends (pos interface) samples.now)) true (StandsFor (Stage.Running running.new) shown) written written result }
+    ensures unwritten { IfErr result (λ fault. fault ≢ BusFault.WriteFault) }
+    ensures script { IfErr result (λ fault. is_final fault ≡ false → running.new ≡ running.old) }
 {
     let function = running.function();
+    interfaces_are_numbered();
+    functions_are_sound(function);
     if !has_out(function.streams(), interface) {
-        return BusFault::Script(6);
+        return Err(BusFault::Script(6));
     }
     if !are_frames(function, interface, samples.len()) {
-        return BusFault::Script(7);
+        return Err(BusFault::Script(7));
     }
-    BusFault::Script(9)
+    match running.append(interface, samples) {
+        Ok(()) => Ok(()),
+        Err(_) => Err(BusFault::NoMemory),
+    }
 }
 
-/// The tone of a track. Tracks aren't built yet.
-fn track(running: &Running, interface: u8, tone: &Tone) -> BusFault
-    ensures refused { (shown : List Reading) (r : RunningWorld) → Stands running.now shown r
-        → step_running r (phrase.tracks (pos interface) (voice_of_tone tone.now)) ≡ refused result }
-    ensures rule { is_final result ≡ false }
+/// The tone of a track.
+fn track(running: &mut Running, interface: u8, tone: &Tone) -> Result<(), BusFault>
+    ensures does { (shown : List Reading) (r : RunningWorld) (written : Option (List ℕ)) → StandsBetween running.old shown r
+        → Does (step_running r (phrase.tracks (pos interface) (voice_of_tone tone.now))) false (StandsFor (Stage.Running running.new) shown) written written result }
+    ensures rule { IfErr result (λ fault. is_final fault ≡ false) }
+    ensures unchanged { OnErr result (running.new ≡ running.old) }
 {
     if !has_out(running.function().streams(), interface) {
-        return BusFault::Script(6);
+        return Err(BusFault::Script(6));
     }
-    BusFault::Script(9)
+    running.track(interface, *tone);
+    Ok(())
 }
 
 /// The tone of an input jack.
 fn set_jack(running: &mut Running, terminal: u8, tone: &Tone) -> Result<(), BusFault>
-    ensures does { (shown : List Reading) (r : RunningWorld) (written : Option (List ℕ)) → Stands running.old shown r
+    ensures does { (shown : List Reading) (r : RunningWorld) (written : Option (List ℕ)) → StandsBetween running.old shown r
         → Does (step_running r (phrase.jacks (pos terminal) (voice_of_tone tone.now))) false (StandsFor (Stage.Running running.new) shown) written written result }
     ensures rule { IfErr result (λ fault. is_final fault ≡ false) }
     ensures unchanged { OnErr result (running.new ≡ running.old) }
@@ -66,7 +76,7 @@ fn set_jack(running: &mut Running, terminal: u8, tone: &Tone) -> Result<(), BusF
 fn deviate(running: &mut Running, domain: u8, ppm: i32) -> Result<(), BusFault>
     requires low { negsuc 99999 ≤ℤ ppm }
     requires high { ppm ≤ℤ pos 100000 }
-    ensures does { (shown : List Reading) (r : RunningWorld) (written : Option (List ℕ)) → Stands running.old shown r
+    ensures does { (shown : List Reading) (r : RunningWorld) (written : Option (List ℕ)) → StandsBetween running.old shown r
         → Does (step_running r (phrase.deviates (pos domain) ppm)) false (StandsFor (Stage.Running running.new) shown) written written result }
     ensures rule { IfErr result (λ fault. is_final fault ≡ false) }
     ensures unchanged { OnErr result (running.new ≡ running.old) }
@@ -78,7 +88,7 @@ fn deviate(running: &mut Running, domain: u8, ppm: i32) -> Result<(), BusFault>
     Ok(())
 }
 
-/// Microframes. Marks have to name interfaces, and no loss is built yet.
+/// Microframes. Marks have to name interfaces.
 fn run<K: Sink>(
     running: &mut Running,
     count: u32,
@@ -88,7 +98,7 @@ fn run<K: Sink>(
     sink: &mut K,
 ) -> Result<(), BusFault>
     requires rack { IsFitted (λ v x. (⟦<dyn Unit as Unit>⟧ v).kind_of x) rack.now }
-    ensures does { (r : RunningWorld) → Stands running.old (readings (λ v x. (⟦<dyn Meter as Meter>⟧ v).reading_of x) meters.old) r
+    ensures does { (r : RunningWorld) → StandsBetween running.old (readings (λ v x. (⟦<dyn Meter as Meter>⟧ v).reading_of x) meters.old) r
         → Does (step_running r (phrase.runs (pos count) (map loss_of marks.now))) false
         (StandsFor (Stage.Running running.new) (readings (λ v x. (⟦<dyn Meter as Meter>⟧ v).reading_of x) meters.new)) (K.written sink.old) (K.written sink.new) result }
     ensures script { IfErr result (λ fault. is_final fault ≡ false → running.new ≡ running.old) }
@@ -100,10 +110,7 @@ fn run<K: Sink>(
     if !are_placed(running.function().streams(), marks) {
         return Err(BusFault::Script(6));
     }
-    if !marks.is_empty() {
-        return Err(BusFault::Script(9));
-    }
-    match running.microframes(count, rack, meters, sink) {
+    match running.microframes(count, marks, rack, meters, sink) {
         Ok(()) => Ok(()),
         Err(_) => Err(BusFault::WriteFault),
     }
@@ -111,7 +118,7 @@ fn run<K: Sink>(
 
 /// The report.
 fn report<K: Sink>(running: &Running, meters: &Meters, sink: &mut K) -> Result<(), BusFault>
-    ensures does { (r : RunningWorld) → Stands running.now (readings (λ v x. (⟦<dyn Meter as Meter>⟧ v).reading_of x) meters.now) r
+    ensures does { (r : RunningWorld) → StandsBetween running.now (readings (λ v x. (⟦<dyn Meter as Meter>⟧ v).reading_of x) meters.now) r
         → Does (step_running r phrase.reports) false
         (StandsFor (Stage.Running running.now) (readings (λ v x. (⟦<dyn Meter as Meter>⟧ v).reading_of x) meters.now)) (K.written sink.old) (K.written sink.new) result }
     ensures cause { IfErr result (λ fault. (fault ≡ BusFault.WriteFault) × Rose (K.faults sink.old) (K.faults sink.new)) }
@@ -133,8 +140,8 @@ pub(crate) fn play<K: Sink>(
 ) -> Result<(), BusFault>
     requires rack { IsFitted (λ v x. (⟦<dyn Unit as Unit>⟧ v).kind_of x) rack.now }
     requires keeps { Keeps line.now }
-    ensures does { (r : RunningWorld) → Stands running.old (readings (λ v x. (⟦<dyn Meter as Meter>⟧ v).reading_of x) meters.old) r
-        → Does (step_running r (phrase_of line.now)) false
+    ensures does { (r : RunningWorld) → StandsBetween running.old (readings (λ v x. (⟦<dyn Meter as Meter>⟧ v).reading_of x) meters.old) r
+        → Does (step_running r (phrase_of line.now)) (is_append (phrase_of line.now))
         (StandsFor (Stage.Running running.new) (readings (λ v x. (⟦<dyn Meter as Meter>⟧ v).reading_of x) meters.new)) (K.written sink.old) (K.written sink.new) result }
     ensures script { IfErr result (λ fault. is_final fault ≡ false → running.new ≡ running.old) }
     ensures unwritten { IfErr result (λ fault. fault ≢ BusFault.WriteFault → sink.new ≡ sink.old) }
@@ -146,15 +153,16 @@ pub(crate) fn play<K: Sink>(
         Line::Nothing => Ok(()),
         Line::Bytes(_) => Err(BusFault::Script(5)),
         Line::Go => Err(BusFault::Script(5)),
-        Line::Control { setup: _, sent: _ } => Err(BusFault::Script(9)),
-        Line::Get(_) => Err(BusFault::Script(9)),
-        Line::Set(_, _) => Err(BusFault::Script(9)),
-        Line::Show(_) => Err(BusFault::Script(9)),
-        Line::Break { after: _ } => Err(BusFault::Script(9)),
-        Line::Append { interface, samples } => {
-            Err(append(running, *interface, samples.as_slice()))
+        Line::Control { setup, sent } => control(running, *setup, sent.as_slice(), sink),
+        Line::Get(name) => get(running, name.as_slice(), sink),
+        Line::Set(name, value) => set(running, name.as_slice(), *value, sink),
+        Line::Show(name) => show(running, name.as_slice(), sink),
+        Line::Break { after } => {
+            running.set_break(*after);
+            Ok(())
         }
-        Line::Track { interface, tone } => Err(track(running, *interface, tone)),
+        Line::Append { interface, samples } => { append(running, *interface, samples.as_slice()) }
+        Line::Track { interface, tone } => track(running, *interface, tone),
         Line::Jack { terminal, tone } => set_jack(running, *terminal, tone),
         Line::Deviate { domain, ppm } => deviate(running, *domain, *ppm),
         Line::Run { count, marks } => run(running, *count, marks.as_slice(), rack, meters, sink),

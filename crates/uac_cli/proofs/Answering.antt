@@ -1,5 +1,5 @@
 -- From what reading came to, and the writing of its text, to what the call means.
-use Rattle.std.proofs.Common.{◌≡◌, ℕ, ◌⊎◌, inl, inr, List, [], sym, refl, ap, subst, ◌∙◌, Option, None, Some, IsSome}
+use Rattle.std.proofs.Common.{◌≡◌, ℕ, ◌⊎◌, inl, inr, List, [], sym, refl, ap, subst, Option, None, Some}
 use Rattle.uac_descriptor.specs.declared.block.Block.{Block}
 use Rattle.uac_sentence.specs.Sentence.{IsSentence}
 use Rattle.uac_grammar.specs.declared.fault.ReadStop.{ReadStop}
@@ -9,15 +9,15 @@ use Rattle.uac_topology.specs.declared.soundness.CheckStop.{CheckStop}
 use Rattle.uac_topology.specs.declared.soundness.CheckStop.TheVariants as stops
 use Rattle.uac_topology.specs.Function.{FunctionFields}
 use Rattle.uac_topology.specs.Topology.{first_broken, IsSound, IsFunctionOf, Tells}
-use Rattle.uac_cli.specs.declared.command.Command.{Command}
-use Rattle.uac_cli.specs.declared.command.Command.TheVariants.{Describe}
-use Rattle.uac_cli.specs.declared.command.Description.{Description}
+use Rattle.uac_cli.specs.declared.jobs.Job.TheVariants.{Describe}
+use Rattle.uac_cli.specs.declared.jobs.Description.{Description}
+use Rattle.uac_cli.specs.declared.jobs.Description.TheVariants.{Elements}
 use Rattle.uac_cli.specs.declared.reading.Reading.TheVariants.{Whole, Stopped, Failed}
 use Rattle.uac_cli.specs.declared.status.Status.{Status}
 use Rattle.uac_cli.specs.declared.status.Status.TheVariants as statuses
 use Rattle.uac_cli.specs.Outcome.{at_end, read_failed, stopped, Outcome, usage, no_memory, read_fault, refusal, sound, shows_fault, fails, ends_in_fault, is_sound, is_broken, is_read, unsound}
 use Rattle.uac_cli.specs.Reading.{Reads}
-use Rattle.uac_cli.specs.Run.{Closes, Judges, Refuses, RefusesFunction, IsAnswered, IsEnding, IsRun}
+use Rattle.uac_cli.specs.Run.{Closes, Judges, Refuses, RefusesFunction, IsAnswered, IsEnding, IsRun, WantsMemory}
 use Rattle.uac_cli.specs.Transcript.{Ending}
 use Rattle.uac_units.specs.Hearing.{Reading}
 use Rattle.uac_edges.proofs.Consuming.{Consumes-none}
@@ -104,7 +104,7 @@ module _ (shown : List Reading) (a b : Option (List ℕ)) (r r' : ℕ) (w w' : O
   abbrev ended_in : Outcome → Ending
   ended_in outcome = record { outcome = outcome; meters = shown }
 
-  described_run : (description : Description) → IsAnswered description a b r r' w w' f f' status → IsRun (Some (Describe description)) shown shown a b r r' w w' f f' status
+  pub described_run : (description : Description) → IsAnswered description a b r r' w w' f f' status → IsRun (Some (Describe description)) shown shown a b r r' w w' f f' status
   described_run description answered = record {
     taken = answered.taken;
     end = answered.end;
@@ -112,26 +112,19 @@ module _ (shown : List Reading) (a b : Option (List ℕ)) (r r' : ℕ) (w w' : O
     consumed = answered.consumed;
     ended = answered.ended;
     prompt = answered.prompt;
-    meant = elim answered.meant as (λ _. IsEnding (Some (Describe description)) shown answered.taken answered.end (ended_in answered.outcome) ⊎ (IsSome (Some (Describe description)) × (ended_in answered.outcome ≡ ended_in no_memory))) [
+    meant = elim answered.meant as (λ _. IsEnding (Some (Describe description)) shown answered.taken answered.end (ended_in answered.outcome) ⊎ WantsMemory (Some (Describe description)) shown answered.taken (ended_in answered.outcome)) [
       | inl answers ↦ inl (answers, refl)
-      | inr none ↦ inr (refl, ap ended_in none)
+      | inr none ↦ inr (ap ended_in none)
     ];
     closed = answered.closed;
     heard = (λ _. refl);
     unheard = (λ _. refl);
   }
 
--- the words ask for this description
-pub described_words : (command : Option Command) (got : Command) (description : Description) (shown : List Reading) (a b : Option (List ℕ)) (r r' : ℕ) (w w' : Option (List ℕ)) (f f' : ℕ) (status : Status)
-    → Some got ≡ command → got ≡ Describe description → IsAnswered description a b r r' w w' f f' status → IsRun command shown shown a b r r' w w' f f' status
-described_words command got description shown a b r r' w w' f f' status is got-is answered =
-    subst (λ (c : Option Command). IsRun c shown shown a b r r' w w' f f' status) (ap (λ (c : Command). Some c) (sym got-is) ∙ is)
-    (described_run shown a b r r' w w' f f' status description answered)
-
 -- the words are no command
-pub usage_run : (command : Option Command) (shown : List Reading) (a : Option (List ℕ)) (r : ℕ) (w w' : Option (List ℕ)) (f f' : ℕ) (status : Status)
-    → command ≡ None → Closes usage w w' f f' status → IsRun command shown shown a a r r w w' f f' status
-usage_run command shown a r w w' f f' status none closed = subst (λ (c : Option Command). IsRun c shown shown a a r r w w' f f' status) (sym none) (record {
+pub usage_run : (shown : List Reading) (a : Option (List ℕ)) (r : ℕ) (w w' : Option (List ℕ)) (f f' : ℕ) (status : Status)
+    → Closes usage w w' f f' status → IsRun None shown shown a a r r w w' f f' status
+usage_run shown a r w w' f f' status closed = record {
   taken = [];
   end = stopped;
   ending = record { outcome = usage; meters = shown };
@@ -142,7 +135,7 @@ usage_run command shown a r w w' f f' status none closed = subst (λ (c : Option
   closed = closed;
   heard = (λ _. refl);
   unheard = (λ _. refl);
-})
+}
 
 -- the line of an outcome was written
 line_of_outcome : (o : Outcome) (text : List ℕ) (w w' : Option (List ℕ)) (f f' : ℕ) (status : Status) → text ≡ o.text
@@ -181,3 +174,10 @@ pub judges_broken : (description : Description) (blocks : List Block) (stop : Ch
     → Tells stop (first_broken blocks) → RefusesFunction stop w w' f f' status → Judges description blocks w w' f f' status
 judges_broken description blocks (stops.Fault fault) w w' f f' status tells closed = record { outcome = unsound fault; meant = inl (is_broken fault tells); closed = closed }
 judges_broken description blocks stops.NoMemory w w' f f' status tells closed = record { outcome = no_memory; meant = inr refl; closed = closed }
+
+-- the elements were printed of a sound descriptor, where that was asked for
+pub elements_said : (description : Description) (blocks : List Block) (function : FunctionFields) (w w' : Option (List ℕ)) (f f' : ℕ) (status : Status)
+    → description ≡ Elements → Closes (sound Elements blocks function) w w' f f' status ⊎ Closes no_memory w w' f f' status
+    → Closes (sound description blocks function) w w' f f' status ⊎ Closes no_memory w w' f f' status
+elements_said description blocks function w w' f f' status is closed =
+    subst (λ (d : Description). Closes (sound d blocks function) w w' f f' status ⊎ Closes no_memory w w' f f' status) (sym is) closed

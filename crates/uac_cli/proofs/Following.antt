@@ -1,5 +1,5 @@
 -- How far a run is, and what it comes to from there.
-use Rattle.std.proofs.Common.{◌≡◌, ◌≢◌, ℕ, ◌+◌, ◌-◌, ◌≤◌, ◌⊎◌, inl, inr, Bool, true, false, List, [], ◌++◌, length, Option, None, Some, Result, Ok, Err, IfErr, refl, sym, ap, subst, ◌∙◌, arith, append_assoc, length-append}
+use Rattle.std.proofs.Common.{◌≡◌, ◌≢◌, ℕ, ◌+◌, ◌-◌, ◌≤◌, ◌⊎◌, inl, inr, Bool, true, false, List, [], ◌∷◌, ◌++◌, length, map, Option, None, Some, Result, Ok, Err, IfErr, refl, sym, ap, subst, ◌∙◌, arith, append_assoc, length-append}
 use Rattle.std.proofs.lemmas.List.{append-nil}
 use Rattle.std.specs.Io.KnownBytes.{Appends, Consumes, IsAtEnd, Keeps}
 use Rattle.uac_units.specs.Hearing.{Reading}
@@ -18,18 +18,21 @@ use Rattle.uac_edges.proofs.WritingLemmas.{Appends-twice, Appends-none, AppendsF
 use Rattle.uac_bus.specs.declared.fault.BusFault.{BusFault}
 use Rattle.uac_bus.specs.declared.fault.BusFault.TheVariants as faults
 use Rattle.uac_bus.specs.World.{World, describing, running, Step, done, refused, start, step, finish_of, meters_in}
-use Rattle.uac_bus.specs.After.{said_step}
+use Rattle.uac_bus.specs.After.{after, said_step}
 use Rattle.uac_transcript.specs.Transcript.{Said}
 use Rattle.uac_transcript.specs.Printing.{text_of}
-use Rattle.uac_bus.specs.Kept.{BusFields, Stands, Reaches, IsCut, Prevents, Answers, is_describing, may_want}
-use Rattle.uac_cli.specs.declared.command.Command.TheVariants.{Run}
+use Rattle.uac_bus.specs.declared.bus.Stage.{Stage}
+use Rattle.uac_bus.specs.declared.bus.Stage.TheVariants as stages
+use Rattle.uac_bus.specs.Kept.{BusFields, Stands, StandsFor, Reaches, IsCut, Prevents, Answers, may_want}
+use Rattle.uac_cli.specs.declared.jobs.Job.TheVariants.{Run}
 use Rattle.uac_cli.specs.declared.status.Status.{Status}
 use Rattle.uac_cli.specs.declared.status.Status.TheVariants as statuses
 use Rattle.uac_cli.specs.Outcome.{End, at_end, read_failed, stopped, Outcome, no_memory, read_fault}
 use Rattle.uac_cli.specs.Run.{HasEnded, Closes, IsRun}
 use Rattle.uac_cli.specs.Running.{IsSilent, Leaves, Does, stop_outcome}
+use Rattle.uac_cli.specs.Script.{IsLine, IsWanted, StandsBehind, wants}
 use Rattle.uac_cli.specs.Transcript.{Ending, misread, too_long, last_line, ends, behind, after_step, closed_by, finished, goes, transcript}
-use Rattle.uac_cli.proofs.Describing.{said_quiet, still_describing, Stands-meters}
+use Rattle.uac_cli.proofs.Cutting.{HasDone, none_done, done_more, one_more_done, front_cut, rest_cut}
 use Rattle.uac_cli.proofs.Going.{line_size, goes_at, head_nothing, rest_is_done, rest_failed, behind-behind}
 
 -- What is to come, whatever bytes that may be: the text so far, and then what the lines from here on make of the world. Behind a
@@ -39,7 +42,8 @@ ToCome shown taken text lines left w false =
     (more : List ℕ) (end : End) → transcript shown (taken ++ more) end ≡ behind text (goes lines.spare (lines.unread ++ more) end (lines.number + 1) w)
 ToCome shown taken text lines left w true = IsAtEnd left × (transcript shown taken at_end ≡ behind text (finished (lines.number + 1) w))
 
--- how far a run is: the bytes that were taken, the text that was written, and a world for which the bus and the meters stand
+-- how far a run is: the bytes that were taken, which are the lines done and those unread while another line may come, the text that was
+-- written, and a world for which the bus and the meters stand
 pub record IsFar (shown : List Reading) (left left' : Option (List ℕ)) (written written' : Option (List ℕ)) (bus : BusFields) (shown' : List Reading) (lines : Splitting) : Type 0 where
   pub taken : List ℕ
   pub text : List ℕ
@@ -50,7 +54,7 @@ pub record IsFar (shown : List Reading) (left left' : Option (List ℕ)) (writte
   pub to_come : ToCome shown taken text lines left' world lines.ended
   pub appended : Appends written written' text
   pub stands : Stands bus shown' world
-  pub quiet : is_describing world ≡ true → (text ≡ []) × (shown' ≡ shown)
+  pub cut : lines.ended ≡ false → HasDone shown taken text lines.unread world
 
 -- ---- the start
 
@@ -74,7 +78,7 @@ begins shown left written bus stands = record {
   to_come = (λ more end. refl);
   appended = Appends-none written written (kept_here written);
   stands = stands;
-  quiet = (λ d. (refl, refl));
+  cut = (λ _. none_done shown);
 }
 
 pub far_at_first : (shown : List Reading) (left written : Option (List ℕ)) (bus : BusFields) (lines : Splitting) → Stands bus shown (start shown)
@@ -83,9 +87,20 @@ pub far_at_first : (shown : List Reading) (left written : Option (List ℕ)) (bu
 far_at_first shown left written bus lines stands is =
     subst (λ (l : Splitting). IsFar shown left left written written bus shown l) (sym is) (begins shown left written bus stands)
 
+-- what the meters show is the world's
+Stands-meters : (bus : BusFields) (shown : List Reading) (w : World) → Stands bus shown w → shown ≡ meters_in w
+Stands-meters bus shown w stands = shows bus.stage w stands.stage
+  where
+    shows : (stage : Stage) (w : World) → StandsFor stage shown w → shown ≡ meters_in w
+    shows (stages.Describing reader) (describing bytes meters) s = s.2
+    shows (stages.Describing reader) (running r) s = absurd s
+    shows (stages.Running p) (describing bytes meters) s = absurd s
+    shows (stages.Running p) (running r) s = s.now.meters
+
 -- ---- a line
 
--- a line was handed out: the bytes taken up to it, why no more may be, and how the script goes on where the line is done
+-- a line was handed out: the bytes taken up to it, why no more may be, and how the script goes on where the line is done; the bytes are
+-- the lines done before it, the line itself, and what stands behind it
 pub record HasLine (shown : List Reading) (text : List ℕ) (w : World) (left left' : Option (List ℕ)) (before : ℕ) (lines : Splitting) (reads reads' : ℕ) : Type 0 where
   pub number : lines.number ≡ before + 1
   pub taken : List ℕ
@@ -96,6 +111,11 @@ pub record HasLine (shown : List Reading) (text : List ℕ) (w : World) (left le
   pub size : length taken + lines.spare ≡ most_of_input + length lines.unread
   pub going : lines.stop ≡ None
   pub law : transcript shown taken end ≡ behind text (after_step (said_step (answer lines.text) w) lines.number w go)
+  pub rest : List ℕ
+  pub cut : HasDone shown taken text (lines.text ++ rest) w
+  pub fits : IsLine lines.text
+  pub whole : StandsBehind rest
+  pub newline : lines.ended ≡ false → rest ≡ 10 ∷ lines.unread
   pub on : (next : World) (more : List Said) → said_step (answer lines.text) w ≡ done next more → ToCome shown taken (text ++ text_of more) lines left' next lines.ended
 
 -- the law of what is to come, past the line that stands in front
@@ -121,10 +141,11 @@ past_done shown taken text told number w next more end go law is =
 has_front : (shown : List Reading) (taken text got told rest : List ℕ) (old new : Splitting) (w : World) (left left' : Option (List ℕ)) (reads reads' : ℕ)
     → ((more : List ℕ) (end : End) → transcript shown (taken ++ more) end ≡ behind text (goes old.spare (old.unread ++ more) end (old.number + 1) w))
     → length taken + old.spare ≡ most_of_input + length old.unread
-    → Consumes left left' (taken ++ got) → length told + 1 + length rest ≡ length (old.unread ++ got)
+    → Consumes left left' (taken ++ got) → HasDone shown taken text old.unread w → length told + 1 + length rest ≡ length (old.unread ++ got)
     → head_of old.spare (old.unread ++ got) ≡ line told rest → Goes old new told rest (length told + 1) false
     → HasLine shown text w left left' old.number new reads reads'
-has_front shown taken text got told rest old new w left left' reads reads' law size consumed whole head g =
+has_front shown taken text got told rest old new w left left' reads reads' law size consumed isdone whole head g =
+    let parts = front_cut old.spare (old.unread ++ got) told rest head in
     let after = past_line shown taken text got told rest old.unread old.spare old.number w law head in
     let spare-is : old.spare - (length told + 1) ≡ new.spare = let s = g.spare in omega arith in
     let number-is : old.number + 1 ≡ new.number = sym g.number in
@@ -143,6 +164,11 @@ has_front shown taken text got told rest old new w left left' reads reads' law s
           ∙ after [] stopped
           ∙ ap (λ (t : List ℕ). behind text (after_step (said_step (answer t) w) (old.number + 1) w go)) (sym g.text)
           ∙ ap (λ (n : ℕ). behind text (after_step (said_step (answer new.text) w) n w go)) number-is;
+      rest = 10 ∷ rest;
+      cut = subst (λ (xs : List ℕ). HasDone shown (taken ++ got) text xs w) (parts.1 ∙ ap (λ (t : List ℕ). t ++ 10 ∷ rest) (sym g.text)) (done_more shown taken text old.unread w got isdone);
+      fits = subst IsLine (sym g.text) parts.0;
+      whole = inr (rest, refl);
+      newline = (λ _. ap (λ (xs : List ℕ). 10 ∷ xs) (sym g.unread));
       on = (λ next more is. subst (λ (b : Bool). ToCome shown (taken ++ got) (text ++ text_of more) new left' next b) (sym g.ended)
           (λ behind-it end. past_done shown ((taken ++ got) ++ behind-it) text told (old.number + 1) w next more end
           (λ (n : World). goes (old.spare - (length told + 1)) (rest ++ behind-it) end (old.number + 1 + 1) n)
@@ -156,10 +182,10 @@ has_front shown taken text got told rest old new w left left' reads reads' law s
 has_rest : (shown : List Reading) (taken text got : List ℕ) (old new : Splitting) (w : World) (left left' : Option (List ℕ)) (reads reads' : ℕ)
     → ((more : List ℕ) (end : End) → transcript shown (taken ++ more) end ≡ behind text (goes old.spare (old.unread ++ more) end (old.number + 1) w))
     → length taken + old.spare ≡ most_of_input + length old.unread
-    → Consumes left left' (taken ++ got) → IsAtEnd left' → old.unread ++ got ≢ []
+    → Consumes left left' (taken ++ got) → HasDone shown taken text old.unread w → IsAtEnd left' → old.unread ++ got ≢ []
     → head_of old.spare (old.unread ++ got) ≡ unended (old.unread ++ got) → Goes old new (old.unread ++ got) [] (length (old.unread ++ got)) true
     → HasLine shown text w left left' old.number new reads reads'
-has_rest shown taken text got old new w left left' reads reads' law size consumed over some head g =
+has_rest shown taken text got old new w left left' reads reads' law size consumed isdone over some head g =
     let number-is : old.number + 1 ≡ new.number = sym g.number in
     let go : World → Ending = λ next. finished (old.number + 1 + 1) next in
     let at : transcript shown (taken ++ got) at_end ≡ behind text (after_step (said_step (answer (old.unread ++ got)) w) (old.number + 1) w go) =
@@ -177,6 +203,11 @@ has_rest shown taken text got old new w left left' reads reads' law size consume
       law =
           at ∙ ap (λ (t : List ℕ). behind text (after_step (said_step (answer t) w) (old.number + 1) w go)) (sym g.text)
           ∙ ap (λ (n : ℕ). behind text (after_step (said_step (answer new.text) w) n w go)) number-is;
+      rest = [];
+      cut = subst (λ (xs : List ℕ). HasDone shown (taken ++ got) text xs w) (sym (append-nil (old.unread ++ got)) ∙ ap (λ (t : List ℕ). t ++ []) (sym g.text)) (done_more shown taken text old.unread w got isdone);
+      fits = subst IsLine (sym g.text) (rest_cut old.spare (old.unread ++ got) head);
+      whole = inl refl;
+      newline = (λ e. let last : true ≡ false = sym g.ended ∙ e in absurd (cc));
       on = (λ next more is. subst (λ (b : Bool). ToCome shown (taken ++ got) (text ++ text_of more) new left' next b) (sym g.ended) (
         over,
         past_done shown (taken ++ got) text (old.unread ++ got) (old.number + 1) w next more at_end go at (ap (λ (t : List ℕ). said_step (answer t) w) (sym g.text) ∙ is)
@@ -201,10 +232,10 @@ module _ (shown shown' : List Reading) (left mid left' : Option (List ℕ)) (wri
       let consumed : Consumes left left' (far.taken ++ splits.taken) = Consumes-Consumes left mid left' far.taken splits.taken far.consumed splits.consumed in
       elim splits.comes as (λ _. HasLine shown far.text far.world left left' old.number new reads reads') [
         | inl front ↦
-            has_front shown far.taken far.text splits.taken front.0 front.1 old new far.world left left' reads reads' (goes_on open_yet) far.size consumed
+            has_front shown far.taken far.text splits.taken front.0 front.1 old new far.world left left' reads reads' (goes_on open_yet) far.size consumed (far.cut open_yet)
             (line_size old.spare (old.unread ++ splits.taken) front.0 front.1 front.2) front.2 front.3
         | inr rest ↦
-            has_rest shown far.taken far.text splits.taken old new far.world left left' reads reads' (goes_on open_yet) far.size consumed rest.2 rest.0 rest.1 rest.3
+            has_rest shown far.taken far.text splits.taken old new far.world left left' reads reads' (goes_on open_yet) far.size consumed (far.cut open_yet) rest.2 rest.0 rest.1 rest.3
       ]
 
   -- the next line was handed out
@@ -241,12 +272,8 @@ far_on shown shown' shown'' left mid left' written written' written'' bus bus' o
       to_come = has.on d.next d.more d.is;
       appended = Appends-twice written written' written'' far.text (text_of d.more) far.appended d.appended;
       stands = d.stands;
-      quiet = (λ describes.
-          let q = still_describing (said_step (answer new.text) far.world) far.world d.next d.more (said_quiet (answer new.text) far.world) d.is describes in
-          let before = far.quiet q.0 in (
-            ap (λ (ls : List Said). far.text ++ text_of ls) q.1 ∙ append-nil far.text ∙ before.0,
-            Stands-meters bus' shown'' d.next d.stands ∙ q.2 ∙ sym (Stands-meters bus shown' far.world far.stands) ∙ before.1,
-          ));
+      cut = (λ open_yet. one_more_done shown has.taken far.text new.text new.unread far.world d.next d.more
+          (subst (λ (xs : List ℕ). HasDone shown has.taken far.text (new.text ++ xs) far.world) (has.newline open_yet) has.cut) has.fits d.is);
     }
 
 -- ---- the end of a run
@@ -257,6 +284,24 @@ closes_after : (o : Outcome) (text : List ℕ) (old mid new : Option (List ℕ))
 closes_after o text old mid new before between after status front le (inl all) = inl (all.0, Appends-twice old mid new text o.text front all.1)
 closes_after o text old mid new before between after status front le (inr cut) =
     inr (cut.0, Rose-earlier before between after le cut.1, AppendsFront-after old mid new text o.text front cut.2)
+
+-- memory may be wanted at the line behind those that were done
+is_wanted : (shown : List Reading) (taken text told rest : List ℕ) (w : World) → HasDone shown taken text (told ++ rest) w → IsLine told → StandsBehind rest → wants (answer told) w ≡ true
+    → IsWanted shown taken (behind text (ends no_memory w))
+is_wanted shown taken text told rest w isdone is_line whole takes = record {
+  texts = isdone.texts;
+  text = told;
+  rest = rest;
+  cut = isdone.cut;
+  lines = isdone.lines;
+  line = is_line;
+  whole = whole;
+  done = isdone.accepted;
+  takes = subst (λ (v : World). wants (answer told) v ≡ true) isdone.reached takes;
+  is =
+      ap (λ (t : List ℕ). behind t (ends no_memory w)) isdone.printed
+      ∙ ap (λ (v : World). behind (text_of (after (map answer isdone.texts) (start shown)).lines) (ends no_memory v)) isdone.reached;
+}
 
 module _ (shown shown' : List Reading) (left left' : Option (List ℕ)) (reads reads' : ℕ) (written mid written' : Option (List ℕ)) (writes writes' writes'' : ℕ) (status : Status) where
   pub ends_run : (taken text : List ℕ) (end : End) (ending : Ending) → Consumes left left' taken → HasEnded end left' reads reads' → length taken ≤ most_of_input + 1
@@ -276,19 +321,20 @@ module _ (shown shown' : List Reading) (left left' : Option (List ℕ)) (reads r
     unheard = (λ other. absurd (other refl));
   }
 
-  -- there was no memory, before anything was printed
-  pub memory_run : (taken text : List ℕ) (end : End) → Consumes left left' taken → HasEnded end left' reads reads' → length taken ≤ most_of_input + 1
-      → text ≡ [] → Appends written mid text → writes ≤ writes' → Closes no_memory mid written' writes' writes'' status → shown' ≡ shown
+  -- memory was wanted at a line, behind others that were done
+  pub memory_run : (taken text told rest : List ℕ) (w : World) (end : End) → Consumes left left' taken → HasEnded end left' reads reads' → length taken ≤ most_of_input + 1
+      → HasDone shown taken text (told ++ rest) w → IsLine told → StandsBehind rest → wants (answer told) w ≡ true
+      → Appends written mid text → writes ≤ writes' → Closes no_memory mid written' writes' writes'' status → shown' ≡ meters_in w
       → IsRun (Some Run) shown shown' left left' reads reads' written written' writes writes'' status
-  memory_run taken text end consumed ended prompt none front le closed heard = record {
+  memory_run taken text told rest w end consumed ended prompt isdone is_line whole takes front le closed heard = record {
     taken = taken;
     end = end;
-    ending = record { outcome = no_memory; meters = shown };
+    ending = behind text (ends no_memory w);
     consumed = consumed;
     ended = ended;
     prompt = prompt;
-    meant = inr (refl, refl);
-    closed = closes_after no_memory [] written mid written' writes writes' writes'' status (subst (λ (t : List ℕ). Appends written mid t) none front) le closed;
+    meant = inr (is_wanted shown taken text told rest w isdone is_line whole takes);
+    closed = closes_after no_memory text written mid written' writes writes' writes'' status front le closed;
     heard = (λ _. heard);
     unheard = (λ other. absurd (other refl));
   }
@@ -308,7 +354,7 @@ ended_earlier stopped left first reads reads' le h = tt
 
 module _ (shown shown' shown'' : List Reading) (left left' : Option (List ℕ)) (written mid mid' written' : Option (List ℕ)) (bus : BusFields) (new : Splitting) (text : List ℕ) (w : World)
     (first reads reads' writes before after last counted : ℕ) (status : Status) (has : HasLine shown text w left left' counted new reads reads') (stands : Stands bus shown' w)
-    (quiet : is_describing w ≡ true → (text ≡ []) × (shown' ≡ shown)) (front : Appends written mid text) (within : length new.unread ≤ new.spare + 1)
+    (front : Appends written mid text) (within : length new.unread ≤ new.spare + 1)
     (reads-early : first ≤ reads) (early : writes ≤ before) (late : before ≤ after) where
   ended : HasEnded has.end left' first reads'
   ended = ended_earlier has.end left' first reads reads' reads-early has.ended
@@ -326,16 +372,16 @@ module _ (shown shown' shown'' : List Reading) (left left' : Option (List ℕ)) 
       (λ _. silent.heard ∙ Stands-meters bus shown' w stands)
 
   -- the line failed, and its last line was printed
-  failed_by : (fault : BusFault) → Prevents fault (is_describing w) (said_step (answer new.text) w) mid mid' × Leaves shown' shown'' mid mid' before after fault
+  failed_by : (fault : BusFault) → Prevents fault (wants (answer new.text) w) (said_step (answer new.text) w) mid mid' × Leaves shown' shown'' mid mid' before after fault
       → Closes (last_line fault new.number) mid' written' after last status → (fault ≡ faults.WriteFault → (status ≡ statuses.WriteFault) × (written' ≡ mid') × (last ≡ after))
       → IsRun (Some Run) shown shown'' left left' first reads' written written' writes last status
   failed_by (faults.Script rule) fails closed silence = refused_run (faults.Script rule) fails.0 fails.1 closed
   failed_by (faults.Grammar fault) fails closed silence = refused_run (faults.Grammar fault) fails.0 fails.1 closed
   failed_by (faults.Topology fault) fails closed silence = refused_run (faults.Topology fault) fails.0 fails.1 closed
   failed_by faults.NoMemory fails closed silence =
-      memory_run shown shown'' left left' first reads' written mid' written' writes after last status has.taken text has.end has.consumed ended prompt
-      (quiet fails.0).0 (subst (λ (m : Option (List ℕ)). Appends written m text) (sym fails.1.kept) front) (omega arith) closed
-      (fails.1.heard ∙ (quiet fails.0).1)
+      memory_run shown shown'' left left' first reads' written mid' written' writes after last status has.taken text new.text has.rest w has.end has.consumed ended prompt
+      has.cut has.fits has.whole fails.0 (subst (λ (m : Option (List ℕ)). Appends written m text) (sym fails.1.kept) front) (omega arith) closed
+      (fails.1.heard ∙ Stands-meters bus shown' w stands)
   failed_by faults.WriteFault fails closed silence =
       let quietly = silence refl in
       let cut = cut_parts (said_step (answer new.text) w) mid mid' text new.number w has.go fails.0 in
@@ -349,11 +395,11 @@ module _ (shown shown' shown'' : List Reading) (left left' : Option (List ℕ)) 
       (λ other. absurd (other quietly.0))
 
   pub failed_line : (fault : BusFault) (told : List ℕ) (number : ℕ) → told ≡ new.text → number ≡ new.number
-      → Prevents fault (is_describing w) (said_step (answer told) w) mid mid' × Leaves shown' shown'' mid mid' before after fault
+      → Prevents fault (wants (answer told) w) (said_step (answer told) w) mid mid' × Leaves shown' shown'' mid mid' before after fault
       → Closes (last_line fault number) mid' written' after last status → (fault ≡ faults.WriteFault → (status ≡ statuses.WriteFault) × (written' ≡ mid') × (last ≡ after))
       → IsRun (Some Run) shown shown'' left left' first reads' written written' writes last status
   failed_line fault told number told-is number-is fails closed silence =
-      failed_by fault (subst (λ (t : List ℕ). Prevents fault (is_describing w) (said_step (answer t) w) mid mid' × Leaves shown' shown'' mid mid' before after fault) told-is fails)
+      failed_by fault (subst (λ (t : List ℕ). Prevents fault (wants (answer t) w) (said_step (answer t) w) mid mid' × Leaves shown' shown'' mid mid' before after fault) told-is fails)
       (subst (λ (n : ℕ). Closes (last_line fault n) mid' written' after last status) number-is closed) silence
 
 -- ---- no next line
@@ -460,18 +506,13 @@ module _ (shown shown' : List Reading) (left mid left' : Option (List ℕ)) (wri
 
 -- ---- what the bus answers
 
--- memory is wanted before the descriptor's end alone
-early : (phrase : Phrase) (w : World) → may_want phrase w ≡ true → is_describing w ≡ true
-early phrase (describing bytes meters) e = refl
-early phrase (running r) e = absurd (cc)
-
 -- a line of the bus, in the words of a line's text
 pub does_line : {X : Type 0} (told : X → Option (List ℕ)) (sink sink' : X) (phrase : Phrase) (w : World) (bus bus' : BusFields) (shown shown' : List Reading) (writes writes' : ℕ) (result : Result (Unit {0}) BusFault)
     → bus.fault ≡ None → Answers phrase w bus' shown' (told sink) (told sink') result
     → IfErr result (λ fault. fault ≢ faults.WriteFault → sink' ≡ sink)
     → IfErr result (λ fault. fault ≢ faults.WriteFault → shown' ≡ shown)
     → IfErr result (λ fault. fault ≡ faults.WriteFault → (bus.fault ≡ Some faults.WriteFault) ⊎ Rose writes writes')
-    → Does (step phrase w) w bus' shown shown' (told sink) (told sink') writes writes' result
+    → Does (step phrase w) (may_want phrase w) bus' shown shown' (told sink) (told sink') writes writes' result
 does_line told sink sink' phrase w bus bus' shown shown' writes writes' (Ok _) going answers unwritten unheard cause = (answers, tt)
 does_line told sink sink' phrase w bus bus' shown shown' writes writes' (Err (faults.Script rule)) going answers unwritten unheard cause =
     (answers, record { heard = unheard (λ e. cc); kept = ap told (unwritten (λ e. cc)) })
@@ -480,7 +521,7 @@ does_line told sink sink' phrase w bus bus' shown shown' writes writes' (Err (fa
 does_line told sink sink' phrase w bus bus' shown shown' writes writes' (Err (faults.Topology fault)) going answers unwritten unheard cause =
     (answers, record { heard = unheard (λ e. cc); kept = ap told (unwritten (λ e. cc)) })
 does_line told sink sink' phrase w bus bus' shown shown' writes writes' (Err faults.NoMemory) going answers unwritten unheard cause =
-    (early phrase w answers, record { heard = unheard (λ e. cc); kept = ap told (unwritten (λ e. cc)) })
+    (answers, record { heard = unheard (λ e. cc); kept = ap told (unwritten (λ e. cc)) })
 does_line told sink sink' phrase w bus bus' shown shown' writes writes' (Err faults.WriteFault) going answers unwritten unheard cause =
     (answers, elim (cause refl) as (λ _. Rose writes writes') [ inl before ↦ absurd (let none : None ≡ Some faults.WriteFault = sym going ∙ before in cc) | inr rose ↦ rose ])
 

@@ -1,7 +1,7 @@
 pub mod Answering
+pub mod Calling
 pub mod Composing
-pub mod Describing
+pub mod Cutting
 pub mod Following
 pub mod Going
-pub mod Showing
 pub mod ScriptLemmas

@@ -1,22 +1,20 @@
 -- A script's bytes are done as its lines are, one after the other.
-use Rattle.std.proofs.Common.{◌≡◌, ◌≢◌, ◌∙◌, sym, ap, subst, refl, arith, ℕ, zero, suc, ◌+◌, ◌-◌, ◌<◌, ◌≤◌, ◌==◌, min, true, false, List, [], ◌∷◌, ◌++◌, length, map, take, drop, get_or, append_assoc, length-append, Option, None, Some, Result}
-use Rattle.std.specs.List.{All, AllByRecursion, position_or_len}
+use Rattle.std.proofs.Common.{◌≡◌, ◌≢◌, ◌∙◌, sym, ap, refl, arith, ℕ, zero, suc, ◌+◌, ◌-◌, ◌<◌, ◌≤◌, ◌==◌, List, [], ◌∷◌, ◌++◌, length, map, take, drop, get_or, append_assoc, length-append, Option, None, Some}
+use Rattle.std.specs.List.{All, AllByRecursion}
 use Rattle.std.proofs.Math.Seq.{take-append_seam, drop-append-add}
 use Rattle.std.proofs.lemmas.Bool.{ne_eqb}
 use Rattle.std.proofs.lemmas.List.{length-take}
 use Rattle.std.proofs.lemmas.List.Sums.{position_or_len_is}
 use Rattle.uac_units.specs.Hearing.{Reading}
-use Rattle.uac_script.specs.Lines.{line, head_of, most_of_input, most_of_line}
+use Rattle.uac_script.specs.Lines.{line, head_of, most_of_input}
 use Rattle.uac_script.specs.Looking.{line_end}
-use Rattle.uac_script.specs.Phrase.{Phrase}
 use Rattle.uac_script.specs.Reading.{answer}
 use Rattle.uac_script.proofs.HeadLemmas.{head_line, line_end_in}
-use Rattle.uac_transcript.specs.Transcript.{Said}
 use Rattle.uac_transcript.specs.Printing.{text_of}
 use Rattle.uac_transcript.proofs.PrintingLemmas.{text_of-append}
 use Rattle.uac_bus.specs.declared.fault.BusFault.{BusFault}
 use Rattle.uac_bus.specs.World.{World, Step, done, refused, start}
-use Rattle.uac_bus.specs.After.{After, after, and_then, one_done, said_step}
+use Rattle.uac_bus.specs.After.{After, after, and_then, said_step}
 use Rattle.uac_cli.specs.Outcome.{End}
 use Rattle.uac_cli.specs.Script.{IsLine, behind_lines, come_to, with_newlines}
 use Rattle.uac_cli.specs.Transcript.{Ending, after_step, behind, ends, goes, last_line, transcript}

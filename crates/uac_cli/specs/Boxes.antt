@@ -2,15 +2,15 @@
 use Rattle.std.specs.Prelude.{ℕ, List, [], ◌∷◌, Option}
 use Rattle.uac_units.specs.Hearing.{Reading}
 use Rattle.uac_units.specs.declared.hearing.MeterKind.TheVariants.{Peak, Clipped, Sum}
-use Rattle.uac_cli.specs.declared.command.Command.{Command}
+use Rattle.uac_words.specs.declared.commands.Words.{Words}
 use Rattle.uac_cli.specs.declared.status.Status.{Status}
-use Rattle.uac_cli.specs.Run.{IsRun}
+use Rattle.uac_cli.specs.Call.{IsCall}
 
 -- what the three meters show that have heard nothing
 abbrev pub fresh_readings : List Reading
 fresh_readings = record { kind = Peak; value = 0 } ∷ record { kind = Clipped; value = 0 } ∷ record { kind = Sum; value = 0 } ∷ []
 
 -- What a call comes to with such meters, which show something at its end.
-pub record IsFreshRun (command : Option Command) (left left' : Option (List ℕ)) (reads reads' : ℕ) (written written' : Option (List ℕ)) (writes writes' : ℕ) (status : Status) : Type 0 where
+pub record IsFreshCall (words : Option Words) (left left' : Option (List ℕ)) (reads reads' : ℕ) (written written' : Option (List ℕ)) (writes writes' : ℕ) (status : Status) : Type 0 where
   pub shown' : List Reading
-  pub run : IsRun command fresh_readings shown' left left' reads reads' written written' writes writes' status
+  pub call : IsCall words fresh_readings shown' left left' reads reads' written written' writes writes' status

@@ -1,10 +1,8 @@
 pub mod Boxes
-pub mod Command
-pub mod Entities
+pub mod Call
 pub mod Outcome
 pub mod Reading
 pub mod Run
 pub mod Running
 pub mod Script
-pub mod Show
 pub mod Transcript

@@ -8,14 +8,18 @@ use Rattle.uac_grammar.specs.Stop.{shown_fault}
 use Rattle.uac_topology_rules.specs.declared.fault.TopologyFault.{TopologyFault}
 use Rattle.uac_topology.specs.Function.{FunctionFields}
 use Rattle.uac_topology.specs.Topology.{first_broken, IsSound, IsFunctionOf}
-use Rattle.uac_cli.specs.declared.command.Command.{Command}
-use Rattle.uac_cli.specs.declared.command.Command.TheVariants.{Describe, Run}
-use Rattle.uac_cli.specs.declared.command.Description.{Description}
-use Rattle.uac_cli.specs.declared.command.Description.TheVariants.{Check, Show}
+use Rattle.uac_cli.specs.declared.jobs.Job.{Job}
+use Rattle.uac_cli.specs.declared.jobs.Job.TheVariants.{Describe, Run}
+use Rattle.uac_cli.specs.declared.jobs.Description.{Description}
+use Rattle.uac_cli.specs.declared.jobs.Description.TheVariants.{Check, Elements, Show}
 use Rattle.uac_cli.specs.declared.status.Status.{Status}
 use Rattle.uac_cli.specs.declared.status.Status.TheVariants as statuses
-use Rattle.uac_cli.specs.Entities.{entity_line}
-use Rattle.uac_cli.specs.Show.{block_lines}
+use Rattle.uac_listing.specs.Entities.{entity_line}
+use Rattle.uac_listing.specs.Settings.{setting_lines}
+use Rattle.uac_listing.specs.Elements.{element_lines}
+use Rattle.uac_mixer.specs.ViewWorld.{known_view}
+use Rattle.uac_store.specs.Controls.{initial_controls}
+use Rattle.uac_listing.specs.Blocks.{block_lines}
 
 -- why no more was taken of the source
 pub data End : Type 0 where
@@ -32,7 +36,7 @@ pub record Outcome : Type 0 where
   pub status : Status
 
 abbrev pub usage : Outcome
-usage = record { text = codes "usage: uac_cli check|show|run\n"; status = statuses.Usage }
+usage = record { text = codes "usage: uac_cli check|show|elements|run|gen NUMBER|settle [--rack plain|lanes]\n"; status = statuses.Usage }
 
 abbrev pub read_fault : Outcome
 read_fault = record { text = codes "read fault\n"; status = statuses.ReadFault }
@@ -63,7 +67,9 @@ abbrev pub text_of : Description → List Block → FunctionFields → List ℕ
 text_of Check blocks function =
     codes "ok blocks " ++ decimal (length blocks) ++ codes " entities " ++ decimal (length function.entities)
     ++ codes " streams " ++ decimal (length function.streams) ++ codes " domains " ++ decimal (length function.domains) ++ codes "\n"
-text_of Show blocks function = block_lines 0 blocks ++ flat_map entity_line function.entities
+text_of Show blocks function =
+    block_lines 0 blocks ++ (flat_map entity_line function.entities ++ setting_lines function (initial_controls function.entities))
+text_of Elements blocks function = element_lines (known_view function.entities (initial_controls function.entities)).elements
 
 -- a descriptor is sound
 abbrev pub sound : Description → List Block → FunctionFields → Outcome
@@ -88,7 +94,7 @@ pub data Answers (description : Description) (taken : List ℕ) : End → Outcom
   is_read : (blocks : List Block) (outcome : Outcome) → IsSentence taken blocks → IsVerdict description blocks outcome → Answers description taken at_end outcome
 
 -- The same of any words: those that are no command take nothing and give the usage line. `run` has no such outcome: it prints lines of its own.
-abbrev pub IsOutcome : Option Command → List ℕ → End → Outcome → Type 0
+abbrev pub IsOutcome : Option Job → List ℕ → End → Outcome → Type 0
 IsOutcome None taken end outcome = (taken ≡ []) × (outcome ≡ usage)
 IsOutcome (Some (Describe description)) taken end outcome = Answers description taken end outcome
 IsOutcome (Some Run) taken end outcome = ⊥

@@ -1,5 +1,5 @@
 -- One call of the program, as its source and its sink see it (profile).
-use Rattle.std.specs.Prelude.{◌≡◌, ◌≢◌, ◌≤◌, ℕ, ◌+◌, ◌⊎◌, List, length, Option, Some, IsSome}
+use Rattle.std.specs.Prelude.{◌≡◌, ◌≢◌, ◌≤◌, ℕ, ◌+◌, ◌⊎◌, List, length, Option, None, Some}
 use Rattle.std.specs.Io.KnownBytes.{Appends, Consumes, IsAtEnd}
 use Rattle.uac_edges.specs.Faults.{Rose}
 use Rattle.uac_edges.specs.Writing.{AppendsFront}
@@ -7,9 +7,9 @@ use Rattle.uac_script.specs.Lines.{most_of_input}
 use Rattle.uac_units.specs.Hearing.{Reading}
 use Rattle.uac_topology.specs.declared.soundness.CheckStop.{CheckStop}
 use Rattle.uac_topology.specs.declared.soundness.CheckStop.TheVariants as check
-use Rattle.uac_cli.specs.declared.command.Command.{Command}
-use Rattle.uac_cli.specs.declared.command.Command.TheVariants.{Run}
-use Rattle.uac_cli.specs.declared.command.Description.{Description}
+use Rattle.uac_cli.specs.declared.jobs.Job.{Job}
+use Rattle.uac_cli.specs.declared.jobs.Job.TheVariants.{Describe, Run}
+use Rattle.uac_cli.specs.declared.jobs.Description.{Description}
 use Rattle.uac_cli.specs.declared.status.Status.{Status}
 use Rattle.uac_cli.specs.declared.status.Status.TheVariants as statuses
 use Rattle.uac_grammar.specs.declared.fault.ReadStop.TheVariants.{Fault, NoMemory}
@@ -18,6 +18,7 @@ use Rattle.uac_grammar.specs.declared.fault.ReadStop.{ReadStop}
 use Rattle.uac_cli.specs.Reading.{StopsThere}
 use Rattle.uac_cli.specs.Outcome.{End, at_end, read_failed, stopped, Outcome, no_memory, refusal, unsound, IsVerdict, Answers, IsOutcome}
 use Rattle.uac_cli.specs.Transcript.{Ending, transcript}
+use Rattle.uac_cli.specs.Script.{IsWanted}
 
 -- why no more was taken shows on the source: what is left, and its counts of faults before and after
 abbrev pub HasEnded : End → Option (List ℕ) → ℕ → ℕ → Type 0
@@ -33,25 +34,31 @@ Closes outcome old new before after status =
 
 -- How many bytes are taken past what decides: of a descriptor all but at most the last 4,096 show no fault, and of a script at
 -- most one byte is taken past the limit.
-abbrev pub IsPrompt : Option Command → List ℕ → Type 0
+abbrev pub IsPrompt : Option Job → List ℕ → Type 0
 IsPrompt (Some Run) taken = length taken ≤ most_of_input + 1
 IsPrompt _ taken = StopsThere taken
 
 -- What a call comes to, with meters that show this at first.
-abbrev pub IsEnding : Option Command → List Reading → List ℕ → End → Ending → Type 0
+abbrev pub IsEnding : Option Job → List Reading → List ℕ → End → Ending → Type 0
 IsEnding (Some Run) shown taken end ending = ending ≡ transcript shown taken end
 IsEnding command shown taken end ending = IsOutcome command taken end ending.outcome × (ending.meters ≡ shown)
 
--- The bytes that were taken, why no more were, and what they come to; or there was no memory, and then `no memory` is the whole text. Unless
+-- Memory was wanted: for a descriptor, and then `no memory` is the whole text; or at a line of a script that takes some.
+abbrev pub WantsMemory : Option Job → List Reading → List ℕ → Ending → Type 0
+WantsMemory None shown taken ending = ⊥
+WantsMemory (Some (Describe description)) shown taken ending = ending ≡ record { outcome = no_memory; meters = shown }
+WantsMemory (Some Run) shown taken ending = IsWanted shown taken ending
+
+-- The bytes that were taken, why no more were, and what they come to; or memory was wanted. Unless
 -- a write failed, the meters show at the end what they show in the world after the lines done; where no script runs they hear nothing.
-pub record IsRun (command : Option Command) (shown shown' : List Reading) (left left' : Option (List ℕ)) (reads reads' : ℕ) (written written' : Option (List ℕ)) (writes writes' : ℕ) (status : Status) : Type 0 where
+pub record IsRun (command : Option Job) (shown shown' : List Reading) (left left' : Option (List ℕ)) (reads reads' : ℕ) (written written' : Option (List ℕ)) (writes writes' : ℕ) (status : Status) : Type 0 where
   pub taken : List ℕ
   pub end : End
   pub ending : Ending
   pub consumed : Consumes left left' taken
   pub ended : HasEnded end left' reads reads'
   pub prompt : IsPrompt command taken
-  pub meant : IsEnding command shown taken end ending ⊎ (IsSome command × (ending ≡ record { outcome = no_memory; meters = shown }))
+  pub meant : IsEnding command shown taken end ending ⊎ WantsMemory command shown taken ending
   pub closed : Closes ending.outcome written written' writes writes' status
   pub heard : status ≢ statuses.WriteFault → shown' ≡ ending.meters
   pub unheard : command ≢ Some Run → shown' ≡ shown

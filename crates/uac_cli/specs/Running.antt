@@ -1,13 +1,13 @@
 -- What a line of a script comes to, and what stops its lines.
-use Rattle.std.specs.Prelude.{◌≡◌, ℕ, List, Option, Result, IfErr}
+use Rattle.std.specs.Prelude.{◌≡◌, ℕ, Bool, List, Option, Result, IfErr}
 use Rattle.uac_units.specs.Hearing.{Reading}
 use Rattle.uac_edges.specs.Faults.{Rose}
 use Rattle.uac_script.specs.declared.lines.LineStop.{LineStop}
 use Rattle.uac_script.specs.declared.lines.LineStop.TheVariants as stop
 use Rattle.uac_bus.specs.declared.fault.BusFault.{BusFault}
 use Rattle.uac_bus.specs.declared.fault.BusFault.TheVariants as faults
-use Rattle.uac_bus.specs.World.{World, Step}
-use Rattle.uac_bus.specs.Kept.{BusFields, is_describing}
+use Rattle.uac_bus.specs.World.{Step}
+use Rattle.uac_bus.specs.Kept.{BusFields}
 use Rattle.uac_bus.specs.Kept as kept
 use Rattle.uac_cli.specs.Outcome.{Outcome, read_fault}
 use Rattle.uac_cli.specs.Transcript.{misread, too_long}
@@ -22,10 +22,11 @@ abbrev pub Leaves : List Reading → List Reading → Option (List ℕ) → Opti
 Leaves shown shown' written written' writes writes' faults.WriteFault = Rose writes writes'
 Leaves shown shown' written written' writes writes' _ = IsSilent shown shown' written written'
 
--- what a line that makes this step comes to: it is done, and the bus and the meters stand for the next world; or it fails
-abbrev pub Does : Step → World → BusFields → List Reading → List Reading → Option (List ℕ) → Option (List ℕ) → ℕ → ℕ → Result (Unit {0}) BusFault → Type 0
-Does s w bus shown shown' written written' writes writes' result =
-    kept.Does s (is_describing w) (kept.Stands bus shown') written written' result × IfErr result (Leaves shown shown' written written' writes writes')
+-- what a line that makes this step comes to: it is done, and the bus and the meters stand for the next world; or it fails. Memory may be
+-- wanted only where this says so
+abbrev pub Does : Step → Bool → BusFields → List Reading → List Reading → Option (List ℕ) → Option (List ℕ) → ℕ → ℕ → Result (Unit {0}) BusFault → Type 0
+Does s memory bus shown shown' written written' writes writes' result =
+    kept.Does s memory (kept.Stands bus shown') written written' result × IfErr result (Leaves shown shown' written written' writes writes')
 
 -- the last line where there is no next line; the number is that of a line that is too long
 abbrev pub stop_outcome : LineStop → ℕ → Outcome

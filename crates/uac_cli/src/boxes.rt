@@ -1,10 +1,11 @@
 // The boxes of the program: its units and its meters. They are made where the program is called.
-ghost use Rattle.std.specs.Prelude.{◌≡◌, map, string_bytes, IfOk, OnErr};
+ghost use Rattle.std.specs.Prelude.{◌≡◌, true, map, string_bytes, IfOk, OnErr};
 ghost use Rattle.std.specs.Io.KnownBytes.{IsAtEnd};
 ghost use Rattle.uac_edges.specs.Faults.{Rose};
 ghost use Rattle.uac_units.specs.Fitting.{IsFitted};
-ghost use Rattle.uac_cli.specs.Command.{command_of};
-ghost use Rattle.uac_cli.specs.Boxes.{IsFreshRun};
+ghost use Rattle.uac_words.specs.Plain.{plainly};
+ghost use Rattle.uac_cli.specs.Boxes.{IsFreshCall};
+ghost use Rattle.uac_cli.specs.Call.{ask_to_read};
 
 use crate::status::Status;
 use crate::top::{Racks, uac_main};
@@ -23,7 +24,7 @@ pub fn run_in_boxes<S: Source, K: Sink>(
     sink: &mut K,
 ) -> Result<Status, AllocError>
     // Status and text follow from the words and the bytes that were taken, as with meters that have heard nothing.
-    ensures run { IfOk result (λ status. IsFreshRun (command_of (map (λ word. string_bytes word) words.now))
+    ensures call { IfOk result (λ status. IsFreshCall (plainly (map (λ word. string_bytes word) words.now))
         (S.left source.old) (S.left source.new) (S.faults source.old) (S.faults source.new)
         (K.written sink.old) (K.written sink.new) (K.faults sink.old) (K.faults sink.new) status) }
 
@@ -32,7 +33,8 @@ pub fn run_in_boxes<S: Source, K: Sink>(
     ensures write_fault { IfOk result (λ status. status ≡ Status.WriteFault → Rose (K.faults sink.old) (K.faults sink.new)) }
 
     // The whole input was read.
-    ensures ok { IfOk result (λ status. status ≡ Status.Ok → IsAtEnd (S.left source.new)) }
+    ensures ok { IfOk result (λ status. status ≡ Status.Ok → ask_to_read (plainly (map (λ word. string_bytes word) words.now)) ≡ true
+        → IsAtEnd (S.left source.new)) }
 
     // Where there is no memory for the boxes nothing is taken and nothing is written.
     ensures untaken { OnErr result (source.new ≡ source.old) }
@@ -65,12 +67,13 @@ fn run_with_racks<S: Source, K: Sink>(
 ) -> Result<Status, AllocError>
     requires plain { IsFitted (λ v x. (⟦<dyn Unit as Unit>⟧ v).kind_of x) racks.now.plain }
     requires lanes { IsFitted (λ v x. (⟦<dyn Unit as Unit>⟧ v).kind_of x) racks.now.lanes }
-    ensures run { IfOk result (λ status. IsFreshRun (command_of (map (λ word. string_bytes word) words.now))
+    ensures call { IfOk result (λ status. IsFreshCall (plainly (map (λ word. string_bytes word) words.now))
         (S.left source.old) (S.left source.new) (S.faults source.old) (S.faults source.new)
         (K.written sink.old) (K.written sink.new) (K.faults sink.old) (K.faults sink.new) status) }
     ensures read_fault { IfOk result (λ status. status ≡ Status.ReadFault → Rose (S.faults source.old) (S.faults source.new)) }
     ensures write_fault { IfOk result (λ status. status ≡ Status.WriteFault → Rose (K.faults sink.old) (K.faults sink.new)) }
-    ensures ok { IfOk result (λ status. status ≡ Status.Ok → IsAtEnd (S.left source.new)) }
+    ensures ok { IfOk result (λ status. status ≡ Status.Ok → ask_to_read (plainly (map (λ word. string_bytes word) words.now)) ≡ true
+        → IsAtEnd (S.left source.new)) }
     ensures untaken { OnErr result (source.new ≡ source.old) }
     ensures unwritten { OnErr result (sink.new ≡ sink.old) }
 {

@@ -1,8 +1,7 @@
 // The lines that are printed, each from a buffer of fixed size.
 ghost use Rattle.std.specs.Prelude.{◌≡◌, ◌≤◌, length};
-ghost use Rattle.uac_cli.specs.declared.command.Description.TheVariants.{Check};
+ghost use Rattle.uac_cli.specs.declared.jobs.Description.TheVariants.{Check};
 ghost use Rattle.uac_cli.specs.Outcome.{offender, refusal, text_of, unsound};
-ghost use Rattle.uac_cli.specs.Show.{kind_of, line_of};
 ghost use Rattle.uac_cli.specs.Transcript.{misread};
 
 use uac_descriptor::Block;
@@ -10,7 +9,8 @@ use uac_edges::TextLine;
 use uac_grammar::GrammarFault;
 use uac_topology::{Function, TopologyFault};
 
-pub const USAGE: &[u8] = b"usage: uac_cli check|show|run\n";
+pub const USAGE: &[u8] =
+    b"usage: uac_cli check|show|elements|run|gen NUMBER|settle [--rack plain|lanes]\n";
 
 pub const READ_FAULT: &[u8] = b"read fault\n";
 
@@ -84,47 +84,4 @@ pub fn misread_line(rule: u8, number: u64) -> TextLine<64>
     line.push_number(number);
     line.push(b"\n");
     line
-}
-
-/// `show`'s line for a block at a place: its kind, and its bytes in hexadecimal.
-pub fn block_line(place: usize, block: &Block, bytes: &[u8]) -> TextLine<580>
-    requires { length bytes.now ≤ 255 }
-    ensures { result ≡ line_of place (kind_of block.now) bytes.now }
-{
-    let mut line = TextLine::new();
-    line.push_number(place as u64);
-    line.push(b" ");
-    line.push(kind_of(block));
-    line.push(b" ");
-    line.push_hex(bytes);
-    line.push(b"\n");
-    line
-}
-
-/// A block's kind.
-fn kind_of(block: &Block) -> &'static [u8]
-    ensures kind { result.now ≡ kind_of block.now }
-    ensures short { length result.now ≤ 16 }
-{
-    match block {
-        Block::Configuration(_) => b"configuration",
-        Block::Association(_) => b"association",
-        Block::Interface(_) => b"interface",
-        Block::Endpoint(_) => b"endpoint",
-        Block::Header(_) => b"header",
-        Block::InputTerminal(_) => b"input_terminal",
-        Block::OutputTerminal(_) => b"output_terminal",
-        Block::Mixer(_) => b"mixer",
-        Block::Selector(_) => b"selector",
-        Block::Feature(_) => b"feature",
-        Block::Effect(_) => b"effect",
-        Block::ClockSource(_) => b"clock_source",
-        Block::ClockSelector(_) => b"clock_selector",
-        Block::ClockMultiplier(_) => b"clock_multiplier",
-        Block::General(_) => b"general",
-        Block::TypeOne(_) => b"type_one",
-        Block::Extra(_) => b"extra",
-        Block::ClassEndpoint(_) => b"class_endpoint",
-        Block::Foreign(_) => b"foreign",
-    }
 }

@@ -1,15 +1,11 @@
 //! The program `uac_cli`: reads a configuration descriptor from standard input and says whether it is sound, or lists it; or runs
-//! a script on a device.
+//! a script on a device, or a generated one.
 #![tactic(auto)]
 
 /// The boxes of the program: its units and its meters.
 mod boxes;
-/// The words of the command line.
-mod command;
-/// Standard input and output.
-mod edges;
-/// Printing the entities of a function.
-mod entities;
+/// What is done with the bytes of a source.
+mod jobs;
 /// The law that ties the transcript to the lines of the script.
 pub mod laws;
 /// The lines that are printed.
@@ -18,8 +14,8 @@ mod lines;
 mod reading;
 /// Running a script.
 mod running;
-/// Printing the blocks of a descriptor.
-mod show;
+/// How long streams take to come home.
+mod settling;
 /// How a run ends.
 mod status;
 #[cfg(test)]
@@ -28,7 +24,6 @@ mod tests;
 mod top;
 
 use boxes::run_in_boxes;
-use edges::{StdSink, StdSource};
 use lines::NO_MEMORY;
 pub use status::Status;
 use std::alloc::Global;
@@ -38,6 +33,7 @@ use std::process::ExitCode;
 use top::close;
 pub use top::{Racks, uac_main};
 use uac_descriptor::NoMemory;
+use uac_edges::{StdSink, StdSource};
 
 fn main(rt: HostRuntime) -> ExitCode {
     let alloc = rt.alloc();

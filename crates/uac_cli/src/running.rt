@@ -9,9 +9,10 @@ ghost use Rattle.uac_units.specs.Panel.{readings};
 ghost use Rattle.uac_bus.specs.World.{World};
 ghost use Rattle.uac_bus.specs.After.{said_step};
 ghost use Rattle.uac_bus.specs.Kept.{Stands};
-ghost use Rattle.uac_cli.specs.declared.command.Command.TheVariants.{Run};
+ghost use Rattle.uac_cli.specs.declared.jobs.Job.TheVariants.{Run};
 ghost use Rattle.uac_cli.specs.Run.{IsRun, Closes};
 ghost use Rattle.uac_cli.specs.Running.{Does, stop_outcome};
+ghost use Rattle.uac_cli.specs.Script.{wants};
 ghost use Rattle.uac_cli.specs.Transcript.{last_line, finished};
 
 use crate::lines::{NO_MEMORY, READ_FAULT, TOO_LONG, misread_line, refusal_line, unsound_line};
@@ -66,7 +67,7 @@ fn do_line<K: Sink>(
     requires rack { IsFitted (λ v x. (⟦<dyn Unit as Unit>⟧ v).kind_of x) rack.now }
     requires short { length text.now ≤ 4096 }
     ensures does { (w : World) → Stands bus.old (readings (λ v x. (⟦<dyn Meter as Meter>⟧ v).reading_of x) meters.old) w
-        → Does (said_step (answer text.now) w) w bus.new
+        → Does (said_step (answer text.now) w) (wants (answer text.now) w) bus.new
         (readings (λ v x. (⟦<dyn Meter as Meter>⟧ v).reading_of x) meters.old) (readings (λ v x. (⟦<dyn Meter as Meter>⟧ v).reading_of x) meters.new)
         (K.written sink.old) (K.written sink.new) (K.faults sink.old) (K.faults sink.new) result }
     ensures never_falls { K.faults sink.old ≤ K.faults sink.new }

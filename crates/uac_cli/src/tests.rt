@@ -108,7 +108,7 @@ fn other_words_take_nothing(rt: HostRuntime) -> Result<(), Fail> {
     assert_eq!(rt; status, Status::Usage);
     assert_eq!(rt;
         sink.written(),
-        b"usage: uac_cli check|show|run\n".as_slice()
+        b"usage: uac_cli check|show|elements|run|gen NUMBER|settle [--rack plain|lanes]\n".as_slice()
     );
     Ok(())
 }
@@ -192,7 +192,7 @@ fn two_words_are_no_command(rt: HostRuntime) -> Result<(), Fail> {
     assert_eq!(rt; status, Status::Usage);
     assert_eq!(rt;
         sink.written(),
-        b"usage: uac_cli check|show|run\n".as_slice()
+        b"usage: uac_cli check|show|elements|run|gen NUMBER|settle [--rack plain|lanes]\n".as_slice()
     );
     Ok(())
 }

@@ -1,5 +1,5 @@
 // The top call: from the words and the bytes of a source to the text in a sink and a status.
-ghost use Rattle.std.specs.Prelude.{◌≡◌, ◌⊎◌, flat_map, map, string_bytes};
+ghost use Rattle.std.specs.Prelude.{◌≡◌, ◌≢◌, ◌⊎◌, ℕ, true, List, Option, flat_map, map, string_bytes};
 ghost use Rattle.std.specs.Io.KnownBytes.{IsAtEnd};
 ghost use Rattle.uac_descriptor.specs.Spelling.{spelling};
 ghost use Rattle.uac_descriptor.specs.WellFormed.{AreWellFormed};
@@ -7,24 +7,31 @@ ghost use Rattle.uac_edges.specs.Faults.{Rose, HasCause};
 ghost use Rattle.uac_edges.specs.Writing.{Writes};
 ghost use Rattle.uac_units.specs.Fitting.{IsFitted};
 ghost use Rattle.uac_units.specs.Panel.{readings};
-ghost use Rattle.uac_cli.specs.Command.{command_of};
+ghost use Rattle.uac_store.specs.Controls.{initial_controls};
+ghost use Rattle.uac_words.specs.Plain.{plainly};
+ghost use Rattle.uac_cli.specs.Call.{IsCall, IsDone, IsGenerated, ask_to_read, reads_all};
 ghost use Rattle.uac_cli.specs.Outcome.{no_memory, sound, text_of};
-ghost use Rattle.uac_cli.specs.Run.{IsRun, IsAnswered, Closes, Judges, Refuses, RefusesFunction};
+ghost use Rattle.uac_cli.specs.Run.{IsAnswered, Closes, Judges, Refuses, RefusesFunction};
 
-use crate::command::{Command, Description};
-use crate::entities::write_entities;
+use crate::jobs::Description;
 use crate::lines::{NO_MEMORY, READ_FAULT, USAGE, refusal_line, sound_line, unsound_line};
 use crate::reading::{Reading, read_descriptor};
 use crate::running::run_script;
-use crate::show::{bytes_of, write_blocks};
+use crate::settling::settle;
 use crate::status::Status;
 use std::alloc::Global;
+use uac_bus::bytes_of;
 use uac_descriptor::{Block, NoMemory};
 use uac_edges::{Failed, Sink, Source, give_all};
+use uac_gen::GenSource;
 use uac_grammar::ReadStop;
+use uac_listing::{write_blocks, write_elements, write_entities, write_settings};
+use uac_running::fresh_view;
 use uac_sentence::laws::sentences_are_well_formed;
+use uac_store::Store;
 use uac_topology::{CheckStop, Function, check};
 use uac_units::{Meter, Meters, Rack, Unit};
+use uac_words::{Command, RackChoice, Words, WordsFault};
 
 /// The units with which graphs are rendered: one sample after the other, and many side by side.
 #[derive(Drop)]
@@ -33,10 +40,11 @@ pub struct Racks {
     pub lanes: Rack,
 }
 
-/// Runs the program: `words` are those behind its name. `check` and `show` read a descriptor from the source, to its end or to the
-/// first fault that its bytes show, and write the verdict, or the blocks and the entities, to the sink. `run` does the lines of a
-/// script, to its end or to the first that is refused: they are rendered with the racks' units and heard by the meters. Every
-/// other list of words takes nothing and is answered by the usage line.
+/// Runs the program: `words` are those behind its name. `check`, `show` and `elements` read a descriptor from the source, to its end or to
+/// the first fault that its bytes show, and write what is said of it to the sink. `run` does the lines of a script, to its end or to the
+/// first that is refused, and `gen` those of a generated script, without the source: they are rendered with the units of the rack that
+/// the words choose, and heard by the meters. `settle` writes how long streams take to come home. Every other list of words takes
+/// nothing and is answered by the usage line.
 pub fn uac_main<S: Source, K: Sink>(
     alloc: Global,
     words: &[String],
@@ -49,7 +57,7 @@ pub fn uac_main<S: Source, K: Sink>(
     requires lanes { IsFitted (λ v x. (⟦<dyn Unit as Unit>⟧ v).kind_of x) racks.now.lanes }
 
     // Status, text and what the meters show follow from the words and the bytes that were taken.
-    ensures run { IsRun (command_of (map (λ word. string_bytes word) words.now))
+    ensures call { IsCall (plainly (map (λ word. string_bytes word) words.now))
         (readings (λ v x. (⟦<dyn Meter as Meter>⟧ v).reading_of x) meters.old) (readings (λ v x. (⟦<dyn Meter as Meter>⟧ v).reading_of x) meters.new)
         (S.left source.old) (S.left source.new) (S.faults source.old) (S.faults source.new)
         (K.written sink.old) (K.written sink.new) (K.faults sink.old) (K.faults sink.new) result }
@@ -58,14 +66,86 @@ pub fn uac_main<S: Source, K: Sink>(
     ensures read_fault { result ≡ Status.ReadFault → Rose (S.faults source.old) (S.faults source.new) }
     ensures write_fault { result ≡ Status.WriteFault → Rose (K.faults sink.old) (K.faults sink.new) }
 
-    // The whole input was read.
-    ensures ok { result ≡ Status.Ok → IsAtEnd (S.left source.new) }
+    // The whole input was read, where the command reads it.
+    ensures ok { result ≡ Status.Ok → ask_to_read (plainly (map (λ word. string_bytes word) words.now)) ≡ true → IsAtEnd (S.left source.new) }
 {
-    match Command::of(words) {
-        Some(Command::Describe(description)) => describe(alloc, description, source, sink),
-        Some(Command::Run) => run_script(alloc, source, sink, &racks.plain, meters),
-        None => close(sink, USAGE, Status::Usage),
+    match uac_words::read(alloc, words) {
+        Ok(words) => perform(alloc, words, source, sink, racks, meters),
+        Err(WordsFault::Usage) => close(sink, USAGE, Status::Usage),
+        Err(WordsFault::NoMemory) => close(sink, NO_MEMORY, Status::NoMemory),
     }
+}
+
+/// Does what the words ask for, with the rack that they choose.
+fn perform<S: Source, K: Sink>(
+    alloc: Global,
+    words: Words,
+    source: &mut S,
+    sink: &mut K,
+    racks: &Racks,
+    meters: &mut Meters,
+) -> Status
+    requires plain { IsFitted (λ v x. (⟦<dyn Unit as Unit>⟧ v).kind_of x) racks.now.plain }
+    requires lanes { IsFitted (λ v x. (⟦<dyn Unit as Unit>⟧ v).kind_of x) racks.now.lanes }
+    ensures done { IsDone words.command
+        (readings (λ v x. (⟦<dyn Meter as Meter>⟧ v).reading_of x) meters.old) (readings (λ v x. (⟦<dyn Meter as Meter>⟧ v).reading_of x) meters.new)
+        (S.left source.old) (S.left source.new) (S.faults source.old) (S.faults source.new)
+        (K.written sink.old) (K.written sink.new) (K.faults sink.old) (K.faults sink.new) result }
+    ensures read_fault { result ≡ Status.ReadFault → Rose (S.faults source.old) (S.faults source.new) }
+    ensures write_fault { result ≡ Status.WriteFault → Rose (K.faults sink.old) (K.faults sink.new) }
+    ensures ok { result ≡ Status.Ok → reads_all words.command ≡ true → IsAtEnd (S.left source.new) }
+{
+    match words.rack {
+        RackChoice::Plain => do_command(alloc, words.command, source, sink, &racks.plain, meters),
+        RackChoice::Lanes => do_command(alloc, words.command, source, sink, &racks.lanes, meters),
+    }
+}
+
+/// Does a command with this rack.
+fn do_command<S: Source, K: Sink>(
+    alloc: Global,
+    command: Command,
+    source: &mut S,
+    sink: &mut K,
+    rack: &Rack,
+    meters: &mut Meters,
+) -> Status
+    requires rack { IsFitted (λ v x. (⟦<dyn Unit as Unit>⟧ v).kind_of x) rack.now }
+    ensures done { IsDone command
+        (readings (λ v x. (⟦<dyn Meter as Meter>⟧ v).reading_of x) meters.old) (readings (λ v x. (⟦<dyn Meter as Meter>⟧ v).reading_of x) meters.new)
+        (S.left source.old) (S.left source.new) (S.faults source.old) (S.faults source.new)
+        (K.written sink.old) (K.written sink.new) (K.faults sink.old) (K.faults sink.new) result }
+    ensures read_fault { result ≡ Status.ReadFault → Rose (S.faults source.old) (S.faults source.new) }
+    ensures write_fault { result ≡ Status.WriteFault → Rose (K.faults sink.old) (K.faults sink.new) }
+    ensures ok { result ≡ Status.Ok → reads_all command ≡ true → IsAtEnd (S.left source.new) }
+{
+    match command {
+        Command::Check => describe(alloc, Description::Check, source, sink),
+        Command::Show => describe(alloc, Description::Show, source, sink),
+        Command::Elements => describe(alloc, Description::Elements, source, sink),
+        Command::Run => run_script(alloc, source, sink, rack, meters),
+        Command::Gen(number) => generate(alloc, number, sink, rack, meters),
+        Command::Settle => settle(sink),
+    }
+}
+
+/// Runs the script of a number.
+fn generate<K: Sink>(
+    alloc: Global,
+    number: u32,
+    sink: &mut K,
+    rack: &Rack,
+    meters: &mut Meters,
+) -> Status
+    requires rack { IsFitted (λ v x. (⟦<dyn Unit as Unit>⟧ v).kind_of x) rack.now }
+    ensures generated { (left : Option (List ℕ)) (reads : ℕ) → IsGenerated number
+        (readings (λ v x. (⟦<dyn Meter as Meter>⟧ v).reading_of x) meters.old) (readings (λ v x. (⟦<dyn Meter as Meter>⟧ v).reading_of x) meters.new)
+        left left reads reads (K.written sink.old) (K.written sink.new) (K.faults sink.old) (K.faults sink.new) result }
+    ensures never_read { result ≢ Status.ReadFault }
+    ensures write_fault { result ≡ Status.WriteFault → Rose (K.faults sink.old) (K.faults sink.new) }
+{
+    let mut script = GenSource::new(number);
+    run_script(alloc, &mut script, sink, rack, meters)
 }
 
 /// Reads a descriptor and prints what is said of it.
@@ -97,7 +177,7 @@ fn judge<K: Sink>(alloc: Global, description: Description, blocks: &[Block], sin
     ensures { Judges description blocks.now (K.written sink.old) (K.written sink.new) (K.faults sink.old) (K.faults sink.new) result }
 {
     match check(alloc, blocks) {
-        Ok(function) => print(alloc, description, blocks, &function, sink),
+        Ok(function) => print(alloc, description, blocks, function, sink),
         Err(stop) => refuse_function(stop, sink),
     }
 }
@@ -117,15 +197,16 @@ fn print<K: Sink>(
     alloc: Global,
     description: Description,
     blocks: &[Block],
-    function: &Function,
+    function: Function,
     sink: &mut K,
 ) -> Status
-    ensures { Closes (sound description blocks.now function.now) (K.written sink.old) (K.written sink.new) (K.faults sink.old) (K.faults sink.new) result
+    ensures { Closes (sound description blocks.now function) (K.written sink.old) (K.written sink.new) (K.faults sink.old) (K.faults sink.new) result
         ⊎ Closes no_memory (K.written sink.old) (K.written sink.new) (K.faults sink.old) (K.faults sink.new) result }
 {
     match description {
-        Description::Check => close(sink, sound_line(blocks, function).as_bytes(), Status::Ok),
-        Description::Show => show(alloc, blocks, function, sink),
+        Description::Check => close(sink, sound_line(blocks, &function).as_bytes(), Status::Ok),
+        Description::Show => show(alloc, blocks, &function, sink),
+        Description::Elements => list(alloc, function, sink),
     }
 }
 
@@ -139,13 +220,13 @@ fn refuse<K: Sink>(stop: ReadStop, sink: &mut K) -> Status
     }
 }
 
-/// Prints the blocks and the entities, once all the memory for it is there.
-fn show<K: Sink>(alloc: Global, blocks: &[Block], function: &Function, sink: &mut K) -> Status
-    ensures { Closes (sound Description.Show blocks.now function.now) (K.written sink.old) (K.written sink.new) (K.faults sink.old) (K.faults sink.new) result
+/// Prints the elements of a fresh device, once all the memory for it is there.
+fn list<K: Sink>(alloc: Global, function: Function, sink: &mut K) -> Status
+    ensures { (blocks : List Block) → Closes (sound Description.Elements blocks function) (K.written sink.old) (K.written sink.new) (K.faults sink.old) (K.faults sink.new) result
         ⊎ Closes no_memory (K.written sink.old) (K.written sink.new) (K.faults sink.old) (K.faults sink.new) result }
 {
-    match bytes_of(alloc, blocks) {
-        Ok(bytes) => match write_all(sink, blocks, bytes.as_slice(), function) {
+    match fresh_view(alloc, function) {
+        Ok(view) => match write_elements(sink, view.elements()) {
             Ok(()) => Status::Ok,
             Err(Failed) => Status::WriteFault,
         },
@@ -153,15 +234,35 @@ fn show<K: Sink>(alloc: Global, blocks: &[Block], function: &Function, sink: &mu
     }
 }
 
-/// Writes a line for each block, whose bytes are `bytes`, and then for each entity.
+/// Prints the blocks, the entities and the settings, once all the memory for it is there.
+fn show<K: Sink>(alloc: Global, blocks: &[Block], function: &Function, sink: &mut K) -> Status
+    ensures { Closes (sound Description.Show blocks.now function.now) (K.written sink.old) (K.written sink.new) (K.faults sink.old) (K.faults sink.new) result
+        ⊎ Closes no_memory (K.written sink.old) (K.written sink.new) (K.faults sink.old) (K.faults sink.new) result }
+{
+    let store = match Store::new(alloc, function) {
+        Ok(store) => store,
+        Err(NoMemory) => return close(sink, NO_MEMORY, Status::NoMemory),
+    };
+    match bytes_of(alloc, blocks) {
+        Ok(bytes) => match write_all(sink, blocks, bytes.as_slice(), function, &store) {
+            Ok(()) => Status::Ok,
+            Err(Failed) => Status::WriteFault,
+        },
+        Err(NoMemory) => close(sink, NO_MEMORY, Status::NoMemory),
+    }
+}
+
+/// Writes a line for each block, whose bytes are `bytes`, then for each entity, and then for each setting.
 #[tactic(auto, using(uac_edges::proofs::WritingLemmas::writings))]
 fn write_all<K: Sink>(
     sink: &mut K,
     blocks: &[Block],
     bytes: &[u8],
     function: &Function,
+    store: &Store,
 ) -> Result<(), Failed>
-    requires { bytes.now ≡ flat_map spelling blocks.now }
+    requires bytes { bytes.now ≡ flat_map spelling blocks.now }
+    requires start { store.now ≡ initial_controls function.now.entities }
     ensures written { Writes (K.written sink.old) (K.written sink.new) result (text_of Description.Show blocks.now function.now) }
     ensures cause { HasCause (K.faults sink.old) (K.faults sink.new) result }
 {
@@ -169,7 +270,11 @@ fn write_all<K: Sink>(
         Ok(()) => {}
         Err(failed) => return Err(failed),
     }
-    write_entities(sink, function.entities())
+    match write_entities(sink, function.entities()) {
+        Ok(()) => {}
+        Err(failed) => return Err(failed),
+    }
+    write_settings(sink, function, store)
 }
 
 /// Writes the text of a run, whose status comes where the sink takes all of it.

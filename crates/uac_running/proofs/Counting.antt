@@ -1,10 +1,8 @@
 -- The ticks of the domains, counted.
-use Rattle.std.proofs.Common.{◌≡◌, ◌∙◌, sym, ap, subst, refl, arith, ℕ, ◌+◌, ◌-◌, ◌/◌, ◌==◌, eqb, false, ◌&&◌, if◌then◌else◌, ℤ, List, [], ◌∷◌, ◌++◌, length, map, take, sum, inl, inr, length-append}
-use Rattle.std.specs.List.{AllByRecursion, IsDistinct, find, list_all}
+use Rattle.std.proofs.Common.{◌≡◌, ◌∙◌, sym, ap, subst, refl, arith, ℕ, ◌+◌, ◌-◌, ◌/◌, ◌==◌, eqb, false, if◌then◌else◌, ℤ, List, [], ◌∷◌, ◌++◌, length, map, take, sum, inl, inr, length-append}
+use Rattle.std.specs.List.{AllByRecursion, IsDistinct, find}
 use Rattle.std.specs.Option.{option_map_or}
-use Rattle.std.proofs.Math.Bool.{and-true}
 use Rattle.std.proofs.lemmas.Bool.{cases_Bool, eqb-true, eqb-false, ne_eqb}
-use Rattle.std.proofs.lemmas.List.Folds.{list_all-append}
 use Rattle.std.proofs.lemmas.List.Sums.{sum_by_push}
 use Rattle.std.proofs.lemmas.Map.Keys.{IsDistinct-head, IsDistinct-tail}
 use Rattle.uac_units.specs.Hearing.{held}
@@ -13,7 +11,6 @@ use Rattle.uac_device.specs.DeviceWorld.{Domain}
 use Rattle.uac_running.specs.declared.counts.TickCount.{TickCount}
 use Rattle.uac_topology.specs.Function.{FunctionFields}
 use Rattle.uac_running.specs.Kept.{HasItsDomains, RunningFields, counted, more_counted}
-use Rattle.uac_running.specs.World.{is_slight}
 
 -- a domain that is off by other millionths
 abbrev pub off_by : ℕ → ℤ → Domain → Domain
@@ -96,12 +93,6 @@ clocks-more clock n (c ∷ cs) =
       | inl same ↦ rw same (ap (λ (ys : List ℕ). c.clock ∷ ys) (clocks-more clock n cs))
       | inr other ↦ rw other (ap (λ (ys : List ℕ). c.clock ∷ ys) (clocks-more clock n cs))
     ]
-
--- one deviation more
-pub slight-push : (deviations : List ℤ) (millionths : ℤ) → list_all is_slight (deviations ++ millionths ∷ []) ≡ (list_all is_slight deviations && is_slight millionths)
-slight-push deviations millionths =
-    list_all-append is_slight deviations (millionths ∷ [])
-    ∙ ap (λ b. list_all is_slight deviations && b) (and-true (is_slight millionths))
 
 -- the domains stay counted once
 pub domains_kept : (p q : RunningFields) → q.device.function ≡ p.device.function → clocks_of q.counts ≡ clocks_of p.counts → HasItsDomains p → HasItsDomains q

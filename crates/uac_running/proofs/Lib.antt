@@ -3,6 +3,11 @@ pub mod JackSteps
 pub mod Counting
 pub mod Start
 pub mod Steps
+pub mod StreamSteps
+pub mod RoomSteps
+pub mod TransferLemmas
+pub mod OutcomeLemmas
+pub mod ReadLemmas
 pub mod Reporting
 pub mod Printed
 pub mod Worked

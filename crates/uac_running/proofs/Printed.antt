@@ -1,8 +1,10 @@
 -- Lines that are printed of a running device.
-use Rattle.std.proofs.Common.{◌≡◌, ℕ, ◌<◌, ◌==◌, ◌&&◌, Bool, true, false, cond, if◌then◌else◌, ℤ, List, [], ◌∷◌, ◌++◌, map, length, get_or, flat_map, unwrap_or, slice_get, Option, None, Some, Result, refl, sym, ap, subst, ◌∙◌, arith}
+use Rattle.std.proofs.Common.{◌≡◌, ℕ, ◌<◌, ◌==◌, ◌&&◌, Bool, true, false, cond, if◌then◌else◌, ℤ, List, [], ◌∷◌, ◌++◌, map, length, get_or, flat_map, unwrap_or, slice_get, Option, None, Some, Result, refl, sym, ap, subst, ◌∙◌, arith, inl, inr, not}
 use Rattle.std.specs.Prelude.{filter}
 use Rattle.std.specs.Option.{option_map}
-use Rattle.std.proofs.lemmas.Bool.{and_parts, and_from, cond-true}
+use Rattle.std.proofs.lemmas.Bool.{and_parts, and_from, cases_lt, cond-true, eq-eqb}
+use Rattle.std.specs.List.{position_or_len}
+use Rattle.std.proofs.lemmas.List.Sums.{prefix_len_passes}
 use Rattle.std.proofs.lemmas.List.{get_or_default, get_or-map, length-map}
 use Rattle.std.proofs.lemmas.Option.{slice_get-map, slice_get-get_or}
 use Rattle.uac_entities.specs.declared.entity.Entity.{Entity}
@@ -23,6 +25,8 @@ use Rattle.uac_graph.proofs.FromRules.{sound_graph}
 use Rattle.uac_edges.specs.Writing.{Writes}
 use Rattle.uac_transcript.specs.declared.report.StreamCounts.{StreamCounts}
 use Rattle.uac_transcript.specs.Transcript.{Said, says_domain, says_meter, says_played, spelled}
+use Rattle.uac_streaming.specs.StreamingWorld as streams
+use Rattle.uac_topology_rules.proofs.Found.{position-below}
 use Rattle.uac_device.specs.Kept.{DeviceFields, Stands}
 use Rattle.uac_device.specs.DeviceWorld.{Domain, DeviceWorld, is_jack, is_output_jack, level_of, played_at, target_of}
 use Rattle.uac_running.specs.declared.counts.TickCount.{TickCount}
@@ -103,7 +107,7 @@ count_at device w counts i d e c rate stands same h is is_rate =
 pub below_domains : (w : DeviceWorld) (counts : List TickCount) (i : ℕ) → counts ≡ map counted w.domains → i < length counts → i < length w.domains
 below_domains w counts i same h = omega (arith, ap length same, length-map w.domains counted)
 
--- the line of an interface's streams, where none runs
+-- the line of an interface's streams
 pub stream-line : (w : DeviceWorld) (met : ℕ → StreamCounts) (settings : List InterfaceSetting) (s : StreamInterface) (setting level : ℕ) (target : Option ℕ) (counts : StreamCounts)
     → settings ≡ w.settings → setting ≡ unwrap_or (setting_of settings s.number) 0 → level ≡ level_of w s.number → target ≡ target_of w s.number
     → counts ≡ met s.number → says_stream s.out s.number setting level target counts ≡ stream_line w met s
@@ -136,3 +140,24 @@ meter_at shown i d k v h kind value =
     let same_value : v ≡ (get_or shown i d).value = cc in
     ap (λ (x : MeterKind). says_meter (record { kind = x; value = v })) same_kind
     ∙ ap (λ (n : ℕ). says_meter (record { kind = (get_or shown i d).kind; value = n })) same_value
+
+-- an interface of these is found by its number
+pub place_there : (f : FunctionFields) (items : List StreamInterface) (i : ℕ) (s d : StreamInterface) → items ≡ f.streams → i < length items → s ≡ get_or items i d
+    → (place : ℕ) × (streams.place_of f s.number ≡ Some place)
+place_there f items i s d same below is =
+    let xs = f.streams in
+    let p : StreamInterface → Bool = λ x. x.number == s.number in
+    let within : i < length xs = subst (λ (ys : List StreamInterface). i < length ys) same below in
+    let here : get_or xs i d ≡ s = ap (λ (ys : List StreamInterface). get_or ys i d) (sym same) ∙ sym is in
+    let passes : p (get_or xs i d) ≡ true = ap p here ∙ eq-eqb s.number s.number refl in
+    elim (cases_lt (position_or_len p xs) (length xs)) [
+      | inl found ↦ (position_or_len p xs, position-below p xs found)
+      | inr past ↦
+          (let before : i < position_or_len p xs = omega arith in
+          let fails = prefix_len_passes (λ x. not (p x)) xs i d before in
+          absurd (true_not (p (get_or xs i d)) passes fails))
+    ]
+  where
+    true_not : (b : Bool) → b ≡ true → not b ≡ true → ⊥
+    true_not true passes fails = cc
+    true_not false passes fails = cc

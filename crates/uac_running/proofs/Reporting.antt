@@ -1,12 +1,13 @@
 -- The report of a running device.
 use Rattle.std.proofs.Common.{◌≡◌, ◌∙◌, ap, subst, ℕ, Bool, List, [], ◌∷◌, ◌++◌, map, Option, Result}
 use Rattle.std.specs.Io.KnownBytes.{Appends}
+use Rattle.uac_rate.specs.Steadiness as steadiness
 use Rattle.uac_units.specs.Hearing.{Reading}
 use Rattle.uac_edges.specs.Writing.{AppendsFront}
 use Rattle.uac_transcript.specs.Transcript.{Said, says_meter, says_passed, says_renders, says_steady}
 use Rattle.uac_transcript.specs.Printing.{Prints, text_of}
 use Rattle.uac_transcript.proofs.PrintingLemmas.{Prints-after, front_of_more}
-use Rattle.uac_running.specs.World.{RunningWorld, is_steady}
+use Rattle.uac_running.specs.RunningWorld.{RunningWorld, is_steady}
 use Rattle.uac_running.specs.Lines.{domain_line, report_lines, stream_line}
 use Rattle.uac_running.specs.Kept.{RunningFields, Stands}
 
@@ -20,16 +21,17 @@ rest_lines r meters renders =
     map (domain_line r.device) r.device.domains
     ++ (map (stream_line r.device r.met) r.device.function.streams ++ (map says_meter meters ++ says_renders renders ∷ []))
 
-module _ (p : RunningFields) (meters : List Reading) (r : RunningWorld) (stands : Stands p meters r) where
-  head_is : head_lines p.time p.steady ≡ head_lines r.time (is_steady r)
-  head_is = ap (λ t. head_lines t p.steady) stands.time ∙ ap (λ b. head_lines r.time b) stands.steady
+module _ (p : RunningFields) (meters : List Reading) (r : RunningWorld) (stands : Stands p meters r) (steady : Bool) (is : steady ≡ steadiness.is_steady r.given) where
+  head_is : head_lines p.time steady ≡ head_lines r.time (is_steady r)
+  unfolding is_steady
+  head_is = ap (λ t. head_lines t steady) stands.time ∙ ap (λ b. head_lines r.time b) is
 
-  pub head_front : (old new : Option (List ℕ)) → AppendsFront old new (text_of (head_lines p.time p.steady)) → AppendsFront old new (text_of (report_lines r))
+  pub head_front : (old new : Option (List ℕ)) → AppendsFront old new (text_of (head_lines p.time steady)) → AppendsFront old new (text_of (report_lines r))
   unfolding report_lines
   head_front old new front =
       front_of_more old new (head_lines r.time (is_steady r)) (rest_lines r r.meters r.renders) (subst (λ (lines : List Said). AppendsFront old new (text_of lines)) head_is front)
 
-  pub report_whole : {E : Type 0} (old mid new : Option (List ℕ)) (result : Result (Unit {0}) E) → Appends old mid (text_of (head_lines p.time p.steady))
+  pub report_whole : {E : Type 0} (old mid new : Option (List ℕ)) (result : Result (Unit {0}) E) → Appends old mid (text_of (head_lines p.time steady))
       → Prints mid new result (rest_lines r meters p.renders) → Prints old new result (report_lines r)
   unfolding report_lines
   report_whole {E = E} old mid new result head rest =

@@ -7,19 +7,19 @@ use Rattle.uac_edges.specs.Writing.{AppendsFront}
 use Rattle.uac_transcript.specs.Transcript.{Said}
 use Rattle.uac_transcript.specs.Printing.{text_of}
 use Rattle.uac_transcript.proofs.PrintingLemmas.{Appends-lines, Prints-after, front_after, front_of_more}
-use Rattle.uac_running.specs.World.{RunningWorld}
-use Rattle.uac_running.specs.Events.{Told, behind, still}
-use Rattle.uac_running.specs.Kept.{RunningFields, Stands, Tells}
+use Rattle.uac_running.specs.RunningWorld.{RunningWorld}
+use Rattle.uac_running.specs.Events.{Told, behind, followed_by, still}
+use Rattle.uac_running.specs.Kept.{RunningFields, Tells}
 
 abbrev told_of : RunningWorld → List Said → Told
 told_of r lines = record { lines = lines; world = r }
 
--- so much of the whole was printed, and what is left is what `rest` tells of the world that is kept now
-pub record SoFar (whole : Told) (rest : RunningWorld → Told) (running : RunningFields) (meters : List Reading) (old new : Option (List ℕ)) : Type 0 where
+-- so much of the whole was printed, and what is left is what `rest` tells of the world that is kept now, within a microframe or between two
+pub record SoFar (Keeps : RunningFields → List Reading → RunningWorld → Type 0) (whole : Told) (rest : RunningWorld → Told) (running : RunningFields) (meters : List Reading) (old new : Option (List ℕ)) : Type 0 where
   pub lines : List Said
   pub now : RunningWorld
   pub written : Appends old new (text_of lines)
-  pub stands : Stands running meters now
+  pub stands : Keeps running meters now
   pub left : behind lines (rest now) ≡ whole
 
 behind-behind : (front back : List Said) (told : Told) → behind front (behind back told) ≡ behind (front ++ back) told
@@ -30,16 +30,16 @@ Appends-nothing None = tt
 Appends-nothing (Some xs) = sym (append-nil xs)
 
 -- nothing yet
-pub begun : (whole : Told) (rest : RunningWorld → Told) (running : RunningFields) (meters : List Reading) (old : Option (List ℕ)) (r : RunningWorld) → Stands running meters r → rest r ≡ whole
-    → SoFar whole rest running meters old old
-begun whole rest running meters old r stands is = record { lines = []; now = r; written = Appends-nothing old; stands = stands; left = is }
+pub begun : (Keeps : RunningFields → List Reading → RunningWorld → Type 0) (whole : Told) (rest : RunningWorld → Told) (running : RunningFields) (meters : List Reading) (old : Option (List ℕ)) (r : RunningWorld) → Keeps running meters r → rest r ≡ whole
+    → SoFar Keeps whole rest running meters old old
+begun Keeps whole rest running meters old r stands is = record { lines = []; now = r; written = Appends-nothing old; stands = stands; left = is }
 
 -- one step more
-pub one_more : (whole : Told) (rest next step : RunningWorld → Told) (before after : RunningFields) (shown showing : List Reading) (old mid new : Option (List ℕ))
-    → ((w : RunningWorld) → rest w ≡ behind (step w).lines (next (step w).world)) → SoFar whole rest before shown old mid
-    → ((w : RunningWorld) → Stands before shown w → Appends mid new (text_of (step w).lines) × Stands after showing (step w).world)
-    → SoFar whole next after showing old new
-one_more whole rest next step before after shown showing old mid new splits s tells =
+pub one_more : (Keeps : RunningFields → List Reading → RunningWorld → Type 0) (whole : Told) (rest next step : RunningWorld → Told) (before after : RunningFields) (shown showing : List Reading) (old mid new : Option (List ℕ))
+    → ((w : RunningWorld) → rest w ≡ behind (step w).lines (next (step w).world)) → SoFar Keeps whole rest before shown old mid
+    → ((w : RunningWorld) → Keeps before shown w → Appends mid new (text_of (step w).lines) × Keeps after showing (step w).world)
+    → SoFar Keeps whole next after showing old new
+one_more Keeps whole rest next step before after shown showing old mid new splits s tells =
     let t = tells s.now s.stands in
     record {
       lines = s.lines ++ (step s.now).lines;
@@ -50,22 +50,22 @@ one_more whole rest next step before after shown showing old mid new splits s te
     }
 
 -- a step that failed: a front of the whole was written
-pub stopped : (whole : Told) (rest next step : RunningWorld → Told) (before : RunningFields) (shown : List Reading) (old mid new : Option (List ℕ))
-    → ((w : RunningWorld) → rest w ≡ behind (step w).lines (next (step w).world)) → SoFar whole rest before shown old mid
-    → ((w : RunningWorld) → Stands before shown w → AppendsFront mid new (text_of (step w).lines) × Unit {0})
+pub stopped : (Keeps : RunningFields → List Reading → RunningWorld → Type 0) (whole : Told) (rest next step : RunningWorld → Told) (before : RunningFields) (shown : List Reading) (old mid new : Option (List ℕ))
+    → ((w : RunningWorld) → rest w ≡ behind (step w).lines (next (step w).world)) → SoFar Keeps whole rest before shown old mid
+    → ((w : RunningWorld) → Keeps before shown w → AppendsFront mid new (text_of (step w).lines) × Unit {0})
     → AppendsFront old new (text_of whole.lines)
-stopped whole rest next step before shown old mid new splits s tells =
+stopped Keeps whole rest next step before shown old mid new splits s tells =
     subst (λ (told : Told). AppendsFront old new (text_of told.lines)) (ap (behind s.lines) (sym (splits s.now)) ∙ s.left)
     (front_after old mid new s.lines ((step s.now).lines ++ (next (step s.now).world).lines) s.written
     (front_of_more mid new (step s.now).lines (next (step s.now).world).lines (tells s.now s.stands).0))
 
 -- nothing is left
-pub finished : (whole : Told) (rest : RunningWorld → Told) (running : RunningFields) (meters : List Reading) (old new : Option (List ℕ))
-    → SoFar whole rest running meters old new → ((w : RunningWorld) → rest w ≡ still w) → Appends old new (text_of whole.lines) × Stands running meters whole.world
-finished whole rest running meters old new s ends =
+pub finished : (Keeps : RunningFields → List Reading → RunningWorld → Type 0) (whole : Told) (rest : RunningWorld → Told) (running : RunningFields) (meters : List Reading) (old new : Option (List ℕ))
+    → SoFar Keeps whole rest running meters old new → ((w : RunningWorld) → rest w ≡ still w) → Appends old new (text_of whole.lines) × Keeps running meters whole.world
+finished Keeps whole rest running meters old new s ends =
     let is : behind s.lines (still s.now) ≡ whole = ap (behind s.lines) (sym (ends s.now)) ∙ s.left in (
       subst (λ (lines : List Said). Appends old new (text_of lines)) (sym (append-nil s.lines) ∙ ap (λ (told : Told). told.lines) is) s.written,
-      subst (λ (w : RunningWorld). Stands running meters w) (ap (λ (told : Told). told.world) is) s.stands,
+      subst (λ (w : RunningWorld). Keeps running meters w) (ap (λ (told : Told). told.world) is) s.stands,
     )
 
 -- lines, and then what is told
@@ -73,7 +73,27 @@ pub tells_behind : {E : Type 0} (lines : List Said) (told : Told) (running : Run
     → Appends old mid (text_of lines) → Tells told running meters mid new r → Tells (behind lines told) running meters old new r
 tells_behind lines told running meters old mid new r a t = (Prints-after old mid new r lines told.lines a t.0, t.1)
 
+-- something, and then something else
+pub tells_then : {E : Type 0} (first next : RunningWorld → Told) (r : RunningWorld) (running : RunningFields) (meters : List Reading) (old mid new : Option (List ℕ)) (result : Result (Unit {0}) E)
+    → Appends old mid (text_of (first r).lines) → Tells (next (first r).world) running meters mid new result → Tells (followed_by first next r) running meters old new result
+tells_then first next r running meters old mid new result a t = tells_behind (first r).lines (next (first r).world) running meters old mid new result a t
+
+-- the first of two failed
+pub front_then : (first next : RunningWorld → Told) (r : RunningWorld) (old new : Option (List ℕ)) → AppendsFront old new (text_of (first r).lines)
+    → AppendsFront old new (text_of (followed_by first next r).lines)
+front_then first next r old new front = front_of_more old new (first r).lines (next (first r).world).lines front
+
+-- the second failed
+pub front_of_next : (first next : RunningWorld → Told) (r : RunningWorld) (old mid new : Option (List ℕ)) → Appends old mid (text_of (first r).lines)
+    → AppendsFront mid new (text_of (next (first r).world).lines) → AppendsFront old new (text_of (followed_by first next r).lines)
+front_of_next first next r old mid new a front = front_after old mid new (first r).lines (next (first r).world).lines a front
+
 -- what holds in any case holds at Ok
 pub at_ok : {E : Type 0} (P : Type 0) (r : Result (Unit {0}) E) → P → OnOk r P
 at_ok P (Ok u) p = p
 at_ok P (Err e) p = tt
+
+-- what follows at Ok
+pub ok_then : {T E : Type 0} (P Q : Type 0) (r : Result T E) → (P → Q) → OnOk r P → OnOk r Q
+ok_then P Q (Ok u) f p = f p
+ok_then P Q (Err e) f p = tt

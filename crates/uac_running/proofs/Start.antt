@@ -1,6 +1,6 @@
 -- A device just after the descriptor's end.
-use Rattle.std.proofs.Common.{◌≡◌, ◌∙◌, sym, ap, subst, refl, ℕ, ◌≤◌, ◌==◌, ◌&&◌, eqb, not, Bool, true, false, List, [], ◌∷◌, map, get_or, inl, inr}
-use Rattle.std.specs.List.{All, AllByRecursion, IsDistinct, filter, filter_map, list_all}
+use Rattle.std.proofs.Common.{◌≡◌, ◌∙◌, sym, ap, subst, refl, ℕ, ◌≤◌, ◌==◌, ◌&&◌, eqb, not, Bool, true, false, List, [], ◌∷◌, map, get_or, None, inl, inr}
+use Rattle.std.specs.List.{All, AllByRecursion, IsDistinct, filter, filter_map}
 use Rattle.std.proofs.lemmas.Bool.{cases_Bool, eqb-false, ne_eqb}
 use Rattle.std.proofs.lemmas.List.{get_or_default}
 use Rattle.std.proofs.lemmas.List.Elements.{All-filter, All-map, filter_passes}
@@ -21,12 +21,17 @@ use Rattle.uac_graph.specs.Fitness.{IsSignalGraph}
 use Rattle.uac_graph.specs.Meaning.{entity}
 use Rattle.uac_device.specs.Kept as device
 use Rattle.uac_device.specs.DeviceWorld.{at_rest, fresh, is_input_jack, is_jack}
-use Rattle.uac_host.specs.HostWorld.{fresh_host}
+use Rattle.uac_streaming.specs.Kept as streaming
+use Rattle.uac_streaming.specs.StreamingWorld.{streaming_start}
+use Rattle.uac_mixer.specs.ViewWorld.{known_view}
+use Rattle.uac_store.specs.Controls.{initial_controls}
+use Rattle.uac_running.specs.Transfers.{configuration_of}
 use Rattle.uac_running.specs.declared.counts.TickCount.{TickCount}
 use Rattle.uac_running.specs.declared.jacks.Jack.{Jack}
-use Rattle.uac_running.specs.Kept.{HasItsDomains, HasItsJacks, RunningFields, Stands, counted, none_counted}
-use Rattle.uac_running.specs.World.{at_start, is_steady, silent_jack}
+use Rattle.uac_running.specs.Kept.{HasItsDomains, HasItsJacks, RunningFields, StandsBetween, counted, none_counted}
+use Rattle.uac_running.specs.RunningWorld.{at_start, silent_jack}
 use Rattle.uac_running.proofs.Counting.{clocks_of}
+use Rattle.uac_streaming.proofs.RoomKept.{fresh_room}
 
 -- no domain has ticked
 pub counts-rest : (clocks : List ℕ) → map none_counted clocks ≡ map counted (map at_rest clocks)
@@ -114,16 +119,18 @@ module _ (entities : List Entity) (graph : IsSignalGraph entities) where
       let e = get_or (filter is_input_jack entities) k d in
       (known k d below).most (input_no_clock e.kind (is_jack e) (input k d below)))
 
--- no report was lost
-no_reports : (interfaces : List ℕ) → list_all (λ interface. true) interfaces ≡ true
-no_reports [] = refl
-no_reports (n ∷ ns) = no_reports ns
-
 -- ---- all of it
 
 pub function_kept : (function : FunctionFields) (d : device.DeviceFields) → device.Stands d (fresh function) → d.function ≡ function
 unfolding fresh
 function_kept function d stands = stands.function
+
+-- what is read of a fresh device
+pub known_start : (function : FunctionFields) (d : device.DeviceFields) → device.Stands d (fresh function)
+    → known_view d.function.entities d.controls ≡ known_view function.entities (initial_controls function.entities)
+unfolding fresh
+known_start function d stands =
+    ap (λ (f : FunctionFields). known_view f.entities d.controls) stands.function ∙ ap (known_view function.entities) stands.controls
 
 module _ (function : FunctionFields) (sound : IsSoundFunction function) (p : RunningFields) (fresh_now : device.Stands p.device (fresh function))
     (jacks : p.jacks ≡ map silent_jack (filter is_input_jack function.entities)) (counts : p.counts ≡ map none_counted function.domains) where
@@ -151,20 +158,22 @@ module _ (function : FunctionFields) (sound : IsSoundFunction function) (p : Run
     once = subst (IsDistinct eqb) (sym (ap clocks_of counts ∙ clocks-none function.domains)) each_domain_once;
   }
 
-  pub stands_start : p.time ≡ 0 → p.steady ≡ true → p.detail ≡ 0 → p.renders ≡ 0 → (descriptor : List ℕ) (meters : List Reading) → Stands p meters (at_start descriptor function meters)
-  unfolding at_start fresh fresh_host is_steady
-  stands_start time steady detail renders descriptor meters = record {
-    device = fresh_now;
-    host = record { function = refl; paces = λ interface. refl; tracks = λ interface. refl };
-    view = refl;
-    jacks = jacks;
-    counts = counts ∙ counts-rest function.domains;
-    time = time;
-    steady = steady ∙ sym (no_reports (map (λ s. s.number) function.streams));
-    detail = detail;
-    unbroken = refl;
-    met = λ interface. refl;
-    unreported = λ interface. refl;
-    meters = refl;
-    renders = renders;
+  pub stands_start : streaming.Stands p.streaming p.device (streaming_start function) → p.view ≡ known_view function.entities (initial_controls function.entities) → p.breaks ≡ None
+      → p.time ≡ 0 → p.detail ≡ 0 → p.renders ≡ 0 → (descriptor : List ℕ) (meters : List Reading) → p.configuration ≡ configuration_of descriptor
+      → StandsBetween p meters (at_start descriptor function meters)
+  unfolding at_start fresh streaming_start
+  stands_start streams view breaks time detail renders descriptor meters bytes = record {
+    now = record {
+      streaming = streams;
+      view = view;
+      configuration = bytes;
+      breaks = breaks;
+      jacks = jacks;
+      counts = counts ∙ counts-rest function.domains;
+      time = time;
+      detail = detail;
+      meters = refl;
+      renders = renders;
+    };
+    room = fresh_room function sound;
   }

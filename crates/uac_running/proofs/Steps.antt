@@ -1,26 +1,36 @@
 -- Each event of a running device, from what its parts are seen to do.
-use Rattle.std.proofs.Common.{◌≡◌, ◌∙◌, sym, ap, subst, refl, arith, ℕ, suc, ◌+◌, ◌-◌, ◌<◌, ◌≤◌, ◌==◌, nat_le, eqb, ◌&&◌, Bool, true, false, if◌then◌else◌, ℤ, List, [], ◌∷◌, length, map, drop, get_or, Option, Result, inl, inr, drop-cons, add-one}
-use Rattle.std.specs.List.{IsDistinct, list_all}
-use Rattle.std.proofs.Math.Bool.{and_comm}
+use Rattle.std.proofs.Common.{◌≡◌, ◌∙◌, sym, ap, subst, refl, arith, ℕ, suc, ◌+◌, ◌-◌, ◌<◌, ◌≤◌, ◌==◌, nat_le, eqb, Bool, if◌then◌else◌, ℤ, List, [], ◌∷◌, ◌++◌, length, map, drop, get_or, Option, Some, Result, Ok, Err, inl, inr, drop-cons, add-one}
+use Rattle.std.specs.List.{IsDistinct}
 use Rattle.std.proofs.lemmas.Bool.{cases_Bool}
 use Rattle.std.proofs.lemmas.List.{drop_all}
 use Rattle.uac_pcm.specs.declared.tones.Tone.{Tone}
 use Rattle.uac_units.specs.Hearing.{Reading, held}
+use Rattle.uac_rate.specs.Steadiness as steadiness
 use Rattle.uac_device.specs.Kept as device
-use Rattle.uac_device.specs.DeviceWorld.{DeviceWorld, advanced, after_frames, deviated, heard_of, next_ticks, renders_of, set_jack, step_in, ticked}
+use Rattle.uac_device.specs.DeviceWorld.{DeviceWorld, advanced, after_frames, deviated, heard_of, met_of, next_ticks, renders_of, set_jack, step_in, ticked}
+use Rattle.uac_device.specs.declared.ticking.Ticked.{Ticked}
 use Rattle.uac_script.specs.Phrase.{Loss}
-use Rattle.uac_transcript.specs.Printing.{Prints}
+use Rattle.uac_transcript.specs.Printing.{Prints, text_of}
+use Rattle.uac_transcript.proofs.PrintingLemmas.{front_after, front_of_more}
+use Rattle.uac_edges.specs.Writing.{AppendsFront}
+use Rattle.std.specs.Io.KnownBytes.{Appends}
+use Rattle.uac_streaming.specs.Room.{HaveRoom}
+use Rattle.uac_streaming.specs.Kept as streaming
+use Rattle.uac_streaming.specs.Telling.{Telling}
+use Rattle.uac_host.specs.HostWorld.{HostWorld}
+use Rattle.uac_streaming.specs.Kept.{StreamingFields}
+use Rattle.uac_streaming.specs.StreamingWorld.{StreamingWorld, found_counts, found_lines, met_in, numbers}
 use Rattle.uac_running.specs.declared.counts.TickCount.{TickCount}
 use Rattle.uac_running.specs.declared.jacks.Jack.{Jack}
 use Rattle.uac_topology.specs.Function.{FunctionFields}
-use Rattle.uac_host.specs.HostWorld.{Rests}
-use Rattle.uac_mixer.specs.ViewWorld.{known_view}
-use Rattle.uac_running.specs.World.{RunningWorld, is_slight, is_steady, keeps_feedback, toned, with_detail, with_deviation, with_tone}
+use Rattle.uac_mixer.specs.ViewWorld.{IsViewOf, ViewWorld}
+use Rattle.uac_running.specs.RunningWorld.{RunningWorld, streaming_of, toned, with_detail, with_deviation, with_streaming, with_tone}
 use Rattle.uac_running.specs.Lines.{played_lines}
-use Rattle.uac_running.specs.Events.{all_given, behind, domain_microframe, domain_microframes, given, gone_on, microframe, microframes, next_frame, number_said, still, tick, tick_times}
-use Rattle.uac_running.specs.Kept.{RunningFields, Stands, Tells, counted, more_counted}
-use Rattle.uac_running.proofs.Counting.{clocks_of, counted-off, counted-stepped, slight-push}
-use Rattle.uac_running.proofs.SoFar.{at_ok}
+use Rattle.uac_running.specs.Events.{Told, all_given, behind, domain_microframe, domain_microframes, ends_and_reports, followed_by, given, gone_on, microframe, microframes, next_frame, number_said, of_streams, packets_and_ticks, still, tick, tick_times}
+use Rattle.uac_running.specs.Transfers.{break_at, with_break}
+use Rattle.uac_running.specs.Kept.{RunningFields, Stands, StandsBetween, Tells, TellsBetween, counted, more_counted}
+use Rattle.uac_running.proofs.Counting.{clocks_of, counted-off, counted-stepped}
+use Rattle.uac_running.proofs.SoFar.{at_ok, front_then, ok_then, tells_behind, tells_then}
 
 -- ---- events one after the other
 
@@ -50,121 +60,178 @@ pub domains_end : (clocks : List ℕ) (i : ℕ) (w : RunningWorld) → length cl
 unfolding domain_microframes
 domains_end clocks i w past = ap (λ (cs : List ℕ). domain_microframes cs w) (drop_all i clocks past)
 
-and_turned : (a b c : Bool) → ((a && b) && c) ≡ ((a && c) && b)
-and_turned true b c = and_comm b c
-and_turned false b c = refl
+-- what the host knows, and what is answered of the configuration, is as it was
+pub record IsBeside (p q : RunningFields) : Type 0 where
+  pub view : q.view ≡ p.view
+  pub configuration : q.configuration ≡ p.configuration
+  pub breaks : q.breaks ≡ p.breaks
+
+-- the elements are still those of the function
+pub view_still : (f f' : FunctionFields) (view : ViewWorld) → f' ≡ f → IsViewOf f.entities view → IsViewOf f'.entities view
+view_still f f' view same is = subst (λ (g : FunctionFields). IsViewOf g.entities view) (sym same) is
+
+-- the host's streams stand beside another world of the device, of the same function
+pub stands_beside : (s : StreamingFields) (d e : device.DeviceFields) (w : StreamingWorld) (v : DeviceWorld) → streaming.Stands s d w → device.Stands e v → v.function ≡ w.device.function
+    → streaming.Stands s e (record w { device = v })
+stands_beside s d e w v stands kept same = record {
+  device = kept;
+  host = stands.host;
+  same = stands.same ∙ sym same;
+  order = stands.order ∙ ap numbers (sym same);
+  met = stands.met ∙ ap (met_in w.met) (sym same);
+  steady = stands.steady;
+}
 
 -- ---- the device and its counts under events
 
 module _ (meters : List Reading) (r : RunningWorld) (p q : RunningFields) (stands : Stands p meters r) where
   pub passed : q ≡ record p { time = held (p.time + 1) } → Stands q meters (record r { time = held (r.time + 1) })
-  unfolding is_steady
   passed is =
       let P : RunningFields → Type 0 = λ x. Stands x meters (record r { time = held (r.time + 1) }) in
       subst P (sym is)
       (record {
-        device = stands.device;
-        host = stands.host;
+        streaming = stands.streaming;
         view = stands.view;
+        configuration = stands.configuration;
+        breaks = stands.breaks;
         jacks = stands.jacks;
         counts = stands.counts;
         time = ap (λ n. held (n + 1)) stands.time;
-        steady = stands.steady;
         detail = stands.detail;
-        unbroken = stands.unbroken;
-        met = stands.met;
-        unreported = stands.unreported;
         meters = stands.meters;
         renders = stands.renders;
       })
 
   pub detailed : (level : ℕ) → q ≡ record p { detail = level } → Stands q meters (with_detail level r)
-  unfolding is_steady with_detail
+  unfolding with_detail
   detailed level is =
       let P : RunningFields → Type 0 = λ x. Stands x meters (with_detail level r) in
       subst P (sym is)
       (record {
-        device = stands.device;
-        host = stands.host;
+        streaming = stands.streaming;
         view = stands.view;
+        configuration = stands.configuration;
+        breaks = stands.breaks;
         jacks = stands.jacks;
         counts = stands.counts;
         time = stands.time;
-        steady = stands.steady;
         detail = refl;
-        unbroken = stands.unbroken;
-        met = stands.met;
-        unreported = stands.unreported;
+        meters = stands.meters;
+        renders = stands.renders;
+      })
+
+  pub broke : (after : Bool) → q ≡ record p { breaks = Some (break_at after) } → Stands q meters (with_break after r)
+  unfolding with_break
+  broke after is =
+      let P : RunningFields → Type 0 = λ x. Stands x meters (with_break after r) in
+      subst P (sym is)
+      (record {
+        streaming = stands.streaming;
+        view = stands.view;
+        configuration = stands.configuration;
+        breaks = refl;
+        jacks = stands.jacks;
+        counts = stands.counts;
+        time = stands.time;
+        detail = stands.detail;
         meters = stands.meters;
         renders = stands.renders;
       })
 
   pub toned_on : (terminal : ℕ) (tone : Tone) (jacks : List Jack) → jacks ≡ map (toned terminal tone) p.jacks → q ≡ record p { jacks = jacks } → Stands q meters (with_tone terminal tone r)
-  unfolding is_steady with_tone
+  unfolding with_tone
   toned_on terminal tone jacks changed is =
       let P : RunningFields → Type 0 = λ x. Stands x meters (with_tone terminal tone r) in
       subst P (sym is)
       (record {
-        device = stands.device;
-        host = stands.host;
+        streaming = stands.streaming;
         view = stands.view;
+        configuration = stands.configuration;
+        breaks = stands.breaks;
         jacks = changed ∙ ap (map (toned terminal tone)) stands.jacks;
         counts = stands.counts;
         time = stands.time;
-        steady = stands.steady;
         detail = stands.detail;
-        unbroken = stands.unbroken;
-        met = stands.met;
-        unreported = stands.unreported;
         meters = stands.meters;
         renders = stands.renders;
       })
 
-  pub off : (clock : ℕ) (millionths : ℤ) → device.Stands q.device (deviated clock millionths r.device) → q.jacks ≡ p.jacks → q.counts ≡ p.counts → q.time ≡ p.time
-      → q.steady ≡ (p.steady && is_slight millionths) → q.detail ≡ p.detail → q.renders ≡ p.renders → Stands q meters (with_deviation clock millionths r)
-  unfolding is_steady with_deviation deviated
-  off clock millionths kept jacks counts time steady detail renders = record {
-    device = kept;
-    host = stands.host;
-    view = stands.view;
+  pub off : (clock : ℕ) (millionths : ℤ) → device.Stands q.device (deviated clock millionths r.device)
+      → ((w : StreamingWorld) → streaming.Stands p.streaming q.device w → streaming.Stands q.streaming q.device (record w { given = steadiness.deviated millionths w.given }))
+      → q.jacks ≡ p.jacks → q.counts ≡ p.counts → q.time ≡ p.time → q.detail ≡ p.detail → q.renders ≡ p.renders → IsBeside p q → Stands q meters (with_deviation clock millionths r)
+  unfolding with_deviation deviated
+  off clock millionths kept gives jacks counts time detail renders beside = record {
+    streaming = gives (record (streaming_of r) { device = deviated clock millionths r.device }) (stands_beside p.streaming p.device q.device (streaming_of r) (deviated clock millionths r.device) stands.streaming kept refl);
+    view = beside.view ∙ stands.view;
+    configuration = beside.configuration ∙ stands.configuration;
+    breaks = beside.breaks ∙ stands.breaks;
     jacks = jacks ∙ stands.jacks;
     counts = counts ∙ stands.counts ∙ sym (counted-off clock millionths r.device.domains);
     time = time ∙ stands.time;
-    steady =
-        steady
-        ∙ ap (λ b. b && is_slight millionths) stands.steady
-        ∙ and_turned (list_all is_slight r.deviations) (keeps_feedback r.feedback (map (λ s. s.number) r.device.function.streams)) (is_slight millionths)
-        ∙ sym (ap (λ b. b && keeps_feedback r.feedback (map (λ s. s.number) r.device.function.streams)) (slight-push r.deviations millionths));
     detail = detail ∙ stands.detail;
-    unbroken = stands.unbroken;
-    met = stands.met;
-    unreported = stands.unreported;
     meters = stands.meters;
     renders = renders ∙ stands.renders;
   }
 
   pub advanced_on : (clock n : ℕ) → device.Stands q.device (advanced clock r.device) → n ≡ next_ticks clock r.device → IsDistinct eqb (clocks_of p.counts)
-      → q.counts ≡ map (more_counted clock n) p.counts → q.jacks ≡ p.jacks → q.time ≡ p.time → q.steady ≡ p.steady → q.detail ≡ p.detail → q.renders ≡ p.renders
+      → q.streaming ≡ p.streaming → q.counts ≡ map (more_counted clock n) p.counts → q.jacks ≡ p.jacks → q.time ≡ p.time → q.detail ≡ p.detail → q.renders ≡ p.renders → IsBeside p q
       → Stands q meters (record r { device = advanced clock r.device })
-  unfolding is_steady advanced next_ticks
-  advanced_on clock n kept is once counts jacks time steady detail renders = record {
-    device = kept;
-    host = stands.host;
-    view = stands.view;
+  unfolding advanced next_ticks
+  advanced_on clock n kept is once same counts jacks time detail renders beside = record {
+    streaming = subst (λ (s : StreamingFields). streaming.Stands s q.device (record (streaming_of r) { device = advanced clock r.device })) (sym same)
+        (stands_beside p.streaming p.device q.device (streaming_of r) (advanced clock r.device) stands.streaming kept refl);
+    view = beside.view ∙ stands.view;
+    configuration = beside.configuration ∙ stands.configuration;
+    breaks = beside.breaks ∙ stands.breaks;
     jacks = jacks ∙ stands.jacks;
     counts =
         counts
         ∙ ap (map (more_counted clock n)) stands.counts
         ∙ counted-stepped clock n (step_in r.device) r.device.domains (subst (λ (cs : List TickCount). IsDistinct eqb (clocks_of cs)) stands.counts once) is;
     time = time ∙ stands.time;
-    steady = steady ∙ stands.steady;
     detail = detail ∙ stands.detail;
-    unbroken = stands.unbroken;
-    met = stands.met;
-    unreported = stands.unreported;
     meters = stands.meters;
     renders = renders ∙ stands.renders;
   }
+
+  -- the host's part alone is another
+  pub hosted : (host : HostWorld) → streaming.Stands q.streaming q.device (record (streaming_of r) { host = host })
+      → q.jacks ≡ p.jacks → q.counts ≡ p.counts → q.time ≡ p.time → q.detail ≡ p.detail → q.renders ≡ p.renders → IsBeside p q → Stands q meters (record r { host = host })
+  hosted host kept jacks counts time detail renders beside = record {
+    streaming = kept;
+    view = beside.view ∙ stands.view;
+    configuration = beside.configuration ∙ stands.configuration;
+    breaks = beside.breaks ∙ stands.breaks;
+    jacks = jacks ∙ stands.jacks;
+    counts = counts ∙ stands.counts;
+    time = time ∙ stands.time;
+    detail = detail ∙ stands.detail;
+    meters = stands.meters;
+    renders = renders ∙ stands.renders;
+  }
+
+  -- what happens to the streams leaves the domains, and all else
+  pub streamed : (w : StreamingWorld) → streaming.Stands q.streaming q.device w → w.device.domains ≡ r.device.domains
+      → q.jacks ≡ p.jacks → q.counts ≡ p.counts → q.time ≡ p.time → q.detail ≡ p.detail → q.renders ≡ p.renders → IsBeside p q → Stands q meters (with_streaming r w)
+  streamed w kept same jacks counts time detail renders beside = record {
+    streaming = kept;
+    view = beside.view ∙ stands.view;
+    configuration = beside.configuration ∙ stands.configuration;
+    breaks = beside.breaks ∙ stands.breaks;
+    jacks = jacks ∙ stands.jacks;
+    counts = counts ∙ stands.counts ∙ ap (map counted) (sym same);
+    time = time ∙ stands.time;
+    detail = detail ∙ stands.detail;
+    meters = stands.meters;
+    renders = renders ∙ stands.renders;
+  }
+
+  -- what is told of them is told of the running device
+  pub streams_told : {E : Type 0} (event : StreamingWorld → Telling StreamingWorld) (old new : Option (List ℕ)) (result : Result (Unit {0}) E)
+      → streaming.Tells (event (streaming_of r)) q.streaming q.device old new result → (event (streaming_of r)).world.device.domains ≡ r.device.domains
+      → q.jacks ≡ p.jacks → q.counts ≡ p.counts → q.time ≡ p.time → q.detail ≡ p.detail → q.renders ≡ p.renders → IsBeside p q → Tells (of_streams event r) q meters old new result
+  streams_told event old new (Ok u) told same jacks counts time detail renders beside = (told.0, streamed (event (streaming_of r)).world told.1 same jacks counts time detail renders beside)
+  streams_told event old new (Err e) told same jacks counts time detail renders beside = (told.0, tt)
 
 -- giving frames leaves all that setting a jack leaves
 given-kept : {X : Type 0} (f : DeviceWorld → X) → ((terminal : ℕ) (frame : List ℤ) (w : DeviceWorld) → f (set_jack terminal frame w) ≡ f w)
@@ -176,53 +243,59 @@ given-kept f keeps clock (j ∷ js) w =
       | inr other ↦ rw other (given-kept f keeps clock js w)
     ]
 
--- jacks give, the device ticks, and meters hear
-pub sounded : (clock count : ℕ) (shown showing : List Reading) (r : RunningWorld) (p q : RunningFields) (jacks : List Jack) (mid : device.DeviceFields)
-    → Stands p shown r → jacks ≡ p.jacks
+-- jacks give, the device ticks, meters hear, and what rings were found empty and full is counted
+pub sounded : (clock count : ℕ) (shown showing : List Reading) (r : RunningWorld) (p q : RunningFields) (jacks : List Jack) (mid : device.DeviceFields) (found : Ticked) (f : FunctionFields)
+    → Stands p shown r → jacks ≡ p.jacks → f ≡ q.device.function
     → ((w : DeviceWorld) → device.Stands p.device w → device.Stands mid (given clock jacks w))
     → ((w : DeviceWorld) → device.Stands mid w → device.Stands q.device (ticked clock w))
     → ((w : DeviceWorld) → device.Stands mid w → showing ≡ after_frames (heard_of clock (ticked clock w)) shown)
     → ((w : DeviceWorld) → device.Stands mid w → count ≡ renders_of clock w)
-    → q.jacks ≡ gone_on clock jacks → q.counts ≡ p.counts → q.time ≡ p.time → q.steady ≡ p.steady → q.detail ≡ p.detail → q.renders ≡ held (p.renders + count)
-    → Stands q showing (tick clock r).world
-unfolding is_steady tick all_given ticked set_jack
-sounded clock count shown showing r p q jacks mid stands own gives ticks hears rendered gone counts time steady detail renders =
+    → ((w : DeviceWorld) → device.Stands mid w → found ≡ met_of clock w)
+    → ((w : StreamingWorld) (before : DeviceWorld) → streaming.Stands p.streaming q.device w → w.device.function ≡ f → before.function ≡ f → found ≡ met_of clock before
+    → streaming.Stands q.streaming q.device (record w { met = found_counts clock before w.met }))
+    → q.jacks ≡ gone_on clock jacks → q.counts ≡ p.counts → q.time ≡ p.time → q.detail ≡ p.detail → q.renders ≡ held (p.renders + count)
+    → IsBeside p q → Stands q showing (tick clock r).world
+unfolding tick all_given ticked set_jack
+sounded clock count shown showing r p q jacks mid found f stands own is_f gives ticks hears rendered meets finds gone counts time detail renders beside =
     let all : jacks ≡ r.jacks = own ∙ stands.jacks in
-    let before = subst (λ (js : List Jack). device.Stands mid (given clock js r.device)) all (gives r.device stands.device) in
+    let before = subst (λ (js : List Jack). device.Stands mid (given clock js r.device)) all (gives r.device stands.streaming.device) in
+    let after = ticks (all_given clock r) before in
+    let same : (all_given clock r).function ≡ r.device.function = given-kept (λ w. w.function) (λ t frame w. refl) clock r.jacks r.device in
+    let here : (all_given clock r).function ≡ f = sym after.function ∙ sym is_f in
+    let there = stands_beside p.streaming p.device q.device (streaming_of r) (ticked clock (all_given clock r)) stands.streaming after same in
     record {
-      device = ticks (all_given clock r) before;
-      host =
-          subst (λ (f : FunctionFields). Rests f r.host) (sym (given-kept (λ w. w.function) (λ t frame w. refl) clock r.jacks r.device)) stands.host;
-      view =
-          stands.view
-          ∙ ap (λ (f : FunctionFields). known_view f.entities r.device.controls) (sym (given-kept (λ w. w.function) (λ t frame w. refl) clock r.jacks r.device))
-          ∙ ap (known_view (given clock r.jacks r.device).function.entities) (sym (given-kept (λ w. w.controls) (λ t frame w. refl) clock r.jacks r.device));
+      streaming = finds (record (streaming_of r) { device = ticked clock (all_given clock r) }) (all_given clock r) there here here (meets (all_given clock r) before);
+      view = beside.view ∙ stands.view;
+      configuration = beside.configuration ∙ stands.configuration;
+      breaks = beside.breaks ∙ stands.breaks;
       jacks = gone ∙ ap (gone_on clock) all;
       counts = counts ∙ stands.counts ∙ ap (map counted) (sym (given-kept (λ w. w.domains) (λ t frame w. refl) clock r.jacks r.device));
       time = time ∙ stands.time;
-      steady =
-          steady
-          ∙ stands.steady
-          ∙ ap (λ (f : FunctionFields). list_all is_slight r.deviations && keeps_feedback r.feedback (map (λ s. s.number) f.streams))
-          (sym (given-kept (λ w. w.function) (λ t frame w. refl) clock r.jacks r.device));
       detail = detail ∙ stands.detail;
-      unbroken = stands.unbroken;
-      met = stands.met;
-      unreported = stands.unreported;
       meters = hears (all_given clock r) before ∙ ap (after_frames (heard_of clock (ticked clock (all_given clock r)))) stands.meters;
       renders =
           renders ∙ ap (λ n. held (n + count)) stands.renders ∙ ap (λ n. held (r.renders + n)) (rendered (all_given clock r) before);
     }
 
+-- what the tick found
+pub sounded_found : (clock : ℕ) (shown : List Reading) (r : RunningWorld) (p : RunningFields) (jacks : List Jack) (mid : device.DeviceFields) (found : Ticked)
+    → Stands p shown r → jacks ≡ p.jacks → ((w : DeviceWorld) → device.Stands p.device w → device.Stands mid (given clock jacks w))
+    → ((w : DeviceWorld) → device.Stands mid w → found ≡ met_of clock w) → found ≡ met_of clock (all_given clock r)
+unfolding all_given
+sounded_found clock shown r p jacks mid found stands own gives meets =
+    meets (all_given clock r) (subst (λ (js : List Jack). device.Stands mid (given clock js r.device)) (own ∙ stands.jacks) (gives r.device stands.streaming.device))
+
 -- ---- what is told of an event
 
-pub tick_told : {E : Type 0} (clock : ℕ) (meters : List Reading) (r : RunningWorld) (p : RunningFields) (old new : Option (List ℕ)) (result : Result (Unit {0}) E)
-    → Stands p meters (tick clock r).world
-    → ((w : DeviceWorld) → device.Stands p.device w → Prints old new result (if nat_le 1 p.detail then played_lines clock w else []))
+pub tick_told : {E : Type 0} (clock : ℕ) (meters : List Reading) (r : RunningWorld) (p : RunningFields) (found : Ticked) (old new : Option (List ℕ)) (result : Result (Unit {0}) E)
+    → Stands p meters (tick clock r).world → found ≡ met_of clock (all_given clock r)
+    → ((before after : DeviceWorld) → before.function ≡ p.device.function → found ≡ met_of clock before → device.Stands p.device after
+    → Prints old new result (found_lines clock before ++ (if nat_le 1 p.detail then played_lines clock after else [])))
     → Tells (tick clock r) p meters old new result
-unfolding tick
-tick_told {E = E} clock meters r p old new result stands shows = (
-  subst (λ (n : ℕ). Prints old new result (if nat_le 1 n then played_lines clock (tick clock r).world.device else [])) stands.detail (shows (tick clock r).world.device stands.device),
+unfolding tick ticked
+tick_told {E = E} clock meters r p found old new result stands is shows = (
+  subst (λ (n : ℕ). Prints old new result (found_lines clock (all_given clock r) ++ (if nat_le 1 n then played_lines clock (tick clock r).world.device else []))) stands.detail
+      (shows (all_given clock r) (tick clock r).world.device (sym stands.streaming.device.function) is stands.streaming.device),
   at_ok (Stands p meters (tick clock r).world) result stands,
 )
 
@@ -235,7 +308,39 @@ pub number_line : (r : RunningWorld) (p : RunningFields) (meters : List Reading)
     → number_said p.detail p.time ≡ number_said r.detail (held (r.time + 1))
 number_line r p meters stands = ap (λ n. number_said n p.time) stands.detail ∙ ap (number_said r.detail) stands.time
 
-pub microframe_is : (losses : List Loss) (r : RunningWorld)
-    → behind (number_said r.detail (held (r.time + 1))) (domain_microframes r.device.function.domains (record r { time = held (r.time + 1) })) ≡ microframe losses r
-unfolding microframe
-microframe_is losses r = refl
+-- a microframe behind its number
+abbrev pub numbered : RunningWorld → RunningWorld
+numbered r = record r { time = held (r.time + 1) }
+
+module _ (losses : List Loss) (r : RunningWorld) where
+  abbrev all_of_it : Told
+  all_of_it = followed_by (packets_and_ticks losses) (ends_and_reports losses) (numbered r)
+
+  microframe_is : behind (number_said r.detail (held (r.time + 1))) all_of_it ≡ microframe losses r
+  unfolding microframe
+  microframe_is = refl
+
+  -- its number was not printed whole
+  pub microframe_front : (old new : Option (List ℕ)) → AppendsFront old new (text_of (number_said r.detail (held (r.time + 1)))) → AppendsFront old new (text_of (microframe losses r).lines)
+  microframe_front old new front =
+      subst (λ (told : Told). AppendsFront old new (text_of told.lines)) microframe_is
+      (front_of_more old new (number_said r.detail (held (r.time + 1))) all_of_it.lines front)
+
+  -- its packets and ticks were not
+  pub microframe_next_front : (old mid new : Option (List ℕ)) → Appends old mid (text_of (number_said r.detail (held (r.time + 1))))
+      → AppendsFront mid new (text_of (packets_and_ticks losses (numbered r)).lines) → AppendsFront old new (text_of (microframe losses r).lines)
+  microframe_next_front old mid new number front =
+      subst (λ (told : Told). AppendsFront old new (text_of told.lines)) microframe_is
+      (front_after old mid new (number_said r.detail (held (r.time + 1))) all_of_it.lines number
+      (front_then (packets_and_ticks losses) (ends_and_reports losses) (numbered r) mid new front))
+
+  -- all of it, or what lies behind these
+  pub microframe_told : {E : Type 0} (p : RunningFields) (meters : List Reading) (old mid later new : Option (List ℕ)) (result : Result (Unit {0}) E)
+      → HaveRoom (microframe losses r).world.device → Appends old mid (text_of (number_said r.detail (held (r.time + 1))))
+      → Appends mid later (text_of (packets_and_ticks losses (numbered r)).lines)
+      → Tells (ends_and_reports losses (packets_and_ticks losses (numbered r)).world) p meters later new result → TellsBetween (microframe losses r) p meters old new result
+  microframe_told {E = E} p meters old mid later new result room number first next =
+      let whole = subst (λ (told : Told). Tells told p meters old new result) microframe_is
+      (tells_behind (number_said r.detail (held (r.time + 1))) all_of_it p meters old mid new result number
+      (tells_then (packets_and_ticks losses) (ends_and_reports losses) (numbered r) p meters mid later new result first next)) in
+      (whole.0, ok_then (Stands p meters (microframe losses r).world) (StandsBetween p meters (microframe losses r).world) result (λ stands. record { now = stands; room = room }) whole.1)

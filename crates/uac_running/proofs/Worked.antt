@@ -1,20 +1,21 @@
--- Worked values of steadiness.
-use Rattle.std.proofs.Common.{◌≡◌, ℕ, eqb, if◌then◌else◌, List, [], ◌∷◌, Bool, true, false, refl}
-use Rattle.uac_running.specs.World.{has_four_lost, keeps_feedback}
+-- Worked values of what is told.
+use Rattle.std.proofs.Common.{◌≡◌, [], ◌∷◌, refl}
+use Rattle.uac_transcript.specs.Transcript.{says_over, says_time, says_under}
+use Rattle.uac_running.specs.RunningWorld.{RunningWorld}
+use Rattle.uac_running.specs.Events.{Told, followed_by, number_said}
 
--- three in succession are no four, four are, wherever they stand, and a delivered one between them begins anew
-lost_runs : (has_four_lost (true ∷ true ∷ true ∷ []) ≡ false) × (has_four_lost (false ∷ true ∷ true ∷ true ∷ true ∷ []) ≡ true)
-    × (has_four_lost (true ∷ true ∷ true ∷ false ∷ true ∷ true ∷ true ∷ []) ≡ false) × (has_four_lost [] ≡ false)
-lost_runs = (refl, refl, refl, refl)
+-- the number of a microframe is said at detail 2 alone
+numbers_said : (number_said 0 7 ≡ []) × (number_said 1 7 ≡ []) × (number_said 2 7 ≡ says_time 7 ∷ [])
+numbers_said = (refl, refl, refl)
 
--- each start of a stream begins anew, too
-two_starts : ℕ → List (List Bool)
-two_starts interface = if eqb interface 1 then (true ∷ true ∷ []) ∷ (true ∷ true ∷ []) ∷ [] else []
+-- two events, of which the second tells the time that the first left
+first_event : RunningWorld → Told
+first_event r = record { lines = says_over 3 ∷ []; world = record r { time = 9 } }
 
--- the second start of interface 2 lost four
-four_there : ℕ → List (List Bool)
-four_there interface = if eqb interface 2 then [] ∷ (false ∷ true ∷ true ∷ true ∷ true ∷ false ∷ []) ∷ [] else []
+next_event : RunningWorld → Told
+next_event r = record { lines = says_under r.time ∷ []; world = record r { renders = r.time } }
 
-steady_starts : (keeps_feedback two_starts (1 ∷ 2 ∷ []) ≡ true) × (keeps_feedback four_there (1 ∷ 2 ∷ []) ≡ false) × (keeps_feedback four_there (1 ∷ []) ≡ true)
-unfolding two_starts four_there
-steady_starts = (refl, refl, refl)
+-- the second begins where the first ended, and is told behind it
+one_then_the_other : (r : RunningWorld) → followed_by first_event next_event r ≡ record { lines = says_over 3 ∷ says_under 9 ∷ []; world = record r { time = 9; renders = 9 } }
+unfolding first_event next_event
+one_then_the_other r = refl

@@ -8,7 +8,9 @@ use Rattle.uac_units.specs.Hearing.{held}
 use Rattle.uac_script.specs.Phrase.{Loss}
 use Rattle.uac_transcript.specs.Transcript.{Said, says_time}
 use Rattle.uac_running.specs.declared.jacks.Jack.{Jack}
-use Rattle.uac_running.specs.World.{RunningWorld}
+use Rattle.uac_streaming.specs.Telling.{Telling}
+use Rattle.uac_streaming.specs.StreamingWorld.{StreamingWorld, all_reported, all_settled, found_counts, found_lines, in_packets, out_packets}
+use Rattle.uac_running.specs.RunningWorld.{RunningWorld, streaming_of, with_streaming}
 use Rattle.uac_running.specs.Lines.{played_lines}
 
 -- a world, and the lines that were said on the way to it
@@ -49,17 +51,19 @@ abbrev pub gone_on : ℕ → List Jack → List Jack
 gone_on clock jacks = map (after_one clock) jacks
 
 -- one tick of a domain: its jacks give their tones' frames, the graph is evaluated, each unit that the domain needs being rendered
--- once, the meters hear the output jacks, and from detail 1 on what these played is said
+-- once, the meters hear the output jacks; what rings were found empty and full is said, and from detail 1 on what the jacks played
 unfoldable pub tick : ℕ → RunningWorld → Told
 tick clock r =
-    let device = ticked clock (all_given clock r) in
+    let given = all_given clock r in
+    let device = ticked clock given in
     record {
-      lines = if nat_le 1 r.detail then played_lines clock device else [];
+      lines = found_lines clock given ++ (if nat_le 1 r.detail then played_lines clock device else []);
       world = record r {
         device = device;
         jacks = gone_on clock r.jacks;
+        met = found_counts clock given r.met;
         meters = after_frames (heard_of clock device) r.meters;
-        renders = held (r.renders + renders_of clock (all_given clock r));
+        renders = held (r.renders + renders_of clock given);
       };
     }
 
@@ -81,12 +85,34 @@ domain_microframes (clock ∷ clocks) r = behind (domain_microframe clock r).lin
 abbrev pub number_said : ℕ → ℕ → List Said
 number_said detail time = if nat_le 2 detail then says_time time ∷ [] else []
 
--- one microframe, in which these packets and feedback reports are lost: from detail 2 on its number is said, and each domain has
--- its part in it, in order. No stream runs yet, so none of them is there
+-- what happens to the streams, in the running world
+abbrev pub of_streams : (StreamingWorld → Telling StreamingWorld) → RunningWorld → Told
+of_streams event r =
+    let told = event (streaming_of r) in
+    record { lines = told.lines; world = with_streaming r told.world }
+
+-- something, and then something else
+abbrev pub followed_by : (RunningWorld → Told) → (RunningWorld → Told) → RunningWorld → Told
+followed_by first next r = behind (first r).lines (next (first r).world)
+
+-- the domains' part of a microframe
+abbrev pub all_domains : RunningWorld → Told
+all_domains r = domain_microframes r.device.function.domains r
+
+-- a microframe behind its number, in which these packets and feedback reports are lost: the packets to the device, and those from it; the
+-- ticks of each domain, in order; the end of the microframe for each stream; and the feedback reports
+unfoldable pub packets_and_ticks : List Loss → RunningWorld → Told
+packets_and_ticks losses r =
+    followed_by (of_streams (out_packets r.detail losses)) (followed_by (of_streams (in_packets r.detail losses)) all_domains) r
+
+unfoldable pub ends_and_reports : List Loss → RunningWorld → Told
+ends_and_reports losses r = followed_by (of_streams (all_settled r.detail)) (of_streams (all_reported r.detail losses)) r
+
+-- one microframe: from detail 2 on its number is said first
 unfoldable pub microframe : List Loss → RunningWorld → Told
 microframe losses r =
     let time = held (r.time + 1) in
-    behind (number_said r.detail time) (domain_microframes r.device.function.domains (record r { time = time }))
+    behind (number_said r.detail time) (followed_by (packets_and_ticks losses) (ends_and_reports losses) (record r { time = time }))
 
 -- so many microframes, with these losses in each
 unfoldable pub microframes : List Loss → ℕ → RunningWorld → Told

@@ -1,5 +1,5 @@
 -- What is kept of a running device, and for which worlds it stands.
-use Rattle.std.specs.Prelude.{◌≡◌, ℕ, ◌≤◌, ◌+◌, ◌==◌, nat_eq, true, Bool, if◌then◌else◌, List, [], map, Option, None, Result, OnOk}
+use Rattle.std.specs.Prelude.{◌≡◌, ℕ, ◌≤◌, ◌+◌, ◌==◌, nat_eq, true, if◌then◌else◌, List, map, Option, Result, OnOk}
 use Rattle.std.specs.List.{All, IsDistinct}
 use Rattle.uac_units.specs.Hearing.{Reading, held}
 use Rattle.uac_device.specs.Kept as device
@@ -8,20 +8,26 @@ use Rattle.uac_graph.specs.Meaning.{entity}
 use Rattle.uac_transcript.specs.Printing.{Prints}
 use Rattle.uac_running.specs.declared.jacks.Jack.{Jack}
 use Rattle.uac_running.specs.declared.counts.TickCount.{TickCount}
-use Rattle.uac_host.specs.HostWorld.{Rests}
-use Rattle.uac_mixer.specs.ViewWorld.{known_view}
-use Rattle.uac_running.specs.World.{RunningWorld, is_steady, nothing_met}
+use Rattle.uac_streaming.specs.Kept as streaming
+use Rattle.uac_streaming.specs.Kept.{StreamingFields}
+use Rattle.uac_streaming.specs.Room.{HaveRoom}
+use Rattle.uac_mixer.specs.ViewWorld.{ViewWorld}
+use Rattle.uac_mixer.specs.declared.link.When.{When}
+use Rattle.uac_running.specs.RunningWorld.{RunningWorld, streaming_of}
 use Rattle.uac_running.specs.Events.{Told}
 use Rattle.uac_running.specs.Lines.{ticks_since}
+use Rattle.uac_running.specs.Transfers.{configuration_of}
 
--- what a running device is seen as: of the deviations it keeps whether all were slight, of a domain's steps how many ticks
--- they are
+-- what a running device is seen as: of a domain's steps it keeps how many ticks they are
 pub record RunningFields : Type 0 where
   pub device : device.DeviceFields
+  pub streaming : StreamingFields
+  pub view : ViewWorld
+  pub configuration : List ℕ
+  pub breaks : Option When
   pub jacks : List Jack
   pub counts : List TickCount
   pub time : ℕ
-  pub steady : Bool
   pub detail : ℕ
   pub renders : ℕ
 
@@ -36,22 +42,23 @@ none_counted clock = record { clock = clock; ticks = 0 }
 abbrev pub more_counted : ℕ → ℕ → TickCount → TickCount
 more_counted clock ticks c = if c.clock == clock then record c { ticks = held (c.ticks + ticks) } else c
 
--- it stands for this world, with meters that show this. No stream runs yet and no transfer was made: nothing is kept of the host, of
--- the view, of a break, or of what streams met
+-- it stands for this world, with meters that show this
 pub record Stands (running : RunningFields) (shown : List Reading) (r : RunningWorld) : Type 0 where
-  pub device : device.Stands running.device r.device
-  pub host : Rests r.device.function r.host
-  pub view : r.view ≡ known_view r.device.function.entities r.device.controls
+  pub streaming : streaming.Stands running.streaming running.device (streaming_of r)
+  pub view : running.view ≡ r.view
+  pub configuration : running.configuration ≡ configuration_of r.descriptor
+  pub breaks : running.breaks ≡ r.breaks
   pub jacks : running.jacks ≡ r.jacks
   pub counts : running.counts ≡ map counted r.device.domains
   pub time : running.time ≡ r.time
-  pub steady : running.steady ≡ is_steady r
   pub detail : running.detail ≡ r.detail
-  pub unbroken : r.breaks ≡ None
-  pub met : (interface : ℕ) → r.met interface ≡ nothing_met
-  pub unreported : (interface : ℕ) → r.feedback interface ≡ []
   pub meters : shown ≡ r.meters
   pub renders : running.renders ≡ r.renders
+
+-- between two microframes it stands for a world whose rings have room for the zeros of lost packets
+pub record StandsBetween (running : RunningFields) (shown : List Reading) (r : RunningWorld) : Type 0 where
+  pub now : Stands running shown r
+  pub room : HaveRoom r.device
 
 -- its jacks are input jacks of its function, each with its channels
 pub record HasItsJacks (running : RunningFields) : Type 0 where
@@ -64,6 +71,9 @@ pub record HasItsDomains (running : RunningFields) : Type 0 where
   pub counted : map (λ c. c.clock) running.counts ≡ running.device.function.domains
   pub once : IsDistinct nat_eq (map (λ c. c.clock) running.counts)
 
--- what was told was printed: all of it, and what is kept stands for its world; or at an error a front of it
+-- what was told was printed: all of it, and what is kept stands for its world, within a microframe or between two; or at an error a front of it
 abbrev pub Tells : {E : Type 0} → Told → RunningFields → List Reading → Option (List ℕ) → Option (List ℕ) → Result (Unit {0}) E → Type 0
 Tells told running meters old new result = Prints old new result told.lines × OnOk result (Stands running meters told.world)
+
+abbrev pub TellsBetween : {E : Type 0} → Told → RunningFields → List Reading → Option (List ℕ) → Option (List ℕ) → Result (Unit {0}) E → Type 0
+TellsBetween told running meters old new result = Prints old new result told.lines × OnOk result (StandsBetween running meters told.world)

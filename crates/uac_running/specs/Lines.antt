@@ -9,7 +9,7 @@ use Rattle.uac_units.specs.Hearing.{held}
 use Rattle.uac_transcript.specs.declared.report.StreamCounts.{StreamCounts}
 use Rattle.uac_transcript.specs.Transcript.{Said, says_ready, says_played, says_passed, says_steady, says_domain, says_out_stream, says_in_stream, says_meter, says_renders}
 use Rattle.uac_device.specs.DeviceWorld.{Domain, DeviceWorld, is_output_jack_of, level_of, target_of}
-use Rattle.uac_running.specs.World.{RunningWorld, is_steady}
+use Rattle.uac_running.specs.RunningWorld.{RunningWorld, is_steady}
 
 -- the line of the descriptor's end
 abbrev pub ready_line : FunctionFields → Said

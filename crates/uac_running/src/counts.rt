@@ -1,29 +1,15 @@
-// What is counted for the report: the ticks of each domain, and what streams met.
+// What is counted for the report: the ticks of each domain.
 ghost use Rattle.std.specs.Prelude.{◌≡◌, IfOk, map};
 ghost use Rattle.uac_running.specs.Kept.{none_counted, more_counted};
-ghost use Rattle.uac_running.specs.World.{nothing_met};
 
 use std::alloc::Global;
 use uac_descriptor::NoMemory;
-use uac_transcript::StreamCounts;
 
 /// A clock domain and how often it ticked since the start; the count stands still at 18446744073709551615.
 #[derive(Clone, Copy, Debug, PartialEq, Eq)]
 pub struct TickCount {
     pub clock: u8,
     pub ticks: u64,
-}
-
-/// Nothing was met.
-pub(crate) fn nothing_met() -> StreamCounts
-    ensures { result ≡ nothing_met }
-{
-    StreamCounts {
-        under: 0,
-        over: 0,
-        lost: 0,
-        missed: 0,
-    }
 }
 
 /// No ticks of these domains yet.

@@ -6,7 +6,7 @@ ghost use Rattle.uac_device.specs.Kept.{Stands};
 ghost use Rattle.uac_device.specs.DeviceWorld.{DeviceWorld};
 ghost use Rattle.uac_device.specs.DeviceWorld as world;
 ghost use Rattle.uac_running.specs.Events.{after_one, given, given_one, gone_on, next_frame};
-ghost use Rattle.uac_running.specs.World as spec;
+ghost use Rattle.uac_running.specs.RunningWorld as spec;
 
 use arrayvec::ArrayVec;
 use std::alloc::Global;

@@ -1,18 +1,23 @@
-//! A running device under the tones of its jacks: microframes, what they print, and the report.
+//! A running device, the host that streams to and from it, and the tones of its jacks: microframes, what they print, and the report.
 #![tactic(auto)]
 
 /// What is counted for the report.
 mod counts;
 /// The jacks' tones.
 mod jacks;
+/// The microframes of a running device.
+mod microframes;
 /// A running device.
 mod running;
 /// Printing what output jacks played.
 mod printing;
 /// Printing the report.
 mod report;
+/// Control transfers and the host's view.
+mod transfers;
 
 pub use counts::TickCount;
 pub use jacks::Jack;
 pub use running::Running;
+pub use transfers::fresh_view;
 pub use uac_transcript::StreamCounts;

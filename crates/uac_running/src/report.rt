@@ -1,5 +1,5 @@
 // Printing the report.
-ghost use Rattle.std.specs.Prelude.{◌≡◌, ℕ, ◌∷◌, [], ◌++◌, map};
+ghost use Rattle.std.specs.Prelude.{◌≡◌, ℕ, ◌∷◌, [], ◌++◌, map, Some};
 ghost use Rattle.uac_edges.specs.Faults.{HasCause};
 ghost use Rattle.uac_edges.specs.Writing.{Writes};
 ghost use Rattle.uac_store.specs.Rates.{rate_of};
@@ -10,12 +10,13 @@ ghost use Rattle.uac_transcript.specs.Printing.{Prints};
 ghost use Rattle.uac_transcript.specs.Transcript.{says_meter, says_passed, says_renders, says_steady, spelled};
 ghost use Rattle.uac_running.specs.Kept.{counted};
 ghost use Rattle.uac_running.specs.Lines.{domain_line, stream_line};
-ghost use Rattle.uac_running.specs.World.{nothing_met as none};
+ghost use Rattle.uac_streaming.specs.StreamingWorld.{met_in, place_of};
 
-use crate::counts::{TickCount, nothing_met};
+use crate::counts::TickCount;
 use uac_device::Device;
 use uac_edges::{Failed, Sink};
 use uac_entities::StreamInterface;
+use uac_streaming::Streaming;
 use uac_transcript::{
     StreamCounts, write_domain, write_in_stream, write_meter, write_out_stream, write_passed,
     write_renders, write_steady,
@@ -38,11 +39,12 @@ pub(crate) fn write_head<K: Sink>(sink: &mut K, time: u64, steady: bool) -> Resu
 pub(crate) fn write_rest<K: Sink>(
     sink: &mut K,
     device: &Device,
+    streaming: &Streaming,
     counts: &[TickCount],
     meters: &Meters,
     renders: u64,
 ) -> Result<(), Failed>
-    ensures printed { (w : DeviceWorld) (met : ℕ → StreamCounts) → Stands device.now w → ((interface : ℕ) → met interface ≡ none)
+    ensures printed { (w : DeviceWorld) (met : ℕ → StreamCounts) → Stands device.now w → streaming.now.met ≡ met_in met w.function
         → counts.now ≡ map counted w.domains → Prints (K.written sink.old) (K.written sink.new) result
         (map (domain_line w) w.domains ++ (map (stream_line w met) w.function.streams
         ++ (map says_meter (readings (λ v x. (⟦<dyn Meter as Meter>⟧ v).reading_of x) meters.now) ++ says_renders renders ∷ []))) }
@@ -52,7 +54,7 @@ pub(crate) fn write_rest<K: Sink>(
         Ok(()) => {}
         Err(failed) => return Err(failed),
     }
-    match write_streams(sink, device) {
+    match write_streams(sink, device, streaming) {
         Ok(()) => {}
         Err(failed) => return Err(failed),
     }
@@ -100,13 +102,17 @@ fn domain_rate(device: &Device, clock: u8) -> Option<u32>
 }
 
 /// Prints the streams of each interface.
-fn write_streams<K: Sink>(sink: &mut K, device: &Device) -> Result<(), Failed>
-    ensures printed { (w : DeviceWorld) (met : ℕ → StreamCounts) → Stands device.now w → ((interface : ℕ) → met interface ≡ none)
+fn write_streams<K: Sink>(
+    sink: &mut K,
+    device: &Device,
+    streaming: &Streaming,
+) -> Result<(), Failed>
+    ensures printed { (w : DeviceWorld) (met : ℕ → StreamCounts) → Stands device.now w → streaming.now.met ≡ met_in met w.function
         → Prints (K.written sink.old) (K.written sink.new) result (map (stream_line w met) w.function.streams) }
     ensures cause { HasCause (K.faults sink.old) (K.faults sink.new) result }
 {
     for stream in device.function().streams() {
-        match write_stream(sink, device, stream) {
+        match write_stream(sink, device, streaming, stream) {
             Ok(()) => {}
             Err(failed) => return Err(failed),
         }
@@ -114,23 +120,27 @@ fn write_streams<K: Sink>(sink: &mut K, device: &Device) -> Result<(), Failed>
     Ok(())
 }
 
-/// Prints the streams of an interface. No stream runs yet, so none met anything.
+/// Prints the streams of an interface of the function.
 fn write_stream<K: Sink>(
     sink: &mut K,
     device: &Device,
+    streaming: &Streaming,
     stream: &StreamInterface,
 ) -> Result<(), Failed>
-    ensures written { (w : DeviceWorld) (met : ℕ → StreamCounts) → Stands device.now w → ((interface : ℕ) → met interface ≡ none)
+    ensures written { (w : DeviceWorld) (met : ℕ → StreamCounts) (place : ℕ) → Stands device.now w
+        → streaming.now.met ≡ met_in met w.function
+        → place_of w.function stream.now.number ≡ Some place
         → Writes (K.written sink.old) (K.written sink.new) result (spelled (stream_line w met stream.now)) }
     ensures cause { HasCause (K.faults sink.old) (K.faults sink.new) result }
 {
     let setting = device.settings().get(stream.number).unwrap_or(0);
     let level = device.level(stream.number);
     let target = device.target(stream.number);
+    let met = streaming.met_on(device.function(), stream.number);
     if stream.out {
-        write_out_stream(sink, stream.number, setting, level, target, nothing_met())
+        write_out_stream(sink, stream.number, setting, level, target, met)
     } else {
-        write_in_stream(sink, stream.number, setting, level, nothing_met())
+        write_in_stream(sink, stream.number, setting, level, met)
     }
 }
 

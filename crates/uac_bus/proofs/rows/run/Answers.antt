@@ -1,6 +1,6 @@
 use Rattle.std.proofs.Common.{sym, ◌∙◌}
-use Rattle.uac_bus.proofs.Stepping.{unless_fails, unless_holds}
-use Rattle.uac_bus.proofs.Rowing.{streams_in, are_placed_in, marked}
+use Rattle.uac_bus.proofs.Stepping.{unless_fails}
+use Rattle.uac_bus.proofs.Rowing.{streams_in, are_placed_in, unless_reached, unless_cut}
 use Rattle.uac_bus.proofs.rows.run.Goals as goal
 
 pub returns-then-not-are_placed-clause-does : goal.returns-then-not-are_placed-clause-does
@@ -9,9 +9,15 @@ returns-then-not-are_placed-clause-does g c = λ r s.
     let all = are_placed_in _ _ c.args.marks.now _ streams c.are_placed.ensures in
     unless_fails _ 6 _ (sym all ∙ c.if-not-are_placed.true)
 
-pub returns-then-not-is_empty-clause-does : goal.returns-then-not-is_empty-clause-does
-returns-then-not-is_empty-clause-does g c = λ r s.
+pub returns-in-Ok-clause-does : goal.returns-in-Ok-clause-does
+returns-in-Ok-clause-does g c = λ r s.
     let streams = streams_in r _ _ _ _ s c.function.ensures c.streams.ensures in
     let all = are_placed_in _ _ c.args.marks.now _ streams c.are_placed.ensures in
-    unless_holds _ 6 _ (sym all ∙ c.if-not-are_placed.false)
-    ∙ unless_fails _ 9 _ (marked c.args.marks.now (sym c.is_empty.ensures ∙ c.if-not-is_empty.true))
+    let tells = c.in-Ok.ensures.tells r s in
+    unless_reached _ 6 _ _ _ _ (sym all ∙ c.if-not-are_placed.false) (tells.1, tells.0)
+
+pub returns-in-Err-clause-does : goal.returns-in-Err-clause-does
+returns-in-Err-clause-does g c = λ r s.
+    let streams = streams_in r _ _ _ _ s c.function.ensures c.streams.ensures in
+    let all = are_placed_in _ _ c.args.marks.now _ streams c.are_placed.ensures in
+    unless_cut _ 6 _ _ _ (sym all ∙ c.if-not-are_placed.false) (c.in-Err.ensures.tells r s).0

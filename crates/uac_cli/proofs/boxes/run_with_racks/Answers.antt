@@ -2,10 +2,10 @@ use denote.Param.Object.{read_made}
 use Rattle.std.proofs.Common.{◌≡◌, ℕ, refl, ap, subst, ◌∙◌, map, List, [], ◌∷◌, ◌++◌, Option}
 use Rattle.uac_units.specs.Hearing.{Reading}
 use Rattle.uac_units.specs.declared.hearing.MeterKind.TheVariants.{Peak, Clipped, Sum}
-use Rattle.uac_cli.specs.declared.command.Command.{Command}
+use Rattle.uac_words.specs.declared.commands.Words.{Words}
 use Rattle.uac_cli.specs.declared.status.Status.{Status}
-use Rattle.uac_cli.specs.Run.{IsRun}
-use Rattle.uac_cli.specs.Boxes.{IsFreshRun, fresh_readings}
+use Rattle.uac_cli.specs.Call.{IsCall}
+use Rattle.uac_cli.specs.Boxes.{IsFreshCall, fresh_readings}
 use Rattle.uac_cli.proofs.boxes.run_with_racks.OwnLists as lists
 use Rattle.uac_cli.proofs.boxes.run_with_racks.Goals as goal
 
@@ -19,16 +19,16 @@ pushed {B} read l0 l1 l2 l3 a b c ra rb rc e0 e1 e2 e3 pa pb pc =
     ∙ ap (λ (x : Reading). ra ∷ rb ∷ x ∷ []) pc
 
 -- the meters had heard nothing
-from_fresh : (command : Option Command) (shown shown' : List Reading) (left left' : Option (List ℕ)) (reads reads' : ℕ) (written written' : Option (List ℕ)) (writes writes' : ℕ) (status : Status)
-    → shown ≡ fresh_readings → IsRun command shown shown' left left' reads reads' written written' writes writes' status
-    → IsFreshRun command left left' reads reads' written written' writes writes' status
-from_fresh command shown shown' left left' reads reads' written written' writes writes' status same run = record {
+from_fresh : (words : Option Words) (shown shown' : List Reading) (left left' : Option (List ℕ)) (reads reads' : ℕ) (written written' : Option (List ℕ)) (writes writes' : ℕ) (status : Status)
+    → shown ≡ fresh_readings → IsCall words shown shown' left left' reads reads' written written' writes writes' status
+    → IsFreshCall words left left' reads reads' written written' writes writes' status
+from_fresh words shown shown' left left' reads reads' written written' writes writes' status same call = record {
   shown' = shown';
-  run = subst (λ (s : List Reading). IsRun command s shown' left left' reads reads' written written' writes writes' status) same run;
+  call = subst (λ (s : List Reading). IsCall words s shown' left left' reads reads' written written' writes writes' status) same call;
 }
 
-pub returns-clause-run : goal.returns-clause-run
-returns-clause-run g c =
+pub returns-clause-call : goal.returns-clause-call
+returns-clause-call g c =
     let peak : (lists.own-2.entry c.into_dyn_box.result.vtable).1.reading_of c.into_dyn_box.result.value ≡ record { kind = Peak; value = 0 } =
     read_made lists.own-2 (lists.own-2.entry lists.at-2-1) lists.at-2-1 refl Reading (λ j. j.1.reading_of) _ _ _ c.into_dyn_box.ensures.1
     ∙ ap (λ m. (lists.own-2.entry lists.at-2-1).1.reading_of m) c.in_ok-new.ensures.ok ∙ c.new.ensures in
@@ -41,4 +41,4 @@ returns-clause-run g c =
     read_made lists.own-2 (lists.own-2.entry lists.at-2-3) lists.at-2-3 refl Reading (λ j. j.1.reading_of) _ _ _ third.ensures.1
     ∙ ap (λ m. (lists.own-2.entry lists.at-2-3).1.reading_of m) c.in_ok-new-3.ensures.ok ∙ c.new-5.ensures in
     from_fresh _ _ _ _ _ _ _ _ _ _ _ _ (c.new-meters.ensures ∙ pushed (λ b. (lists.own-2.entry b.vtable).1.reading_of b.value) c.new-list.result.items c.push.new.self.items c.push-2.new.self.items c.push-3.new.self.items c.into_dyn_box.result c.into_dyn_box-in_ok-new-2.result c.into_dyn_box-in_ok-new-3.result _ _ _
-    c.new-list.ensures.items c.in_ok-push.ensures.items c.in_ok-push-2.ensures.items c.in_ok-push-3.ensures.items peak clipped sum) c.uac_main.ensures.run
+    c.new-list.ensures.items c.in_ok-push.ensures.items c.in_ok-push-2.ensures.items c.in_ok-push-3.ensures.items peak clipped sum) c.uac_main.ensures.call

@@ -30,7 +30,7 @@ returns-in-Err-do_line-clause-run g c =
     let f = i.far in
     let before_end = not_ended c.loop-bus.lines.ended (Ok c.in-Ok-Line.field-0) (c.in-Ok-Line.ensures.ended f.going) (λ e. cc (c.in-Ok-Line.field-0-is)) in
     let has = has_line _ _ _ _ _ _ _ _ _ _ _ _ f c.in-Ok-Line.field-0 c.in-Ok-Line.field-0-is before_end (c.in-Ok-Line.ensures.splits f.going before_end) in
-    failed_line _ _ _ _ _ _ _ _ _ _ _ _ _ _ _ _ _ _ _ _ _ _ has f.stands f.quiet f.appended c.next.ensures.within i.reads i.writes c.do_line.ensures.never_falls
+    failed_line _ _ _ _ _ _ _ _ _ _ _ _ _ _ _ _ _ _ _ _ _ _ has f.stands f.appended c.next.ensures.within i.reads i.writes c.do_line.ensures.never_falls
     _ _ _ c.text.ensures.0 c.number.ensures (c.in-Err-do_line.ensures.does f.world f.stands) c.refuse_line.ensures.closed
     (λ e. let s = c.refuse_line.ensures.silent e in (s.0, ap g.K.Sink.written s.1, ap g.K.Sink.faults s.1))
 

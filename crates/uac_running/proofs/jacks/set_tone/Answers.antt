@@ -1,5 +1,5 @@
 use Rattle.std.proofs.Common.{arith}
-use Rattle.uac_running.specs.World.{toned}
+use Rattle.uac_running.specs.RunningWorld.{toned}
 use Rattle.uac_device.proofs.Turning.{turned_all, turned_more}
 use Rattle.uac_running.proofs.jacks.set_tone.Goals as goal
 

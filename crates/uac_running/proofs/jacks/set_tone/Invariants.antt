@@ -1,4 +1,4 @@
-use Rattle.uac_running.specs.World.{toned}
+use Rattle.uac_running.specs.RunningWorld.{toned}
 use Rattle.uac_device.proofs.Turning.{IsTurnedBelow}
 use Rattle.uac_running.proofs.jacks.set_tone.Given as goal
 

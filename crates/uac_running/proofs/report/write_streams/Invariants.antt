@@ -4,13 +4,13 @@ use Rattle.uac_device.specs.Kept.{Stands}
 use Rattle.uac_device.specs.DeviceWorld.{DeviceWorld}
 use Rattle.uac_transcript.specs.declared.report.StreamCounts.{StreamCounts}
 use Rattle.uac_transcript.specs.Printing.{text_of}
+use Rattle.uac_streaming.specs.StreamingWorld.{met_in}
 use Rattle.uac_running.specs.Lines.{stream_line}
-use Rattle.uac_running.specs.World.{nothing_met}
 use Rattle.uac_running.proofs.report.write_streams.Given as goal
 
 abbrev pub invariant-loop-stream : goal.invariant-loop-stream
 invariant-loop-stream g l = record {
-  written : (w : DeviceWorld) (met : ℕ → StreamCounts) → Stands l.device w → ((interface : ℕ) → met interface ≡ nothing_met)
+  written : (w : DeviceWorld) (met : ℕ → StreamCounts) → Stands l.device w → l.streaming.met ≡ met_in met w.function
       → Appends (g.K.Sink.written l.fn.sink) (g.K.Sink.written l.sink) (text_of (map (stream_line w met) (take l.stream-index l.stream-items)));
   never_falls : g.K.Sink.faults l.fn.sink ≤ g.K.Sink.faults l.sink;
 }

@@ -4,7 +4,7 @@ use Rattle.uac_units.specs.Panel.{readings}
 use Rattle.uac_topology.specs.Function.{FunctionFields}
 use Rattle.uac_edges.specs.Writing.{AppendsFront}
 use Rattle.uac_transcript.specs.Printing.{text_of}
-use Rattle.uac_running.specs.World.{RunningWorld}
+use Rattle.uac_running.specs.RunningWorld.{RunningWorld}
 use Rattle.uac_running.specs.Events.{domain_microframe, domain_microframes}
 use Rattle.uac_running.specs.Kept.{Stands}
 use Rattle.uac_running.proofs.SoFar.{begun, finished, one_more, stopped}
@@ -13,19 +13,19 @@ use Rattle.uac_running.proofs.running.Running.domain_microframes.Goals as goal
 
 pub loop-place-init : goal.loop-place-init
 loop-place-init g c = record {
-  told = λ r stands. begun (domain_microframes c.args.self.now.device.function.domains r) (domain_microframes c.args.self.now.device.function.domains) c.args.self.now (readings (λ v x. (goal.Meter-dyn g (v, x)).reading_of x) c.args.meters.now) (g.K.Sink.written c.args.sink.now) r stands refl;
+  told = λ r stands. begun Stands (domain_microframes c.args.self.now.device.function.domains r) (domain_microframes c.args.self.now.device.function.domains) c.args.self.now (readings (λ v x. (goal.Meter-dyn g (v, x)).reading_of x) c.args.meters.now) (g.K.Sink.written c.args.sink.now) r stands refl;
   never_falls = omega arith;
   function = refl;
 }
 
 pub returns-in-Err-clause-tells : goal.returns-in-Err-clause-tells
 returns-in-Err-clause-tells g c r stands =
-    let own = ap (λ (f : FunctionFields). f.domains) stands.device.function in
+    let own = ap (λ (f : FunctionFields). f.domains) stands.streaming.device.function in
     let here : c.clock_at.result ≡ get_or c.args.self.now.device.function.domains c.loop-place.place 0 = c.clock_at.ensures ∙ ap (λ (f : FunctionFields). get_or f.domains c.loop-place.place 0) c.loop-place.invariant.function in
     let below : c.loop-place.place < length c.args.self.now.device.function.domains = omega arith in
     let told = subst (λ (clock : ℕ). (w : RunningWorld) → Stands c.loop-place.self (readings (λ v x. (goal.Meter-dyn g (v, x)).reading_of x) c.loop-place.meters) w
     → AppendsFront (g.K.Sink.written c.loop-place.sink) (g.K.Sink.written c.domain_microframe.new.sink) (text_of (domain_microframe clock w).lines) × Unit {0}) here c.in-Err.ensures.tells in
-    let all = stopped (domain_microframes c.args.self.now.device.function.domains r) (domain_microframes (drop c.loop-place.place c.args.self.now.device.function.domains)) (domain_microframes (drop (c.loop-place.place + 1) c.args.self.now.device.function.domains))
+    let all = stopped Stands (domain_microframes c.args.self.now.device.function.domains r) (domain_microframes (drop c.loop-place.place c.args.self.now.device.function.domains)) (domain_microframes (drop (c.loop-place.place + 1) c.args.self.now.device.function.domains))
     (domain_microframe (get_or c.args.self.now.device.function.domains c.loop-place.place 0)) c.loop-place.self (readings (λ v x. (goal.Meter-dyn g (v, x)).reading_of x) c.loop-place.meters)
     (g.K.Sink.written c.args.sink.now) (g.K.Sink.written c.loop-place.sink) (g.K.Sink.written c.domain_microframe.new.sink)
     (λ w. domains_split c.args.self.now.device.function.domains c.loop-place.place w below) (c.loop-place.invariant.told r stands) told in
@@ -40,7 +40,7 @@ loop-place-preserved g c =
     × Stands c.domain_microframe.new.self (readings (λ v x. (goal.Meter-dyn g (v, x)).reading_of x) c.domain_microframe.new.meters) (domain_microframe clock w).world) here c.in-Ok.ensures.tells in
     record {
       told = λ r stands.
-          one_more (domain_microframes c.args.self.now.device.function.domains r) (domain_microframes (drop c.loop-place.place c.args.self.now.device.function.domains)) (domain_microframes (drop (c.loop-place.place + 1) c.args.self.now.device.function.domains))
+          one_more Stands (domain_microframes c.args.self.now.device.function.domains r) (domain_microframes (drop c.loop-place.place c.args.self.now.device.function.domains)) (domain_microframes (drop (c.loop-place.place + 1) c.args.self.now.device.function.domains))
           (domain_microframe (get_or c.args.self.now.device.function.domains c.loop-place.place 0)) c.loop-place.self c.domain_microframe.new.self (readings (λ v x. (goal.Meter-dyn g (v, x)).reading_of x) c.loop-place.meters) (readings (λ v x. (goal.Meter-dyn g (v, x)).reading_of x) c.domain_microframe.new.meters)
           (g.K.Sink.written c.args.sink.now) (g.K.Sink.written c.loop-place.sink) (g.K.Sink.written c.domain_microframe.new.sink)
           (λ w. domains_split c.args.self.now.device.function.domains c.loop-place.place w below) (c.loop-place.invariant.told r stands) told;
@@ -50,9 +50,9 @@ loop-place-preserved g c =
 
 pub returns-clause-tells : goal.returns-clause-tells
 returns-clause-tells g c r stands =
-    let own = ap (λ (f : FunctionFields). f.domains) stands.device.function in
+    let own = ap (λ (f : FunctionFields). f.domains) stands.streaming.device.function in
     let past : length c.args.self.now.device.function.domains ≤ c.loop-place.place = omega arith in
-    let all = finished (domain_microframes c.args.self.now.device.function.domains r) (domain_microframes (drop c.loop-place.place c.args.self.now.device.function.domains)) c.loop-place.self
+    let all = finished Stands (domain_microframes c.args.self.now.device.function.domains r) (domain_microframes (drop c.loop-place.place c.args.self.now.device.function.domains)) c.loop-place.self
     (readings (λ v x. (goal.Meter-dyn g (v, x)).reading_of x) c.loop-place.meters) (g.K.Sink.written c.args.sink.now) (g.K.Sink.written c.loop-place.sink)
     (c.loop-place.invariant.told r stands) (λ w. domains_end c.args.self.now.device.function.domains c.loop-place.place w past) in
     subst (λ (clocks : List ℕ). Appends (g.K.Sink.written c.args.sink.now) (g.K.Sink.written c.loop-place.sink) (text_of (domain_microframes clocks r).lines)

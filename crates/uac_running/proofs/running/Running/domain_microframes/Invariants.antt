@@ -1,6 +1,6 @@
 use Rattle.std.proofs.Common.{◌≡◌, ◌≤◌, drop}
 use Rattle.uac_units.specs.Panel.{readings}
-use Rattle.uac_running.specs.World.{RunningWorld}
+use Rattle.uac_running.specs.RunningWorld.{RunningWorld}
 use Rattle.uac_running.specs.Events.{domain_microframes}
 use Rattle.uac_running.specs.Kept.{Stands}
 use Rattle.uac_running.proofs.SoFar.{SoFar}
@@ -9,7 +9,7 @@ use Rattle.uac_running.proofs.running.Running.domain_microframes.Given as goal
 abbrev pub invariant-loop-place : goal.invariant-loop-place
 invariant-loop-place g l = record {
   told : (r : RunningWorld) → Stands l.initial.self (readings (λ v x. (goal.Meter-dyn g (v, x)).reading_of x) l.initial.meters) r
-      → SoFar (domain_microframes l.initial.self.device.function.domains r) (domain_microframes (drop l.place l.initial.self.device.function.domains)) l.self
+      → SoFar Stands (domain_microframes l.initial.self.device.function.domains r) (domain_microframes (drop l.place l.initial.self.device.function.domains)) l.self
       (readings (λ v x. (goal.Meter-dyn g (v, x)).reading_of x) l.meters) (g.K.Sink.written l.fn.sink) (g.K.Sink.written l.sink);
   never_falls : g.K.Sink.faults l.fn.sink ≤ g.K.Sink.faults l.sink;
   function : l.self.device.function ≡ l.initial.self.device.function;

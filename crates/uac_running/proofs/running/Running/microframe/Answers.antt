@@ -1,34 +1,48 @@
-use Rattle.std.proofs.Common.{subst, [], ◌+◌, List}
+use Rattle.std.proofs.Common.{◌∙◌, ap, subst, map, List}
 use Rattle.std.specs.Io.KnownBytes.{Appends}
-use Rattle.uac_units.specs.Hearing.{held}
+use Rattle.uac_script.specs.Line.{loss_of}
 use Rattle.uac_units.specs.Panel.{readings}
 use Rattle.uac_edges.specs.Writing.{AppendsFront}
 use Rattle.uac_transcript.specs.Transcript.{Said}
 use Rattle.uac_transcript.specs.Printing.{text_of}
-use Rattle.uac_transcript.proofs.PrintingLemmas.{front_of_more}
-use Rattle.uac_running.specs.Events.{Told, domain_microframes, number_said}
-use Rattle.uac_running.specs.Kept.{Tells}
-use Rattle.uac_running.proofs.SoFar.{tells_behind}
-use Rattle.uac_running.proofs.Steps.{microframe_is, number_line, passed}
+use Rattle.uac_streaming.proofs.RoomOfDevices.{HaveSmallNumbers}
+use Rattle.uac_running.specs.Kept.{RunningFields}
+use Rattle.uac_running.specs.Events.{packets_and_ticks}
+use Rattle.uac_running.proofs.RoomSteps.{one_microframe, zeros_fit_in}
+use Rattle.uac_running.proofs.Steps.{microframe_front, microframe_next_front, microframe_told, number_line, numbered, passed}
 use Rattle.uac_running.proofs.running.Running.microframe.Goals as goal
 
 pub returns-in-Err-clause-tells : goal.returns-in-Err-clause-tells
 returns-in-Err-clause-tells g c r stands =
-    let later = passed (readings (λ v x. (goal.Meter-dyn g (v, x)).reading_of x) c.args.meters.now) r c.args.self.now c.pass.new.self stands c.pass.ensures in
-    let said = number_line r c.pass.new.self (readings (λ v x. (goal.Meter-dyn g (v, x)).reading_of x) c.args.meters.now) later in
-    let front = subst (λ (lines : List Said). AppendsFront (g.K.Sink.written c.args.sink.now) (g.K.Sink.written c.write_number.new.sink) (text_of lines)) said c.in-Err.ensures.printed in (
-      subst (λ (told : Told). AppendsFront (g.K.Sink.written c.args.sink.now) (g.K.Sink.written c.write_number.new.sink) (text_of told.lines)) (microframe_is [] r)
-          (front_of_more (g.K.Sink.written c.args.sink.now) (g.K.Sink.written c.write_number.new.sink) (number_said r.detail (held (r.time + 1)))
-          (domain_microframes r.device.function.domains (record r { time = held (r.time + 1) })).lines front),
+    let shown = readings (λ v x. (goal.Meter-dyn g (v, x)).reading_of x) c.args.meters.now in
+    let later = passed shown r c.args.self.now c.pass.new.self stands.now c.pass.ensures in
+    let said = number_line r c.pass.new.self shown later in (
+      microframe_front (map loss_of c.args.marks.now) r (g.K.Sink.written c.args.sink.now) (g.K.Sink.written c.write_number.new.sink)
+          (subst (λ (lines : List Said). AppendsFront (g.K.Sink.written c.args.sink.now) (g.K.Sink.written c.write_number.new.sink) (text_of lines)) said c.in-Err.ensures.printed),
+      tt,
+    )
+
+pub returns-in-Err-packets_and_ticks-clause-tells : goal.returns-in-Err-packets_and_ticks-clause-tells
+returns-in-Err-packets_and_ticks-clause-tells g c r stands =
+    let shown = readings (λ v x. (goal.Meter-dyn g (v, x)).reading_of x) c.args.meters.now in
+    let later = passed shown r c.args.self.now c.pass.new.self stands.now c.pass.ensures in
+    let said = number_line r c.pass.new.self shown later in (
+      microframe_next_front (map loss_of c.args.marks.now) r (g.K.Sink.written c.args.sink.now) (g.K.Sink.written c.write_number.new.sink) (g.K.Sink.written c.packets_and_ticks.new.sink)
+          (subst (λ (lines : List Said). Appends (g.K.Sink.written c.args.sink.now) (g.K.Sink.written c.write_number.new.sink) (text_of lines)) said c.in-Ok.ensures.printed)
+          (c.in-Err-packets_and_ticks.ensures.tells (numbered r) later).0,
       tt,
     )
 
 pub returns-clause-tells : goal.returns-clause-tells
 returns-clause-tells g c r stands =
-    let later = passed (readings (λ v x. (goal.Meter-dyn g (v, x)).reading_of x) c.args.meters.now) r c.args.self.now c.pass.new.self stands c.pass.ensures in
-    let said = number_line r c.pass.new.self (readings (λ v x. (goal.Meter-dyn g (v, x)).reading_of x) c.args.meters.now) later in
+    let shown = readings (λ v x. (goal.Meter-dyn g (v, x)).reading_of x) c.args.meters.now in
+    let showing = readings (λ v x. (goal.Meter-dyn g (v, x)).reading_of x) c.packets_and_ticks.new.meters in
+    let losses = map loss_of c.args.marks.now in
+    let later = passed shown r c.args.self.now c.pass.new.self stands.now c.pass.ensures in
+    let said = number_line r c.pass.new.self shown later in
     let number = subst (λ (lines : List Said). Appends (g.K.Sink.written c.args.sink.now) (g.K.Sink.written c.write_number.new.sink) (text_of lines)) said c.in-Ok.ensures.printed in
-    subst (λ (told : Told). Tells told c.domain_microframes.new.self (readings (λ v x. (goal.Meter-dyn g (v, x)).reading_of x) c.domain_microframes.new.meters) (g.K.Sink.written c.args.sink.now) (g.K.Sink.written c.domain_microframes.new.sink) c.domain_microframes.result) (microframe_is [] r)
-    (tells_behind (number_said r.detail (held (r.time + 1))) (domain_microframes r.device.function.domains (record r { time = held (r.time + 1) }))
-    c.domain_microframes.new.self (readings (λ v x. (goal.Meter-dyn g (v, x)).reading_of x) c.domain_microframes.new.meters) (g.K.Sink.written c.args.sink.now) (g.K.Sink.written c.write_number.new.sink) (g.K.Sink.written c.domain_microframes.new.sink) c.domain_microframes.result
-    number (c.domain_microframes.ensures.tells (record r { time = held (r.time + 1) }) later))
+    let small = subst HaveSmallNumbers (c.function.ensures ∙ ap (λ (p : RunningFields). p.device.function) c.self.view_is ∙ stands.now.streaming.device.function) c.numbers_are_bytes.ensures in
+    let first = c.in-Ok-packets_and_ticks.ensures.tells (numbered r) later in
+    microframe_told losses r c.ends_and_reports.new.self showing (g.K.Sink.written c.args.sink.now) (g.K.Sink.written c.write_number.new.sink) (g.K.Sink.written c.packets_and_ticks.new.sink)
+    (g.K.Sink.written c.ends_and_reports.new.sink) c.ends_and_reports.result (one_microframe losses r small stands.room) number first.0
+    (c.ends_and_reports.ensures.tells showing (packets_and_ticks losses (numbered r)).world first.1 (zeros_fit_in losses (numbered r) stands.room))

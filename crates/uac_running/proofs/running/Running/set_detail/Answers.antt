@@ -1,9 +1,13 @@
 use Rattle.std.proofs.Common.{sym, subst, refl}
+use Rattle.uac_running.specs.RunningWorld.{with_detail}
 use Rattle.uac_running.specs.Kept.{RunningFields, Stands}
 use Rattle.uac_running.proofs.Steps.{detailed}
 use Rattle.uac_running.specs.contracts.running.Running.{the_view}
 use Rattle.uac_running.proofs.running.Running.set_detail.Goals as goal
 
 pub returns-clause-stands : goal.returns-clause-stands
-returns-clause-stands c meters r stands =
-    detailed meters r (the_view c.self.inside) _ (subst (λ (p : RunningFields). Stands p meters r) (sym c.self.view_is) stands) c.args.level refl
+unfolding with_detail
+returns-clause-stands c meters r stands = record {
+  now = detailed meters r (the_view c.self.inside) _ (subst (λ (p : RunningFields). Stands p meters r) (sym c.self.view_is) stands.now) c.args.level refl;
+  room = stands.room;
+}

@@ -1,5 +1,5 @@
 use Rattle.std.proofs.Common.{sym, subst, refl}
-use Rattle.uac_running.specs.World.{toned}
+use Rattle.uac_running.specs.RunningWorld.{toned, with_tone}
 use Rattle.uac_running.specs.Kept.{RunningFields, Stands}
 use Rattle.uac_device.proofs.Turning.{turned_back}
 use Rattle.uac_running.proofs.Counting.{domains_kept}
@@ -14,10 +14,15 @@ invariant_of-self c =
     c.set_tone.ensures c.deref_mut.ensures.value c.deref_mut.ensures.len in (
       jacks_toned c.args.terminal c.args.tone (the_view c.self.inside) _ refl jacks c.self.invariant.0,
       domains_kept (the_view c.self.inside) _ refl refl c.self.invariant.1,
+      c.self.invariant.2,
     )
 
 pub returns-clause-stands : goal.returns-clause-stands
+unfolding with_tone
 returns-clause-stands c meters r stands =
     let jacks = turned_back (toned c.args.terminal c.args.tone) c.self.inside.jacks.len c.self.inside.jacks.items c.deref_mut.result.now c.set_tone.new.jacks
     c.set_tone.ensures c.deref_mut.ensures.value c.deref_mut.ensures.len in
-    toned_on meters r (the_view c.self.inside) _ (subst (λ (p : RunningFields). Stands p meters r) (sym c.self.view_is) stands) c.args.terminal c.args.tone _ jacks refl
+    record {
+      now = toned_on meters r (the_view c.self.inside) _ (subst (λ (p : RunningFields). Stands p meters r) (sym c.self.view_is) stands.now) c.args.terminal c.args.tone _ jacks refl;
+      room = stands.room;
+    }

@@ -1,6 +1,7 @@
 use Rattle.std.proofs.Common.{◌∙◌, ap, arith, rules, ◌+◌, ◌-◌}
 use Rattle.uac_units.specs.Panel.{readings}
 use Rattle.uac_running.specs.Events.{tick, tick_times}
+use Rattle.uac_running.specs.Kept.{Stands}
 use Rattle.uac_running.proofs.SoFar.{begun, finished, one_more, stopped}
 use Rattle.uac_running.proofs.Steps.{ticks_end, ticks_split}
 use Rattle.uac_running.proofs.running.Running.ticks.Goals as goal
@@ -8,7 +9,7 @@ use Rattle.uac_running.proofs.running.Running.ticks.Goals as goal
 pub loop-ticked-init : goal.loop-ticked-init
 loop-ticked-init g c = record {
   told = λ r stands.
-      begun (tick_times c.args.count c.args.clock r) (tick_times (c.args.count - 0) c.args.clock) c.args.self.now (readings (λ v x. (goal.Meter-dyn g (v, x)).reading_of x) c.args.meters.now) (g.K.Sink.written c.args.sink.now) r stands
+      begun Stands (tick_times c.args.count c.args.clock r) (tick_times (c.args.count - 0) c.args.clock) c.args.self.now (readings (λ v x. (goal.Meter-dyn g (v, x)).reading_of x) c.args.meters.now) (g.K.Sink.written c.args.sink.now) r stands
       (ap (λ n. tick_times n c.args.clock r) (omega arith));
   never_falls = omega arith;
   function = search rules;
@@ -16,7 +17,7 @@ loop-ticked-init g c = record {
 
 pub returns-in-Err-clause-tells : goal.returns-in-Err-clause-tells
 returns-in-Err-clause-tells g c r stands = (
-  stopped (tick_times c.args.count c.args.clock r) (tick_times (c.args.count - c.loop-ticked._ticked) c.args.clock) (tick_times (c.args.count - (c.loop-ticked._ticked + 1)) c.args.clock)
+  stopped Stands (tick_times c.args.count c.args.clock r) (tick_times (c.args.count - c.loop-ticked._ticked) c.args.clock) (tick_times (c.args.count - (c.loop-ticked._ticked + 1)) c.args.clock)
       (tick c.args.clock) c.loop-ticked.self (readings (λ v x. (goal.Meter-dyn g (v, x)).reading_of x) c.loop-ticked.meters)
       (g.K.Sink.written c.args.sink.now) (g.K.Sink.written c.loop-ticked.sink) (g.K.Sink.written c.tick.new.sink)
       (λ w. ticks_split c.args.count c.loop-ticked._ticked c.args.clock w c.loop-ticked-test.true) (c.loop-ticked.invariant.told r stands) c.in-Err.ensures.tells,
@@ -26,7 +27,7 @@ returns-in-Err-clause-tells g c r stands = (
 pub loop-ticked-preserved : goal.loop-ticked-preserved
 loop-ticked-preserved g c = record {
   told = λ r stands.
-      one_more (tick_times c.args.count c.args.clock r) (tick_times (c.args.count - c.loop-ticked._ticked) c.args.clock) (tick_times (c.args.count - (c.loop-ticked._ticked + 1)) c.args.clock)
+      one_more Stands (tick_times c.args.count c.args.clock r) (tick_times (c.args.count - c.loop-ticked._ticked) c.args.clock) (tick_times (c.args.count - (c.loop-ticked._ticked + 1)) c.args.clock)
       (tick c.args.clock) c.loop-ticked.self c.tick.new.self (readings (λ v x. (goal.Meter-dyn g (v, x)).reading_of x) c.loop-ticked.meters) (readings (λ v x. (goal.Meter-dyn g (v, x)).reading_of x) c.tick.new.meters)
       (g.K.Sink.written c.args.sink.now) (g.K.Sink.written c.loop-ticked.sink) (g.K.Sink.written c.tick.new.sink)
       (λ w. ticks_split c.args.count c.loop-ticked._ticked c.args.clock w c.loop-ticked-test.true) (c.loop-ticked.invariant.told r stands) c.in-Ok.ensures.tells;
@@ -36,6 +37,6 @@ loop-ticked-preserved g c = record {
 
 pub returns-clause-tells : goal.returns-clause-tells
 returns-clause-tells g c r stands =
-    finished (tick_times c.args.count c.args.clock r) (tick_times (c.args.count - c.loop-ticked._ticked) c.args.clock) c.loop-ticked.self
+    finished Stands (tick_times c.args.count c.args.clock r) (tick_times (c.args.count - c.loop-ticked._ticked) c.args.clock) c.loop-ticked.self
     (readings (λ v x. (goal.Meter-dyn g (v, x)).reading_of x) c.loop-ticked.meters) (g.K.Sink.written c.args.sink.now) (g.K.Sink.written c.loop-ticked.sink)
     (c.loop-ticked.invariant.told r stands) (λ w. ticks_end c.args.count c.loop-ticked._ticked c.args.clock w c.loop-ticked-test.false)

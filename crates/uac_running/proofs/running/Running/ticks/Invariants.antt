@@ -1,6 +1,6 @@
 use Rattle.std.proofs.Common.{◌≡◌, ◌-◌, ◌≤◌}
 use Rattle.uac_units.specs.Panel.{readings}
-use Rattle.uac_running.specs.World.{RunningWorld}
+use Rattle.uac_running.specs.RunningWorld.{RunningWorld}
 use Rattle.uac_running.specs.Events.{tick_times}
 use Rattle.uac_running.specs.Kept.{Stands}
 use Rattle.uac_running.proofs.SoFar.{SoFar}
@@ -9,7 +9,7 @@ use Rattle.uac_running.proofs.running.Running.ticks.Given as goal
 abbrev pub invariant-loop-ticked : goal.invariant-loop-ticked
 invariant-loop-ticked g l = record {
   told : (r : RunningWorld) → Stands l.initial.self (readings (λ v x. (goal.Meter-dyn g (v, x)).reading_of x) l.initial.meters) r
-      → SoFar (tick_times l.count l.clock r) (tick_times (l.count - l._ticked) l.clock) l.self
+      → SoFar Stands (tick_times l.count l.clock r) (tick_times (l.count - l._ticked) l.clock) l.self
       (readings (λ v x. (goal.Meter-dyn g (v, x)).reading_of x) l.meters) (g.K.Sink.written l.fn.sink) (g.K.Sink.written l.sink);
   never_falls : g.K.Sink.faults l.fn.sink ≤ g.K.Sink.faults l.sink;
   function : l.self.device.function ≡ l.initial.self.device.function;

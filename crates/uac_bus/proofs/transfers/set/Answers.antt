@@ -1,0 +1,44 @@
+use Rattle.std.proofs.Common.{◌≡◌, ◌∙◌, sym, ap, subst, ℤ, w32, to_z, of_z, Ok, Err}
+use Rattle.std.proofs.lemmas.Int.{to_z-of_z}
+use Rattle.uac_edges.specs.declared.edges.Failed.{Failed}
+use Rattle.uac_mixer.specs.ViewWorld.{ViewWorld}
+use Rattle.uac_mixer.specs.Elements.{fits_element}
+use Rattle.uac_running.specs.Kept.{TellsBetween}
+use Rattle.uac_running.specs.Transfers.{set_element}
+use Rattle.uac_bus.specs.declared.bus.Stage.TheVariants as stages
+use Rattle.uac_bus.specs.World.{Step, breaks_rule}
+use Rattle.uac_bus.specs.Kept.{IsCut, Reaches, StandsFor}
+use Rattle.uac_bus.proofs.Stepping.{unless_fails, unless_holds}
+use Rattle.uac_bus.proofs.TransferRows.{on_named}
+use Rattle.uac_bus.proofs.transfers.set.Goals as goal
+
+pub returns-then-not-fits-clause-does : goal.returns-then-not-fits-clause-does
+returns-then-not-fits-clause-does g c = λ shown r s.
+    let exact : to_z w32 (of_z w32 c.args.value) ≡ c.args.value = to_z-of_z w32 c.args.value c.ranges.value in
+    on_named (λ (t : Step). t ≡ breaks_rule 7) r c.args.name.now c.args.running.now.view.elements c.in-Some.at _
+    (ap (λ (v : ViewWorld). v.elements) s.now.view) c.in-Some.ensures.there (c.in-Some.ensures.named shown r s)
+    (λ x own there. unless_fails _ 7 _ (sym (ap (fits_element x.kind) exact) ∙ sym (c.fits.ensures x own) ∙ c.if-not-fits.true))
+
+pub returns-in-Ok-clause-does : goal.returns-in-Ok-clause-does
+returns-in-Ok-clause-does g c = λ shown r s.
+    let exact : to_z w32 (of_z w32 c.args.value) ≡ c.args.value = to_z-of_z w32 c.args.value c.ranges.value in
+    let reaches = λ (t : Step). Reaches t (StandsFor (stages.Running c.set_element.new.self) shown) (g.K.Sink.written c.args.sink.now) (g.K.Sink.written c.set_element.new.sink) in
+    on_named reaches r c.args.name.now c.args.running.now.view.elements c.in-Some.at _
+    (ap (λ (v : ViewWorld). v.elements) s.now.view) c.in-Some.ensures.there (c.in-Some.ensures.named shown r s)
+    (λ x own there.
+    let tells =
+    subst (λ (z : ℤ). TellsBetween {E = Failed} (set_element x z r) c.set_element.new.self shown (g.K.Sink.written c.args.sink.now) (g.K.Sink.written c.set_element.new.sink) (Ok c.in-Ok.field-0)) exact
+    (c.in-Ok.ensures.tells shown r x s there) in
+    subst reaches (sym (unless_holds _ 7 _ (sym (ap (fits_element x.kind) exact) ∙ sym (c.fits.ensures x own) ∙ c.if-not-fits.false))) (tells.1, tells.0))
+
+pub returns-in-Err-clause-does : goal.returns-in-Err-clause-does
+returns-in-Err-clause-does g c = λ shown r s.
+    let exact : to_z w32 (of_z w32 c.args.value) ≡ c.args.value = to_z-of_z w32 c.args.value c.ranges.value in
+    let cut = λ (t : Step). IsCut t (g.K.Sink.written c.args.sink.now) (g.K.Sink.written c.set_element.new.sink) in
+    on_named cut r c.args.name.now c.args.running.now.view.elements c.in-Some.at _
+    (ap (λ (v : ViewWorld). v.elements) s.now.view) c.in-Some.ensures.there (c.in-Some.ensures.named shown r s)
+    (λ x own there.
+    let tells =
+    subst (λ (z : ℤ). TellsBetween {E = Failed} (set_element x z r) c.set_element.new.self shown (g.K.Sink.written c.args.sink.now) (g.K.Sink.written c.set_element.new.sink) (Err c.in-Err.field-0)) exact
+    (c.in-Err.ensures.tells shown r x s there) in
+    subst cut (sym (unless_holds _ 7 _ (sym (ap (fits_element x.kind) exact) ∙ sym (c.fits.ensures x own) ∙ c.if-not-fits.false))) tells.0)

@@ -1,0 +1,22 @@
+use Rattle.std.proofs.Common.{ap}
+use Rattle.uac_mixer.specs.ViewWorld.{ViewWorld}
+use Rattle.uac_running.specs.Transfers.{show_element}
+use Rattle.uac_bus.specs.declared.bus.Stage.TheVariants as stages
+use Rattle.uac_bus.specs.World.{Step}
+use Rattle.uac_bus.specs.Kept.{IsCut, Reaches, StandsFor}
+use Rattle.uac_bus.proofs.TransferRows.{on_named}
+use Rattle.uac_bus.proofs.transfers.show.Goals as goal
+
+pub returns-in-Ok-clause-does : goal.returns-in-Ok-clause-does
+unfolding show_element
+returns-in-Ok-clause-does g c = λ shown r s.
+    on_named (λ (t : Step). Reaches t (StandsFor (stages.Running c.args.running.now) shown) (g.K.Sink.written c.args.sink.now) (g.K.Sink.written c.show_element.new.sink))
+    r c.args.name.now c.args.running.now.view.elements c.in-Some.at _ (ap (λ (v : ViewWorld). v.elements) s.now.view) c.in-Some.ensures.there
+    (c.in-Some.ensures.named shown r s) (λ x own there. (s, c.in-Ok.ensures.printed x own))
+
+pub returns-in-Err-clause-does : goal.returns-in-Err-clause-does
+unfolding show_element
+returns-in-Err-clause-does g c = λ shown r s.
+    on_named (λ (t : Step). IsCut t (g.K.Sink.written c.args.sink.now) (g.K.Sink.written c.show_element.new.sink))
+    r c.args.name.now c.args.running.now.view.elements c.in-Some.at _ (ap (λ (v : ViewWorld). v.elements) s.now.view) c.in-Some.ensures.there
+    (c.in-Some.ensures.named shown r s) (λ x own there. c.in-Err.ensures.printed x own)

@@ -1,0 +1,101 @@
+// The lines of control transfers, and those that name an element.
+ghost use Rattle.std.specs.Prelude.{◌≡◌, ◌≢◌, ◌≤◌, List, false, IfErr};
+ghost use Rattle.uac_units.specs.Hearing.{Reading};
+ghost use Rattle.uac_edges.specs.Faults.{Rose};
+ghost use Rattle.uac_script.specs.Phrase as phrase;
+ghost use Rattle.uac_running.specs.RunningWorld.{RunningWorld};
+ghost use Rattle.uac_running.specs.Kept.{StandsBetween};
+ghost use Rattle.uac_bus.specs.World.{step_running};
+ghost use Rattle.uac_bus.specs.Kept.{StandsFor, Does, is_final};
+
+use crate::bus::Stage;
+use crate::fault::BusFault;
+use uac_edges::Sink;
+use uac_request::Setup;
+use uac_running::Running;
+
+/// A control transfer.
+pub(crate) fn control<K: Sink>(
+    running: &mut Running,
+    setup: [u8; 8],
+    sent: &[u8],
+    sink: &mut K,
+) -> Result<(), BusFault>
+    ensures does { (shown : List Reading) (r : RunningWorld) → StandsBetween running.old shown r
+        → Does (step_running r (phrase.controls setup sent.now)) false
+        (StandsFor (Stage.Running running.new) shown) (K.written sink.old) (K.written sink.new) result }
+    ensures script { IfErr result (λ fault. is_final fault ≡ false → running.new ≡ running.old) }
+    ensures unwritten { IfErr result (λ fault. fault ≢ BusFault.WriteFault → sink.new ≡ sink.old) }
+    ensures cause { IfErr result (λ fault. fault ≡ BusFault.WriteFault → Rose (K.faults sink.old) (K.faults sink.new)) }
+    ensures never_falls { K.faults sink.old ≤ K.faults sink.new }
+{
+    let setup = Setup::read(setup);
+    match running.control(&setup, sent, sink) {
+        Ok(()) => Ok(()),
+        Err(_) => Err(BusFault::WriteFault),
+    }
+}
+
+/// Reads an element from the device.
+pub(crate) fn get<K: Sink>(running: &mut Running, name: &[u8], sink: &mut K) -> Result<(), BusFault>
+    ensures does { (shown : List Reading) (r : RunningWorld) → StandsBetween running.old shown r
+        → Does (step_running r (phrase.gets name.now)) false
+        (StandsFor (Stage.Running running.new) shown) (K.written sink.old) (K.written sink.new) result }
+    ensures script { IfErr result (λ fault. is_final fault ≡ false → running.new ≡ running.old) }
+    ensures unwritten { IfErr result (λ fault. fault ≢ BusFault.WriteFault → sink.new ≡ sink.old) }
+    ensures cause { IfErr result (λ fault. fault ≡ BusFault.WriteFault → Rose (K.faults sink.old) (K.faults sink.new)) }
+    ensures never_falls { K.faults sink.old ≤ K.faults sink.new }
+{
+    let Some(at) = running.element(name) else {
+        return Err(BusFault::Script(6));
+    };
+    match running.read_element(at, sink) {
+        Ok(()) => Ok(()),
+        Err(_) => Err(BusFault::WriteFault),
+    }
+}
+
+/// Sets an element of the device.
+pub(crate) fn set<K: Sink>(
+    running: &mut Running,
+    name: &[u8],
+    value: i32,
+    sink: &mut K,
+) -> Result<(), BusFault>
+    ensures does { (shown : List Reading) (r : RunningWorld) → StandsBetween running.old shown r
+        → Does (step_running r (phrase.sets name.now value)) false
+        (StandsFor (Stage.Running running.new) shown) (K.written sink.old) (K.written sink.new) result }
+    ensures script { IfErr result (λ fault. is_final fault ≡ false → running.new ≡ running.old) }
+    ensures unwritten { IfErr result (λ fault. fault ≢ BusFault.WriteFault → sink.new ≡ sink.old) }
+    ensures cause { IfErr result (λ fault. fault ≡ BusFault.WriteFault → Rose (K.faults sink.old) (K.faults sink.new)) }
+    ensures never_falls { K.faults sink.old ≤ K.faults sink.new }
+{
+    let Some(at) = running.element(name) else {
+        return Err(BusFault::Script(6));
+    };
+    if !running.fits(at, value) {
+        return Err(BusFault::Script(7));
+    }
+    match running.set_element(at, value, sink) {
+        Ok(()) => Ok(()),
+        Err(_) => Err(BusFault::WriteFault),
+    }
+}
+
+/// Prints what the host knows of an element.
+pub(crate) fn show<K: Sink>(running: &Running, name: &[u8], sink: &mut K) -> Result<(), BusFault>
+    ensures does { (shown : List Reading) (r : RunningWorld) → StandsBetween running.now shown r
+        → Does (step_running r (phrase.shows name.now)) false
+        (StandsFor (Stage.Running running.now) shown) (K.written sink.old) (K.written sink.new) result }
+    ensures unwritten { IfErr result (λ fault. fault ≢ BusFault.WriteFault → sink.new ≡ sink.old) }
+    ensures cause { IfErr result (λ fault. fault ≡ BusFault.WriteFault → Rose (K.faults sink.old) (K.faults sink.new)) }
+    ensures never_falls { K.faults sink.old ≤ K.faults sink.new }
+{
+    let Some(at) = running.element(name) else {
+        return Err(BusFault::Script(6));
+    };
+    match running.show_element(at, sink) {
+        Ok(()) => Ok(()),
+        Err(_) => Err(BusFault::WriteFault),
+    }
+}

@@ -1,0 +1,21 @@
+// What is done with the bytes of a source.
+
+/// What is said of a descriptor.
+#[derive(Clone, Copy, Debug, PartialEq, Eq)]
+pub enum Description {
+    /// Whether it is sound, and if not, which rule it breaks first.
+    Check,
+    /// The blocks, the entities and the settings of a sound one.
+    Show,
+    /// What a host's mixer shows of a fresh device.
+    Elements,
+}
+
+/// What is done with the bytes of a source.
+#[derive(Clone, Copy, Debug, PartialEq, Eq)]
+pub enum Job {
+    /// They are a descriptor, of which this is said.
+    Describe(Description),
+    /// They are a script, which is run.
+    Run,
+}

@@ -1,0 +1,16 @@
+use Rattle.std.proofs.Common.{ap, sym, subst}
+use Rattle.std.specs.Str.{bytes_eq}
+use Rattle.uac_mixer.specs.Elements.{name_of}
+use Rattle.uac_mixer.specs.ViewWorld.{ViewWorld}
+use Rattle.uac_mixer.specs.declared.element.Element.{Element}
+use Rattle.uac_running.specs.Kept.{RunningFields, Stands}
+use Rattle.uac_running.specs.Transfers.{element_named}
+use Rattle.uac_running.proofs.TransferLemmas.{found_at}
+use Rattle.uac_running.proofs.running.Running.element.Goals as goal
+
+pub returns-clause-named : goal.returns-clause-named
+unfolding element_named
+returns-clause-named c meters r stands =
+    let own = subst (λ (p : RunningFields). Stands p meters r) (sym c.self.view_is) stands.now in
+    found_at (λ (x : Element). bytes_eq (name_of x) c.args.name.now) c.self.inside.view.elements r.view.elements c.find.result
+    (ap (λ (v : ViewWorld). v.elements) own.view) c.find.ensures

@@ -1,0 +1,28 @@
+use Rattle.std.proofs.Common.{sym, subst, refl, ℕ, map}
+use Rattle.uac_script.specs.Line.{loss_of}
+use Rattle.uac_streaming.specs.Kept as streaming
+use Rattle.uac_streaming.specs.StreamingWorld.{in_packets}
+use Rattle.uac_running.specs.RunningWorld.{streaming_of}
+use Rattle.uac_running.specs.Kept.{RunningFields, Stands}
+use Rattle.uac_running.proofs.Counting.{domains_kept}
+use Rattle.uac_running.proofs.JackSteps.{jacks_kept}
+use Rattle.uac_running.proofs.Steps.{streams_told, view_still}
+use Rattle.uac_running.proofs.StreamSteps.{in_packets-keep}
+use Rattle.uac_running.specs.contracts.running.Running.{the_view}
+use Rattle.uac_running.proofs.running.Running.in_packets.Goals as goal
+
+pub invariant_of-self : goal.invariant_of-self
+invariant_of-self g c =
+    let function = c.in_packets.ensures.function in (
+      jacks_kept (the_view c.self.inside) _ function refl c.self.invariant.0,
+      domains_kept (the_view c.self.inside) _ function refl c.self.invariant.1,
+      view_still c.self.inside.device.function _ c.self.inside.view function c.self.invariant.2,
+    )
+
+pub returns-clause-tells : goal.returns-clause-tells
+returns-clause-tells g c meters r stands =
+    let own = subst (λ (p : RunningFields). Stands p meters r) (sym c.self.view_is) stands in
+    streams_told meters r (the_view c.self.inside) _ own (in_packets r.detail (map loss_of c.args.marks.now)) (g.K.Sink.written c.args.sink.now) (g.K.Sink.written c.in_packets.new.sink) c.in_packets.result
+    (subst (λ (n : ℕ). streaming.Tells (in_packets n (map loss_of c.args.marks.now) (streaming_of r)) c.in_packets.new.self c.in_packets.new.device (g.K.Sink.written c.args.sink.now) (g.K.Sink.written c.in_packets.new.sink) c.in_packets.result)
+    own.detail (c.in_packets.ensures.tells (streaming_of r) own.streaming))
+    (in_packets-keep r.detail (map loss_of c.args.marks.now) (streaming_of r)) refl refl refl refl refl (record { view = refl; configuration = refl; breaks = refl })

@@ -1,0 +1,45 @@
+use Rattle.std.proofs.Common.{map}
+use Rattle.uac_script.specs.Line.{loss_of}
+use Rattle.uac_units.specs.Panel.{readings}
+use Rattle.uac_streaming.specs.StreamingWorld.{in_packets, out_packets}
+use Rattle.uac_running.specs.Events.{all_domains, followed_by, of_streams, packets_and_ticks}
+use Rattle.uac_running.proofs.SoFar.{front_of_next, front_then, tells_then}
+use Rattle.uac_running.proofs.running.Running.packets_and_ticks.Goals as goal
+
+pub returns-in-Err-clause-tells : goal.returns-in-Err-clause-tells
+unfolding packets_and_ticks
+returns-in-Err-clause-tells g c r stands =
+    let shown = readings (λ v x. (goal.Meter-dyn g (v, x)).reading_of x) c.args.meters.now in
+    let losses = map loss_of c.args.marks.now in (
+      front_then (of_streams (out_packets r.detail losses)) (followed_by (of_streams (in_packets r.detail losses)) all_domains) r
+          (g.K.Sink.written c.args.sink.now) (g.K.Sink.written c.out_packets.new.sink) (c.in-Err.ensures.tells shown r stands).0,
+      tt,
+    )
+
+pub returns-in-Err-in_packets-clause-tells : goal.returns-in-Err-in_packets-clause-tells
+unfolding packets_and_ticks
+returns-in-Err-in_packets-clause-tells g c r stands =
+    let shown = readings (λ v x. (goal.Meter-dyn g (v, x)).reading_of x) c.args.meters.now in
+    let losses = map loss_of c.args.marks.now in
+    let first = c.in-Ok.ensures.tells shown r stands in (
+      front_of_next (of_streams (out_packets r.detail losses)) (followed_by (of_streams (in_packets r.detail losses)) all_domains) r
+          (g.K.Sink.written c.args.sink.now) (g.K.Sink.written c.out_packets.new.sink) (g.K.Sink.written c.in_packets.new.sink) first.0
+          (front_then (of_streams (in_packets r.detail losses)) all_domains (of_streams (out_packets r.detail losses) r).world
+          (g.K.Sink.written c.out_packets.new.sink) (g.K.Sink.written c.in_packets.new.sink) (c.in-Err-in_packets.ensures.tells shown (of_streams (out_packets r.detail losses) r).world first.1).0),
+      tt,
+    )
+
+pub returns-clause-tells : goal.returns-clause-tells
+unfolding packets_and_ticks
+returns-clause-tells g c r stands =
+    let shown = readings (λ v x. (goal.Meter-dyn g (v, x)).reading_of x) c.args.meters.now in
+    let showing = readings (λ v x. (goal.Meter-dyn g (v, x)).reading_of x) c.domain_microframes.new.meters in
+    let losses = map loss_of c.args.marks.now in
+    let first = c.in-Ok.ensures.tells shown r stands in
+    let next = c.in-Ok-in_packets.ensures.tells shown (of_streams (out_packets r.detail losses) r).world first.1 in
+    let out = of_streams (out_packets r.detail losses) r in
+    tells_then (of_streams (out_packets r.detail losses)) (followed_by (of_streams (in_packets r.detail losses)) all_domains) r c.domain_microframes.new.self showing
+    (g.K.Sink.written c.args.sink.now) (g.K.Sink.written c.out_packets.new.sink) (g.K.Sink.written c.domain_microframes.new.sink) c.domain_microframes.result first.0
+    (tells_then (of_streams (in_packets r.detail losses)) all_domains out.world c.domain_microframes.new.self showing
+    (g.K.Sink.written c.out_packets.new.sink) (g.K.Sink.written c.in_packets.new.sink) (g.K.Sink.written c.domain_microframes.new.sink) c.domain_microframes.result next.0
+    (c.domain_microframes.ensures.tells (of_streams (in_packets r.detail losses) out.world).world next.1))

@@ -1,0 +1,46 @@
+use Rattle.std.proofs.Common.{◌≡◌, ◌∙◌, ap, sym, subst, refl, ◌<◌, ℕ, length, [], Some, slice_get}
+use Rattle.uac_topology.specs.Function.{FunctionFields}
+use Rattle.uac_device.specs.Kept as device
+use Rattle.uac_mixer.specs.Transfers.{get_of}
+use Rattle.uac_mixer.specs.ViewWorld.{ViewWorld}
+use Rattle.uac_running.specs.Kept.{RunningFields, Stands}
+use Rattle.uac_running.specs.Transfers.{transferred}
+use Rattle.uac_running.proofs.Counting.{domains_kept}
+use Rattle.uac_running.proofs.JackSteps.{jacks_kept}
+use Rattle.uac_running.proofs.TransferLemmas.{an_element, came_back, read_told, streams_stand, transfer_stands}
+use Rattle.uac_running.specs.contracts.running.Running.{the_view}
+use Rattle.uac_running.proofs.running.Running.read.Goals as goal
+
+pub invariant_of-self : goal.invariant_of-self
+invariant_of-self c =
+    let x = an_element c.self.inside.view.elements c.args.at
+    (subst (λ (p : RunningFields). c.args.at < length p.view.elements) (sym c.self.view_is) c.requires) in
+    let made = c.get.ensures.made x.0 x.1 in
+    let function = made.function ∙ ap (λ (d : device.DeviceFields). d.function) c.new-link.ensures.device in (
+      jacks_kept (the_view c.self.inside) _ function refl c.self.invariant.0,
+      domains_kept (the_view c.self.inside) _ function refl c.self.invariant.1,
+      made.of_function,
+    )
+
+pub returns-clause-stands : goal.returns-clause-stands
+returns-clause-stands c meters r x stands at =
+    let own = subst (λ (p : RunningFields). Stands p meters r) (sym c.self.view_is) stands in
+    let here : slice_get c.self.inside.view.elements c.args.at ≡ Some x = ap (λ (v : ViewWorld). slice_get v.elements c.args.at) own.view ∙ at in
+    let control = ap (λ (d : device.DeviceFields). d.function.control_interface) c.new-link.ensures.device ∙ ap (λ (f : FunctionFields). f.control_interface) own.streaming.device.function in
+    let after : RunningFields = record (the_view c.self.inside) { device = c.get.new.link.device.now; view = c.get.new.self; breaks = c.take-fault.new.self } in
+    subst (λ (n : ℕ). Stands after meters (transferred (get_of n x) ([]) r)) control
+    (transfer_stands meters r (the_view c.self.inside) after _ ([]) _ _ _ own c.new-link.ensures.device
+    (ap Some (c.new-link.ensures.fault ∙ c.take-fault.ensures.value)) (c.get.ensures.made x here) refl c.take-fault.ensures.after
+    (record { configuration = refl; jacks = refl; counts = refl; time = refl; detail = refl; renders = refl })
+    (streams_stand meters r (the_view c.self.inside) after _ [] _ _ _ own c.new-link.ensures.device
+    (ap Some (c.new-link.ensures.fault ∙ c.take-fault.ensures.value)) (c.get.ensures.made x here)))
+
+pub returns-clause-value : goal.returns-clause-value
+returns-clause-value c meters r x stands at =
+    let own = subst (λ (p : RunningFields). Stands p meters r) (sym c.self.view_is) stands in
+    let here : slice_get c.self.inside.view.elements c.args.at ≡ Some x = ap (λ (v : ViewWorld). slice_get v.elements c.args.at) own.view ∙ at in
+    let after : RunningFields = record (the_view c.self.inside) { view = c.get.new.self } in
+    read_told x c.get.result r _ []
+    (came_back meters r (the_view c.self.inside) after _ [] _ _ _ own c.new-link.ensures.device
+    (ap Some (c.new-link.ensures.fault ∙ c.take-fault.ensures.value)) (c.get.ensures.made x here))
+    _ (ap (λ (d : device.DeviceFields). d.controls) c.new-link.ensures.device ∙ own.streaming.device.controls) (c.get.ensures.value x here)

@@ -1,0 +1,358 @@
+// The microframes of a running device: packets, ticks, and the ends of microframes.
+ghost use Rattle.std.specs.Prelude.{◌≡◌, ◌++◌, ℕ, List, ◌+◌, ◌<◌, nat_le, if◌then◌else◌, [], length, map, slice_index};
+ghost use Rattle.std.specs.List.{All};
+ghost use Rattle.uac_units.specs.Fitting.{IsFitted};
+ghost use Rattle.uac_units.specs.Hearing.{Reading, held};
+ghost use Rattle.uac_units.specs.Panel.{readings};
+ghost use Rattle.uac_edges.specs.Faults.{HasCause};
+ghost use Rattle.uac_script.specs.Line.{loss_of};
+ghost use Rattle.uac_device.specs.Kept as device;
+ghost use Rattle.uac_device.specs.DeviceWorld.{DeviceWorld, ZerosFitIn, advanced, met_of, next_ticks};
+ghost use Rattle.uac_transcript.specs.Printing.{Prints};
+ghost use Rattle.uac_streaming.specs.StreamingWorld.{all_reported, all_settled, found_lines, in_packets, out_packets};
+ghost use Rattle.uac_running.specs.RunningWorld.{RunningWorld};
+ghost use Rattle.uac_running.specs.Lines.{played_lines};
+ghost use Rattle.uac_running.specs.Events.{all_given, domain_microframe, domain_microframes, ends_and_reports, microframe, microframes};
+ghost use Rattle.uac_running.specs.Events.{number_said, of_streams, packets_and_ticks, tick, tick_times};
+ghost use Rattle.uac_running.specs.Kept.{Stands, StandsBetween, Tells, TellsBetween};
+
+use crate::counts::count_ticks;
+use crate::jacks::give_jacks;
+use crate::printing::write_jacks;
+use crate::running::Running;
+use uac_device::Ticked;
+use uac_edges::{Failed, Sink};
+use uac_entities::StreamInterface;
+use uac_graph::laws::fresh_steps_have_room;
+use uac_script::Mark;
+use uac_streaming::write_found;
+use uac_topology::Function;
+use uac_transcript::write_time;
+use uac_units::{Meter, Meters, Rack, Steps, Unit};
+
+impl Running {
+    /// So many microframes, printed as they come; in each of them these packets and reports are lost. It takes no memory.
+    pub fn microframes<K: Sink>(
+        &mut self,
+        count: u32,
+        marks: &[Mark],
+        rack: &Rack,
+        meters: &mut Meters,
+        sink: &mut K,
+    ) -> Result<(), Failed>
+        requires rack { IsFitted (λ v x. (⟦<dyn Unit as Unit>⟧ v).kind_of x) rack.now }
+        ensures tells { (r : RunningWorld) → StandsBetween self.old (readings (λ v x. (⟦<dyn Meter as Meter>⟧ v).reading_of x) meters.old) r
+            → TellsBetween (microframes (map loss_of marks.now) count r) self.new (readings (λ v x. (⟦<dyn Meter as Meter>⟧ v).reading_of x) meters.new)
+            (K.written sink.old) (K.written sink.new) result }
+        ensures cause { HasCause (K.faults sink.old) (K.faults sink.new) result }
+    {
+        for _passed in 0..count {
+            match self.microframe(marks, rack, meters, sink) {
+                Ok(()) => {}
+                Err(failed) => return Err(failed),
+            }
+        }
+        Ok(())
+    }
+
+    /// One microframe.
+    fn microframe<K: Sink>(
+        &mut self,
+        marks: &[Mark],
+        rack: &Rack,
+        meters: &mut Meters,
+        sink: &mut K,
+    ) -> Result<(), Failed>
+        requires rack { IsFitted (λ v x. (⟦<dyn Unit as Unit>⟧ v).kind_of x) rack.now }
+        ensures tells { (r : RunningWorld) → StandsBetween self.old (readings (λ v x. (⟦<dyn Meter as Meter>⟧ v).reading_of x) meters.old) r
+            → TellsBetween (microframe (map loss_of marks.now) r) self.new (readings (λ v x. (⟦<dyn Meter as Meter>⟧ v).reading_of x) meters.new)
+            (K.written sink.old) (K.written sink.new) result }
+        ensures cause { HasCause (K.faults sink.old) (K.faults sink.new) result }
+    {
+        numbers_are_bytes(self.device.function());
+        self.pass();
+        match self.write_number(sink) {
+            Ok(()) => {}
+            Err(failed) => return Err(failed),
+        }
+        match self.packets_and_ticks(marks, rack, meters, sink) {
+            Ok(()) => {}
+            Err(failed) => return Err(failed),
+        }
+        self.ends_and_reports(marks, sink)
+    }
+
+    /// The packets of a microframe, and the ticks of each domain.
+    fn packets_and_ticks<K: Sink>(
+        &mut self,
+        marks: &[Mark],
+        rack: &Rack,
+        meters: &mut Meters,
+        sink: &mut K,
+    ) -> Result<(), Failed>
+        requires rack { IsFitted (λ v x. (⟦<dyn Unit as Unit>⟧ v).kind_of x) rack.now }
+        ensures tells { (r : RunningWorld) → Stands self.old (readings (λ v x. (⟦<dyn Meter as Meter>⟧ v).reading_of x) meters.old) r
+            → Tells (packets_and_ticks (map loss_of marks.now) r) self.new (readings (λ v x. (⟦<dyn Meter as Meter>⟧ v).reading_of x) meters.new)
+            (K.written sink.old) (K.written sink.new) result }
+        ensures cause { HasCause (K.faults sink.old) (K.faults sink.new) result }
+    {
+        match self.out_packets(marks, sink) {
+            Ok(()) => {}
+            Err(failed) => return Err(failed),
+        }
+        match self.in_packets(marks, sink) {
+            Ok(()) => {}
+            Err(failed) => return Err(failed),
+        }
+        self.domain_microframes(rack, meters, sink)
+    }
+
+    /// The end of a microframe for each stream, and the feedback reports. Where a packet was lost, its ring has room for the zeros.
+    fn ends_and_reports<K: Sink>(&mut self, marks: &[Mark], sink: &mut K) -> Result<(), Failed>
+        ensures tells { (meters : List Reading) (r : RunningWorld) → Stands self.old meters r
+            → ((interface : ℕ) → ZerosFitIn r.device interface)
+            → Tells (ends_and_reports (map loss_of marks.now) r) self.new meters (K.written sink.old) (K.written sink.new) result }
+        ensures cause { HasCause (K.faults sink.old) (K.faults sink.new) result }
+    {
+        match self.settle(sink) {
+            Ok(()) => {}
+            Err(failed) => return Err(failed),
+        }
+        self.reports(marks, sink)
+    }
+
+    /// The packets to the device.
+    fn out_packets<K: Sink>(&mut self, marks: &[Mark], sink: &mut K) -> Result<(), Failed>
+        ensures tells { (meters : List Reading) (r : RunningWorld) → Stands self.old meters r
+            → Tells (of_streams (out_packets r.detail (map loss_of marks.now)) r) self.new meters
+            (K.written sink.old) (K.written sink.new) result }
+        ensures cause { HasCause (K.faults sink.old) (K.faults sink.new) result }
+    {
+        self.streaming
+            .out_packets(&mut self.device, self.detail, marks, sink)
+    }
+
+    /// The packets from the device.
+    fn in_packets<K: Sink>(&mut self, marks: &[Mark], sink: &mut K) -> Result<(), Failed>
+        ensures tells { (meters : List Reading) (r : RunningWorld) → Stands self.old meters r
+            → Tells (of_streams (in_packets r.detail (map loss_of marks.now)) r) self.new meters
+            (K.written sink.old) (K.written sink.new) result }
+        ensures cause { HasCause (K.faults sink.old) (K.faults sink.new) result }
+    {
+        self.streaming
+            .in_packets(&mut self.device, self.detail, marks, sink)
+    }
+
+    /// The end of the microframe for each stream.
+    fn settle<K: Sink>(&mut self, sink: &mut K) -> Result<(), Failed>
+        ensures tells { (meters : List Reading) (r : RunningWorld) → Stands self.old meters r
+            → ((interface : ℕ) → ZerosFitIn r.device interface)
+            → Tells (of_streams (all_settled r.detail) r) self.new meters (K.written sink.old) (K.written sink.new) result }
+        ensures cause { HasCause (K.faults sink.old) (K.faults sink.new) result }
+    {
+        self.streaming.settle(&mut self.device, self.detail, sink)
+    }
+
+    /// The feedback reports.
+    fn reports<K: Sink>(&mut self, marks: &[Mark], sink: &mut K) -> Result<(), Failed>
+        ensures tells { (meters : List Reading) (r : RunningWorld) → Stands self.old meters r
+            → Tells (of_streams (all_reported r.detail (map loss_of marks.now)) r) self.new meters
+            (K.written sink.old) (K.written sink.new) result }
+        ensures cause { HasCause (K.faults sink.old) (K.faults sink.new) result }
+    {
+        self.streaming
+            .reports(&self.device, self.detail, marks, sink)
+    }
+
+    /// One microframe more has come.
+    fn pass(&mut self)
+        ensures { self.new ≡ record self.old { time = held (self.old.time + 1) } }
+    {
+        self.time = self.time.saturating_add(1);
+    }
+
+    /// Prints the number of the microframe from detail 2 on.
+    fn write_number<K: Sink>(&self, sink: &mut K) -> Result<(), Failed>
+        ensures printed { Prints (K.written sink.old) (K.written sink.new) result (number_said self.now.detail self.now.time) }
+        ensures cause { HasCause (K.faults sink.old) (K.faults sink.new) result }
+    {
+        if self.detail >= 2 {
+            return write_time(sink, self.time);
+        }
+        Ok(())
+    }
+
+    /// Each domain's part of a microframe, in order.
+    fn domain_microframes<K: Sink>(
+        &mut self,
+        rack: &Rack,
+        meters: &mut Meters,
+        sink: &mut K,
+    ) -> Result<(), Failed>
+        requires rack { IsFitted (λ v x. (⟦<dyn Unit as Unit>⟧ v).kind_of x) rack.now }
+        ensures tells { (r : RunningWorld) → Stands self.old (readings (λ v x. (⟦<dyn Meter as Meter>⟧ v).reading_of x) meters.old) r
+            → Tells (domain_microframes r.device.function.domains r) self.new (readings (λ v x. (⟦<dyn Meter as Meter>⟧ v).reading_of x) meters.new)
+            (K.written sink.old) (K.written sink.new) result }
+        ensures cause { HasCause (K.faults sink.old) (K.faults sink.new) result }
+    {
+        for place in 0..self.domain_count() {
+            match self.domain_microframe(self.clock_at(place), rack, meters, sink) {
+                Ok(()) => {}
+                Err(failed) => return Err(failed),
+            }
+        }
+        Ok(())
+    }
+
+    /// How many domains there are.
+    fn domain_count(&self) -> usize
+        ensures { result ≡ length self.now.device.function.domains }
+    {
+        self.device.function().domains().len()
+    }
+
+    /// The clock of the domain at a place.
+    fn clock_at(&self, place: usize) -> u8
+        requires { place < length self.now.device.function.domains }
+        ensures { result ≡ slice_index self.now.device.function.domains place }
+    {
+        self.device.function().domains()[place]
+    }
+
+    /// A domain's part of a microframe.
+    fn domain_microframe<K: Sink>(
+        &mut self,
+        clock: u8,
+        rack: &Rack,
+        meters: &mut Meters,
+        sink: &mut K,
+    ) -> Result<(), Failed>
+        requires rack { IsFitted (λ v x. (⟦<dyn Unit as Unit>⟧ v).kind_of x) rack.now }
+        ensures tells { (r : RunningWorld) → Stands self.old (readings (λ v x. (⟦<dyn Meter as Meter>⟧ v).reading_of x) meters.old) r
+            → Tells (domain_microframe clock r) self.new (readings (λ v x. (⟦<dyn Meter as Meter>⟧ v).reading_of x) meters.new)
+            (K.written sink.old) (K.written sink.new) result }
+        ensures cause { HasCause (K.faults sink.old) (K.faults sink.new) result }
+        ensures function { self.new.device.function ≡ self.old.device.function }
+    {
+        let ticks = self.advance(clock);
+        self.ticks(ticks, clock, rack, meters, sink)
+    }
+
+    /// A domain's clock goes on by one microframe; answers how often it ticks. These ticks are counted.
+    fn advance(&mut self, clock: u8) -> u32
+        ensures stands { (meters : List Reading) (r : RunningWorld) → Stands self.old meters r
+            → Stands self.new meters (record r { device = advanced clock r.device }) }
+        ensures ticks { (meters : List Reading) (r : RunningWorld) → Stands self.old meters r → result ≡ next_ticks clock r.device }
+        ensures function { self.new.device.function ≡ self.old.device.function }
+    {
+        let ticks = self.device.ticks(clock);
+        count_ticks(&mut self.counts, clock, ticks);
+        ticks
+    }
+
+    /// So many ticks of a domain.
+    fn ticks<K: Sink>(
+        &mut self,
+        count: u32,
+        clock: u8,
+        rack: &Rack,
+        meters: &mut Meters,
+        sink: &mut K,
+    ) -> Result<(), Failed>
+        requires rack { IsFitted (λ v x. (⟦<dyn Unit as Unit>⟧ v).kind_of x) rack.now }
+        ensures tells { (r : RunningWorld) → Stands self.old (readings (λ v x. (⟦<dyn Meter as Meter>⟧ v).reading_of x) meters.old) r
+            → Tells (tick_times count clock r) self.new (readings (λ v x. (⟦<dyn Meter as Meter>⟧ v).reading_of x) meters.new)
+            (K.written sink.old) (K.written sink.new) result }
+        ensures cause { HasCause (K.faults sink.old) (K.faults sink.new) result }
+        ensures function { self.new.device.function ≡ self.old.device.function }
+    {
+        for _ticked in 0..count {
+            match self.tick(clock, rack, meters, sink) {
+                Ok(()) => {}
+                Err(failed) => return Err(failed),
+            }
+        }
+        Ok(())
+    }
+
+    /// One tick of a domain.
+    fn tick<K: Sink>(
+        &mut self,
+        clock: u8,
+        rack: &Rack,
+        meters: &mut Meters,
+        sink: &mut K,
+    ) -> Result<(), Failed>
+        requires rack { IsFitted (λ v x. (⟦<dyn Unit as Unit>⟧ v).kind_of x) rack.now }
+        ensures tells { (r : RunningWorld) → Stands self.old (readings (λ v x. (⟦<dyn Meter as Meter>⟧ v).reading_of x) meters.old) r
+            → Tells (tick clock r) self.new (readings (λ v x. (⟦<dyn Meter as Meter>⟧ v).reading_of x) meters.new)
+            (K.written sink.old) (K.written sink.new) result }
+        ensures cause { HasCause (K.faults sink.old) (K.faults sink.new) result }
+        ensures function { self.new.device.function ≡ self.old.device.function }
+    {
+        let found = self.sound(clock, rack, meters);
+        self.show(clock, found, sink)
+    }
+
+    /// The jacks of a domain give their next frames, the device ticks, and the meters hear its output jacks. The renders are counted, and
+    /// what rings were found empty and full. Answers which.
+    fn sound(&mut self, clock: u8, rack: &Rack, meters: &mut Meters) -> Ticked
+        requires rack { IsFitted (λ v x. (⟦<dyn Unit as Unit>⟧ v).kind_of x) rack.now }
+        ensures stands { (r : RunningWorld) → Stands self.old (readings (λ v x. (⟦<dyn Meter as Meter>⟧ v).reading_of x) meters.old) r
+            → Stands self.new (readings (λ v x. (⟦<dyn Meter as Meter>⟧ v).reading_of x) meters.new) (tick clock r).world }
+        ensures found { (r : RunningWorld) → Stands self.old (readings (λ v x. (⟦<dyn Meter as Meter>⟧ v).reading_of x) meters.old) r
+            → result ≡ met_of clock (all_given clock r) }
+        ensures function { self.new.device.function ≡ self.old.device.function }
+        ensures detail { self.new.detail ≡ self.old.detail }
+    {
+        give_jacks(&mut self.device, &mut self.jacks, clock);
+        fresh_steps_have_room(self.device.function());
+        let mut steps = Steps::new();
+        let found = self.device.tick(clock, rack, meters, &mut steps);
+        self.renders = self.renders.saturating_add(steps.count());
+        self.streaming.find(self.device.function(), found);
+        found
+    }
+
+    /// Prints what a tick of a domain found, and from detail 1 on what its output jacks played.
+    fn show<K: Sink>(&self, clock: u8, found: Ticked, sink: &mut K) -> Result<(), Failed>
+        ensures printed { (before after : DeviceWorld) → before.function ≡ self.now.device.function → found ≡ met_of clock before
+            → device.Stands self.now.device after
+            → Prints (K.written sink.old) (K.written sink.new) result
+            (found_lines clock before ++ (if nat_le 1 self.now.detail then played_lines clock after else [])) }
+        ensures cause { HasCause (K.faults sink.old) (K.faults sink.new) result }
+    {
+        match write_found(sink, self.device.function().streams(), found) {
+            Ok(()) => {}
+            Err(failed) => return Err(failed),
+        }
+        self.show_played(clock, sink)
+    }
+
+    /// Prints what a domain's output jacks played, from detail 1 on.
+    fn show_played<K: Sink>(&self, clock: u8, sink: &mut K) -> Result<(), Failed>
+        ensures printed { (w : DeviceWorld) → device.Stands self.now.device w
+            → Prints (K.written sink.old) (K.written sink.new) result (if nat_le 1 self.now.detail then played_lines clock w else []) }
+        ensures cause { HasCause (K.faults sink.old) (K.faults sink.new) result }
+    {
+        if self.detail >= 1 {
+            return write_jacks(sink, &self.device, clock);
+        }
+        Ok(())
+    }
+}
+
+/// The numbers of interfaces are bytes (USB 2.0, 9.6.5): each is read, so that this is known.
+fn numbers_are_bytes(function: &Function)
+    ensures { All (λ s. s.number < 256) function.now.streams }
+{
+    for stream in function.streams() {
+        let _number = number_of(stream);
+    }
+}
+
+fn number_of(stream: &StreamInterface) -> u8
+    ensures { result ≡ stream.now.number }
+{
+    stream.number
+}
