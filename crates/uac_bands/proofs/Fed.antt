@@ -1,0 +1,201 @@
+-- The packets of one stream: as many frames as its rate values say, microframe by microframe.
+use Rattle.std.proofs.Common.{◌≡◌, ◌∙◌, sym, refl, ap, subst, arith, ℕ, zero, suc, ◌+◌, ◌-◌, ◌*◌, ◌<◌, ◌≤◌, Bool, true, false, if◌then◌else◌, nat_le, ◌==◌, min, ℤ, List, [], ◌∷◌, ◌++◌, length, map, take, Option, Some, None, is_some, inl, inr, length-append, append-nil, mul-pos}
+use Rattle.std.specs.List.{All, find, range_with_len}
+use Rattle.std.specs.Option.{option_map_or}
+use Rattle.std.proofs.lemmas.Bool.{and_parts, cases_Bool, leb-true}
+use Rattle.std.proofs.lemmas.List.{length-map, length-take}
+use Rattle.std.proofs.lemmas.List.Elements.{All-append, All-take}
+use Rattle.std.proofs.lemmas.List.FromFn.{length-range_with_len}
+use Rattle.std.proofs.lemmas.Option.{cond_some, option_and_then_some}
+use Rattle.uac_clock.specs.Nominal.{nominal_of}
+use Rattle.uac_clock.specs.Ticks.{ticks_in}
+use Rattle.uac_pcm.specs.Packets.{packed, whole_frames}
+use Rattle.uac_pcm.specs.Tones.{tone_sample}
+use Rattle.uac_pcm.specs.declared.tones.Tone.{Tone}
+use Rattle.uac_pcm.proofs.PacketsLemmas.{length-unpacked, whole_frames-packed}
+use Rattle.uac_topology.specs.Function.{FunctionFields}
+use Rattle.uac_alt.specs.Streams.{StreamFields, can_run, is_format, is_pcm, linked_channels, stream_at, stream_of}
+use Rattle.uac_rate.specs.Steadiness.{one_more}
+use Rattle.uac_flow.specs.Streams.{OutStream, after_packet, after_taking, after_ticks, feedback_of, frames_of, is_dry, is_due, settled_out, settled_when_due}
+use Rattle.uac_host.specs.HostWorld.{Pace, Track}
+use Rattle.uac_host.specs.Calls.{IsStreamOf, after_frames, channels_at, next_frames, next_size, packet_of, reported, sent, tone_frame}
+use Rattle.uac_host.proofs.KeptLemmas.{even_after}
+use Rattle.uac_host.proofs.StreamsLemmas.{channels_of}
+use Rattle.uac_device.specs.DeviceWorld.{step_in}
+use Rattle.uac_streaming.specs.StreamingWorld.{loses_out, loses_report, packet_to, place_of}
+use Rattle.uac_running.specs.RunningWorld.{streaming_of}
+use Rattle.uac_running.specs.Events.{microframe}
+use Rattle.uac_bands.specs.Life.{Life, domain_on, life_after, life_of, ticks_taken, with_end, with_packet, with_step}
+use Rattle.uac_bands.specs.Projection.{MicroframesKeepFed, PacketsHaveTheirFrames, next_life}
+use Rattle.uac_bands.proofs.Lived.{mapped, tracks_go_on}
+use Rattle.uac_bands.proofs.Stayed.{microframes_keep_the_rest}
+
+-- ---- the streams of a life
+
+took_streams : (packet : Option (List ℕ)) (o : OutStream) → (after_packet packet o).stream ≡ o.stream
+unfolding after_packet
+took_streams None o = refl
+took_streams (Some packet) o = refl
+
+tick_streams : (o : OutStream) → (after_taking o).stream ≡ o.stream
+unfolding after_taking
+tick_streams o = by (is_dry o) (is_some o.target)
+  where
+    by : (dry primed : Bool) → (if dry then record o { arrived = []; taken = 0; target = None } else if primed then record o { taken = o.taken + 1 } else o).stream ≡ o.stream
+    by true primed = refl
+    by false true = refl
+    by false false = refl
+
+ticks_stream : (count : ℕ) (o : OutStream) → (ticks_taken count o).stream ≡ o.stream
+unfolding ticks_taken
+ticks_stream zero o = refl
+ticks_stream (suc count) o = ticks_stream count (after_taking o) ∙ tick_streams o
+
+pub ended_streams : (o : OutStream) → (settled_out o).stream ≡ o.stream
+unfolding settled_out
+ended_streams o = by (is_due o.stream o.microframes)
+  where
+    by : (b : Bool) → (if b then settled_when_due o else o).stream ≡ o.stream
+    by true = refl
+    by false = refl
+
+module _ (packet : Option (List ℕ)) (step : ℕ) (lost : Bool) (l : Life) where
+  abbrev at_end : Life
+  at_end = with_end (with_step step (with_packet packet l))
+
+  pub out_stream_after : (life_after packet step lost l).out.stream ≡ l.out.stream
+  unfolding life_after settled_out
+  out_stream_after =
+      by_feedback at_end (feedback_of at_end.out)
+      ∙ ended_streams (with_step step (with_packet packet l)).out
+      ∙ ticks_stream (ticks_in ((with_packet packet l).steps ++ step ∷ [])) (after_ticks (ticks_in ((with_packet packet l).steps ++ step ∷ [])) (with_packet packet l).out)
+      ∙ by_packet (is_due l.out.stream l.out.microframes)
+    where
+      by_feedback : (m : Life) (o : Option ℕ)
+          → (option_map_or (λ value. record m { pace = if lost then m.pace else reported value m.pace; reports = one_more lost m.reports }) o m).out.stream ≡ m.out.stream
+      by_feedback m None = refl
+      by_feedback m (Some value) = refl
+
+      by_packet : (b : Bool) → (if b then record l { out = after_packet packet l.out; pace = sent l.pace } else l).out.stream ≡ l.out.stream
+      by_packet true = took_streams packet l.out
+      by_packet false = refl
+
+  pub pace_stream_after : (life_after packet step lost l).pace.stream ≡ l.pace.stream
+  unfolding life_after
+  pace_stream_after = by_feedback lost at_end (feedback_of at_end.out) ∙ by_packet (is_due l.out.stream l.out.microframes)
+    where
+      by_feedback : (b : Bool) (m : Life) (o : Option ℕ)
+          → (option_map_or (λ value. record m { pace = if b then m.pace else reported value m.pace; reports = one_more b m.reports }) o m).pace.stream ≡ m.pace.stream
+      by_feedback b m None = refl
+      by_feedback true m (Some value) = refl
+      by_feedback false m (Some value) = refl
+
+      by_packet : (b : Bool) → (if b then record l { out = after_packet packet l.out; pace = sent l.pace } else l).pace.stream ≡ l.pace.stream
+      by_packet true = refl
+      by_packet false = refl
+
+-- ---- a microframe keeps it fed
+
+pub microframes_keep_fed : MicroframesKeepFed
+microframes_keep_fed losses r interface l d ordered runs fed =
+    let packet = packet_to (loses_out losses interface) interface (streaming_of r) in
+    let lost = loses_report losses interface in
+    let paced = pace_stream_after packet (step_in r.device d) lost l in
+    let stays = microframes_keep_the_rest losses r in
+    let after = (microframe losses r).world in
+    let streams : IsStreamOf r.host.function interface (next_life losses r interface l d).pace.stream =
+    subst (IsStreamOf r.host.function interface) (sym paced) fed.streams in
+    let whole : All (λ frame. length frame ≡ channels_at r.host.function interface) (after.host.tracks interface).waiting =
+    subst (λ (t : Track). All (λ frame. length frame ≡ channels_at r.host.function interface) t.waiting)
+    (sym (tracks_go_on losses r interface l d ordered runs)) (by (is_due l.out.stream l.out.microframes)) in
+    record {
+      same = paced ∙ fed.same ∙ sym (out_stream_after packet (step_in r.device d) lost l);
+      streams = subst (λ (f : FunctionFields). IsStreamOf f interface (next_life losses r interface l d).pace.stream) (sym stays.host) streams;
+      whole = subst (λ (f : FunctionFields). All (λ frame. length frame ≡ channels_at f interface) (after.host.tracks interface).waiting) (sym stays.host) whole;
+    }
+  where
+    by : (b : Bool)
+        → All (λ frame. length frame ≡ channels_at r.host.function interface)
+        (if b then after_frames (next_size l.pace) (r.host.tracks interface) else r.host.tracks interface).waiting
+    by true = even_after (channels_at r.host.function interface) (next_size l.pace) (r.host.tracks interface) fed.whole
+    by false = fed.whole
+
+-- ---- the frames of a packet
+
+-- so many frames are next
+length_next : (channels n : ℕ) (t : Track) → length (next_frames channels n t) ≡ n
+unfolding next_frames
+length_next channels n t =
+    length-append (take n t.waiting) (map (tone_frame channels t.tone) (range_with_len t.place (n - length t.waiting)))
+    ∙ ap (λ (m : ℕ). length (take n t.waiting) + m)
+    (length-map (range_with_len t.place (n - length t.waiting)) (tone_frame channels t.tone) ∙ length-range_with_len t.place (n - length t.waiting))
+    ∙ whole (length-take n t.waiting)
+  where
+    whole : length (take n t.waiting) ≡ min n (length t.waiting) → length (take n t.waiting) + (n - length t.waiting) ≡ n
+    whole taken = omega (arith, taken)
+
+-- each with a sample for each channel
+tones_even : (channels : ℕ) (tone : Tone) (ns : List ℕ) → All (λ frame. length frame ≡ channels) (map (tone_frame channels tone) ns)
+tones_even channels tone [] k d below = absurd (omega arith)
+tones_even channels tone (n ∷ ns) zero d below = length-map (range_with_len 0 channels) (tone_sample tone n) ∙ length-range_with_len 0 channels
+tones_even channels tone (n ∷ ns) (suc k) d below = tones_even channels tone ns k d (omega arith)
+
+next_even : (channels n : ℕ) (t : Track) → All (λ frame. length frame ≡ channels) t.waiting → All (λ frame. length frame ≡ channels) (next_frames channels n t)
+unfolding next_frames
+next_even channels n t even =
+    All-append (λ frame. length frame ≡ channels) (take n t.waiting) (map (tone_frame channels t.tone) (range_with_len t.place (n - length t.waiting)))
+    (All-take (λ frame. length frame ≡ channels) n t.waiting even)
+    (tones_even channels t.tone (range_with_len t.place (n - length t.waiting)))
+
+-- the samples of a stream have bytes
+format_bytes : (channels subslot bits : ℕ) → is_format channels subslot bits ≡ true → 0 < channels * subslot
+format_bytes channels subslot bits e =
+    let a = and_parts (nat_le 1 channels) _ e in
+    let b = and_parts (nat_le channels 32) _ a.1 in
+    let c = and_parts (nat_le 1 subslot) _ b.1 in
+    mul-pos (let least : 1 ≤ channels = leb-true 1 channels a.0 in omega (arith, least)) (let least : 1 ≤ subslot = leb-true 1 subslot c.0 in omega (arith, least))
+
+stream_bytes : (function : FunctionFields) (interface : ℕ) (stream : StreamFields) → IsStreamOf function interface stream → 0 < stream.channels * stream.subslot
+unfolding stream_of stream_at can_run
+stream_bytes function interface stream of = elim (cases_Bool (of.setting == 0)) [
+  | inl zero_th ↦ (let none = rw zero_th at of.is in absurd cc)
+  | inr above ↦
+      (let found = rw above at of.is in
+      option_and_then_some _ (find (λ s. s.number == interface) function.streams) stream found (λ s _ in_setting.
+      option_and_then_some _ (find (λ t. t.number == of.setting) s.settings) stream in_setting (λ setting _ at_rate.
+      option_and_then_some (stream_at function s setting) (nominal_of of.rate) stream at_rate (λ nominal _ with_general.
+      option_and_then_some _ setting.general stream with_general (λ g _ with_format.
+      option_and_then_some _ setting.format stream with_format (λ f _ with_first.
+      option_and_then_some _ setting.first stream with_first (λ first _ ran.
+      (let both = cond_some _ _ _ ran in
+      let linked = and_parts (is_pcm g) _ both.0 in
+      let formed = and_parts (g.channels == linked_channels function s) _ linked.1 in
+      let format = and_parts (is_format g.channels f.subslot f.bits) _ formed.1 in
+      subst (λ (t : StreamFields). 0 < t.channels * t.subslot) both.1 (format_bytes g.channels f.subslot f.bits format.0)))))))))
+]
+
+-- what is packed has as many frames
+packed_frames : (stream : StreamFields) (frames : List (List ℤ)) → 0 < stream.channels * stream.subslot → All (λ frame. length frame ≡ stream.channels) frames
+    → length (frames_of stream (packed stream.subslot stream.bits frames)) ≡ length frames
+packed_frames stream frames wide even =
+    let bytes : List ℕ = packed stream.subslot stream.bits frames in
+    length-unpacked stream.channels stream.subslot stream.bits bytes
+    ∙ ap (whole_frames stream.channels stream.subslot) (sym (append-nil bytes))
+    ∙ whole_frames-packed stream.channels stream.subslot stream.bits frames [] even wide
+
+pub packets_have_their_frames : PacketsHaveTheirFrames
+unfolding life_of packet_of
+packets_have_their_frames r interface l lives fed =
+    option_and_then_some _ (r.device.outs interface) l lives (λ out outs behind_out.
+    option_and_then_some _ (r.host.paces interface) l behind_out (λ pace paces behind_pace.
+    option_and_then_some _ (domain_on r interface) l behind_pace (λ d domain behind_domain.
+    (let placed = mapped _ (place_of r.device.function interface) l behind_domain in
+    let t : Track = r.host.tracks interface in
+    let own : r.host.paces interface ≡ Some l.pace = paces ∙ ap (λ (m : Life). Some m.pace) placed.2 in
+    let s : StreamFields = l.pace.stream in
+    let linked : channels_at r.host.function interface ≡ s.channels = sym (channels_of r.host.function interface s fed.streams) in
+    let waits : All (λ frame. length frame ≡ s.channels) t.waiting = subst (λ (n : ℕ). All (λ frame. length frame ≡ n) t.waiting) linked fed.whole in
+    ap (λ (o : Option Pace). length (frames_of l.out.stream (option_map_or (λ p. packed p.stream.subslot p.stream.bits (next_frames p.stream.channels (next_size p) t)) o []))) own
+    ∙ ap (λ (of : StreamFields). length (frames_of of (packed s.subslot s.bits (next_frames s.channels (next_size l.pace) t)))) (sym fed.same)
+    ∙ packed_frames s (next_frames s.channels (next_size l.pace) t) (stream_bytes r.host.function interface s fed.streams) (next_even s.channels (next_size l.pace) t waits)
+    ∙ length_next s.channels (next_size l.pace) t))))

@@ -1,0 +1,24 @@
+-- The life of one stream: what happens once in a row, and what a microframe makes of it.
+pub mod Once
+pub mod Shown
+pub mod Ticked
+pub mod Lived
+pub mod Stayed
+pub mod Fed
+pub mod Ordered
+pub mod Numbers
+pub mod Played
+pub mod Steady
+pub mod Banded
+pub mod Unstarted
+pub mod SteadyRun
+pub mod Quiet
+pub mod NoneEmpty
+pub mod NearLevels
+pub mod Begun
+pub mod LookingBack
+pub mod Asked
+pub mod Transferred
+pub mod SoundRuns
+pub mod SoundTransfers
+pub mod SoundStart

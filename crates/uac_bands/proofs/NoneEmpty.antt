@@ -1,0 +1,223 @@
+-- No tick of a microframe finds a primed ring of a run in its bands empty.
+use Rattle.std.proofs.Common.{arith, ◌≡◌, ◌≢◌, ◌∙◌, sym, refl, ap, subst, ℕ, zero, suc, ◌<◌, ◌==◌, ◌&&◌, nat_eq, nat_le, Bool, true, false, if◌then◌else◌, cond, List, [], ◌∷◌, ◌++◌, map, filter, Option, Some, None, inl, inr}
+use Rattle.std.specs.List.{All, AllByRecursion, IsDistinct}
+use Rattle.std.specs.Option.{option_map_or}
+use Rattle.std.proofs.lemmas.Bool.{true≢false}
+use Rattle.std.proofs.lemmas.List.Elements.{All-append, All-cons, All-nil}
+use Rattle.std.proofs.lemmas.Map.Keys.{IsDistinct-head, IsDistinct-tail}
+use Rattle.uac_clock.specs.Ticks.{ticks_in}
+use Rattle.uac_entities.specs.declared.stream.StreamInterface.{StreamInterface}
+use Rattle.uac_topology.specs.Function.{FunctionFields}
+use Rattle.uac_flow.specs.Streams.{OutStream, after_packet, after_taking, after_ticks, is_dry, is_due}
+use Rattle.uac_host.specs.Calls.{sent}
+use Rattle.uac_host.specs.HostWorld.{Track}
+use Rattle.uac_device.specs.DeviceWorld.{DeviceWorld, Domain, advanced, is_due_in, is_on, level_of, next_ticks, settled, step_in, target_of}
+use Rattle.uac_script.specs.Phrase.{Loss}
+use Rattle.uac_transcript.specs.Transcript.{Said, says_level, says_under}
+use Rattle.uac_streaming.specs.StreamingWorld.{StreamingWorld, all_settled, finds_empty, goes_out, loses_out, numbers, out_packets, settled_turn}
+use Rattle.uac_running.specs.declared.jacks.Jack.{Jack}
+use Rattle.uac_running.specs.RunningWorld.{RunningWorld, streaming_of}
+use Rattle.uac_running.specs.Events.{all_given, domain_microframe, domain_microframes, microframe, tick, tick_times}
+use Rattle.uac_bands.specs.Life.{Life, ticks_taken, with_packet, with_step}
+use Rattle.uac_bands.specs.Bands.{IsSteadyMicroframe}
+use Rattle.uac_bands.specs.Run.{MicroframesFindNoneEmpty, RunInBand, StreamInBand}
+use Rattle.uac_bands.proofs.Once.{Among, apart_from, clock_among, first_or_later, other_number}
+use Rattle.uac_bands.proofs.Shown.{IsPlace, Place, Shows, packet_at, packet_shown, track_after}
+use Rattle.uac_bands.proofs.Ticked.{advanced_elsewhere, advanced_own, domain_elsewhere, domain_own, jacks_show, on_clock_only, so_many, step_at, tick_other, tick_own}
+use Rattle.uac_bands.proofs.Lived.{opened, packets_in, packets_out, place_in, step_is}
+use Rattle.uac_bands.proofs.Banded.{never_dry}
+use Rattle.uac_bands.proofs.Unstarted.{RestsNow, advanced_none, before_ticks_none, domain_none, given_none, tick_none}
+use Rattle.uac_bands.proofs.SteadyRun.{steadily}
+use Rattle.uac_bands.proofs.Quiet.{IsQuiet, domains_say, fetched, maybe_one, microframe_says, numbered, tick_quiet, ticked_on, ticks_say, turns_say}
+
+and_false : (b : Bool) → (b && false) ≡ false
+and_false true = refl
+and_false false = refl
+
+module _ (k : ℕ) where
+  -- it isn't said that the ring of this interface was found empty
+  abbrev NotUnder : Said → Type 0
+  NotUnder said = said ≢ says_under k
+
+  quiet : IsQuiet NotUnder
+  quiet = record {
+    time = λ number same. cc;
+    out = λ interface frames arrival same. cc;
+    in_ = λ interface frames lost same. cc;
+    frame = λ interface samples same. cc;
+    played = λ terminal samples same. cc;
+    over = λ interface same. cc;
+    feedback = λ interface value lost same. cc;
+  }
+
+  ends_say : (detail : ℕ) (w : StreamingWorld) → All NotUnder (all_settled detail w).lines
+  unfolding all_settled settled_turn
+  ends_say detail w = turns_say NotUnder (settled_turn detail) (λ n v.
+      maybe_one NotUnder quiet (nat_le 2 detail && (goes_out v.device.function n && is_due_in v.device n))
+      (says_level n (level_of (settled n v.device) n) (target_of (settled n v.device) n)) (λ same. cc)) (numbers w.device.function) w
+
+  -- where its ring isn't
+  unders_not : (test : ℕ → Bool) → test k ≡ false → (ss : List StreamInterface)
+      → All NotUnder (map (λ s. says_under s.number) (filter (λ s. test s.number) ss))
+  unders_not test fails [] = All-nil NotUnder
+  unders_not test fails (s ∷ ss) = by (test s.number) refl (unders_not test fails ss)
+    where
+      by : (b : Bool) → test s.number ≡ b → All NotUnder (map (λ x. says_under x.number) (filter (λ x. test x.number) ss))
+          → All NotUnder (map (λ x. says_under x.number) (cond b (s ∷ filter (λ x. test x.number) ss) (filter (λ x. test x.number) ss)))
+      by true passes rest =
+          All-cons NotUnder (says_under s.number) (map (λ x. says_under x.number) (filter (λ x. test x.number) ss))
+          (λ same. let number : s.number ≡ k = cc in true≢false (sym passes ∙ ap test number ∙ fails)) rest
+      by false fails_here rest = rest
+
+  -- ---- where it runs no stream
+
+  none_tick : (c : ℕ) (r : RunningWorld) → RestsNow k r → All NotUnder (tick c r).lines
+  none_tick c r none =
+      let w : DeviceWorld = all_given c r in
+      tick_quiet NotUnder quiet c r
+      (unders_not (finds_empty c w)
+      (ap (λ (o : Option OutStream). is_on w c k && option_map_or is_dry o false) (given_none k c r none) ∙ and_false (is_on w c k)))
+
+  none_domain : (c : ℕ) (r : RunningWorld) → RestsNow k r → All NotUnder (domain_microframe c r).lines
+  unfolding domain_microframe
+  none_domain c r none =
+      ticks_say NotUnder quiet (RestsNow k) c (none_tick c) (tick_none k c) (next_ticks c r.device) (record r { device = advanced c r.device })
+      (advanced_none k c r none)
+
+  none_says : (losses : List Loss) (r : RunningWorld) → RestsNow k r → All NotUnder (microframe losses r).lines
+  none_says losses r none =
+      microframe_says NotUnder quiet losses r
+      (domains_say NotUnder quiet (RestsNow k) none_domain (domain_none k) (fetched losses r).device.function.domains (fetched losses r)
+      (before_ticks_none k losses (numbered r) none))
+      (ends_say (ticked_on losses r).detail (streaming_of (ticked_on losses r)))
+
+-- ---- where it runs one
+
+module _ (p : Place) (is : IsPlace p) where
+  abbrev Not : Said → Type 0
+  Not = NotUnder p.interface
+
+  given_shows : (c : ℕ) (r : RunningWorld) (l : Life) (t : Track) → Shows p (streaming_of r) l t
+      → Shows p (record (streaming_of r) { device = all_given c r }) l t
+  unfolding all_given
+  given_shows c r l t s = jacks_show p (filter (λ (j : Jack). j.clock == c) r.jacks) r.device r l t s
+
+  other_tick : (c : ℕ) (r : RunningWorld) (l : Life) (t : Track) → (p.clock == c) ≡ false → Shows p (streaming_of r) l t
+      → All Not (tick c r).lines
+  other_tick c r l t other s =
+      let w : DeviceWorld = all_given c r in
+      let there = given_shows c r l t s in
+      tick_quiet Not (quiet p.interface) c r
+      (unders_not p.interface (finds_empty c w)
+      (ap (λ (b : Bool). b && option_map_or is_dry (w.outs p.interface) false) (on_clock_only p is w c there.function ∙ other)))
+
+  own_tick : (r : RunningWorld) (l : Life) (t : Track) → Shows p (streaming_of r) l t → is_dry l.out ≡ false
+      → All Not (tick p.clock r).lines
+  own_tick r l t s holds =
+      let w : DeviceWorld = all_given p.clock r in
+      let there = given_shows p.clock r l t s in
+      tick_quiet Not (quiet p.interface) p.clock r
+      (unders_not p.interface (finds_empty p.clock w)
+      (ap (λ (o : Option OutStream). is_on w p.clock p.interface && option_map_or is_dry o false) there.out
+      ∙ ap (λ (b : Bool). is_on w p.clock p.interface && b) holds ∙ and_false (is_on w p.clock p.interface)))
+
+  own_ticks : (count : ℕ) (r : RunningWorld) (l : Life) (t : Track) → Shows p (streaming_of r) l t
+      → ((i : ℕ) → i < count → is_dry (ticks_taken i l.out) ≡ false) → All Not (tick_times count p.clock r).lines
+  unfolding tick_times ticks_taken
+  own_ticks zero r l t s holds = All-nil Not
+  own_ticks (suc count) r l t s holds =
+      All-append Not (tick p.clock r).lines (tick_times count p.clock (tick p.clock r).world).lines
+      (own_tick r l t s (holds 0 (omega arith)))
+      (own_ticks count (tick p.clock r).world (record l { out = after_taking l.out }) t (tick_own p is r l t s)
+      (λ i less. holds (suc i) (omega arith)))
+
+  other_domain : (c : ℕ) (r : RunningWorld) (l : Life) (t : Track) → (p.clock == c) ≡ false → Shows p (streaming_of r) l t
+      → All Not (domain_microframe c r).lines
+  unfolding domain_microframe
+  other_domain c r l t other s =
+      ticks_say Not (quiet p.interface) (λ v. Shows p (streaming_of v) l t) c (λ v there. other_tick c v l t other there)
+      (λ v there. tick_other p is c v l t other there) (next_ticks c r.device) (record r { device = advanced c r.device })
+      (advanced_elsewhere p is c r l t other s)
+
+  -- what its ring is before each tick of its domain
+  abbrev Holds : Life → Type 0
+  Holds l =
+      (i : ℕ) → i < ticks_in (l.steps ++ step_at p ∷ [])
+      → is_dry (ticks_taken i (after_ticks (ticks_in (l.steps ++ step_at p ∷ [])) l.out)) ≡ false
+
+  own_domain : (r : RunningWorld) (l : Life) (t : Track) → Shows p (streaming_of r) l t → Holds l
+      → All Not (domain_microframe p.clock r).lines
+  unfolding domain_microframe
+  own_domain r l t s holds =
+      own_ticks (next_ticks p.clock r.device) (record r { device = advanced p.clock r.device })
+      (record l { out = after_ticks (next_ticks p.clock r.device) l.out; steps = l.steps ++ step_at p ∷ [] }) t (advanced_own p is r l t s)
+      (subst (λ (n : ℕ). (i : ℕ) → i < n → is_dry (ticks_taken i (after_ticks n l.out)) ≡ false) (sym (so_many p r l t s)) holds)
+
+  apart_domains : (clocks : List ℕ) (r : RunningWorld) (l : Life) (t : Track) → AllByRecursion (λ c. nat_eq p.clock c ≡ false) clocks
+      → Shows p (streaming_of r) l t → All Not (domain_microframes clocks r).lines
+  unfolding domain_microframes
+  apart_domains [] r l t apart s = All-nil Not
+  apart_domains (c ∷ cs) r l t apart s =
+      All-append Not (domain_microframe c r).lines (domain_microframes cs (domain_microframe c r).world).lines
+      (other_domain c r l t apart.0 s)
+      (apart_domains cs (domain_microframe c r).world l t apart.1 (domain_elsewhere p is c r l t apart.0 s))
+
+  all_domains_say : (clocks : List ℕ) (r : RunningWorld) (l : Life) (t : Track) → IsDistinct nat_eq clocks → Among p.clock clocks
+      → Shows p (streaming_of r) l t → Holds l → All Not (domain_microframes clocks r).lines
+  unfolding domain_microframes
+  all_domains_say [] r l t once there s holds = All-nil Not
+  all_domains_say (c ∷ cs) r l t once there s holds = elim (first_or_later p.clock c cs there) [
+    | inl same ↦
+        All-append Not (domain_microframe c r).lines (domain_microframes cs (domain_microframe c r).world).lines
+        (subst (λ (m : ℕ). All Not (domain_microframe m r).lines) (sym same) (own_domain r l t s holds))
+        (apart_domains cs (domain_microframe c r).world (with_step (step_at p) l) t
+        (subst (λ (m : ℕ). AllByRecursion (λ y. nat_eq m y ≡ false) cs) same (IsDistinct-head nat_eq c cs once))
+        (subst (λ (m : ℕ). Shows p (streaming_of (domain_microframe m r).world) (with_step (step_at p) l) t) (sym same) (domain_own p is r l t s)))
+    | inr later ↦
+        (let other = other_number c p.clock (apart_from c p.clock cs (IsDistinct-head nat_eq c cs once) later) in
+        All-append Not (domain_microframe c r).lines (domain_microframes cs (domain_microframe c r).world).lines
+        (other_domain c r l t other s)
+        (all_domains_say cs (domain_microframe c r).world l t (IsDistinct-tail nat_eq c cs once) later (domain_elsewhere p is c r l t other s) holds))
+  ]
+
+-- ---- a microframe
+
+steps_with_packet : (packet : Option (List ℕ)) (l : Life) → (with_packet packet l).steps ≡ l.steps
+steps_with_packet packet l = by (is_due l.out.stream l.out.microframes)
+  where
+    by : (b : Bool) → (if b then record l { out = after_packet packet l.out; pace = sent l.pace } else l).steps ≡ l.steps
+    by true = refl
+    by false = refl
+
+some_says : (losses : List Loss) (r : RunningWorld) (k : ℕ) (l : Life) (d : Domain) → RunInBand r → StreamInBand r k l d
+    → All (NotUnder k) (microframe losses r).lines
+some_says losses r k l d band stream = opened r k l d stream.runs (λ clock place steps is s.
+    (let p : Place = place_in r k d clock place in
+    let t : Track = r.host.tracks k in
+    let v : RunningWorld = numbered r in
+    let bytes : List ℕ = packet_at l.pace t in
+    let packet : Option (List ℕ) = if loses_out losses k then None else Some bytes in
+    let clocked : Among clock r.device.function.domains = subst (Among clock) band.ordered.clocks (clock_among clock r.device.domains (record d { steps = l.steps }) s.domain) in
+    let sent_shows = packets_out p is band.ordered.numbers losses r.detail (streaming_of v) l t s in
+    let came_shows = packets_in p is band.ordered.numbers losses r.detail (out_packets r.detail losses (streaming_of v)).world (with_packet packet l) (track_after l t) sent_shows in
+    let given : IsSteadyMicroframe packet (step_at p) l =
+    subst (λ (n : ℕ). IsSteadyMicroframe packet n l) (sym (step_is r k d clock place))
+    (subst (λ (b : List ℕ). IsSteadyMicroframe (if loses_out losses k then None else Some b) (step_in r.device d) l) (packet_shown p (streaming_of r) l t s)
+    (steadily losses r k l d stream)) in
+    let holds : Holds p is (with_packet packet l) =
+    subst (λ (ns : List ℕ). (i : ℕ) → i < ticks_in (ns ++ step_at p ∷ [])
+    → is_dry (ticks_taken i (after_ticks (ticks_in (ns ++ step_at p ∷ [])) (with_packet packet l).out)) ≡ false)
+    (sym (steps_with_packet packet l)) (never_dry l packet (step_at p) stream.band given) in
+    let ticks = all_domains_say p is (fetched losses r).device.function.domains (fetched losses r) (with_packet packet l) (track_after l t)
+    (subst (λ (f : FunctionFields). IsDistinct nat_eq f.domains) (sym came_shows.function) band.ordered.apart)
+    (subst (λ (f : FunctionFields). Among clock f.domains) (sym came_shows.function) clocked) came_shows holds in
+    microframe_says (NotUnder k) (quiet k) losses r ticks (ends_say k (ticked_on losses r).detail (streaming_of (ticked_on losses r)))))
+
+pub find_none_empty : MicroframesFindNoneEmpty
+find_none_empty losses r band j said below k = by (r.device.outs k) refl j said below
+  where
+    by : (o : Option OutStream) → r.device.outs k ≡ o → All (NotUnder k) (microframe losses r).lines
+    by None none = none_says k losses r none
+    by (Some o) there =
+        let stream = band.streams k o there in
+        some_says losses r k stream.0 stream.1 band stream.3

@@ -1,0 +1,5 @@
+use Rattle.uac_bands.proofs.Transferred.{transfers_keep_bands}
+use Rattle.uac_bands.proofs.laws.transfers_keep_bands.Goals as goal
+
+pub returns : goal.returns
+returns c = record { transfers = transfers_keep_bands }
