@@ -1,0 +1,160 @@
+-- The lines of a descriptor: what they feed is bytes, so each interface's number is a byte, and the device that the bytes describe
+-- starts in its bands.
+use Rattle.std.proofs.Common.{◌≡◌, sym, refl, subst, ℕ, zero, suc, ◌⊎◌, ◌<◌, ◌==◌, Bool, true, false, cond, if◌then◌else◌, List, [], ◌∷◌, ◌++◌, Option, None, Some, Result, Ok, Err, inl, inr}
+use Rattle.std.specs.List.{All, cons_option, filter_map}
+use Rattle.std.specs.Result.{result_ok}
+use Rattle.std.proofs.lemmas.List.Elements.{All-cons, All-nil}
+use Rattle.hex.specs.Hex.{decode_of}
+use Rattle.hex.proofs.HexLemmas.{decode_of-ok}
+use Rattle.uac_descriptor.specs.Classes.{is_streaming_interface}
+use Rattle.uac_descriptor.specs.Reading.{AreBytes}
+use Rattle.uac_descriptor.specs.WellFormed.{AreWellFormed}
+use Rattle.uac_descriptor.specs.declared.block.Block as block
+use Rattle.uac_descriptor.specs.declared.block.Block.TheVariants as row
+use Rattle.uac_sentence.specs.Grammar.{first_fault}
+use Rattle.uac_sentence.specs.Sentence.{HasSmallNumbers}
+use Rattle.uac_sentence.specs.declared.faults.GrammarFault.{GrammarFault}
+use Rattle.uac_sentence.proofs.SentenceLaw.{none_sentence, small_numbers}
+use Rattle.uac_sentence.proofs.WellFormedLaw.{sentence_is_well_formed}
+use Rattle.uac_entities.specs.Entities.{entities_of}
+use Rattle.uac_entities.specs.Settings.{alternate_at, alternate_of, alternates_of}
+use Rattle.uac_entities.specs.Streams.{stream_at, stream_of}
+use Rattle.uac_entities.specs.declared.alternate.Alternate.{Alternate}
+use Rattle.uac_entities.specs.declared.entity.Entity.{Entity}
+use Rattle.uac_entities.specs.declared.stream.StreamInterface.{StreamInterface}
+use Rattle.uac_topology_rules.specs.declared.fault.TopologyFault.{TopologyFault}
+use Rattle.uac_topology.specs.Function.{FunctionFields}
+use Rattle.uac_topology.specs.Topology.{IsSoundFunction, first_broken}
+use Rattle.uac_grammar.specs.Stop.{shown_fault}
+use Rattle.uac_script.specs.Phrase.{Phrase, idle, feeds, goes, controls, gets, sets, shows, breaks, appends, tracks, jacks, deviates, runs, details, reports}
+use Rattle.uac_script.specs.Line.{IsRow, Says}
+use Rattle.uac_script.specs.Reading.{answer}
+use Rattle.uac_script.specs.Words.{Word, hex_of, is_idle, words_of}
+use Rattle.uac_script.proofs.Answered.{answer_says}
+use Rattle.uac_units.specs.Hearing.{Reading}
+use Rattle.uac_running.specs.RunningWorld.{at_start}
+use Rattle.uac_running.specs.Lines.{ready_line}
+use Rattle.uac_bus.specs.Description.{blocks_of, function_of}
+use Rattle.uac_bus.specs.World.{describing, done, fed, gone, if_no_fault, if_sound, running, silently, step_describing}
+use Rattle.uac_bus.proofs.Described.{blocks_of_sentence}
+use Rattle.uac_bands.proofs.Begun.{runs_start_in_band}
+use Rattle.uac_bands.proofs.SoundStart.{runs_start_sound}
+use Rattle.uac_steady.proofs.Forward.{KeepsGood, none_quiet, one_more}
+
+-- ---- what lines feed
+
+hex_bytes : (word : Word) (bytes : List ℕ) → hex_of word ≡ Some bytes → AreBytes bytes
+hex_bytes [] bytes is = absurd (cc)
+hex_bytes (digit ∷ digits) bytes is = by (decode_of (digit ∷ digits)) refl is
+  where
+    by : (d : Result (List ℕ) _) → decode_of (digit ∷ digits) ≡ d → result_ok d ≡ Some bytes → AreBytes bytes
+    by (Ok found) from same = subst AreBytes (let e : found ≡ bytes = cc in e) (decode_of-ok (digit ∷ digits) found from).3
+    by (Err e) from same = absurd (cc)
+
+pub feeds_bytes : (text bytes : List ℕ) → answer text ≡ Ok (feeds bytes) → AreBytes bytes
+feeds_bytes text bytes is = by (subst (Says text) is (answer_says text)).0
+  where
+    by : ((is_idle text ≡ true) × (feeds bytes ≡ idle)) ⊎ IsRow (words_of text) (feeds bytes) → AreBytes bytes
+    by (inl (still, same)) = absurd (cc)
+    by (inr (digits, words, read)) = hex_bytes digits bytes read
+
+appended_bytes : (xs ys : List ℕ) → AreBytes xs → AreBytes ys → AreBytes (xs ++ ys)
+appended_bytes [] ys front back i = back i
+appended_bytes (x ∷ xs) ys front back zero = front zero
+appended_bytes (x ∷ xs) ys front back (suc i) = appended_bytes xs ys (λ k. front (suc k)) back i
+
+-- ---- the numbers of interfaces
+
+module _ (es : List Entity) (whole : List Alternate) where
+  abbrev IsSmall : StreamInterface → Type 0
+  IsSmall s = s.number < 256
+
+  streams_from : List block.Block → List StreamInterface
+  streams_from blocks = filter_map (stream_at es whole) (alternates_of blocks)
+
+  small_streams : (blocks : List block.Block) → HasSmallNumbers blocks → All IsSmall (streams_from blocks)
+  unfolding alternates_of alternate_at stream_at stream_of streams_from
+  small_streams [] small = All-nil IsSmall
+  small_streams (row.Interface i ∷ blocks) (here, rest) = by (is_streaming_interface i) (small_streams blocks rest)
+    where
+      by_setting : (t : Bool) → All IsSmall (streams_from blocks)
+          → All IsSmall (cons_option (if t then Some (stream_of es whole i.number) else None) (streams_from blocks))
+      by_setting true each = All-cons IsSmall (stream_of es whole i.number) (streams_from blocks) here each
+      by_setting false each = each
+
+      by : (t : Bool) → All IsSmall (streams_from blocks)
+          → All IsSmall (filter_map (stream_at es whole) (cons_option (cond t (Some (alternate_of i blocks)) None) (alternates_of blocks)))
+      by true each = by_setting (i.setting == 0) each
+      by false each = each
+  small_streams (b ∷ blocks) small = small_streams blocks small
+
+-- the function that bytes without a fault describe
+record IsDescribed (function : FunctionFields) : Type 0 where
+  sound : IsSoundFunction function
+  small : All (λ s. s.number < 256) function.streams
+
+described : (bytes : List ℕ) → AreBytes bytes → first_fault bytes ≡ None → first_broken (blocks_of bytes) ≡ None
+    → IsDescribed (function_of (blocks_of bytes))
+unfolding function_of streams_from
+described bytes are whole sound =
+    let sentence = none_sentence bytes are whole in
+    let blocks : List block.Block = sentence.0 in
+    let same : blocks_of bytes ≡ blocks = blocks_of_sentence bytes blocks sentence.1 in
+    let read : List block.Block = blocks_of bytes in
+    record {
+      sound = (
+        read,
+        sound,
+        record { entities = refl; domains = refl; streams = refl; control_interface = refl; total = refl },
+        subst AreWellFormed (sym same) (sentence_is_well_formed bytes blocks sentence.1),
+      );
+      small = small_streams (entities_of read) (alternates_of read) read
+          (subst HasSmallNumbers (sym same) (small_numbers blocks (subst AreBytes sentence.1.spelt are)));
+    }
+
+-- ---- lines
+
+fed_keeps : (bytes : List ℕ) (meters : List Reading) → AreBytes bytes → KeepsGood (fed bytes meters)
+unfolding fed
+fed_keeps bytes meters are = by (shown_fault bytes)
+  where
+    by : (o : Option GrammarFault) → KeepsGood (if_no_fault o (silently (describing bytes meters)))
+    by None = λ h. record { good = are; quiet = none_quiet }
+    by (Some fault) = tt
+
+gone_keeps : (bytes : List ℕ) (meters : List Reading) → AreBytes bytes → KeepsGood (gone bytes meters)
+unfolding gone
+gone_keeps bytes meters are = by (first_fault bytes) refl (first_broken (blocks_of bytes)) refl
+  where
+    function : FunctionFields
+    function = function_of (blocks_of bytes)
+
+    by : (f : Option GrammarFault) → first_fault bytes ≡ f → (b : Option TopologyFault) → first_broken (blocks_of bytes) ≡ b
+        → KeepsGood (if_no_fault f (if_sound b (done (running (at_start bytes function meters)) (ready_line function ∷ []))))
+    by None whole None sound =
+        let is = described bytes are whole sound in
+        λ h. record {
+          good = (runs_start_in_band bytes function meters is.sound is.small, runs_start_sound bytes function meters is.sound);
+          quiet =
+              one_more (ready_line function) [] (record { no_under = λ k same. cc; near = λ k level target same. absurd (cc) }) none_quiet;
+        }
+    by None whole (Some fault) broken = tt
+    by (Some fault) at b is = tt
+
+pub describing_keeps : (bytes : List ℕ) (meters : List Reading) (phrase : Phrase) → AreBytes bytes
+    → ((more : List ℕ) → phrase ≡ feeds more → AreBytes more) → KeepsGood (step_describing bytes meters phrase)
+describing_keeps bytes meters idle are feed = λ h. record { good = are; quiet = none_quiet }
+describing_keeps bytes meters (feeds more) are feed = fed_keeps (bytes ++ more) meters (appended_bytes bytes more are (feed more refl))
+describing_keeps bytes meters goes are feed = gone_keeps bytes meters are
+describing_keeps bytes meters (controls setup sent) are feed = tt
+describing_keeps bytes meters (gets name) are feed = tt
+describing_keeps bytes meters (sets name value) are feed = tt
+describing_keeps bytes meters (shows name) are feed = tt
+describing_keeps bytes meters (breaks later) are feed = tt
+describing_keeps bytes meters (appends number samples) are feed = tt
+describing_keeps bytes meters (tracks number voice) are feed = tt
+describing_keeps bytes meters (jacks terminal voice) are feed = tt
+describing_keeps bytes meters (deviates clock millionths) are feed = tt
+describing_keeps bytes meters (runs count losses) are feed = tt
+describing_keeps bytes meters (details level) are feed = tt
+describing_keeps bytes meters reports are feed = tt

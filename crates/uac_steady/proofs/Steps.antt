@@ -1,0 +1,106 @@
+-- A line done where what was given is steady behind it: it was so before.
+use Rattle.std.proofs.Common.{◌≡◌, refl, ℕ, zero, suc, ℤ, length, Bool, true, false, List, Option, None, Some}
+use Rattle.uac_rate.specs.Steadiness.{is_steady}
+use Rattle.uac_request.specs.Requests.{setup_of}
+use Rattle.uac_mixer.specs.Elements.{fits_element}
+use Rattle.uac_mixer.specs.declared.element.Element.{Element}
+use Rattle.uac_script.specs.Phrase.{Loss, Phrase, Voice, idle, feeds, goes, controls, gets, sets, shows, breaks, appends, tracks, jacks, deviates, runs, details, reports}
+use Rattle.uac_units.specs.Hearing.{Reading}
+use Rattle.uac_running.specs.RunningWorld.{RunningWorld, with_detail, with_deviation, with_samples_on, with_tone, with_track}
+use Rattle.uac_running.specs.Events.{microframe, microframes}
+use Rattle.uac_running.specs.Transfers.{element_named, read_element, set_element, show_element, transfer, with_break}
+use Rattle.uac_bus.specs.declared.fault.BusFault.{BusFault}
+use Rattle.uac_bus.specs.World.{are_frames, silently, size_of, tone_of, Step, World, describing, done, on_element, refused, running, step_running, told, unless}
+use Rattle.uac_bands.proofs.LookingBack.{calls_look_back, looks_back}
+use Rattle.uac_steady.specs.Scripts.{is_steady_in}
+
+-- ---- a rule that doesn't hold refuses
+
+pub unless_is : (P : Step → Type 0) → ((fault : BusFault) → P (refused fault)) → (b : Bool) (rule : ℕ) (s : Step)
+    → P s → P (unless b rule s)
+unless_is P fails true rule s is = is
+unless_is P fails false rule s is = fails _
+
+pub on_element_is : (P : Step → Type 0) → ((fault : BusFault) → P (refused fault)) → (o : Option Element) (step : Element → Step)
+    → ((x : Element) → P (step x)) → P (on_element o step)
+on_element_is P fails None step is = fails _
+on_element_is P fails (Some x) step is = is x
+
+-- ---- what a running device makes of lines that name something
+
+module _ (r : RunningWorld) where
+  abbrev pub reads : Element → Step
+  reads x = told (read_element x r)
+
+  abbrev pub set_to : ℤ → Element → Step
+  set_to value x = unless (fits_element x.kind value) 7 (told (set_element x value r))
+
+  abbrev pub shown : Element → Step
+  shown x = told (show_element x r)
+
+  abbrev pub appended : ℤ → List ℤ → Step
+  appended number samples = silently (running (with_samples_on (size_of number) samples r))
+
+  abbrev pub framed : ℤ → List ℤ → Step
+  framed number samples = unless (are_frames r.device.function (size_of number) (length samples)) 7 (appended number samples)
+
+  abbrev pub tracked : ℤ → Voice → Step
+  tracked number voice = silently (running (with_track (size_of number) (tone_of voice) r))
+
+  abbrev pub toned : ℤ → Voice → Step
+  toned terminal voice = silently (running (with_tone (size_of terminal) (tone_of voice) r))
+
+  abbrev pub off : ℤ → ℤ → Step
+  off clock millionths = silently (running (with_deviation (size_of clock) millionths r))
+
+  abbrev pub gone_on : ℤ → List Loss → Step
+  gone_on count losses = told (microframes losses (size_of count) r)
+
+-- ---- looking back
+
+-- what is steady behind a line was so before it
+abbrev pub WasSteady : World → Step → Type 0
+WasSteady w (done next lines) = is_steady_in next ≡ true → is_steady_in w ≡ true
+WasSteady w (refused fault) = Unit {0}
+
+microframes_before : (losses : List Loss) (count : ℕ) (r : RunningWorld) → is_steady (microframes losses count r).world.given ≡ true
+    → is_steady r.given ≡ true
+unfolding microframes
+microframes_before losses zero r h = h
+microframes_before losses (suc count) r h = looks_back losses r (microframes_before losses count (microframe losses r).world h)
+
+module _ (r : RunningWorld) where
+  abbrev Back : Step → Type 0
+  Back = WasSteady (running r)
+
+  no_step : (fault : BusFault) → Back (refused fault)
+  no_step fault = tt
+
+  pub running_looks_back : (phrase : Phrase) → Back (step_running r phrase)
+  unfolding transfer read_element set_element show_element with_break with_samples_on with_track with_tone with_detail
+  running_looks_back idle = λ h. h
+  running_looks_back (feeds more) = tt
+  running_looks_back goes = tt
+  running_looks_back (controls setup sent) = (calls_look_back r).transfer (setup_of setup) sent
+  running_looks_back (gets name) =
+      on_element_is Back no_step (element_named r name) (reads r) (λ x. (calls_look_back r).transfer _ _)
+  running_looks_back (sets name value) =
+      on_element_is Back no_step (element_named r name) (set_to r value)
+      (λ x. unless_is Back no_step (fits_element x.kind value) 7 (told (set_element x value r))
+      ((calls_look_back r).transfer _ _))
+  running_looks_back (shows name) = on_element_is Back no_step (element_named r name) (shown r) (λ x h. h)
+  running_looks_back (breaks after) = λ h. h
+  running_looks_back (appends number samples) =
+      unless_is Back no_step _ 6 (framed r number samples)
+      (unless_is Back no_step _ 7 (appended r number samples) (λ h. h))
+  running_looks_back (tracks number voice) = unless_is Back no_step _ 6 (tracked r number voice) (λ h. h)
+  running_looks_back (jacks terminal voice) = unless_is Back no_step _ 6 (toned r terminal voice) (λ h. h)
+  running_looks_back (deviates clock millionths) =
+      unless_is Back no_step _ 6 (off r clock millionths) (λ h. ((calls_look_back r).deviation (size_of clock) millionths h).1)
+  running_looks_back (runs count losses) = unless_is Back no_step _ 6 (gone_on r count losses) (microframes_before losses _ r)
+  running_looks_back (details level) = λ h. h
+  running_looks_back reports = λ h. h
+
+pub describing_looks_back : (bytes : List ℕ) (meters : List Reading) (s : Step) → WasSteady (describing bytes meters) s
+describing_looks_back bytes meters (done next lines) = λ h. refl
+describing_looks_back bytes meters (refused fault) = tt

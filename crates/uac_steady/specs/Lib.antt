@@ -1,0 +1,2 @@
+-- Steady scripts.
+pub mod Scripts

@@ -1,0 +1,37 @@
+-- Steady scripts: while every clock keeps within a thousandth and no stream loses four feedback reports in succession, no primed ring
+-- runs empty (profile; feedback is that of USB 2.0, 5.12.4.2).
+use Rattle.std.specs.Prelude.{◌≡◌, ℕ, Bool, true, List, map}
+use Rattle.std.specs.List.{All}
+use Rattle.uac_units.specs.Hearing.{Reading}
+use Rattle.uac_rate.specs.Steadiness as steadiness
+use Rattle.uac_script.specs.Reading.{answer}
+use Rattle.uac_bus.specs.World.{World, describing, running, start}
+use Rattle.uac_bus.specs.After.{After, after}
+use Rattle.uac_bands.specs.Run.{IsNearLevel, IsNoUnder, RunInBand}
+
+-- what was given so far is steady; before the descriptor's end nothing was given
+abbrev pub is_steady_in : World → Bool
+is_steady_in (describing bytes meters) = true
+is_steady_in (running r) = steadiness.is_steady r.given
+
+-- a running device is in its bands
+abbrev pub IsInBand : World → Type 0
+IsInBand (describing bytes meters) = Unit {0}
+IsInBand (running r) = RunInBand r
+
+-- what lines come to, by their texts
+abbrev pub behind_lines : List (List ℕ) → List Reading → After
+behind_lines texts shown = after (map answer texts) (start shown)
+
+-- lines of a script that leave a steady world: each stream is in its band there, no line that they printed tells of a ring that was found
+-- empty, and each that tells the level of a primed stream tells one near its target
+pub record KeepsBands (a : After) : Type 0 where
+  pub band : IsInBand a.world
+  pub no_under : All IsNoUnder a.lines
+  pub near : All IsNearLevel a.lines
+
+-- so it is for every list of lines
+abbrev pub SteadyScriptsKeepBands : Type 0
+SteadyScriptsKeepBands =
+    (texts : List (List ℕ)) (shown : List Reading) → is_steady_in (behind_lines texts shown).world ≡ true
+    → KeepsBands (behind_lines texts shown)
