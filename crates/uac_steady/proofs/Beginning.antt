@@ -58,7 +58,7 @@ feeds_bytes text bytes is = by (subst (Says text) is (answer_says text)).0
     by (inl (still, same)) = absurd (cc)
     by (inr (digits, words, read)) = hex_bytes digits bytes read
 
-appended_bytes : (xs ys : List ℕ) → AreBytes xs → AreBytes ys → AreBytes (xs ++ ys)
+pub appended_bytes : (xs ys : List ℕ) → AreBytes xs → AreBytes ys → AreBytes (xs ++ ys)
 appended_bytes [] ys front back i = back i
 appended_bytes (x ∷ xs) ys front back zero = front zero
 appended_bytes (x ∷ xs) ys front back (suc i) = appended_bytes xs ys (λ k. front (suc k)) back i
@@ -89,11 +89,11 @@ module _ (es : List Entity) (whole : List Alternate) where
   small_streams (b ∷ blocks) small = small_streams blocks small
 
 -- the function that bytes without a fault describe
-record IsDescribed (function : FunctionFields) : Type 0 where
-  sound : IsSoundFunction function
-  small : All (λ s. s.number < 256) function.streams
+pub record IsDescribed (function : FunctionFields) : Type 0 where
+  pub sound : IsSoundFunction function
+  pub small : All (λ s. s.number < 256) function.streams
 
-described : (bytes : List ℕ) → AreBytes bytes → first_fault bytes ≡ None → first_broken (blocks_of bytes) ≡ None
+pub described : (bytes : List ℕ) → AreBytes bytes → first_fault bytes ≡ None → first_broken (blocks_of bytes) ≡ None
     → IsDescribed (function_of (blocks_of bytes))
 unfolding function_of streams_from
 described bytes are whole sound =

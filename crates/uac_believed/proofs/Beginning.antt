@@ -1,0 +1,104 @@
+-- The lines of a descriptor: what they feed is bytes, and what the host knows of the device that the bytes describe is so from the start.
+use Rattle.std.proofs.Common.{◌≡◌, sym, refl, ℕ, ℤ, List, [], ◌∷◌, ◌++◌, map, Option, None, Some, IfSome}
+use Rattle.std.specs.List.{AllByRecursion}
+use Rattle.std.proofs.lemmas.List.Elements.{All-map}
+use Rattle.uac_descriptor.specs.Reading.{AreBytes}
+use Rattle.uac_sentence.specs.Grammar.{first_fault}
+use Rattle.uac_sentence.specs.declared.faults.GrammarFault.{GrammarFault}
+use Rattle.uac_entities.specs.declared.entity.Entity.{Entity}
+use Rattle.uac_topology_rules.specs.declared.fault.TopologyFault.{TopologyFault}
+use Rattle.uac_topology.specs.Function.{FunctionFields}
+use Rattle.uac_topology.specs.Topology.{IsSoundFunction, first_broken}
+use Rattle.uac_topology.proofs.PinLemmas.{have_pins}
+use Rattle.uac_store.specs.declared.keys.Key.{Key}
+use Rattle.uac_store.specs.Keyed.{value_of}
+use Rattle.uac_store.proofs.Soundness.{keyed}
+use Rattle.uac_mixer.specs.Agreement.{IsAgreed}
+use Rattle.uac_mixer.specs.Elements.{listed, unread}
+use Rattle.uac_mixer.specs.ViewWorld.{IsViewOf, known_view, read_from}
+use Rattle.uac_mixer.specs.declared.element.Element.{Element}
+use Rattle.uac_mixer.proofs.Members.{none_read}
+use Rattle.uac_mixer.proofs.Stored.{starts}
+use Rattle.uac_grammar.specs.Stop.{shown_fault}
+use Rattle.uac_script.specs.Phrase.{Phrase, idle, feeds, goes, controls, gets, sets, shows, breaks, appends, tracks, jacks, deviates, runs, details, reports}
+use Rattle.uac_units.specs.Hearing.{Reading}
+use Rattle.uac_running.specs.RunningWorld.{at_start}
+use Rattle.uac_running.specs.Lines.{ready_line}
+use Rattle.uac_device.specs.DeviceWorld.{fresh}
+use Rattle.uac_bus.specs.Description.{blocks_of, function_of}
+use Rattle.uac_bus.specs.World.{describing, done, fed, gone, if_no_fault, if_sound, running, silently, step_describing}
+use Rattle.uac_steady.proofs.Beginning.{appended_bytes, described}
+use Rattle.uac_believed.proofs.Worlds.{IsBelieved, Keeps}
+
+-- ---- the device that bytes without a fault describe
+
+-- each element that is listed is read
+unread_again : (values : List (Key × ℤ)) (xs : List Element) → AllByRecursion (λ (x : Element). x.value ≡ None) xs
+    → map unread (map (read_from values) xs) ≡ xs
+unread_again values [] none = refl
+unread_again values (x ∷ xs) none = (λ j. record x { value = sym none.0 j } ∷ unread_again values xs none.1 j)
+
+known_of : (entities : List Entity) (values : List (Key × ℤ)) → IsViewOf entities (known_view entities values)
+unfolding known_view
+known_of entities values = unread_again values (listed entities) (none_read entities)
+
+known_agrees : (entities : List Entity) (values : List (Key × ℤ)) → IsAgreed values (known_view entities values)
+unfolding known_view
+known_agrees entities values =
+    All-map (λ (x : Element). IfSome x.value (λ v. value_of values x.key ≡ Some v)) (read_from values) (listed entities)
+    (λ k d below. itself (value_of values _))
+  where
+    itself : (o : Option ℤ) → IfSome o (λ v. o ≡ Some v)
+    itself None = tt
+    itself (Some v) = refl
+
+starts_believed : (bytes : List ℕ) (function : FunctionFields) (meters : List Reading) → IsSoundFunction function
+    → IsBelieved (at_start bytes function meters)
+unfolding at_start fresh
+starts_believed bytes function meters sound = record {
+  sound = sound;
+  store = starts have_pins keyed function sound;
+  of_function = known_of function.entities (fresh function).controls;
+  agreed = known_agrees function.entities (fresh function).controls;
+}
+
+-- ---- lines
+
+fed_keeps : (bytes : List ℕ) (meters : List Reading) → AreBytes bytes → Keeps (fed bytes meters)
+unfolding fed
+fed_keeps bytes meters are = by (shown_fault bytes)
+  where
+    by : (o : Option GrammarFault) → Keeps (if_no_fault o (silently (describing bytes meters)))
+    by None = are
+    by (Some fault) = tt
+
+gone_keeps : (bytes : List ℕ) (meters : List Reading) → AreBytes bytes → Keeps (gone bytes meters)
+unfolding gone
+gone_keeps bytes meters are = by (first_fault bytes) refl (first_broken (blocks_of bytes)) refl
+  where
+    function : FunctionFields
+    function = function_of (blocks_of bytes)
+
+    by : (f : Option GrammarFault) → first_fault bytes ≡ f → (b : Option TopologyFault) → first_broken (blocks_of bytes) ≡ b
+        → Keeps (if_no_fault f (if_sound b (done (running (at_start bytes function meters)) (ready_line function ∷ []))))
+    by None whole None sound = starts_believed bytes function meters ((described bytes are whole sound).sound)
+    by None whole (Some fault) broken = tt
+    by (Some fault) at b is = tt
+
+pub describing_keeps : (bytes : List ℕ) (meters : List Reading) (phrase : Phrase) → AreBytes bytes
+    → ((more : List ℕ) → phrase ≡ feeds more → AreBytes more) → Keeps (step_describing bytes meters phrase)
+describing_keeps bytes meters idle are feed = are
+describing_keeps bytes meters (feeds more) are feed = fed_keeps (bytes ++ more) meters (appended_bytes bytes more are (feed more refl))
+describing_keeps bytes meters goes are feed = gone_keeps bytes meters are
+describing_keeps bytes meters (controls setup sent) are feed = tt
+describing_keeps bytes meters (gets name) are feed = tt
+describing_keeps bytes meters (sets name value) are feed = tt
+describing_keeps bytes meters (shows name) are feed = tt
+describing_keeps bytes meters (breaks later) are feed = tt
+describing_keeps bytes meters (appends number samples) are feed = tt
+describing_keeps bytes meters (tracks number voice) are feed = tt
+describing_keeps bytes meters (jacks terminal voice) are feed = tt
+describing_keeps bytes meters (deviates clock millionths) are feed = tt
+describing_keeps bytes meters (runs count losses) are feed = tt
+describing_keeps bytes meters (details level) are feed = tt
+describing_keeps bytes meters reports are feed = tt

@@ -1,0 +1,6 @@
+-- What the host knows: the worlds in which it is so, and line by line.
+pub mod Worlds
+pub mod Microframes
+pub mod Transferred
+pub mod Beginning
+pub mod Lines

@@ -1,0 +1,47 @@
+-- Microframes leave the host's view as it is, and the device's function and controls.
+use Rattle.std.proofs.Common.{◌≡◌, ◌∙◌, refl, ℕ, zero, suc, ◌+◌, List, [], ◌∷◌}
+use Rattle.uac_units.specs.Hearing.{held}
+use Rattle.uac_device.specs.DeviceWorld.{advanced, next_ticks}
+use Rattle.uac_script.specs.Phrase.{Loss}
+use Rattle.uac_streaming.specs.StreamingWorld.{in_packets, out_packets}
+use Rattle.uac_running.specs.RunningWorld.{RunningWorld, streaming_of, with_streaming}
+use Rattle.uac_running.specs.Events.{domain_microframe, domain_microframes, ends_and_reports, microframe, microframes, packets_and_ticks, tick, tick_times}
+use Rattle.uac_bands.proofs.Stayed.{microframes_keep_the_rest}
+use Rattle.uac_believed.proofs.Worlds.{IsBelieved, carried}
+
+tick_view : (c : ℕ) (v : RunningWorld) → (tick c v).world.view ≡ v.view
+unfolding tick
+tick_view c v = refl
+
+ticks_view : (count c : ℕ) (v : RunningWorld) → (tick_times count c v).world.view ≡ v.view
+unfolding tick_times
+ticks_view zero c v = refl
+ticks_view (suc count) c v = ticks_view count c (tick c v).world ∙ tick_view c v
+
+domain_view : (c : ℕ) (v : RunningWorld) → (domain_microframe c v).world.view ≡ v.view
+unfolding domain_microframe
+domain_view c v = ticks_view (next_ticks c v.device) c (record v { device = advanced c v.device })
+
+domains_view : (clocks : List ℕ) (v : RunningWorld) → (domain_microframes clocks v).world.view ≡ v.view
+unfolding domain_microframes
+domains_view [] v = refl
+domains_view (c ∷ cs) v = domains_view cs (domain_microframe c v).world ∙ domain_view c v
+
+microframe_view : (losses : List Loss) (r : RunningWorld) → (microframe losses r).world.view ≡ r.view
+unfolding microframe packets_and_ticks ends_and_reports
+microframe_view losses r =
+    let v : RunningWorld = record r { time = held (r.time + 1) } in
+    let sent = with_streaming v (out_packets v.detail losses (streaming_of v)).world in
+    let fetched = with_streaming sent (in_packets v.detail losses (streaming_of sent)).world in
+    domains_view fetched.device.function.domains fetched
+
+pub microframes_believed : (losses : List Loss) (count : ℕ) (r : RunningWorld) → IsBelieved r
+    → IsBelieved (microframes losses count r).world
+unfolding microframes
+microframes_believed losses zero r agree = agree
+microframes_believed losses (suc count) r agree =
+    let next : RunningWorld = (microframe losses r).world in
+    let stays = microframes_keep_the_rest losses r in
+    microframes_believed losses count next
+    (carried r.device.function next.device.function r.device.controls next.device.controls r.view next.view stays.function stays.controls
+    (microframe_view losses r) agree)

@@ -1,0 +1,102 @@
+-- What the host knows is so behind a control transfer, whatever came back of it.
+use Rattle.std.proofs.Common.{◌≡◌, ◌∙◌, refl, ap, ℕ, ◌&&◌, Bool, true, false, if◌then◌else◌, List, [], ◌∷◌, map, Option, None, Some, is_some}
+use Rattle.uac_alt.specs.Streams.{StreamFields}
+use Rattle.uac_store.proofs.Soundness.{keyed}
+use Rattle.uac_request.specs.Requests.{Held, Told, after_request, held_by, reply_of}
+use Rattle.uac_request.specs.declared.setup.Setup.{Setup}
+use Rattle.uac_device.specs.DeviceWorld.{DeviceWorld, controlled, restarted, sets_interface, stream_in_setting, tells_done}
+use Rattle.uac_mixer.specs.Agreement.{IsAgreed, StaysAgreed}
+use Rattle.uac_mixer.specs.Elements.{unread}
+use Rattle.uac_mixer.specs.Transfers.{element_after, view_after}
+use Rattle.uac_mixer.specs.ViewWorld.{IsViewOf, ViewWorld}
+use Rattle.uac_mixer.specs.declared.element.Element.{Element}
+use Rattle.uac_mixer.specs.declared.link.When.{When}
+use Rattle.uac_mixer.specs.declared.link.When.TheVariants as when
+use Rattle.uac_mixer.proofs.Agreed.{stays_known}
+use Rattle.uac_mixer.proofs.Stored.{stays}
+use Rattle.uac_entities.specs.declared.entity.Entity.{Entity}
+use Rattle.uac_streaming.specs.StreamingWorld.{StreamingWorld, followed}
+use Rattle.uac_running.specs.RunningWorld.{RunningWorld, streaming_of}
+use Rattle.uac_running.specs.Transfers.{acts, comes_back, holds_setting, reply_in, transferred}
+use Rattle.uac_believed.proofs.Worlds.{Agree, IsBelieved}
+
+-- ---- the view's elements stay those of the function
+
+unread_after : (control : ℕ) (p : Setup) (sent : List ℕ) (came : Option Told) (xs : List Element)
+    → map unread (map (element_after control p sent came) xs) ≡ map unread xs
+unread_after control p sent came [] = refl
+unread_after control p sent came (x ∷ xs) = ap (λ (ys : List Element). unread x ∷ ys) (unread_after control p sent came xs)
+
+viewed : (control : ℕ) (p : Setup) (sent : List ℕ) (came : Option Told) (entities : List Entity) (view : ViewWorld)
+    → IsViewOf entities view → IsViewOf entities (view_after control p sent came view)
+unfolding view_after
+viewed control p sent came entities view is = unread_after control p sent came view.elements ∙ is
+
+-- ---- streams that start or stop change neither
+
+abbrev Of : DeviceWorld → ViewWorld → Type 0
+Of w view = Agree w.function w.controls view
+
+follows : (b : Bool) (interface : ℕ) (begun : Option StreamFields) (s : StreamingWorld) (view : ViewWorld) → Of s.device view
+    → Of (if b then followed interface begun s else s).device view
+unfolding followed
+follows true interface begun s view agree = agree
+follows false interface begun s view agree = agree
+
+restarts : (b : Bool) (interface : ℕ) (begun : Option StreamFields) (w : DeviceWorld) (view : ViewWorld) → Of w view
+    → Of (if b then restarted interface begun w else w) view
+unfolding restarted
+restarts true interface begun w view agree = agree
+restarts false interface begun w view agree = agree
+
+-- ---- a transfer
+
+module _ (p : Setup) (bytes : List ℕ) (r : RunningWorld) (agree : IsBelieved r) where
+  abbrev holds : Held
+  holds = held_by r.device.controls r.device.settings
+
+  abbrev asked : DeviceWorld
+  asked =
+      let after = after_request r.device.function holds p bytes in
+      record r.device { controls = after.controls; settings = after.settings }
+
+  known : StaysAgreed r.device.function holds p bytes r.view
+  known =
+      stays_known keyed r.device.function holds p bytes r.view agree.sound agree.store agree.of_function agree.agreed
+
+  abbrev seen : Option Told → ViewWorld
+  seen came = view_after r.device.function.control_interface p bytes came r.view
+
+  rests : (came : Option Told) → IsAgreed r.device.controls (seen came) → Of r.device (seen came)
+  rests came agreed = record {
+    sound = agree.sound;
+    store = agree.store;
+    of_function = viewed r.device.function.control_interface p bytes came r.device.function.entities r.view agree.of_function;
+    agreed = agreed;
+  }
+
+  acted : (came : Option Told)
+      → IsAgreed (after_request r.device.function holds p bytes).controls (seen came)
+      → Of (controlled p bytes r.device) (seen came)
+  unfolding controlled
+  acted came agreed =
+      restarts (sets_interface p && tells_done (reply_of r.device.function holds p bytes)) p.index
+      (stream_in_setting r.device.function r.device.controls p.index p.value) asked (seen came) (record {
+        sound = agree.sound;
+        store = stays r.device.function holds p bytes agree.store;
+        of_function = viewed r.device.function.control_interface p bytes came r.device.function.entities r.view agree.of_function;
+        agreed = agreed;
+      })
+
+  by_break : (o : Option When)
+      → Of (acts o r.device (controlled p bytes r.device)) (seen (if is_some o then None else Some (reply_in p bytes r)))
+  by_break None = acted (Some (reply_in p bytes r)) known.answered
+  by_break (Some when.Before) = rests None known.broken_before
+  by_break (Some when.After) = acted None known.broken_after
+
+  pub transfers_believed : IsBelieved (transferred p bytes r)
+  unfolding transferred comes_back
+  transfers_believed =
+      follows (holds_setting p bytes r) p.index (stream_in_setting r.device.function r.device.controls p.index p.value)
+      (record (streaming_of r) { device = acts r.breaks r.device (controlled p bytes r.device) }) (seen (comes_back p bytes r))
+      (by_break r.breaks)

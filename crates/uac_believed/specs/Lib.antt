@@ -1,0 +1,2 @@
+-- What the host knows.
+pub mod Believed
