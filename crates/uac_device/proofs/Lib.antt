@@ -14,3 +14,4 @@ pub mod TickLemmas
 pub mod Asked
 pub mod Controlled
 pub mod Worked
+pub mod Deriving

@@ -1,6 +1,7 @@
 -- The device's part of the world: what it keeps, with the whole past of its clocks, and what each event does to it.
 -- Profile: the events and their order; the terms are those of Audio Class 2.0, 3.13.
-use Rattle.std.specs.Prelude.{ℕ, ◌+◌, ◌*◌, ◌==◌, ◌&&◌, not, Bool, false, true, if◌then◌else◌, ℤ, pos, List, [], ◌∷◌, ◌++◌, map, filter, length, Option, Some, None, IfSome, unwrap_or}
+use Rattle.std.specs.Prelude.{ℕ, ◌+◌, ◌*◌, ◌==◌, ◌&&◌, not, Bool, false, true, if◌then◌else◌, ℤ, pos, List, [], ◌∷◌, ◌++◌, map, filter}
+use Rattle.std.specs.Prelude.{length, Option, Some, None, IfSome, unwrap_or}
 use Rattle.std.specs.List.{fold, find}
 use Rattle.std.specs.Option.{option_and_then, option_map, option_map_or, option_or}
 use Rattle.uac_clock.specs.Nominal.{nominal_of, step_of}
@@ -24,7 +25,9 @@ use Rattle.uac_alt.specs.Settings.{initial_settings}
 use Rattle.uac_alt.specs.Streams.{StreamFields, stream_of}
 use Rattle.uac_request.specs.Requests.{Told, after_request, held_by, is_done, is_stalled, rate_at, reply_of, with_bytes, with_descriptor}
 use Rattle.uac_request.specs.declared.setup.Setup.{Setup}
-use Rattle.uac_flow.specs.Streams.{InStream, OutStream, after_packet, after_putting, after_sending, after_taking, after_ticks, arrival_of, feedback_of, in_level, is_dry, is_due, is_full, next_taken, out_level, sent_frames, sent_packet, settled_in, settled_out, started_in, started_out}
+use Rattle.uac_flow.specs.Streams.{InStream, OutStream, after_packet, after_putting, after_sending, after_taking, after_ticks, arrival_of}
+use Rattle.uac_flow.specs.Streams.{feedback_of, in_level, is_dry, is_due, is_full, next_taken, out_level, sent_frames, sent_packet}
+use Rattle.uac_flow.specs.Streams.{settled_in, settled_out, started_in, started_out}
 use Rattle.uac_flow.specs.Flows.{ZerosFit}
 use Rattle.uac_flow.specs.declared.arrival.Arrival.{Arrival}
 use Rattle.uac_flow.specs.declared.arrival.Arrival.TheVariants as arrival

@@ -1,5 +1,6 @@
 -- How the streams of the interfaces are kept: a lane for each streaming interface, in block order.
-use Rattle.std.specs.Prelude.{◌≡◌, ℕ, ◌≤◌, ◌==◌, ◌&&◌, Bool, true, false, if◌then◌else◌, nat_eq, ℤ, List, [], map, length, position, Option, Some, None, unwrap_or}
+use Rattle.std.specs.Prelude.{◌≡◌, ℕ, ◌≤◌, ◌==◌, ◌&&◌, Bool, true, false, if◌then◌else◌, nat_eq, ℤ, List, [], map, length, position, Option}
+use Rattle.std.specs.Prelude.{Some, None, unwrap_or}
 use Rattle.std.specs.List.{All, IsDistinct, fold}
 use Rattle.std.specs.Option.{option_and_then, option_map, option_map_or}
 use Rattle.uac_entities.specs.declared.entity.Entity.{Entity}

@@ -5,11 +5,15 @@ ghost use Rattle.uac_graph.specs.Meaning.{entity};
 ghost use Rattle.uac_graph.specs.Needs.{needed};
 ghost use Rattle.uac_units.specs.Fitting.{IsFitted};
 ghost use Rattle.uac_units.specs.Panel.{readings};
-ghost use Rattle.uac_device.specs.DeviceWorld.{DeviceWorld, ZerosFitIn, advanced, after_frames, arrival_in, deviated, feedback_in, frames_in, fresh, heard_of, is_due_in, is_input_jack, is_output_jack, level_of, met_of, next_ticks, packet_in, played_at, received, renders_of, sent, set_jack, settled, target_of, ticked};
+ghost use Rattle.uac_device.specs.DeviceWorld.{DeviceWorld, ZerosFitIn, advanced, after_frames, arrival_in, deviated, feedback_in};
+ghost use Rattle.uac_device.specs.DeviceWorld.{frames_in, fresh, heard_of, is_due_in, is_input_jack, is_output_jack, level_of, met_of};
+ghost use Rattle.uac_device.specs.DeviceWorld.{next_ticks, packet_in, played_at, received, renders_of, sent, set_jack, settled, target_of};
+ghost use Rattle.uac_device.specs.DeviceWorld.{ticked};
 ghost use Rattle.uac_device.specs.Kept.{IsControlled, Stands};
 ghost use Rattle.uac_request.specs.Requests.{seen};
 
 use crate::clocks::{Clock, advance, deviate, resting_clocks};
+use crate::derived::Derived;
 use crate::hearing::hear;
 use crate::lanes::Lanes;
 use crate::streams::{is_done, sets_interface, stream_asked};
@@ -18,7 +22,6 @@ use crate::ticking::Ticked;
 use std::alloc::Global;
 use std::marker::Model;
 use uac_alt::Settings;
-use uac_clock::nominal;
 use uac_descriptor::NoMemory;
 use uac_flow::Arrival;
 use uac_graph::{Graph, Wires};
@@ -39,6 +42,7 @@ pub struct Device {
     pub(crate) store: Store,
     settings: Settings,
     graph: Graph,
+    derived: Derived,
     wires: Wires,
     clocks: Vec<Clock>,
     lanes: Lanes,
@@ -47,6 +51,7 @@ pub struct Device {
 impl Model for Device {
     ghost use Rattle.std.specs.Prelude.{◌≡◌};
     ghost use Rattle.uac_device.specs.Kept.{DeviceFields, IsDevice};
+    ghost use Rattle.uac_device.specs.Following.{IsDerived};
 
     ghost Value = { DeviceFields };
 
@@ -67,7 +72,8 @@ impl Model for Device {
       wires = d.wires;
       lanes = d.lanes;
     })
-        × (d.graph ≡ d.function.entities) };
+        × (d.graph ≡ d.function.entities)
+        × IsDerived d.function d.store d.derived };
 }
 
 impl Device {
@@ -79,6 +85,7 @@ impl Device {
         let settings = Settings::new(&function);
         each_interface_starts_with_a_setting();
         let graph = Graph::build(alloc, &function)?;
+        let derived = Derived::new(alloc, &graph, &function, &store)?;
         let wires = Wires::new(alloc, &function)?;
         let clocks = resting_clocks(alloc, function.domains())?;
         let lanes = Lanes::new(alloc, &function)?;
@@ -87,6 +94,7 @@ impl Device {
             store,
             settings,
             graph,
+            derived,
             wires,
             clocks,
             lanes,
@@ -188,6 +196,8 @@ impl Device {
             setup,
             sent,
         );
+        self.derived
+            .follow(&self.graph, &self.function, &self.store, setup);
         if sets_interface(setup) && is_done(&answer) {
             self.lanes.restart(setup.index, begun);
         }
@@ -214,10 +224,7 @@ impl Device {
     {
         functions_are_sound(&self.function);
         interfaces_are_numbered();
-        let values = match self.store.rate(&self.function, domain) {
-            Some(rate) => nominal(rate),
-            None => None,
-        };
+        let values = self.derived.values(&self.function, &self.store, domain);
         let ticks = advance(&mut self.clocks, domain, values);
         self.lanes.count(domain, ticks);
         ticks
@@ -260,7 +267,7 @@ impl Device {
         let met = self.lanes.met(domain);
         self.lanes.give(domain, &mut self.wires);
         self.graph
-            .tick(domain, &self.store, rack, &mut self.wires, steps);
+            .tick_by(domain, &self.derived.jobs, rack, &mut self.wires, steps);
         self.lanes.put(domain, &self.wires);
         hear(self.function.entities(), &self.wires, domain, meters);
         met

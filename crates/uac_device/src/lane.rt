@@ -4,10 +4,12 @@ ghost use Rattle.std.specs.Option.{option_and_then, option_map, option_map_or};
 ghost use Rattle.uac_alt.specs.Streams.{seen};
 ghost use Rattle.uac_graph.specs.Wiring.{frame_on, held};
 ghost use Rattle.uac_flow.specs.Flows.{CanRun, ZerosFit};
-ghost use Rattle.uac_flow.specs.Streams.{InStream, OutStream, after_packet, after_sending, after_taking, arrival_of, feedback_of, next_taken, sent_frames, sent_packet, settled_in, settled_out};
+ghost use Rattle.uac_flow.specs.Streams.{InStream, OutStream, after_packet, after_sending, after_taking, arrival_of, feedback_of};
+ghost use Rattle.uac_flow.specs.Streams.{next_taken, sent_frames, sent_packet, settled_in, settled_out};
 ghost use Rattle.uac_flow.specs.declared.arrival.Arrival.TheVariants as arrival;
 ghost use Rattle.uac_device.specs.DeviceWorld.{either_due, in_from, level_in, out_from};
-ghost use Rattle.uac_device.specs.Lanes.{FitsPort, IsFlow, IsLane, KeepsFlow, KeepsLane, Turns, WiredIn, WiredOut, counted_on, found_dry, found_full, frame_given, gives_to, idle_lane, put_on, taken_on};
+ghost use Rattle.uac_device.specs.Lanes.{FitsPort, IsFlow, IsLane, KeepsFlow, KeepsLane, Turns, WiredIn, WiredOut, counted_on, found_dry};
+ghost use Rattle.uac_device.specs.Lanes.{found_full, frame_given, gives_to, idle_lane, put_on, taken_on};
 
 use arrayvec::ArrayVec;
 use std::alloc::Global;

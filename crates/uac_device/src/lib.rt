@@ -3,6 +3,8 @@
 
 /// The clocks of the domains.
 mod clocks;
+/// What follows from the controls, kept until they change.
+mod derived;
 /// The device and its events.
 mod device;
 /// What the meters hear of a tick.

@@ -1,5 +1,5 @@
 -- Entities rendered in an order, each behind its sources.
-use Rattle.std.proofs.Common.{◌≡◌, ◌∙◌, sym, ap, subst, refl, ℕ, ◌+◌, ◌<◌, ◌≤◌, Bool, true, false, ◌||◌, ◌&&◌, not, eqb, if◌then◌else◌, ℤ, List, [], Some, length, get_or, take, map, unwrap_or, ◌⊎◌, inl, inr}
+use Rattle.std.proofs.Common.{◌≡◌, ◌∙◌, sym, ap, subst, refl, ℕ, ◌+◌, ◌<◌, ◌≤◌, Bool, true, false, ◌||◌, ◌&&◌, not, eqb, if◌then◌else◌, ℤ, List, [], Some, length, get_or, take, map, unwrap_or, ◌⊎◌, inl, inr, sum}
 use Rattle.std.specs.List.{All}
 use Rattle.std.specs.Option.{option_map}
 use Rattle.std.proofs.Math.Bool.{and-false, or-false, or-true}
@@ -11,9 +11,12 @@ use Rattle.uac_topology_rules.specs.Clusters.{is_input}
 use Rattle.uac_topology_rules.specs.Links.{is_clock, signal_sources}
 use Rattle.uac_topology_rules.specs.Table.{at}
 use Rattle.uac_topology_rules.proofs.KnownSteps.{map_same}
+use Rattle.uac_store.specs.Controls.{pins_of}
+use Rattle.uac_units.specs.Rendering.{in_a_row}
 use Rattle.uac_graph.specs.Controls.{Controls}
 use Rattle.uac_graph.specs.Fitness.{IsSignalGraph}
-use Rattle.uac_graph.specs.Jobs.{FitsFrames}
+use Rattle.uac_graph.specs.Jobs.{AreJobs, FitsFrames, HasJob}
+use Rattle.uac_units.specs.declared.jobs.Job.{Job}
 use Rattle.uac_graph.specs.Meaning.{entity, frame_of, meaning, samples_by}
 use Rattle.uac_graph.specs.Needs.{depended}
 use Rattle.uac_graph.specs.Orders.{AreOrders, IsOrder, IsOrderOf, frame_after, holds}
@@ -21,7 +24,8 @@ use Rattle.uac_graph.specs.declared.orders.Order.{Order}
 use Rattle.uac_graph.specs.Wiring.{AreGiven, AreRendered, AreWiresOf, Frames, frame_on, held}
 use Rattle.uac_graph.proofs.Equation.{equation}
 use Rattle.uac_graph.proofs.Lookups.{set_fits}
-use Rattle.uac_graph.proofs.Reaching.{fits_frames, length-frame_of}
+use Rattle.uac_graph.proofs.Reaching.{fits_frames, held_pins, length-frame_of}
+use Rattle.uac_graph.proofs.Rows.{length-in_a_row}
 use Rattle.uac_graph.proofs.Ticking.{entity_itself}
 use Rattle.uac_graph.proofs.Walking.{either_way, meaning_given, rendered_by, rendered_none, signal_channels, signal_sources_of}
 
@@ -146,6 +150,25 @@ fits_at entities frames place e sound fitting inside signal here unit =
     subst (λ (f : Entity). FitsFrames f.kind f.cluster.channels (map (held frames) f.sources)) own
     (fits_frames entities frames (at entities place).id sound fitting (signal_at entities place sound inside signal) (ap (λ (f : Entity). is_input f.kind) own ∙ unit))
 
+-- the frames of its sources in a row have as many channels as its pins
+pins_at : (entities : List Entity) (frames : Frames) (place : ℕ) (e : Entity) → IsSignalGraph entities → AreWiresOf entities frames → place < length entities
+    → is_clock (at entities place).kind ≡ false → e ≡ at entities place
+    → sum (pins_of entities (at entities place)) ≡ length (in_a_row (map (held frames) e.sources))
+pins_at entities frames place e sound fitting inside signal here =
+    let own = entity_itself entities place sound inside in
+    ap (λ (f : Entity). sum (pins_of entities f)) (sym own)
+    ∙ ap sum (sym (held_pins entities frames (at entities place).id sound fitting (signal_at entities place sound inside signal)))
+    ∙ ap (λ (f : Entity). sum (map length (map (held frames) f.sources))) (own ∙ sym here)
+    ∙ sym (length-in_a_row (map (held frames) e.sources))
+
+-- its job, over them
+pub job_at : (entities : List Entity) (controls : Controls) (frames : Frames) (place : ℕ) (e : Entity) (job : Job) → IsSignalGraph entities → AreWiresOf entities frames
+    → place < length entities → is_clock (at entities place).kind ≡ false → e ≡ at entities place
+    → HasJob controls (at entities place) (sum (pins_of entities (at entities place))) job → HasJob controls e (length (in_a_row (map (held frames) e.sources))) job
+job_at entities controls frames place e job sound fitting inside signal here has =
+    subst (λ (f : Entity). HasJob controls f (length (in_a_row (map (held frames) e.sources))) job) (sym here)
+    (subst (λ (n : ℕ). HasJob controls (at entities place) n job) (pins_at entities frames place e sound fitting inside signal here) has)
+
 -- its wire has its channels
 pub wire_at : (entities : List Entity) (frames : Frames) (place : ℕ) (e : Entity) → IsSignalGraph entities → AreWiresOf entities frames → place < length entities
     → is_clock (at entities place).kind ≡ false → e ≡ at entities place
@@ -185,3 +208,11 @@ fitting_at entities controls e old new fitting there set =
 -- the orders that the graph keeps are those of its entities
 pub order_for : (entities table : List Entity) (kept lent : List Order) → table ≡ entities → lent ≡ kept → AreOrders table kept → AreOrders entities lent
 order_for entities table kept lent same own orders = subst (λ (es : List Entity). AreOrders es lent) same (subst (AreOrders table) (sym own) orders)
+
+-- the job at the next place is that of the entity there
+pub job_here : (entities : List Entity) (controls : Controls) (jobs : List Job) (job : Job) (i : ℕ) (places : List ℕ) → IsOrder entities places → AreJobs entities controls jobs
+    → i < length places → ((d : Job) → job ≡ get_or jobs (get_or places i 0) d)
+    → HasJob controls (at entities (get_or places i 0)) (sum (pins_of entities (at entities (get_or places i 0)))) job
+job_here entities controls jobs job i places order are below here =
+    let place = get_or places i 0 in
+    subst (HasJob controls (at entities place) (sum (pins_of entities (at entities place)))) (sym (here job)) (are.each place job (order.inside i 0 below))

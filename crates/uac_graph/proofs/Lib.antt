@@ -1,5 +1,6 @@
 pub mod Links
 pub mod Equation
+pub mod RowsById
 pub mod Lookups
 pub mod FromRules
 pub mod Reaching
@@ -15,3 +16,4 @@ pub mod InOrder
 pub mod Worked
 pub mod Apart
 pub mod Ordering
+pub mod Asking

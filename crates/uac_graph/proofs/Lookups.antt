@@ -14,25 +14,6 @@ use Rattle.uac_graph.specs.Meaning.{entity}
 use Rattle.uac_graph.specs.Wiring.{AreSilent, AreWiresOf, Frames, frame_on, silence}
 use Rattle.uac_graph.proofs.Links.{entity_past, place_or_none}
 
--- what is read of a lent value is read of the value
-pub read_copied : {X Y : Type 0} (read : X → Y) (o : Option (Bor X)) → option_map (λ b. read b.now) o ≡ option_map read (option_copied o)
-read_copied read None = refl
-read_copied read (Some b) = refl
-
--- one value written, as it is read
-pub written : {X : Type 0} (read : X → List ℤ) (old new : List (ℕ × X)) (key : ℕ) (value : X)
-    → ((id : ℕ) → lookup (eqb id) new ≡ cond (eqb key id) (Some value) (lookup (eqb id) old))
-    → (id : ℕ) → frame_on (map (λ e. (e.0, read e.1)) new) id ≡ (if eqb key id then Some (read value) else frame_on (map (λ e. (e.0, read e.1)) old) id)
-written {X = X} read old new key value updates id =
-    lookup-map_values read (eqb id) new
-    ∙ ap (option_map read) (updates id)
-    ∙ at_key (eqb key id)
-    ∙ ap (λ o. if eqb key id then Some (read value) else o) (sym (lookup-map_values read (eqb id) old))
-  where
-    at_key : (b : Bool) → option_map read (cond b (Some value) (lookup (eqb id) old)) ≡ (if b then Some (read value) else option_map read (lookup (eqb id) old))
-    at_key true = refl
-    at_key false = refl
-
 -- the wires of the entities below a place are silent, and there are no others
 pub record AreSilentBelow (entities : List Entity) (place : ℕ) (frames : Frames) : Type 0 where
   pub wires : (id : ℕ) → frame_on frames id ≡ (if ltb (place_of entities id) place then option_map silence (wire_channels entities id) else None)
@@ -68,6 +49,12 @@ silent_more entities place old new e before = record {
       ];
 }
 
+-- no wires yet
+pub silent_none : (entities : List Entity) (frames : Frames) → ((id : ℕ) → frame_on frames id ≡ None) → AreSilentBelow entities 0 frames
+silent_none entities frames none = record {
+  wires = λ id. none id ∙ sym (ap (λ (b : Bool). if b then option_map silence (wire_channels entities id) else None) (le-ltb (place_of entities id) 0 (omega arith)));
+}
+
 -- the channels of the entity at a place
 pub channels_at : (entities : List Entity) (id place : ℕ) → place_of entities id ≡ place
     → wire_channels entities id ≡ (if is_clock (at entities place).kind then None else Some (at entities place).cluster.channels)
@@ -95,15 +82,14 @@ silent_clock entities place frames below clock before = silent_more entities pla
         ]
 
 -- the wire of the entity at a place is put there, silent
-pub silent_wire : {X : Type 0} (read : X → List ℤ) (entities : List Entity) (place : ℕ) (old new : List (ℕ × X)) (value : X)
-    → IsSignalGraph entities → place < length entities → is_clock (at entities place).kind ≡ false → read value ≡ silence (at entities place).cluster.channels
-    → ((id : ℕ) → lookup (eqb id) new ≡ cond (eqb (at entities place).id id) (Some value) (lookup (eqb id) old))
-    → AreSilentBelow entities place (map (λ e. (e.0, read e.1)) old) → AreSilentBelow entities (place + 1) (map (λ e. (e.0, read e.1)) new)
-silent_wire {X = X} read entities place old new value sound below signal silent updates before =
-    silent_more entities place (map (λ e. (e.0, read e.1)) old) (map (λ e. (e.0, read e.1)) new)
-    (λ id. written read old new (at entities place).id value updates id ∙ same id (frame_on (map (λ e. (e.0, read e.1)) old) id)) before
+pub silent_wire : (entities : List Entity) (place : ℕ) (old new : Frames) (frame : List ℤ)
+    → IsSignalGraph entities → place < length entities → is_clock (at entities place).kind ≡ false → frame ≡ silence (at entities place).cluster.channels
+    → ((id : ℕ) → frame_on new id ≡ (if eqb (at entities place).id id then Some frame else frame_on old id))
+    → AreSilentBelow entities place old → AreSilentBelow entities (place + 1) new
+silent_wire entities place old new frame sound below signal silent updates before =
+    silent_more entities place old new (λ id. updates id ∙ same id (frame_on old id)) before
   where
-    same : (id : ℕ) (other : Option (List ℤ)) → (if eqb (at entities place).id id then Some (read value) else other)
+    same : (id : ℕ) (other : Option (List ℤ)) → (if eqb (at entities place).id id then Some frame else other)
         ≡ (if eqb (place_of entities id) place then option_map silence (wire_channels entities id) else other)
     same id o =
         let p = place_of entities id in
@@ -111,7 +97,7 @@ silent_wire {X = X} read entities place old new value sound below signal silent 
         elim (cases_eq p place) [
           | inl here ↦
               (let named : (at entities place).id ≡ id = ap (λ (q : ℕ). (at entities q).id) (sym here) ∙ id_at entities id (omega arith) in
-              ap (λ (b : Bool). if b then Some (read value) else o) (eq-eqb (at entities place).id id named)
+              ap (λ (b : Bool). if b then Some frame else o) (eq-eqb (at entities place).id id named)
               ∙ ap Some silent
               ∙ sym (
               ap (λ (b : Bool). if b then wire else o) (eq-eqb p place here)
@@ -119,7 +105,7 @@ silent_wire {X = X} read entities place old new value sound below signal silent 
               ∙ ap (λ (b : Bool). option_map silence (if b then None else Some (at entities place).cluster.channels)) signal))
           | inr other ↦
               (let apart : (at entities place).id ≡ id → ⊥ = λ e. other (ap (place_of entities) (sym e) ∙ sound.distinct place below) in
-              ap (λ (b : Bool). if b then Some (read value) else o) (ne_eqb (at entities place).id id apart)
+              ap (λ (b : Bool). if b then Some frame else o) (ne_eqb (at entities place).id id apart)
               ∙ sym (ap (λ (b : Bool). if b then wire else o) (ne_eqb p place other)))
         ]
 
@@ -144,17 +130,6 @@ silent_fits entities frames silent = record { channels = λ id. ap (option_map l
     counted : (o : Option ℕ) → option_map length (option_map silence o) ≡ o
     counted None = refl
     counted (Some n) = ap Some (length-replicate n (pos 0))
-
--- what is there is there
-pub there : {X : Type 0} (o : Option X) (x : X) → o ≡ Some x → IsSome o
-there o x e = subst IsSome (sym e) refl
-
--- an id with no value has no wire
-pub no_wire : {X : Type 0} (read : X → List ℤ) (es : List (ℕ × X)) (id count : ℕ) → lookup (eqb id) es ≡ None
-    → option_map length (frame_on (map (λ e. (e.0, read e.1)) es) id) ≡ Some count → ⊥
-no_wire read es id count absent wire =
-    let none : option_map length (frame_on (map (λ e. (e.0, read e.1)) es) id) ≡ None =
-    ap (option_map length) (lookup-map_values read (eqb id) es ∙ ap (option_map read) absent) in cc
 
 -- a frame of as many samples as stood on the wire leaves the wires fitting
 pub set_fits : (entities : List Entity) (old new : Frames) (terminal : ℕ) (frame : List ℤ) → option_map length (frame_on old terminal) ≡ Some (length frame)

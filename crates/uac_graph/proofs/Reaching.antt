@@ -94,23 +94,29 @@ fit_pins : (entities : List Entity) (id : ℕ) → IsSignalGraph entities → is
 unfolding entity
 fit_pins entities id sound signal = sound.fits (place_of entities id) (signal_below entities id signal)
 
--- what an entity takes from its sources fits it
-pub fits_frames : (entities : List Entity) (frames : Frames) (id : ℕ) → IsSignalGraph entities → AreWiresOf entities frames
-    → is_clock (entity entities id).kind ≡ false → is_input (entity entities id).kind ≡ false
-    → FitsFrames (entity entities id).kind (entity entities id).cluster.channels (map (held frames) (entity entities id).sources)
+-- the frames of its sources have the channels of its pins
+pub held_pins : (entities : List Entity) (frames : Frames) (id : ℕ) → IsSignalGraph entities → AreWiresOf entities frames
+    → is_clock (entity entities id).kind ≡ false
+    → map length (map (held frames) (entity entities id).sources) ≡ pins_of entities (entity entities id)
 unfolding pins_of
-fits_frames entities frames id sound fitting signal unit =
+held_pins entities frames id sound fitting signal =
     let e = entity entities id in
-    let pins : map length (map (held frames) e.sources) ≡ pins_of entities e =
     map-map length (held frames) e.sources
     ∙ map_same (λ s. length (held frames s)) (channels_of entities) e.sources
     (λ k below.
     held_channels entities frames (get_or e.sources k 0) fitting (source_signal entities id k sound signal below)
-    ∙ sym (channels_named entities (get_or e.sources k 0))) in
+    ∙ sym (channels_named entities (get_or e.sources k 0)))
+
+-- what an entity takes from its sources fits it
+pub fits_frames : (entities : List Entity) (frames : Frames) (id : ℕ) → IsSignalGraph entities → AreWiresOf entities frames
+    → is_clock (entity entities id).kind ≡ false → is_input (entity entities id).kind ≡ false
+    → FitsFrames (entity entities id).kind (entity entities id).cluster.channels (map (held frames) (entity entities id).sources)
+fits_frames entities frames id sound fitting signal unit =
+    let e = entity entities id in
     record {
       signal = takes e.kind signal unit;
       most = most_channels entities id sound signal;
-      pins = subst (FitsPins e.kind e.cluster.channels) (sym pins) (fit_pins entities id sound signal);
+      pins = subst (FitsPins e.kind e.cluster.channels) (sym (held_pins entities frames id sound fitting signal)) (fit_pins entities id sound signal);
     }
 
 -- a frame has a sample for each channel

@@ -32,8 +32,10 @@ FitsPins kind.ClockMultiplier channels pins = Unit {0}
 -- on for ever, a wire has at most 32 channels, and pins fit
 pub record IsSignalGraph (entities : List Entity) : Type 0 where
   pub distinct : (place : ℕ) → place < length entities → place_of entities (at entities place).id ≡ place
-  pub heard : (place : ℕ) → place < length entities → All (λ s. is_clock (entity entities s).kind ≡ false) (signal_sources (at entities place))
-  pub no_ends : (place : ℕ) → place < length entities → All (λ s. is_output (entity entities s).kind ≡ false) (signal_sources (at entities place))
+  pub heard : (place : ℕ) → place < length entities
+      → All (λ s. is_clock (entity entities s).kind ≡ false) (signal_sources (at entities place))
+  pub no_ends : (place : ℕ) → place < length entities
+      → All (λ s. is_output (entity entities s).kind ≡ false) (signal_sources (at entities place))
   pub acyclic : (place : ℕ) → place < length entities → has_walk (signal_links entities) (length entities) place ≡ false
   pub most : (place : ℕ) → place < length entities → is_clock (at entities place).kind ≡ false → (at entities place).cluster.channels ≤ 32
   pub fits : (place : ℕ) → place < length entities

@@ -1,11 +1,16 @@
 -- What a unit is asked to render, by its controls.
-use Rattle.std.specs.Prelude.{◌≡◌, ◌==◌, ◌≤◌, ℕ, ◌+◌, ◌*◌, ◌/◌, ◌%◌, Bool, true, false, if◌then◌else◌, ℤ, List, Option, Some, None, map, length}
+use Rattle.std.specs.Prelude.{◌≡◌, ◌==◌, ◌<◌, ◌≤◌, ℕ, ◌+◌, ◌*◌, ◌/◌, ◌%◌, Bool, true, false, if◌then◌else◌, ℤ, List, Option, Some, None}
+use Rattle.std.specs.Prelude.{map, length, get_or, sum}
 use Rattle.std.specs.List.{range_with_len}
+use Rattle.uac_entities.specs.declared.entity.Entity.{Entity}
 use Rattle.uac_entities.specs.declared.entity.EntityKind.{EntityKind}
 use Rattle.uac_entities.specs.declared.entity.EntityKind.TheVariants as kind
 use Rattle.uac_units.specs.declared.jobs.Job.{Job}
 use Rattle.uac_units.specs.declared.jobs.UnitKind.{UnitKind}
 use Rattle.uac_units.specs.declared.jobs.UnitKind.TheVariants as unit
+use Rattle.uac_topology_rules.specs.Links.{is_clock}
+use Rattle.uac_topology_rules.specs.Table.{at}
+use Rattle.uac_store.specs.Controls.{pins_of}
 use Rattle.uac_graph.specs.Controls.{Controls, feature_gain, node_gain, chosen_pin}
 use Rattle.uac_graph.specs.Fitness.{FitsPins}
 
@@ -66,3 +71,28 @@ pub record FitsFrames (kind : EntityKind) (channels : ℕ) (frames : List (List 
   pub signal : takes_signal kind ≡ true
   pub most : channels ≤ 32
   pub pins : FitsPins kind channels (map length frames)
+
+-- the job of an entity over so many input channels, where the entity is a unit that has channels
+abbrev pub HasJob : Controls → Entity → ℕ → Job → Type 0
+HasJob controls e inputs job =
+    (u : UnitKind) → unit_of e.kind ≡ Some u → 1 ≤ e.cluster.channels
+    → IsJob controls e.id u e.cluster.channels (length e.sources) inputs job
+
+-- the jobs of the first entities, by their places: so many
+pub record AreFirstJobs (entities : List Entity) (controls : Controls) (count : ℕ) (jobs : List Job) : Type 0 where
+  pub counted : length jobs ≡ count
+  pub each : (place : ℕ) (d : Job) → place < count
+      → HasJob controls (at entities place) (sum (pins_of entities (at entities place))) (get_or jobs place d)
+
+-- the job of each entity, by its place
+abbrev pub AreJobs : List Entity → Controls → List Job → Type 0
+AreJobs entities controls jobs = AreFirstJobs entities controls (length entities) jobs
+
+-- the same values, but for those of the entity with this id
+abbrev pub AreSameBut : ℕ → Controls → Controls → Type 0
+AreSameBut id before after = (other selector channel : ℕ) → (other ≡ id → ⊥) → before other selector channel ≡ after other selector channel
+
+-- an entity's job is small: its pins fit its channels, of which it has at most 32 where it carries a signal
+pub record IsAskable (entities : List Entity) (e : Entity) : Type 0 where
+  pub most : is_clock e.kind ≡ false → e.cluster.channels ≤ 32
+  pub fits : FitsPins e.kind e.cluster.channels (pins_of entities e)

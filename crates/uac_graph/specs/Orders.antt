@@ -1,5 +1,6 @@
 -- The order in which a clock domain's entities are rendered: each after its sources.
-use Rattle.std.specs.Prelude.{◌≡◌, ◌==◌, ◌<◌, ◌&&◌, not, ℕ, Bool, true, false, if◌then◌else◌, ℤ, List, Option, Some, length, map, take, slice_index_or}
+use Rattle.std.specs.Prelude.{◌≡◌, ◌==◌, ◌<◌, ◌&&◌, not, ℕ, Bool, true, false, if◌then◌else◌, ℤ, List, Option, Some, length, map, take}
+use Rattle.std.specs.Prelude.{slice_index_or}
 use Rattle.std.specs.List.{All, list_any}
 use Rattle.uac_entities.specs.declared.entity.Entity.{Entity}
 use Rattle.uac_topology_rules.specs.Clusters.{is_input}
@@ -37,4 +38,5 @@ pub record AreOrders (entities : List Entity) (orders : List Order) : Type 0 whe
 unfoldable pub frame_after : List Entity → Controls → ℕ → Frames → ℕ → Option (List ℤ)
 frame_after entities controls place frames id =
     let e = at entities place in
-    if not (is_input e.kind) && e.id == id then Some (frame_of controls e.id e.kind e.cluster.channels (map (held frames) e.sources)) else frame_on frames id
+    if not (is_input e.kind) && e.id == id then Some (frame_of controls e.id e.kind e.cluster.channels (map (held frames) e.sources))
+    else frame_on frames id

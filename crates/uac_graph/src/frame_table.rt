@@ -1,14 +1,14 @@
 // Frames by the ids of their entities.
-ghost use Rattle.std.specs.Prelude.{◌≡◌, ◌==◌, ◌≤◌, ◌<◌, ◌+◌, ◌^◌, ℕ, if◌then◌else◌, Some, IfOk, List, length, map};
+ghost use Rattle.std.specs.Prelude.{◌≡◌, ◌==◌, ◌≤◌, ◌<◌, ◌+◌, ◌^◌, ℕ, if◌then◌else◌, Some, None, IfOk, List, length, map, replicate};
 ghost use Rattle.uac_entities.specs.declared.entity.Entity.{Entity};
 ghost use Rattle.std.specs.Option.{option_map};
 ghost use Rattle.uac_units.specs.Fitting.{IsFitted};
 ghost use Rattle.uac_units.specs.Rendering.{FitsKind, rendered};
 ghost use Rattle.uac_graph.specs.Fitness.{IsSignalGraph};
+ghost use Rattle.uac_graph.specs.Rows.{frames_in};
 ghost use Rattle.uac_graph.specs.Wiring.{AreSilent, AreWiresOf, frame_on};
 
 use crate::frames::silent;
-use indexmap::IndexMap;
 use std::alloc::Global;
 use std::marker::Model;
 use uac_descriptor::NoMemory;
@@ -17,19 +17,23 @@ use uac_pcm::Frame;
 use uac_topology_rules::is_clock;
 use uac_units::{Job, Pins, Rack, Steps, Unit, UnitKind};
 
-/// A frame for each terminal and each unit, by the entity's id.
+/// A frame for each terminal and each unit, at the place that is the entity's id. There is a place for each id.
 #[derive(Drop)]
 pub struct FrameTable {
-    frames: IndexMap<u8, Frame>,
+    row: Vec<Option<Frame>>,
 }
 
 impl Model for FrameTable {
-    ghost use Rattle.std.specs.Prelude.{map};
+    ghost use Rattle.std.specs.Prelude.{◌≡◌, length, map};
+    ghost use Rattle.std.specs.Option.{option_map};
+    ghost use Rattle.uac_graph.specs.Rows.{frames_in};
     ghost use Rattle.uac_graph.specs.Wiring.{Frames};
 
     ghost Value = { Frames };
 
-    ghost view = { λ t. map (λ e. (e.0, e.1.items)) t.frames.entries };
+    ghost view = { λ t. frames_in (map (option_map (λ f. f.items)) t.row.items) };
+
+    ghost invariant = { λ t. length t.row.items ≡ 256 };
 }
 
 impl FrameTable {
@@ -38,8 +42,8 @@ impl FrameTable {
         requires { IsSignalGraph entities.now }
         ensures { IfOk result (λ table. AreSilent entities.now table) }
     {
-        let frames = silent_frames(alloc, entities)?;
-        Ok(FrameTable { frames })
+        let row = silent_row(alloc, entities)?;
+        Ok(FrameTable { row })
     }
 
     /// Puts a copy of a frame in the place of the one that is there.
@@ -48,7 +52,7 @@ impl FrameTable {
         ensures wires { (k : ℕ) → frame_on self.new k ≡ (if id == k then Some frame.now.items else frame_on self.old k) }
         ensures fitting { (entities : List Entity) → AreWiresOf entities self.old → AreWiresOf entities self.new }
     {
-        if let Some(held) = self.frames.get_mut(&id) {
+        if let Some(held) = &mut self.row[id as usize] {
             refill(held, frame.as_slice());
         }
     }
@@ -57,7 +61,10 @@ impl FrameTable {
     pub(crate) fn get(&self, id: u8) -> Option<&Frame>
         ensures { option_map (λ frame. frame.now.items) result ≡ frame_on self.now id }
     {
-        self.frames.get(&id)
+        match &self.row[id as usize] {
+            Some(frame) => Some(frame),
+            None => None,
+        }
     }
 
     /// Renders a job over these inputs onto the frame of an entity, once, with the rack's unit of the kind.
@@ -74,10 +81,11 @@ impl FrameTable {
         requires fits { FitsKind kind job.now pins.now.items }
         requires there { option_map length (frame_on self.old id) ≡ Some job.now.outputs }
         requires room { steps.old + 1 < 2 ^ 64 }
-        ensures frames { (k : ℕ) → frame_on self.new k ≡ (if id == k then Some (rendered kind job.now pins.now.items) else frame_on self.old k) }
+        ensures frames { (k : ℕ)
+            → frame_on self.new k ≡ (if id == k then Some (rendered kind job.now pins.now.items) else frame_on self.old k) }
         ensures counted { steps.new ≡ steps.old + 1 }
     {
-        if let Some(frame) = self.frames.get_mut(&id) {
+        if let Some(frame) = &mut self.row[id as usize] {
             rack.unit(kind).render(job, pins, frame, steps);
         }
     }
@@ -88,7 +96,7 @@ impl FrameTable {
         requires there { option_map length (frame_on self.old id) ≡ Some (length samples.now.items) }
         ensures { (k : ℕ) → frame_on self.new k ≡ (if id == k then Some samples.now.items else frame_on self.old k) }
     {
-        if let Some(frame) = self.frames.get_mut(&id) {
+        if let Some(frame) = &mut self.row[id as usize] {
             refill(frame, samples.as_slice());
         }
     }
@@ -104,19 +112,31 @@ fn refill(frame: &mut Frame, samples: &[i32])
 }
 
 // Silence for each of these entities that isn't a clock.
-fn silent_frames(alloc: Global, entities: &[Entity]) -> Result<IndexMap<u8, Frame>, NoMemory>
+fn silent_row(alloc: Global, entities: &[Entity]) -> Result<Vec<Option<Frame>>, NoMemory>
     requires { IsSignalGraph entities.now }
-    ensures { IfOk result (λ frames. AreSilent entities.now (map (λ e. (e.0, e.1.items)) frames.entries)) }
+    ensures silent { IfOk result (λ row. AreSilent entities.now (frames_in (map (option_map (λ f. f.items)) row.items))) }
+    ensures sized { IfOk result (λ row. length row.items ≡ 256) }
 {
-    let mut frames = IndexMap::new(alloc);
+    let mut row = empty_row(alloc)?;
     for entity in entities {
         if is_clock(entity.kind) {
             continue;
         }
-        match frames.insert(entity.id, silent(entity.cluster.channels)) {
-            Ok(_) => {}
+        row[entity.id as usize] = Some(silent(entity.cluster.channels));
+    }
+    Ok(row)
+}
+
+// A place for each id, with no frame.
+fn empty_row(alloc: Global) -> Result<Vec<Option<Frame>>, NoMemory>
+    ensures { IfOk result (λ row. row.items ≡ replicate 256 None) }
+{
+    let mut row = Vec::new(alloc);
+    for _each in 0..256usize {
+        match row.push(None) {
+            Ok(()) => {}
             Err(_) => return Err(NoMemory),
         }
     }
-    Ok(frames)
+    Ok(row)
 }

@@ -1,14 +1,18 @@
 // The signal graph: which unit takes which signals, rendered tick by tick.
-ghost use Rattle.std.specs.Prelude.{◌≡◌, ◌<◌, ◌+◌, ◌^◌, ℕ, List, false, IfOk, length};
+ghost use Rattle.std.specs.Prelude.{◌≡◌, ◌<◌, ◌+◌, ◌^◌, ℕ, List, false, IfOk, length, sum};
 ghost use Rattle.uac_topology_rules.specs.Links.{is_clock};
 ghost use Rattle.uac_topology_rules.specs.Table.{at};
 ghost use Rattle.uac_units.specs.Fitting.{IsFitted};
-ghost use Rattle.uac_graph.specs.Controls.{held_in};
+ghost use Rattle.uac_store.specs.Controls.{pins_of};
+ghost use Rattle.uac_graph.specs.Controls.{Controls, held_in};
+ghost use Rattle.uac_graph.specs.Jobs.{AreJobs, AreSameBut, HasJob};
 ghost use Rattle.uac_graph.specs.Needs.{depended, needed, unit_count};
 ghost use Rattle.uac_graph.specs.Orders.{frame_after};
 ghost use Rattle.uac_graph.specs.Wiring.{AreRendered, AreWiresOf, frame_on, held};
 
 use crate::copies::copies_of;
+use crate::job_table::Jobs;
+use crate::jobs::{ask, no_job};
 use crate::orders::{Order, orders_of, places_for};
 use crate::wires::Wires;
 use std::alloc::Global;
@@ -18,7 +22,7 @@ use uac_store::Store;
 use uac_topology::Function;
 use uac_topology::laws::functions_are_sound;
 use uac_topology_rules::{EntityTable, is_input};
-use uac_units::{Rack, Steps, Unit};
+use uac_units::{Job, Rack, Steps, Unit};
 
 /// The signal graph of an audio function (Audio Class 2.0, 3.13), with an order for each clock domain in which its entities are
 /// rendered.
@@ -64,13 +68,22 @@ impl Graph {
         ensures fitting { AreWiresOf self.now wires.new }
         ensures once { steps.new ≡ steps.old + length (needed self.now domain) }
     {
+        let mut job = no_job();
         for place in places_for(&self.orders, domain) {
-            self.render(*place, store, rack, wires, steps);
+            self.render(*place, store, &mut job, rack, wires, steps);
         }
     }
 
-    // Renders the entity at a place, where its sources are rendered. An input terminal has its frame.
-    fn render(&self, place: usize, store: &Store, rack: &Rack, wires: &mut Wires, steps: &mut Steps)
+    // Renders the entity at a place, where its sources are rendered, under the controls held. An input terminal has its frame.
+    fn render(
+        &self,
+        place: usize,
+        store: &Store,
+        job: &mut Job,
+        rack: &Rack,
+        wires: &mut Wires,
+        steps: &mut Steps,
+    )
         requires rack { IsFitted (λ v x. (⟦<dyn Unit as Unit>⟧ v).kind_of x) rack.now }
         requires inside { place < length self.now }
         requires signal { is_clock (at self.now place).kind ≡ false }
@@ -80,9 +93,65 @@ impl Graph {
         ensures fitting { AreWiresOf self.now wires.new }
         ensures counted { steps.new ≡ steps.old + unit_count (at self.now place).kind }
     {
+        ask(job, &self.table, store, self.table.at(place));
+        self.render_by(place, job, rack, wires, steps);
+    }
+
+    /// The jobs of its units under the controls held, with all the memory that they will use.
+    pub fn jobs(&self, alloc: Global, store: &Store) -> Result<Jobs, NoMemory>
+        ensures { IfOk result (λ jobs. AreJobs self.now (held_in store.now) jobs) }
+    {
+        Jobs::new(alloc, &self.table, store)
+    }
+
+    /// Renews the job of the entity with an id, once controls of it have changed and no others. It takes no memory.
+    pub fn renew(&self, jobs: &mut Jobs, store: &Store, id: u8)
+        requires { length jobs.old ≡ length self.now }
+        ensures { (before : Controls) → AreJobs self.now before jobs.old → AreSameBut id before (held_in store.now)
+            → AreJobs self.now (held_in store.now) jobs.new }
+    {
+        jobs.renew(&self.table, store, id);
+    }
+
+    /// The same tick by jobs at hand: the samples are those of the meaning under the controls of which these are the jobs.
+    pub fn tick_by(
+        &self,
+        domain: u8,
+        jobs: &Jobs,
+        rack: &Rack,
+        wires: &mut Wires,
+        steps: &mut Steps,
+    )
+        requires rack { IsFitted (λ v x. (⟦<dyn Unit as Unit>⟧ v).kind_of x) rack.now }
+        requires jobs { (controls : Controls) × AreJobs self.now controls jobs.now }
+        requires wires { AreWiresOf self.now wires.old }
+        requires room { steps.old + length (needed self.now domain) < 2 ^ 64 }
+        ensures rendered { (controls : Controls) → AreJobs self.now controls jobs.now
+            → AreRendered self.now controls (held wires.old) (depended self.now domain) wires.old wires.new }
+        ensures fitting { AreWiresOf self.now wires.new }
+        ensures once { steps.new ≡ steps.old + length (needed self.now domain) }
+    {
+        for place in places_for(&self.orders, domain) {
+            self.render_by(*place, jobs.at(*place), rack, wires, steps);
+        }
+    }
+
+    // Renders the entity at a place by its job, where its sources are rendered. An input terminal has its frame.
+    fn render_by(&self, place: usize, job: &Job, rack: &Rack, wires: &mut Wires, steps: &mut Steps)
+        requires rack { IsFitted (λ v x. (⟦<dyn Unit as Unit>⟧ v).kind_of x) rack.now }
+        requires inside { place < length self.now }
+        requires signal { is_clock (at self.now place).kind ≡ false }
+        requires job { (controls : Controls) × HasJob controls (at self.now place) (sum (pins_of self.now (at self.now place))) job.now }
+        requires wires { AreWiresOf self.now wires.old }
+        requires room { steps.old + unit_count (at self.now place).kind < 2 ^ 64 }
+        ensures rendered { (controls : Controls) → HasJob controls (at self.now place) (sum (pins_of self.now (at self.now place))) job.now
+            → (id : ℕ) → frame_on wires.new id ≡ frame_after self.now controls place wires.old id }
+        ensures fitting { AreWiresOf self.now wires.new }
+        ensures counted { steps.new ≡ steps.old + unit_count (at self.now place).kind }
+    {
         let entity = self.table.at(place);
         if !is_input(entity.kind) {
-            wires.render(entity, store, rack, steps);
+            wires.render(entity, job, rack, steps);
         }
     }
 }

@@ -1,11 +1,13 @@
 // What a unit is asked to render, and over which inputs.
-ghost use Rattle.std.specs.Prelude.{◌≡◌, ◌≤◌, ◌<◌, ◌*◌, map, length};
+ghost use Rattle.std.specs.Prelude.{◌≡◌, ◌≤◌, ◌<◌, ◌*◌, map, length, sum};
 ghost use Rattle.std.specs.List.{range_with_len};
+ghost use Rattle.uac_store.specs.Controls.{pins_of};
 ghost use Rattle.uac_units.specs.Rendering.{in_a_row};
 ghost use Rattle.uac_units.specs.declared.jobs.UnitKind.TheVariants.{Selector};
 ghost use Rattle.uac_graph.specs.Controls.{held_in};
 ghost use Rattle.uac_graph.specs.Jobs as spec;
-ghost use Rattle.uac_graph.specs.Jobs.{IsJob};
+ghost use Rattle.uac_graph.specs.Jobs.{HasJob, IsAskable, IsJob};
+ghost use Rattle.uac_graph.specs.Meaning.{entity};
 ghost use Rattle.uac_graph.specs.Needs as needs;
 ghost use Rattle.uac_graph.specs.Wiring.{held};
 
@@ -14,6 +16,7 @@ use crate::frame_table::FrameTable;
 use arrayvec::ArrayVec;
 use uac_entities::{Entity, EntityKind};
 use uac_store::Store;
+use uac_topology_rules::EntityTable;
 use uac_units::{Job, Pins, UnitKind};
 
 /// The unit that renders an entity of this kind, None for terminals and clocks.
@@ -56,8 +59,46 @@ pub(crate) fn no_job() -> Job {
     }
 }
 
-/// Makes it the job of an entity's unit over so many input channels, under the controls held.
-pub(crate) fn set_job(job: &mut Job, store: &Store, entity: &Entity, kind: UnitKind, inputs: usize)
+/// Makes it the job of an entity of the table under the controls held, where the entity is a unit that has channels.
+pub(crate) fn ask(job: &mut Job, table: &EntityTable, store: &Store, entity: &Entity)
+    requires { IsAskable table.now entity.now }
+    ensures { HasJob (held_in store.now) entity.now (sum (pins_of table.now entity.now)) job.new }
+{
+    if entity.cluster.channels == 0 {
+        return;
+    }
+    match unit_of(entity.kind) {
+        Some(kind) => set_job(job, store, entity, kind, inputs_of(table, entity)),
+        None => {}
+    }
+}
+
+// How many channels the pins of an entity have together.
+fn inputs_of(table: &EntityTable, entity: &Entity) -> usize
+    requires { sum (pins_of table.now entity.now) ≤ 256 }
+    ensures { result ≡ sum (pins_of table.now entity.now) }
+{
+    let mut inputs = 0;
+    for source in entity.sources.as_slice() {
+        inputs += channels_of(table, *source) as usize;
+    }
+    inputs
+}
+
+// The channels of the entity with an id, 0 where there is none.
+fn channels_of(table: &EntityTable, id: u8) -> u8
+    ensures { result ≡ (entity table.now id).cluster.channels }
+{
+    let place = table.place_of(id);
+    if place < table.as_slice().len() {
+        table.at(place).cluster.channels
+    } else {
+        0
+    }
+}
+
+// Makes it the job of an entity's unit over so many input channels, under the controls held.
+fn set_job(job: &mut Job, store: &Store, entity: &Entity, kind: UnitKind, inputs: usize)
     requires pins { kind ≡ Selector → length entity.now.sources ≤ 256 }
     requires gains { spec.gain_count kind entity.now.cluster.channels inputs ≤ 256 }
     ensures job { IsJob (held_in store.now) entity.now.id kind entity.now.cluster.channels (length entity.now.sources) inputs job.new }

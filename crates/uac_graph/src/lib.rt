@@ -11,6 +11,8 @@ mod frame_table;
 mod frames;
 /// The graph and its ticks.
 mod graph;
+/// What all units are asked, kept from tick to tick.
+mod job_table;
 /// What a unit is asked to render.
 mod jobs;
 pub mod laws;
@@ -22,6 +24,7 @@ mod terminals;
 mod wires;
 
 pub use graph::Graph;
+pub use job_table::Jobs;
 pub use terminals::is_end;
 pub use wires::Wires;
 

@@ -73,7 +73,8 @@ fn visit(table: &EntityTable, id: u8, links: usize, places: &mut Vec<usize>) -> 
     requires ends { has_walk (signal_links table.now) links (place_of table.now id) ≡ false }
     requires order { IsOrder table.now places.old.items }
     ensures order { OnOk result (IsOrder table.now places.new.items) }
-    ensures all { OnOk result ((k : ℕ) → holds table.now places.new.items k ≡ (holds table.now places.old.items k || reaches table.now links id k)) }
+    ensures all { OnOk result ((k : ℕ)
+        → holds table.now places.new.items k ≡ (holds table.now places.old.items k || reaches table.now links id k)) }
 {
     let place = table.place_of(id);
     if places.as_slice().contains(&place) {

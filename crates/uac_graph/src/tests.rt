@@ -252,13 +252,14 @@ fn checked(alloc: Global, blocks: &[Block]) -> Result<Function, AllocError> {
     }
 }
 
-/// One tick of a function after these changes of controls, with (1, -1) at jack 2 and 65536 at jack 5, and how often units were
-/// rendered.
+/// One tick of a function, by jobs at hand or not, after these changes of controls, with (1, -1) at jack 2 and 65536 at jack 5, and how
+/// often units were rendered.
 fn play_on(
     alloc: Global,
     function: &Function,
     rack: &Rack,
     changes: &[(u8, u8, u8, i32)],
+    by_jobs: bool,
 ) -> Result<(Wires, u64), AllocError>
     requires { IsFitted (λ v x. (⟦<dyn Unit as Unit>⟧ v).kind_of x) rack.now }
 {
@@ -281,16 +282,29 @@ fn play_on(
     give(&mut wires, 5, &[65536]);
     let mut steps = Steps::new();
     fresh_steps_have_room(function);
-    graph.tick(1, &store, rack, &mut wires, &mut steps);
+    if by_jobs {
+        let jobs = match graph.jobs(alloc, &store) {
+            Ok(jobs) => jobs,
+            Err(_) => return Err(AllocError),
+        };
+        graph.tick_by(1, &jobs, rack, &mut wires, &mut steps);
+    } else {
+        graph.tick(1, &store, rack, &mut wires, &mut steps);
+    }
     Ok((wires, steps.count()))
 }
 
 /// One tick of the small function after these changes of controls.
-fn play(alloc: Global, rack: &Rack, changes: &[(u8, u8, u8, i32)]) -> Result<Wires, AllocError>
+fn play(
+    alloc: Global,
+    rack: &Rack,
+    changes: &[(u8, u8, u8, i32)],
+    by_jobs: bool,
+) -> Result<Wires, AllocError>
     requires { IsFitted (λ v x. (⟦<dyn Unit as Unit>⟧ v).kind_of x) rack.now }
 {
     let function = function(alloc)?;
-    let (wires, _steps) = play_on(alloc, &function, rack, changes)?;
+    let (wires, _steps) = play_on(alloc, &function, rack, changes, by_jobs)?;
     Ok(wires)
 }
 
@@ -311,18 +325,20 @@ fn ticks_of_a_small_function(rt: HostRuntime) -> Result<(), Fail> {
         Box::new(alloc, PlainFeature)?,
         Box::new(alloc, PlainEffect)?,
     );
-    let wires = play(alloc, &rack, &[])?;
-    assert!(rt; has(&wires, 4, &[65536]));
-    assert!(rt; has(&wires, 8, &[2, -2]));
-    assert!(rt; has(&wires, 7, &[1, -1]));
-    assert!(rt; wires.get(1).is_none());
+    for by_jobs in [false, true] {
+        let wires = play(alloc, &rack, &[], by_jobs)?;
+        assert!(rt; has(&wires, 4, &[65536]));
+        assert!(rt; has(&wires, 8, &[2, -2]));
+        assert!(rt; has(&wires, 7, &[1, -1]));
+        assert!(rt; wires.get(1).is_none());
 
-    let wires = play(alloc, &rack, &[(9, 1, 0, 2)])?;
-    assert!(rt; has(&wires, 7, &[2, -2]));
+        let wires = play(alloc, &rack, &[(9, 1, 0, 2)], by_jobs)?;
+        assert!(rt; has(&wires, 7, &[2, -2]));
 
-    let wires = play(alloc, &rack, &[(3, 1, 0, 1), (6, 2, 1, -256)])?;
-    assert!(rt; has(&wires, 7, &[0, 0]));
-    assert!(rt; has(&wires, 4, &[58409]));
+        let wires = play(alloc, &rack, &[(3, 1, 0, 1), (6, 2, 1, -256)], by_jobs)?;
+        assert!(rt; has(&wires, 7, &[0, 0]));
+        assert!(rt; has(&wires, 4, &[58409]));
+    }
     Ok(())
 }
 
@@ -342,7 +358,7 @@ fn each_of_forty_mixers_is_rendered_once(rt: HostRuntime) -> Result<(), Fail> {
         Box::new(alloc, PlainEffect)?,
     );
     let function = mixers_in_a_row(alloc)?;
-    let (wires, steps) = play_on(alloc, &function, &rack, &[])?;
+    let (wires, steps) = play_on(alloc, &function, &rack, &[], true)?;
     assert_eq!(rt; steps, 40);
     assert_eq!(rt; renders.get(), 40);
     assert!(rt; has(&wires, 42, &[2147483647, -2147483648]));

@@ -3,31 +3,30 @@ ghost use Rattle.std.specs.Prelude.{◌≡◌, ◌==◌, ◌+◌, ◌<◌, ◌^�
 ghost use Rattle.uac_entities.specs.declared.entity.Entity.{Entity};
 ghost use Rattle.std.specs.Option.{option_map};
 ghost use Rattle.uac_units.specs.Fitting.{IsFitted};
-ghost use Rattle.uac_graph.specs.Controls.{held_in};
-ghost use Rattle.uac_graph.specs.Jobs.{FitsFrames};
+ghost use Rattle.uac_units.specs.Rendering.{in_a_row};
+ghost use Rattle.uac_graph.specs.Controls.{Controls};
+ghost use Rattle.uac_graph.specs.Jobs.{FitsFrames, HasJob};
 ghost use Rattle.uac_graph.specs.Meaning as spec;
 ghost use Rattle.uac_graph.specs.Needs.{unit_count};
 ghost use Rattle.uac_graph.specs.Wiring.{AreSilent, AreWiresOf, frame_on, held};
 
 use crate::frame_table::FrameTable;
-use crate::jobs::{gather, is_unit, no_job, set_job, unit_of};
+use crate::jobs::{gather, is_unit, unit_of};
 use arrayvec::ArrayVec;
 use std::alloc::Global;
 use std::marker::Model;
 use uac_descriptor::NoMemory;
 use uac_entities::{Entity, EntityKind};
 use uac_pcm::Frame;
-use uac_store::Store;
 use uac_topology::Function;
 use uac_topology::laws::functions_are_sound;
 use uac_units::{Job, Pins, Rack, Steps, Unit};
 
-/// A frame for each terminal and each unit of an audio function, by the entity's id. Beside them lie the job and the inputs of the
-/// entity that was rendered last, so that no room is made for them anew.
+/// A frame for each terminal and each unit of an audio function, by the entity's id. Beside them lie the inputs of the entity that was
+/// rendered last, so that no room is made for them anew.
 #[derive(Drop)]
 pub struct Wires {
     frames: FrameTable,
-    job: Job,
     pins: Pins,
 }
 
@@ -50,7 +49,6 @@ impl Wires {
         let frames = FrameTable::silent(alloc, function.entities())?;
         Ok(Wires {
             frames,
-            job: no_job(),
             pins: ArrayVec::new(),
         })
     }
@@ -71,15 +69,20 @@ impl Wires {
         self.frames.get(entity)
     }
 
-    /// Renders an entity: its wire gets the frame that it makes of those on the wires of its sources, under the controls held. A
-    /// unit is rendered once. Only a selector without pins, and what it feeds, has no channels.
-    pub(crate) fn render(&mut self, entity: &Entity, store: &Store, rack: &Rack, steps: &mut Steps)
+    /// Renders an entity: its wire gets the frame that it makes of those on the wires of its sources, under the controls of which this
+    /// is its job. A unit is rendered once. Only a selector without pins, and what it feeds, has no channels.
+    pub(crate) fn render(&mut self, entity: &Entity, job: &Job, rack: &Rack, steps: &mut Steps)
         requires rack { IsFitted (λ v x. (⟦<dyn Unit as Unit>⟧ v).kind_of x) rack.now }
         requires fits { FitsFrames entity.now.kind entity.now.cluster.channels (map (held self.old) entity.now.sources) }
         requires there { option_map length (frame_on self.old entity.now.id) ≡ Some entity.now.cluster.channels }
+        requires job { (controls : Controls)
+            × HasJob controls entity.now (length (in_a_row (map (held self.old) entity.now.sources))) job.now }
         requires room { steps.old + unit_count entity.now.kind < 2 ^ 64 }
-        ensures frames { (id : ℕ) → frame_on self.new id ≡ (if entity.now.id == id
-            then Some (spec.frame_of (held_in store.now) entity.now.id entity.now.kind entity.now.cluster.channels (map (held self.old) entity.now.sources))
+        ensures frames { (controls : Controls)
+            → HasJob controls entity.now (length (in_a_row (map (held self.old) entity.now.sources))) job.now
+            → (id : ℕ) → frame_on self.new id ≡ (if entity.now.id == id
+            then Some (spec.frame_of controls entity.now.id entity.now.kind entity.now.cluster.channels
+            (map (held self.old) entity.now.sources))
             else frame_on self.old id) }
         ensures counted { steps.new ≡ steps.old + unit_count entity.now.kind }
     {
@@ -89,11 +92,9 @@ impl Wires {
         }
         gather(&mut self.pins, &self.frames, entity.sources.as_slice());
         match unit_of(entity.kind) {
-            Some(kind) => {
-                set_job(&mut self.job, store, entity, kind, self.pins.len());
-                self.frames
-                    .render(entity.id, rack, kind, &self.job, &self.pins, steps);
-            }
+            Some(kind) => self
+                .frames
+                .render(entity.id, rack, kind, job, &self.pins, steps),
             None => self.frames.pass_on(entity.id, &self.pins),
         }
     }

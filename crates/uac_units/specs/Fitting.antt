@@ -6,7 +6,8 @@ use Rattle.uac_units.specs.declared.slots.Rack.{Rack}
 
 -- each box of the rack has its slot's kind. A box is a value behind the table of its type's calls; `kind_of` is the kind
 -- that the trait `Unit` gives it
-pub record IsFitted {Table : Type 0} {Boxed : Table → Type 0} (kind_of : (table : Table) → Boxed table → UnitKind) (rack : Rack Table Boxed) : Type 0 where
+pub record IsFitted {Table : Type 0} {Boxed : Table → Type 0} (kind_of : (table : Table) → Boxed table
+    → UnitKind) (rack : Rack Table Boxed) : Type 0 where
   pub mixer : kind_of rack.mixer.vtable rack.mixer.value ≡ Mixer
   pub selector : kind_of rack.selector.vtable rack.selector.value ≡ Selector
   pub feature : kind_of rack.feature.vtable rack.feature.value ≡ Feature

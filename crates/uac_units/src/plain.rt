@@ -2,7 +2,8 @@
 
 ghost use Rattle.std.specs.Prelude.{◌≡◌, ◌+◌, ◌^◌, ◌<◌, length};
 ghost use Rattle.uac_units.specs.declared.jobs.UnitKind.TheVariants.{Mixer, Selector, Feature, Effect};
-ghost use Rattle.uac_units.specs.Rendering.{FitsKind, gained, pins_sample, rendered};
+ghost use Rattle.uac_gain.specs.Gain.{scaled};
+ghost use Rattle.uac_units.specs.Rendering.{FitsKind, gained, input, pins_sample, rendered};
 
 use crate::counting::Steps;
 use crate::jobs::{Job, Pins, UnitKind};
@@ -81,11 +82,71 @@ fn render_as(kind: UnitKind, job: &Job, pins: &Pins, out: &mut Frame, steps: &mu
     ensures samples { out.new.items ≡ rendered kind job.now pins.now.items }
     ensures counted { steps.new ≡ steps.old + 1 }
 {
+    render_samples(kind, job, pins, out);
+    steps.tick();
+}
+
+/// Makes `out` the samples of a unit of that kind.
+fn render_samples(kind: UnitKind, job: &Job, pins: &Pins, out: &mut Frame)
+    requires { FitsKind kind job.now pins.now.items }
+    ensures { out.new.items ≡ rendered kind job.now pins.now.items }
+{
+    match kind {
+        UnitKind::Mixer => render_mixer(job, pins, out),
+        UnitKind::Selector => render_selector(job, pins, out),
+        UnitKind::Feature => render_feature(job, pins, out),
+        UnitKind::Effect => render_effect(job, pins, out),
+    }
+}
+
+/// Makes `out` the samples of a mixer: each output the saturated sum of all inputs, each scaled by the gain of its node.
+fn render_mixer(job: &Job, pins: &Pins, out: &mut Frame)
+    requires { FitsKind Mixer job.now pins.now.items }
+    ensures { out.new.items ≡ rendered Mixer job.now pins.now.items }
+{
     out.clear();
     for channel in 0..job.outputs as usize {
-        out.push(sample_of(kind, job, pins, channel));
+        out.push(mix(job, pins, channel));
     }
-    steps.tick();
+}
+
+/// Makes `out` the samples of a feature: each channel scaled by its own gain and then by the master's.
+fn render_feature(job: &Job, pins: &Pins, out: &mut Frame)
+    requires { FitsKind Feature job.now pins.now.items }
+    ensures { out.new.items ≡ rendered Feature job.now pins.now.items }
+{
+    let inputs = pins.as_slice();
+    let gains = job.gains.as_slice();
+    out.clear();
+    for channel in 0..job.outputs as usize {
+        let own = scaled_input(inputs, channel, gains[2 * channel]);
+        out.push(scale(own, gains[2 * channel + 1]));
+    }
+}
+
+/// Makes `out` the samples of a selector: the channels of its chosen pin.
+fn render_selector(job: &Job, pins: &Pins, out: &mut Frame)
+    requires { FitsKind Selector job.now pins.now.items }
+    ensures { out.new.items ≡ rendered Selector job.now pins.now.items }
+{
+    let inputs = pins.as_slice();
+    let from = job.pin as usize * job.outputs as usize;
+    out.clear();
+    for channel in 0..job.outputs as usize {
+        out.push(input_of(inputs, from + channel));
+    }
+}
+
+/// Makes `out` the samples of an effect, which is bypassed: its inputs.
+fn render_effect(job: &Job, pins: &Pins, out: &mut Frame)
+    requires { FitsKind Effect job.now pins.now.items }
+    ensures { out.new.items ≡ rendered Effect job.now pins.now.items }
+{
+    let inputs = pins.as_slice();
+    out.clear();
+    for channel in 0..job.outputs as usize {
+        out.push(input_of(inputs, channel));
+    }
 }
 
 /// The sample of one output channel of a unit of that kind.
@@ -111,10 +172,12 @@ fn mix(job: &Job, pins: &Pins, channel: usize) -> i32
     requires inside { channel < job.now.outputs }
     ensures { result ≡ pins_sample Mixer job.now pins.now.items channel }
 {
+    let inputs = pins.as_slice();
+    let gains = job.gains.as_slice();
     let outputs = job.outputs as usize;
     let mut sum: i64 = 0;
-    for at in 0..pins.len() {
-        sum += gained(job, pins, at, at * outputs + channel) as i64;
+    for at in 0..inputs.len() {
+        sum += scaled_input(inputs, at, gains[at * outputs + channel]) as i64;
     }
     saturate(sum)
 }
@@ -126,4 +189,20 @@ fn gained(job: &Job, pins: &Pins, at: usize, gain: usize) -> i32
     ensures { result ≡ gained job.now pins.now.items at gain }
 {
     scale(pins[at], job.gains[gain])
+}
+
+/// An input.
+fn input_of(inputs: &[i32], at: usize) -> i32
+    requires { at < length inputs.now }
+    ensures { result ≡ input inputs.now at }
+{
+    inputs[at]
+}
+
+/// An input, scaled by a gain.
+fn scaled_input(inputs: &[i32], at: usize, gain: u32) -> i32
+    requires { at < length inputs.now }
+    ensures { result ≡ scaled (input inputs.now at) gain }
+{
+    scale(inputs[at], gain)
 }

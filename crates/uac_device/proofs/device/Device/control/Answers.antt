@@ -7,6 +7,7 @@ use Rattle.uac_device.specs.DeviceWorld.{sets_interface, tells_done}
 use Rattle.uac_device.specs.Kept.{DeviceFields, IsControlled}
 use Rattle.uac_device.specs.contracts.device.Device.{the_view}
 use Rattle.uac_device.proofs.Controlled.{begun_fits, control_else, control_then}
+use Rattle.uac_device.proofs.Deriving.{follows}
 use Rattle.uac_device.proofs.device.Device.control.Goals as goal
 use Rattle.uac_device.proofs.device.Device.control.Goals.{else-sets_interface-via-then-sets_interface+else-is_done, else-sets_interface-via-else-sets_interface}
 
@@ -47,3 +48,51 @@ returns-else-sets_interface c =
           subst (IsControlled p c.args.sent.now told c.args.self.now) (sym w.self-is)
           (else_where (ap (λ (b : Bool). b && tells_done told) (sym c.sets_interface.ensures ∙ w.if-sets_interface.false)))
     ]
+
+pub invariant_of-self : goal.invariant_of-self
+invariant_of-self c = (
+  record {
+    store = c.answer-answer.ensures.of_function;
+    interfaces = c.answer-answer.ensures.still;
+    wires = c.self.invariant.0.wires;
+    domains = c.self.invariant.0.domains;
+    clocks = c.self.invariant.0.clocks;
+    phases = c.self.invariant.0.phases;
+    ports = c.restart.ensures.ports ∙ c.self.invariant.0.ports;
+  },
+  c.self.invariant.1,
+  follows c.self.inside.function c.self.inside.store c.answer-answer.new.store c.self.inside.settings c.answer-answer.new.settings c.args.setup.now c.args.sent.now
+      c.self.inside.derived c.follow.new.self c.answer-answer.ensures.held c.self.invariant.2 c.follow.ensures,
+)
+
+pub invariant_of-self-else-is_done : goal.invariant_of-self-else-is_done
+invariant_of-self-else-is_done c = (
+  record {
+    store = c.answer-answer.ensures.of_function;
+    interfaces = c.answer-answer.ensures.still;
+    wires = c.self.invariant.0.wires;
+    domains = c.self.invariant.0.domains;
+    clocks = c.self.invariant.0.clocks;
+    phases = c.self.invariant.0.phases;
+    ports = c.self.invariant.0.ports;
+  },
+  c.self.invariant.1,
+  follows c.self.inside.function c.self.inside.store c.answer-answer.new.store c.self.inside.settings c.answer-answer.new.settings c.args.setup.now c.args.sent.now
+      c.self.inside.derived c.follow.new.self c.answer-answer.ensures.held c.self.invariant.2 c.follow.ensures,
+)
+
+pub invariant_of-self-else-sets_interface : goal.invariant_of-self-else-sets_interface
+invariant_of-self-else-sets_interface c = (
+  record {
+    store = c.answer-answer.ensures.of_function;
+    interfaces = c.answer-answer.ensures.still;
+    wires = c.self.invariant.0.wires;
+    domains = c.self.invariant.0.domains;
+    clocks = c.self.invariant.0.clocks;
+    phases = c.self.invariant.0.phases;
+    ports = c.self.invariant.0.ports;
+  },
+  c.self.invariant.1,
+  follows c.self.inside.function c.self.inside.store c.answer-answer.new.store c.self.inside.settings c.answer-answer.new.settings c.args.setup.now c.args.sent.now
+      c.self.inside.derived c.follow.new.self c.answer-answer.ensures.held c.self.invariant.2 c.follow.ensures,
+)

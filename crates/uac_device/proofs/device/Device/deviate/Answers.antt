@@ -34,6 +34,7 @@ invariant_of-self c =
         ports = c.self.invariant.0.ports;
       },
       c.self.invariant.1,
+      c.self.invariant.2,
     )
 
 pub returns-clause-stands : goal.returns-clause-stands

@@ -6,7 +6,7 @@ use Rattle.uac_device.proofs.Streaming.{device_with_lanes, sent_stands}
 use Rattle.uac_device.proofs.device.Device.microframe_in.Goals as goal
 
 pub invariant_of-self : goal.invariant_of-self
-invariant_of-self c = (device_with_lanes (the_view c.self.inside) c.send.new.self c.self.invariant.0 c.send.ensures.ports, c.self.invariant.1)
+invariant_of-self c = (device_with_lanes (the_view c.self.inside) c.send.new.self c.self.invariant.0 c.send.ensures.ports, c.self.invariant.1, c.self.invariant.2)
 
 pub returns-clause-stands : goal.returns-clause-stands
 returns-clause-stands c w stands =

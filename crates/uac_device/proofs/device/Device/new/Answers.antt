@@ -24,6 +24,7 @@ invariant_of-result c =
         ports = ap ports c.in_ok-lanes.ensures ∙ ports_idle c.args.function.entities c.args.function.streams;
       },
       c.in_ok-graph.ensures,
+      c.in_ok-derived.ensures,
     )
 
 pub returns : goal.returns

@@ -2,6 +2,7 @@ use Rattle.std.proofs.Common.{◌∙◌, ◌+◌, ◌<◌, ◌^◌, ap, length, 
 use Rattle.std.specs.List.{All}
 use Rattle.uac_entities.specs.declared.entity.Entity.{Entity}
 use Rattle.uac_graph.specs.Controls.{held_in}
+use Rattle.uac_graph.specs.Jobs.{AreJobs}
 use Rattle.uac_graph.specs.Needs.{depended, needed}
 use Rattle.uac_graph.specs.Wiring.{AreRendered, AreWiresOf, held}
 use Rattle.uac_graph.proofs.Ends.{output_terminals}
@@ -32,36 +33,43 @@ give-requires-clause-few g c =
     (input_channels c.self.inside.function.entities id (c.entities_have_channels.ensures c.self.inside.function c.functions_are_sound.ensures) input).1)
     c.self.invariant.0
 
-pub tick-requires-clause-wires : goal.tick-requires-clause-wires
-tick-requires-clause-wires g c =
+pub tick_by-requires-clause-wires : goal.tick_by-requires-clause-wires
+tick_by-requires-clause-wires g c =
     subst (λ (graph : List Entity). AreWiresOf graph c.give.new.wires) (sym c.self.invariant.1)
     (wires_kept c.self.inside.function.entities c.self.inside.wires c.give.new.wires c.self.invariant.0.wires c.give.ensures.lengths)
 
-pub tick-requires-clause-room : goal.tick-requires-clause-room
-tick-requires-clause-room g c =
+pub tick_by-requires-clause-jobs : goal.tick_by-requires-clause-jobs
+tick_by-requires-clause-jobs g c = (
+  held_in c.self.inside.store,
+  subst (λ (graph : List Entity). AreJobs graph (held_in c.self.inside.store) c.self.inside.derived.jobs) (sym c.self.invariant.1) c.self.invariant.2.asked,
+)
+
+pub tick_by-requires-clause-room : goal.tick_by-requires-clause-room
+tick_by-requires-clause-room g c =
     subst (λ (graph : List Entity). c.args.steps.now + length (needed graph c.args.domain) < 2 ^ 64) (sym c.self.invariant.1)
     (subst (λ (device : DeviceFields). c.args.steps.now + length (needed device.function.entities c.args.domain) < 2 ^ 64) (sym c.self.view_is) c.requires.room)
 
 pub put-requires : goal.put-requires
 put-requires g c = record {
   wired =
-      subst (All (WiredOut c.tick.new.wires)) (sym c.give.ensures.ports)
-      (ports_wired_out (the_view c.self.inside) c.tick.new.wires (linked c.self.inside.function c.functions_are_sound.ensures)
-      (subst (λ (graph : List Entity). AreWiresOf graph c.tick.new.wires) c.self.invariant.1 c.tick.ensures.fitting) c.self.invariant.0);
+      subst (All (WiredOut c.tick_by.new.wires)) (sym c.give.ensures.ports)
+      (ports_wired_out (the_view c.self.inside) c.tick_by.new.wires (linked c.self.inside.function c.functions_are_sound.ensures)
+      (subst (λ (graph : List Entity). AreWiresOf graph c.tick_by.new.wires) c.self.invariant.1 c.tick_by.ensures.fitting) c.self.invariant.0);
 }
 
 pub invariant_of-self : goal.invariant_of-self
 invariant_of-self g c = (
-  device_with_wires (the_view c.self.inside) c.tick.new.wires c.put.new.self c.self.invariant.0
-      (subst (λ (graph : List Entity). AreWiresOf graph c.tick.new.wires) c.self.invariant.1 c.tick.ensures.fitting) (c.put.ensures.ports ∙ c.give.ensures.ports),
+  device_with_wires (the_view c.self.inside) c.tick_by.new.wires c.put.new.self c.self.invariant.0
+      (subst (λ (graph : List Entity). AreWiresOf graph c.tick_by.new.wires) c.self.invariant.1 c.tick_by.ensures.fitting) (c.put.ensures.ports ∙ c.give.ensures.ports),
   c.self.invariant.1,
+  c.self.invariant.2,
 )
 
 pub returns-clause-stands : goal.returns-clause-stands
 returns-clause-stands g c w stands =
     let sound = c.functions_are_sound.ensures in
     let here = subst (λ (device : DeviceFields). Stands device w) (sym c.self.view_is) stands in
-    let turned : Turned (the_view c.self.inside) c.give.new.wires c.tick.new.wires c.give.new.self c.put.new.self c.args.domain =
+    let turned : Turned (the_view c.self.inside) c.give.new.wires c.tick_by.new.wires c.give.new.self c.put.new.self c.args.domain =
     record {
       frames = c.give.ensures.frames;
       given = c.give.ensures.stands;
@@ -71,12 +79,14 @@ returns-clause-stands g c w stands =
             sound = sound_graph c.self.inside.function sound;
             ends = output_terminals c.self.inside.function sound c.args.domain;
             rendered =
-                subst (λ (graph : List Entity). AreRendered graph (held_in c.self.inside.store) (held c.give.new.wires) (depended graph c.args.domain) c.give.new.wires c.tick.new.wires)
-                c.self.invariant.1 c.tick.ensures.rendered;
+                subst (λ (graph : List Entity). AreRendered graph (held_in c.self.inside.store) (held c.give.new.wires) (depended graph c.args.domain) c.give.new.wires c.tick_by.new.wires)
+                c.self.invariant.1
+                (c.tick_by.ensures.rendered (held_in c.self.inside.store)
+                (subst (λ (graph : List Entity). AreJobs graph (held_in c.self.inside.store) c.self.inside.derived.jobs) (sym c.self.invariant.1) c.self.invariant.2.asked));
           };
       put = c.put.ensures.stands;
     } in
-    ticked_stands (the_view c.self.inside) c.give.new.wires c.tick.new.wires c.give.new.self c.put.new.self c.args.domain w
+    ticked_stands (the_view c.self.inside) c.give.new.wires c.tick_by.new.wires c.give.new.self c.put.new.self c.args.domain w
     (c.interfaces_are_numbered.ensures c.self.inside.function sound) (linked c.self.inside.function sound)
     (c.entities_have_channels.ensures c.self.inside.function sound) c.self.invariant.0 turned here
 
@@ -84,7 +94,7 @@ pub returns-clause-heard : goal.returns-clause-heard
 returns-clause-heard g c w stands =
     let sound = c.functions_are_sound.ensures in
     let here = subst (λ (device : DeviceFields). Stands device w) (sym c.self.view_is) stands in
-    let turned : Turned (the_view c.self.inside) c.give.new.wires c.tick.new.wires c.give.new.self c.put.new.self c.args.domain =
+    let turned : Turned (the_view c.self.inside) c.give.new.wires c.tick_by.new.wires c.give.new.self c.put.new.self c.args.domain =
     record {
       frames = c.give.ensures.frames;
       given = c.give.ensures.stands;
@@ -94,18 +104,20 @@ returns-clause-heard g c w stands =
             sound = sound_graph c.self.inside.function sound;
             ends = output_terminals c.self.inside.function sound c.args.domain;
             rendered =
-                subst (λ (graph : List Entity). AreRendered graph (held_in c.self.inside.store) (held c.give.new.wires) (depended graph c.args.domain) c.give.new.wires c.tick.new.wires)
-                c.self.invariant.1 c.tick.ensures.rendered;
+                subst (λ (graph : List Entity). AreRendered graph (held_in c.self.inside.store) (held c.give.new.wires) (depended graph c.args.domain) c.give.new.wires c.tick_by.new.wires)
+                c.self.invariant.1
+                (c.tick_by.ensures.rendered (held_in c.self.inside.store)
+                (subst (λ (graph : List Entity). AreJobs graph (held_in c.self.inside.store) c.self.inside.derived.jobs) (sym c.self.invariant.1) c.self.invariant.2.asked));
           };
       put = c.put.ensures.stands;
     } in
-    let after = ticked_stands (the_view c.self.inside) c.give.new.wires c.tick.new.wires c.give.new.self c.put.new.self c.args.domain w
+    let after = ticked_stands (the_view c.self.inside) c.give.new.wires c.tick_by.new.wires c.give.new.self c.put.new.self c.args.domain w
     (c.interfaces_are_numbered.ensures c.self.inside.function sound) (linked c.self.inside.function sound)
     (c.entities_have_channels.ensures c.self.inside.function sound) c.self.invariant.0 turned here in
     c.hear.ensures
-    ∙ ap (λ entities. after_frames (frames_heard c.tick.new.wires c.args.domain entities) (readings (λ v x. (goal.Meter-dyn g (v, x)).reading_of x) c.args.meters.now)) c.entities.ensures
+    ∙ ap (λ entities. after_frames (frames_heard c.tick_by.new.wires c.args.domain entities) (readings (λ v x. (goal.Meter-dyn g (v, x)).reading_of x) c.args.meters.now)) c.entities.ensures
     ∙ ap (λ frames. after_frames frames (readings (λ v x. (goal.Meter-dyn g (v, x)).reading_of x) c.args.meters.now))
-    (heard_in (record (the_view c.self.inside) { wires = c.tick.new.wires; lanes = c.put.new.self }) c.args.domain (ticked c.args.domain w) (sound_graph c.self.inside.function sound) after)
+    (heard_in (record (the_view c.self.inside) { wires = c.tick_by.new.wires; lanes = c.put.new.self }) c.args.domain (ticked c.args.domain w) (sound_graph c.self.inside.function sound) after)
 
 pub returns-clause-met : goal.returns-clause-met
 returns-clause-met g c w stands =
@@ -116,6 +128,6 @@ returns-clause-met g c w stands =
 pub returns-clause-once : goal.returns-clause-once
 returns-clause-once g c w stands =
     let here = subst (λ (device : DeviceFields). Stands device w) (sym c.self.view_is) stands in
-    c.tick.ensures.once
+    c.tick_by.ensures.once
     ∙ ap (λ (graph : List Entity). c.args.steps.now + length (needed graph c.args.domain)) c.self.invariant.1
     ∙ ap (λ (n : ℕ). c.args.steps.now + n) (renders_here (the_view c.self.inside) w c.args.domain here)

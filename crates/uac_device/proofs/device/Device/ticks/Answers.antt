@@ -15,74 +15,62 @@ use Rattle.uac_device.specs.Lanes.{KeepsStreams}
 use Rattle.uac_device.proofs.Streaming.{ports_on}
 use Rattle.uac_device.proofs.Turning.{put_back}
 use Rattle.uac_device.proofs.device.Device.ticks.Goals as goal
-use Rattle.uac_device.proofs.device.Device.ticks.Goals.{in-Some, in-None}
 
 pub invariant_of-self : goal.invariant_of-self
 invariant_of-self c =
     let turned : take c.self.inside.clocks.len (c.advance-ticks.new.clocks ++ drop (length c.advance-ticks.new.clocks) c.self.inside.clocks.items)
-    ≡ map (advanced_clock c.args.domain c.match-rate.values) c.self.inside.clocks.items =
+    ≡ map (advanced_clock c.args.domain c.values-values.result) c.self.inside.clocks.items =
     put_back c.self.inside.clocks.len c.advance-ticks.new.clocks c.self.inside.clocks.items (omega arith)
-    ∙ c.advance-ticks.ensures.clocks ∙ ap (map (advanced_clock c.args.domain c.match-rate.values)) c.deref_mut.ensures.value in (
+    ∙ c.advance-ticks.ensures.clocks ∙ ap (map (advanced_clock c.args.domain c.values-values.result)) c.deref_mut.ensures.value in (
       record {
         store = c.self.invariant.0.store;
         interfaces = c.self.invariant.0.interfaces;
         wires = c.self.invariant.0.wires;
         domains =
             ap (map (λ k. k.clock)) turned
-            ∙ advanced_domains c.args.domain c.match-rate.values c.self.inside.clocks.items
+            ∙ advanced_domains c.args.domain c.values-values.result c.self.inside.clocks.items
             ∙ c.self.invariant.0.domains;
         clocks =
             subst (λ (clocks : List Clock). All (λ k. IsInRange k.ppm) clocks) (sym turned)
-            (advanced_range c.args.domain c.match-rate.values c.self.inside.clocks.items c.self.invariant.0.clocks);
+            (advanced_range c.args.domain c.values-values.result c.self.inside.clocks.items c.self.invariant.0.clocks);
         phases =
             subst (λ (clocks : List Clock). All (λ k. k.phase < 65536) clocks) (sym turned)
-            (advanced_phases c.args.domain c.match-rate.values c.self.inside.clocks.items c.self.invariant.0.phases);
+            (advanced_phases c.args.domain c.values-values.result c.self.inside.clocks.items c.self.invariant.0.phases);
         ports = c.count.ensures.ports ∙ c.self.invariant.0.ports;
       },
       c.self.invariant.1,
+      c.self.invariant.2,
     )
 
 pub returns-clause-stands : goal.returns-clause-stands
 returns-clause-stands c w stands =
-    let rated : c.match-rate.values ≡ option_and_then nominal_of (rate_of c.self.inside.function.entities c.self.inside.store c.args.domain) =
-    elim c.match-rate.branch [
-      | in-Some w ↦ w.values-is ∙ w.nominal-values.ensures ∙ ap (option_and_then nominal_of) (sym w.in-Some.is ∙ c.rate.ensures)
-      | in-None w ↦ w.values-is ∙ ap (option_and_then nominal_of) (sym w.in-None.is ∙ c.rate.ensures)
-    ] in
+    let rated = c.values-values.ensures in
     let here = subst (λ (device : DeviceFields). Stands device w) (sym c.self.view_is) stands in
     let numbered = c.interfaces_are_numbered.ensures c.self.inside.function c.functions_are_sound.ensures in
     let ticks : c.advance-ticks.result ≡ next_ticks c.args.domain w =
     c.advance-ticks.ensures.ticks
-    ∙ ap (first_ticks c.args.domain c.match-rate.values) c.deref_mut.ensures.value
-    ∙ ticks_next (the_view c.self.inside) c.args.domain c.match-rate.values w rated here in
-    advanced_stands (the_view c.self.inside) _ c.count.new.self c.args.domain c.match-rate.values w rated
+    ∙ ap (first_ticks c.args.domain c.values-values.result) c.deref_mut.ensures.value
+    ∙ ticks_next (the_view c.self.inside) c.args.domain c.values-values.result w rated here in
+    advanced_stands (the_view c.self.inside) _ c.count.new.self c.args.domain c.values-values.result w rated
     (put_back c.self.inside.clocks.len c.advance-ticks.new.clocks c.self.inside.clocks.items (omega arith)
-    ∙ c.advance-ticks.ensures.clocks ∙ ap (map (advanced_clock c.args.domain c.match-rate.values)) c.deref_mut.ensures.value)
+    ∙ c.advance-ticks.ensures.clocks ∙ ap (map (advanced_clock c.args.domain c.values-values.result)) c.deref_mut.ensures.value)
     (subst (λ (n : ℕ). KeepsStreams c.count.new.self (changed_where (is_on w c.args.domain) (λ interface. after_ticks n) w.outs) w.ins) ticks
     (c.count.ensures.stands (is_on w c.args.domain) w.outs w.ins (ports_on (the_view c.self.inside) w c.args.domain numbered c.self.invariant.0 here) here.streams))
     here
 
 pub returns-clause-ticks : goal.returns-clause-ticks
 returns-clause-ticks c w stands =
-    let rated : c.match-rate.values ≡ option_and_then nominal_of (rate_of c.self.inside.function.entities c.self.inside.store c.args.domain) =
-    elim c.match-rate.branch [
-      | in-Some w ↦ w.values-is ∙ w.nominal-values.ensures ∙ ap (option_and_then nominal_of) (sym w.in-Some.is ∙ c.rate.ensures)
-      | in-None w ↦ w.values-is ∙ ap (option_and_then nominal_of) (sym w.in-None.is ∙ c.rate.ensures)
-    ] in
+    let rated = c.values-values.ensures in
     c.advance-ticks.ensures.ticks
-    ∙ ap (first_ticks c.args.domain c.match-rate.values) c.deref_mut.ensures.value
-    ∙ ticks_next (the_view c.self.inside) c.args.domain c.match-rate.values w rated (subst (λ (device : DeviceFields). Stands device w) (sym c.self.view_is) stands)
+    ∙ ap (first_ticks c.args.domain c.values-values.result) c.deref_mut.ensures.value
+    ∙ ticks_next (the_view c.self.inside) c.args.domain c.values-values.result w rated (subst (λ (device : DeviceFields). Stands device w) (sym c.self.view_is) stands)
 
 pub returns-clause-few : goal.returns-clause-few
 returns-clause-few c =
-    let rated : c.match-rate.values ≡ option_and_then nominal_of (rate_of c.self.inside.function.entities c.self.inside.store c.args.domain) =
-    elim c.match-rate.branch [
-      | in-Some w ↦ w.values-is ∙ w.nominal-values.ensures ∙ ap (option_and_then nominal_of) (sym w.in-Some.is ∙ c.rate.ensures)
-      | in-None w ↦ w.values-is ∙ ap (option_and_then nominal_of) (sym w.in-None.is ∙ c.rate.ensures)
-    ] in
+    let rated = c.values-values.ensures in
     let few =
-    few_ticks c.args.domain c.match-rate.values c.self.inside.clocks.items
+    few_ticks c.args.domain c.values-values.result c.self.inside.clocks.items
     (λ nominal is. rated_nominal (rate_of c.self.inside.function.entities c.self.inside.store c.args.domain) nominal (sym rated ∙ is))
     c.self.invariant.0.clocks c.self.invariant.0.phases in
-    let told = c.advance-ticks.ensures.ticks ∙ ap (first_ticks c.args.domain c.match-rate.values) c.deref_mut.ensures.value in
+    let told = c.advance-ticks.ensures.ticks ∙ ap (first_ticks c.args.domain c.values-values.result) c.deref_mut.ensures.value in
     omega (arith, few, told)

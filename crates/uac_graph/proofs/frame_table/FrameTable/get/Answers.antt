@@ -1,13 +1,19 @@
-use Rattle.std.proofs.Common.{◌∙◌, sym, ap, eqb}
+use Rattle.std.proofs.Common.{◌∙◌, sym, ap, length, None}
 use Rattle.std.specs.Option.{option_map}
-use Rattle.std.proofs.lemmas.Map.Made.{lookup-map_values}
 use Rattle.uac_graph.specs.Wiring.{Frames, frame_on}
-use Rattle.uac_graph.proofs.Lookups.{read_copied}
+use Rattle.uac_graph.proofs.RowsById.{frame_seen, stands_at}
 use Rattle.uac_graph.proofs.frame_table.FrameTable.get.Goals as goal
 
-pub returns : goal.returns
-returns c =
-    read_copied (λ f. f.items) c.get.result
-    ∙ ap (option_map (λ f. f.items)) c.get.ensures.value
-    ∙ sym (lookup-map_values (λ f. f.items) (eqb c.args.id) c.self.inside.frames.entries)
-    ∙ ap (λ (w : Frames). frame_on w c.args.id) c.self.view_is
+pub returns-in-Some : goal.returns-in-Some
+returns-in-Some c =
+    sym (
+    ap (λ (w : Frames). frame_on w c.args.id) (sym c.self.view_is)
+    ∙ frame_seen (λ f. f.items) c.self.inside.row.items c.args.id
+    ∙ ap (option_map (λ f. f.items)) (stands_at c.self.inside.row.items c.args.id c.index.result.now 256 c.self.invariant c.ranges.id.fits c.index.ensures ∙ c.in-Some.is))
+
+pub returns-in-None : goal.returns-in-None
+returns-in-None c =
+    sym (
+    ap (λ (w : Frames). frame_on w c.args.id) (sym c.self.view_is)
+    ∙ frame_seen (λ f. f.items) c.self.inside.row.items c.args.id
+    ∙ ap (option_map (λ f. f.items)) (stands_at c.self.inside.row.items c.args.id c.index.result.now 256 c.self.invariant c.ranges.id.fits c.index.ensures ∙ c.in-None.is))

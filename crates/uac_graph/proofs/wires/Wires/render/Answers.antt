@@ -1,22 +1,20 @@
-use Rattle.std.proofs.Common.{◌≡◌, ◌∙◌, ap, sym, subst, ◌≤◌, ℕ, ℤ, List, length, map, arith, eqb, if◌then◌else◌, Some}
+use Rattle.std.proofs.Common.{◌≡◌, ◌∙◌, ap, sym, subst, ◌≤◌, ℕ, ℤ, List, length, map, arith, eqb, if◌then◌else◌, Some, refl}
 use Rattle.std.specs.Option.{option_map}
 use Rattle.std.proofs.lemmas.List.{length-map}
 use Rattle.uac_units.specs.Rendering.{FitsKind, in_a_row, rendered}
-use Rattle.uac_graph.specs.Controls.{held_in}
-use Rattle.uac_graph.specs.Jobs.{gain_count}
 use Rattle.uac_graph.specs.Wiring.{Frames, frame_on, held}
-use Rattle.uac_graph.proofs.Rendered.{fits_kind, gains_small, job_by, no_frame, passed_on, pins_small, rendered_is, row_small}
+use Rattle.uac_graph.proofs.Rendered.{fits_kind, job_by, no_frame, passed_on, rendered_is, row_small}
 use Rattle.uac_graph.proofs.Reaching.{length-frame_of}
 use Rattle.uac_graph.proofs.Rows.{no_samples, same_wire}
 use Rattle.uac_graph.proofs.wires.Wires.render.Goals as goal
 
 pub returns-then-entity-eq0-clause-frames : goal.returns-then-entity-eq0-clause-frames
-returns-then-entity-eq0-clause-frames g c id =
+returns-then-entity-eq0-clause-frames g c controls has id =
     let e = c.args.entity.now in
     let now = c.args.self.now in
     same_wire now e.id id _
     (no_samples (frame_on now e.id) e.cluster.channels c.requires.there c.if-entity-eq0.true
-    ∙ ap Some (no_frame (held_in c.args.store.now) e.id e.kind e.cluster.channels (map (held now) e.sources) c.if-entity-eq0.true))
+    ∙ ap Some (no_frame controls e.id e.kind e.cluster.channels (map (held now) e.sources) c.if-entity-eq0.true))
 
 pub gather-requires : goal.gather-requires
 gather-requires g c =
@@ -26,41 +24,23 @@ gather-requires g c =
     (subst (λ (s : List ℕ). length (in_a_row (map (held c.args.self.now) s)) ≤ 256) (sym c.as_slice.ensures)
     (row_small e.kind e.cluster.channels (map (held c.args.self.now) e.sources) c.requires.fits))
 
-pub set_job-requires-clause-pins : goal.set_job-requires-clause-pins
-set_job-requires-clause-pins g c chosen =
-    let e = c.args.entity.now in
-    let frames = map (held c.args.self.now) e.sources in
-    omega (
-      arith,
-      length-map e.sources (held c.args.self.now),
-      pins_small e.kind c.in-Some.kind e.cluster.channels frames (omega arith) (sym c.in-Some.ensures) c.requires.fits chosen,
-    )
-
-pub set_job-requires-clause-gains : goal.set_job-requires-clause-gains
-set_job-requires-clause-gains g c =
-    let e = c.args.entity.now in
-    let frames = map (held c.args.self.now) e.sources in
-    let row : c.gather.new.pins.items ≡ in_a_row frames =
-    c.gather.ensures ∙ ap (λ s. in_a_row (map (held c.self.inside.frames) s)) c.as_slice.ensures ∙ ap (λ (w : Frames). in_a_row (map (held w) e.sources)) c.self.view_is in
-    subst (λ (n : ℕ). gain_count c.in-Some.kind e.cluster.channels n ≤ 256) (sym (c.len.ensures.value ∙ ap length row))
-    (gains_small e.kind c.in-Some.kind e.cluster.channels frames (sym c.in-Some.ensures) c.requires.fits)
-
 pub render-requires-clause-fits : goal.render-requires-clause-fits
 render-requires-clause-fits g c =
-    let controls = held_in c.args.store.now in
+    let controls = c.requires.job.0 in
     let e = c.args.entity.now in
     let frames = map (held c.args.self.now) e.sources in
     let row : c.gather.new.pins.items ≡ in_a_row frames =
     c.gather.ensures ∙ ap (λ s. in_a_row (map (held c.self.inside.frames) s)) c.as_slice.ensures ∙ ap (λ (w : Frames). in_a_row (map (held w) e.sources)) c.self.view_is in
-    let job = job_by controls e.id c.in-Some.kind e.cluster.channels (length e.sources) (length frames) c.len.result (length (in_a_row frames)) c.set_job.new.job
-    (sym (length-map e.sources (held c.args.self.now))) (c.len.ensures.value ∙ ap length row) c.set_job.ensures.job in
-    subst (λ (pins : List ℤ). FitsKind c.in-Some.kind c.set_job.new.job pins) (sym row)
-    (fits_kind controls e.id e.kind c.in-Some.kind e.cluster.channels frames c.set_job.new.job (omega arith) (sym c.in-Some.ensures) job c.requires.fits)
+    let job = job_by controls e.id c.in-Some.kind e.cluster.channels (length e.sources) (length frames) (length (in_a_row frames)) (length (in_a_row frames)) c.args.job.now
+    (sym (length-map e.sources (held c.args.self.now))) refl (c.requires.job.1 c.in-Some.kind (sym c.in-Some.ensures) (omega arith)) in
+    subst (λ (pins : List ℤ). FitsKind c.in-Some.kind c.args.job.now pins) (sym row)
+    (fits_kind controls e.id e.kind c.in-Some.kind e.cluster.channels frames c.args.job.now (omega arith) (sym c.in-Some.ensures) job c.requires.fits)
 
 pub render-requires-clause-there : goal.render-requires-clause-there
 render-requires-clause-there g c =
     let e = c.args.entity.now in
-    ap (λ (w : Frames). option_map length (frame_on w e.id)) c.self.view_is ∙ c.requires.there ∙ ap Some (sym c.set_job.ensures.job.outputs)
+    ap (λ (w : Frames). option_map length (frame_on w e.id)) c.self.view_is ∙ c.requires.there
+    ∙ ap Some (sym (c.requires.job.1 c.in-Some.kind (sym c.in-Some.ensures) (omega arith)).outputs)
 
 pub pass_on-requires-clause-few : goal.pass_on-requires-clause-few
 pass_on-requires-clause-few g c =
@@ -69,12 +49,12 @@ pass_on-requires-clause-few g c =
     let row : c.gather.new.pins.items ≡ in_a_row frames =
     c.gather.ensures ∙ ap (λ s. in_a_row (map (held c.self.inside.frames) s)) c.as_slice.ensures ∙ ap (λ (w : Frames). in_a_row (map (held w) e.sources)) c.self.view_is in
     subst (λ (pins : List ℤ). length pins ≤ 32) (sym row)
-    (passed_on (held_in c.args.store.now) e.id e.kind e.cluster.channels frames (sym c.in-None.ensures) c.requires.fits).1
+    (passed_on c.requires.job.0 e.id e.kind e.cluster.channels frames (sym c.in-None.ensures) c.requires.fits).1
 
 pub pass_on-requires-clause-there : goal.pass_on-requires-clause-there
 pass_on-requires-clause-there g c =
     let e = c.args.entity.now in
-    let controls = held_in c.args.store.now in
+    let controls = c.requires.job.0 in
     let frames = map (held c.args.self.now) e.sources in
     let row : c.gather.new.pins.items ≡ in_a_row frames =
     c.gather.ensures ∙ ap (λ s. in_a_row (map (held c.self.inside.frames) s)) c.as_slice.ensures ∙ ap (λ (w : Frames). in_a_row (map (held w) e.sources)) c.self.view_is in
@@ -84,23 +64,21 @@ pass_on-requires-clause-there g c =
     ∙ length-frame_of controls e.id e.kind e.cluster.channels frames))
 
 pub returns-in-Some-clause-frames : goal.returns-in-Some-clause-frames
-returns-in-Some-clause-frames g c id =
-    let controls = held_in c.args.store.now in
+returns-in-Some-clause-frames g c controls has id =
     let e = c.args.entity.now in
     let frames = map (held c.args.self.now) e.sources in
     let row : c.gather.new.pins.items ≡ in_a_row frames =
     c.gather.ensures ∙ ap (λ s. in_a_row (map (held c.self.inside.frames) s)) c.as_slice.ensures ∙ ap (λ (w : Frames). in_a_row (map (held w) e.sources)) c.self.view_is in
-    let job = job_by controls e.id c.in-Some.kind e.cluster.channels (length e.sources) (length frames) c.len.result (length (in_a_row frames)) c.set_job.new.job
-    (sym (length-map e.sources (held c.args.self.now))) (c.len.ensures.value ∙ ap length row) c.set_job.ensures.job in
+    let job = job_by controls e.id c.in-Some.kind e.cluster.channels (length e.sources) (length frames) (length (in_a_row frames)) (length (in_a_row frames)) c.args.job.now
+    (sym (length-map e.sources (held c.args.self.now))) refl (has c.in-Some.kind (sym c.in-Some.ensures) (omega arith)) in
     c.render.ensures.frames id
-    ∙ ap (λ (w : Frames). if eqb e.id id then Some (rendered c.in-Some.kind c.set_job.new.job c.gather.new.pins.items) else frame_on w id) c.self.view_is
+    ∙ ap (λ (w : Frames). if eqb e.id id then Some (rendered c.in-Some.kind c.args.job.now c.gather.new.pins.items) else frame_on w id) c.self.view_is
     ∙ ap (λ (samples : List ℤ). if eqb e.id id then Some samples else frame_on c.args.self.now id)
-    (ap (rendered c.in-Some.kind c.set_job.new.job) row
-    ∙ rendered_is controls e.id e.kind c.in-Some.kind e.cluster.channels frames c.set_job.new.job (sym c.in-Some.ensures) job c.requires.fits)
+    (ap (rendered c.in-Some.kind c.args.job.now) row
+    ∙ rendered_is controls e.id e.kind c.in-Some.kind e.cluster.channels frames c.args.job.now (sym c.in-Some.ensures) job c.requires.fits)
 
 pub returns-in-None-clause-frames : goal.returns-in-None-clause-frames
-returns-in-None-clause-frames g c id =
-    let controls = held_in c.args.store.now in
+returns-in-None-clause-frames g c controls has id =
     let e = c.args.entity.now in
     let frames = map (held c.args.self.now) e.sources in
     let row : c.gather.new.pins.items ≡ in_a_row frames =

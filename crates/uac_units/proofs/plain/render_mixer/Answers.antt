@@ -2,24 +2,25 @@ use Rattle.std.proofs.Common.{◌≡◌, ◌∙◌, ap, arith, sym, length, w32,
 use Rattle.std.specs.List.{range_with_len}
 use Rattle.std.proofs.lemmas.Int.{to_z-of_z}
 use Rattle.std.proofs.lemmas.List.FromFn.{map-range_with_len_more, length-map-range_with_len}
+use Rattle.uac_units.specs.declared.jobs.UnitKind.TheVariants.{Mixer}
 use Rattle.uac_units.specs.Rendering.{pins_sample, rendered}
-use Rattle.uac_units.proofs.plain.render_as.Goals as goal
+use Rattle.uac_units.proofs.plain.render_mixer.Goals as goal
 
 pub push-requires : goal.push-requires
 push-requires c =
-    let full : length c.loop-channel.out.items ≡ c.loop-channel.channel = ap length c.loop-channel.invariant ∙ length-map-range_with_len (pins_sample c.args.kind c.args.job.now c.args.pins.now.items) 0 c.loop-channel.channel in
+    let full : length c.loop-channel.out.items ≡ c.loop-channel.channel = ap length c.loop-channel.invariant ∙ length-map-range_with_len (pins_sample Mixer c.args.job.now c.args.pins.now.items) 0 c.loop-channel.channel in
     search (rules, full)
 
 pub loop-channel-preserved : goal.loop-channel-preserved
 loop-channel-preserved c =
-    let sample = pins_sample c.args.kind c.args.job.now c.args.pins.now.items in
+    let sample = pins_sample Mixer c.args.job.now c.args.pins.now.items in
     c.push.ensures.items
-    ∙ ap (λ z. c.loop-channel.out.items ++ z ∷ []) (to_z-of_z w32 c.sample_of.result (record { sfits = c.sample_of.type_inv }) ∙ c.sample_of.ensures)
+    ∙ ap (λ z. c.loop-channel.out.items ++ z ∷ []) (to_z-of_z w32 c.mix.result (record { sfits = c.mix.type_inv }) ∙ c.mix.ensures)
     ∙ ap (λ front. front ++ sample c.loop-channel.channel ∷ []) c.loop-channel.invariant
     ∙ sym (map-range_with_len_more sample 0 c.loop-channel.channel c.loop-channel.channel (omega arith))
 
-pub returns-clause-samples : goal.returns-clause-samples
+pub returns : goal.returns
 unfolding rendered
-returns-clause-samples c =
+returns c =
     c.loop-channel.invariant
-    ∙ ap (λ n. map (pins_sample c.args.kind c.args.job.now c.args.pins.now.items) (range_with_len 0 n)) (omega arith)
+    ∙ ap (λ n. map (pins_sample Mixer c.args.job.now c.args.pins.now.items) (range_with_len 0 n)) (omega arith)

@@ -1,0 +1,37 @@
+-- What a device keeps that follows from its controls: what its units are asked, and the nominal values of its domains.
+use Rattle.std.specs.Prelude.{◌≡◌, ℕ, ℤ, false, List, Option}
+use Rattle.std.specs.List.{All}
+use Rattle.std.specs.Option.{option_and_then}
+use Rattle.uac_clock.specs.Nominal.{nominal_of}
+use Rattle.uac_clock.specs.declared.values.Nominal.{Nominal}
+use Rattle.uac_entities.specs.declared.entity.Entity.{Entity}
+use Rattle.uac_topology.specs.Function.{FunctionFields}
+use Rattle.uac_store.specs.declared.keys.Key.{Key}
+use Rattle.uac_store.specs.Rates.{rate_of}
+use Rattle.uac_graph.specs.Controls.{held_in}
+use Rattle.uac_graph.specs.Jobs.{AreJobs, AreSameBut}
+use Rattle.uac_request.specs.Requests.{high, sets_cur}
+use Rattle.uac_request.specs.declared.setup.Setup.{Setup}
+use Rattle.uac_device.specs.declared.derived.Derived.{Derived}
+use Rattle.uac_device.specs.declared.derived.Pace.{Pace}
+
+-- the nominal values of the rate that a domain's clock has, if it has one
+abbrev pub nominal_at : List Entity → List (Key × ℤ) → ℕ → Option Nominal
+nominal_at entities controls domain = option_and_then nominal_of (rate_of entities controls domain)
+
+abbrev pub IsPace : List Entity → List (Key × ℤ) → Pace → Type 0
+IsPace entities controls p = p.values ≡ nominal_at entities controls p.domain
+
+-- the pace of a domain, renewed
+abbrev pub renewed_pace : List Entity → List (Key × ℤ) → Pace → Pace
+renewed_pace entities controls p = record { domain = p.domain; values = nominal_at entities controls p.domain }
+
+-- what is kept follows from these values of the controls
+pub record IsDerived (function : FunctionFields) (controls : List (Key × ℤ)) (derived : Derived) : Type 0 where
+  pub asked : AreJobs function.entities (held_in controls) derived.jobs
+  pub paced : All (IsPace function.entities controls) derived.paces.items
+
+-- what a request can change: one to set a control the values of the entity that it names, and any other none
+pub record IsLeftBy (p : Setup) (before after : List (Key × ℤ)) : Type 0 where
+  pub same : sets_cur p ≡ false → after ≡ before
+  pub others : AreSameBut (high p.index) (held_in before) (held_in after)

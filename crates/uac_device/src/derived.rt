@@ -1,0 +1,146 @@
+// What follows from a device's controls, kept until they change.
+ghost use Rattle.std.specs.Prelude.{◌≡◌, ℤ, List, false, IfOk, length, map};
+ghost use Rattle.std.specs.List.{All};
+ghost use Rattle.std.specs.Option.{option_map_or};
+ghost use Rattle.uac_entities.specs.Streams.{named};
+ghost use Rattle.uac_topology_rules.specs.Links as links;
+ghost use Rattle.uac_clock.specs.declared.values.Nominal as values;
+ghost use Rattle.uac_store.specs.declared.keys.Key as keys;
+ghost use Rattle.uac_request.specs.Requests as requests;
+ghost use Rattle.uac_device.specs.Following.{IsDerived, IsLeftBy, IsPace, nominal_at, renewed_pace};
+
+use std::alloc::Global;
+use uac_clock::{Nominal, nominal};
+use uac_descriptor::NoMemory;
+use uac_graph::{Graph, Jobs};
+use uac_request::Setup;
+use uac_store::Store;
+use uac_topology::Function;
+use uac_topology_rules::is_clock;
+
+/// The nominal values of the rate of a clock domain; None where its clock has no rate.
+#[derive(Clone, Copy)]
+pub struct Pace {
+    pub domain: u8,
+    pub values: Option<Nominal>,
+}
+
+/// What follows from the controls of a device, so that a tick looks up none: the jobs of its units, and the paces of its domains.
+#[derive(Drop)]
+pub struct Derived {
+    pub(crate) jobs: Jobs,
+    pub(crate) paces: Vec<Pace>,
+}
+
+impl Derived {
+    /// What follows from the values that controls have, with all the memory that it will use.
+    pub(crate) fn new(
+        alloc: Global,
+        graph: &Graph,
+        function: &Function,
+        store: &Store,
+    ) -> Result<Derived, NoMemory>
+        requires { graph.now ≡ function.now.entities }
+        ensures { IfOk result (λ derived. IsDerived function.now store.now derived) }
+    {
+        let jobs = graph.jobs(alloc, store)?;
+        let paces = paces_of(alloc, function, store)?;
+        Ok(Derived { jobs, paces })
+    }
+
+    /// Follows what a request that was answered changed.
+    pub(crate) fn follow(
+        &mut self,
+        graph: &Graph,
+        function: &Function,
+        store: &Store,
+        setup: &Setup,
+    )
+        requires graph { graph.now ≡ function.now.entities }
+        requires sized { length self.old.jobs ≡ length graph.now }
+        ensures { (before : List (keys.Key × ℤ)) → IsDerived function.now before self.old → IsLeftBy setup.now before store.now
+            → IsDerived function.now store.now self.new }
+    {
+        if !sets_control(setup) {
+            return;
+        }
+        let id = (setup.index / 256) as u8;
+        graph.renew(&mut self.jobs, store, id);
+        if names_clock(function, id) {
+            renew(&mut self.paces, function, store);
+        }
+    }
+
+    /// The nominal values of a domain's rate.
+    pub(crate) fn values(&self, function: &Function, store: &Store, domain: u8) -> Option<Nominal>
+        requires { IsDerived function.now store.now self.now }
+        ensures { result ≡ nominal_at function.now.entities store.now domain }
+    {
+        for pace in &self.paces {
+            if pace.domain == domain {
+                return pace.values;
+            }
+        }
+        values_at(function, store, domain)
+    }
+}
+
+// Whether a request sets a control (Audio Class 2.0, A.14).
+fn sets_control(setup: &Setup) -> bool
+    ensures { result ≡ requests.sets_cur setup.now }
+{
+    setup.request_type == 33 && setup.request == 1
+}
+
+// Whether the entity with an id is a clock.
+fn names_clock(function: &Function, id: u8) -> bool
+    ensures { result ≡ option_map_or (λ e. links.is_clock e.kind) (named function.now.entities id) false }
+{
+    match function.entity(id) {
+        Some(entity) => is_clock(entity.kind),
+        None => false,
+    }
+}
+
+// The nominal values of the rate that a clock has.
+fn values_at(function: &Function, store: &Store, clock: u8) -> Option<Nominal>
+    ensures { result ≡ nominal_at function.now.entities store.now clock }
+{
+    match store.rate(function, clock) {
+        Some(rate) => nominal(rate),
+        None => None,
+    }
+}
+
+// The paces of a function's domains.
+fn paces_of(alloc: Global, function: &Function, store: &Store) -> Result<Vec<Pace>, NoMemory>
+    ensures { IfOk result (λ paces. All (IsPace function.now.entities store.now) paces.items) }
+{
+    let mut paces = Vec::new(alloc);
+    for domain in function.domains() {
+        let pace = Pace {
+            domain: *domain,
+            values: values_at(function, store, *domain),
+        };
+        match paces.push(pace) {
+            Ok(()) => {}
+            Err(_) => return Err(NoMemory),
+        }
+    }
+    Ok(paces)
+}
+
+// Renews each of these paces.
+fn renew(paces: &mut [Pace], function: &Function, store: &Store)
+    ensures { paces.new ≡ map (renewed_pace function.now.entities store.now) paces.old }
+{
+    for pace in paces.iter_mut() {
+        renew_one(pace, function, store);
+    }
+}
+
+fn renew_one(pace: &mut Pace, function: &Function, store: &Store)
+    ensures { pace.new ≡ renewed_pace function.now.entities store.now pace.old }
+{
+    pace.values = values_at(function, store, pace.domain);
+}

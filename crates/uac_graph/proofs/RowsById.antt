@@ -1,0 +1,78 @@
+-- Frames in a row, read by id.
+use Rattle.std.proofs.Common.{◌≡◌, ◌∙◌, sym, refl, ap, subst, arith, ℕ, suc, zero, ◌+◌, ◌<◌, Bool, true, false, cond, eqb, if◌then◌else◌, ℤ, List, [], ◌∷◌, Option, Some, None, length, get_or, map, set, replicate, inl, inr}
+use Rattle.std.specs.Option.{option_map}
+use Rattle.std.proofs.lemmas.Bool.{cases_eq, cases_lt, eq-eqb, ne_eqb}
+use Rattle.std.proofs.lemmas.List.{get_or_default, get_or-set_same, get_or-set_other, length-map, map-set}
+use Rattle.uac_graph.specs.Rows.{frames_in, numbered}
+use Rattle.uac_graph.specs.Wiring.{Frames, frame_on}
+
+-- a number before the first place
+numbered_before : (row : List (Option (List ℤ))) (n id : ℕ) → id < n → frame_on (numbered n row) id ≡ None
+unfolding numbered
+numbered_before [] n id below = refl
+numbered_before (None ∷ row) n id below = numbered_before row (suc n) id (omega arith)
+numbered_before (Some frame ∷ row) n id below =
+    ap (λ (b : Bool). cond b (Some frame) (frame_on (numbered (suc n) row) id)) (ne_eqb id n (λ e. omega arith))
+    ∙ numbered_before row (suc n) id (omega arith)
+
+-- the frame at a place
+numbered_at : (row : List (Option (List ℤ))) (n k : ℕ) → frame_on (numbered n row) (n + k) ≡ get_or row k None
+unfolding numbered
+numbered_at [] n k = refl
+numbered_at (None ∷ row) n zero = numbered_before row (suc n) (n + 0) (omega arith)
+numbered_at (None ∷ row) n (suc k) = ap (frame_on (numbered (suc n) row)) (omega arith) ∙ numbered_at row (suc n) k
+numbered_at (Some frame ∷ row) n zero = ap (λ (b : Bool). cond b (Some frame) (frame_on (numbered (suc n) row) (n + 0))) (eq-eqb (n + 0) n (omega arith))
+numbered_at (Some frame ∷ row) n (suc k) =
+    ap (λ (b : Bool). cond b (Some frame) (frame_on (numbered (suc n) row) (n + suc k))) (ne_eqb (n + suc k) n (λ e. omega arith))
+    ∙ ap (frame_on (numbered (suc n) row)) (omega arith) ∙ numbered_at row (suc n) k
+
+pub frame_at : (row : List (Option (List ℤ))) (id : ℕ) → frame_on (frames_in row) id ≡ get_or row id None
+frame_at row id = ap (frame_on (numbered 0 row)) (omega arith) ∙ numbered_at row 0 id
+
+-- a row of frames of whatever kind, as they are read
+module _ {X : Type 0} (read : X → List ℤ) where
+  get_or_seen : (row : List (Option X)) (id : ℕ) → get_or (map (option_map read) row) id None ≡ option_map read (get_or row id None)
+  get_or_seen [] id = refl
+  get_or_seen (o ∷ row) zero = refl
+  get_or_seen (o ∷ row) (suc id) = get_or_seen row id
+
+  pub frame_seen : (row : List (Option X)) (id : ℕ) → frame_on (frames_in (map (option_map read) row)) id ≡ option_map read (get_or row id None)
+  frame_seen row id = frame_at (map (option_map read) row) id ∙ get_or_seen row id
+
+  -- one frame written
+  pub frame_written : (row new : List (Option X)) (key : ℕ) (value : X) → key < length row → new ≡ set row key (Some value)
+      → (id : ℕ) → frame_on (frames_in (map (option_map read) new)) id
+      ≡ (if eqb key id then Some (read value) else frame_on (frames_in (map (option_map read) row)) id)
+  frame_written row new key value below is id =
+      frame_seen new id ∙ ap (λ (r : List (Option X)). option_map read (get_or r id None)) is
+      ∙ elim (cases_eq key id) [
+        | inl same ↦
+            ap (λ (n : ℕ). option_map read (get_or (set row key (Some value)) n None)) (sym same)
+            ∙ ap (option_map read) (get_or-set_same row key (Some value) None below)
+            ∙ sym (ap (λ (b : Bool). if b then Some (read value) else frame_on (frames_in (map (option_map read) row)) id) (eq-eqb key id same))
+        | inr other ↦
+            ap (option_map read) (get_or-set_other row key id (Some value) None (λ e. other (sym e)))
+            ∙ sym (frame_seen row id)
+            ∙ sym (ap (λ (b : Bool). if b then Some (read value) else frame_on (frames_in (map (option_map read) row)) id) (ne_eqb key id other))
+      ]
+
+  -- an id at whose place no frame stands has no wire
+  pub none_there : (row : List (Option X)) (id count : ℕ) → get_or row id None ≡ None
+      → option_map length (frame_on (frames_in (map (option_map read) row)) id) ≡ Some count → ⊥
+  none_there row id count absent wire =
+      let none : option_map length (frame_on (frames_in (map (option_map read) row)) id) ≡ None =
+      ap (option_map length) (frame_seen row id ∙ ap (option_map read) absent) in cc
+
+-- no frames
+pub frames_none : {X : Type 0} (read : X → List ℤ) (n id : ℕ) → frame_on (frames_in (map (option_map read) (replicate n None))) id ≡ None
+frames_none read n id = frame_seen read (replicate n None) id ∙ along n id
+  where
+    along : (n id : ℕ) → option_map read (get_or (replicate n None) id None) ≡ None
+    along zero id = refl
+    along (suc n) zero = refl
+    along (suc n) (suc id) = along n id
+
+-- what is read of a row, whatever stands in for what isn't there
+pub stands_at : {X : Type 0} (row : List (Option X)) (id : ℕ) (o : Option X) (count : ℕ) → length row ≡ count → id < count → o ≡ get_or row id o
+    → get_or row id None ≡ o
+stands_at row id o count sized below is = get_or_default row id None o (omega (arith, sized)) ∙ sym is

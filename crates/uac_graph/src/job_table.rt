@@ -1,0 +1,70 @@
+// What all units are asked to render, kept from tick to tick.
+ghost use Rattle.std.specs.Prelude.{◌≡◌, ◌<◌, IfOk, length, get_or};
+ghost use Rattle.uac_units.specs.declared.jobs.Job as asked;
+ghost use Rattle.uac_graph.specs.Controls.{Controls, held_in};
+ghost use Rattle.uac_graph.specs.Fitness.{IsSignalGraph};
+ghost use Rattle.uac_graph.specs.Jobs.{AreJobs, AreSameBut};
+
+use crate::jobs::{ask, no_job};
+use std::alloc::Global;
+use std::marker::Model;
+use uac_descriptor::NoMemory;
+use uac_store::Store;
+use uac_topology_rules::EntityTable;
+use uac_units::Job;
+
+/// The job of each entity of a graph, by its place: of a unit that has channels what it is asked under some controls, and of any other
+/// one for which nobody asks.
+#[derive(Drop)]
+pub struct Jobs {
+    list: Vec<Job>,
+}
+
+impl Model for Jobs {
+    ghost use Rattle.std.specs.Prelude.{List};
+    ghost use Rattle.uac_units.specs.declared.jobs.Job.{Job};
+
+    ghost Value = { List Job };
+
+    ghost view = { λ j. j.list.items };
+}
+
+impl Jobs {
+    /// The jobs of these entities under the controls held.
+    pub(crate) fn new(alloc: Global, table: &EntityTable, store: &Store) -> Result<Jobs, NoMemory>
+        requires { IsSignalGraph table.now }
+        ensures { IfOk result (λ jobs. AreJobs table.now (held_in store.now) jobs) }
+    {
+        let mut list = Vec::new(alloc);
+        for entity in table.as_slice() {
+            let mut job = no_job();
+            ask(&mut job, table, store, entity);
+            match list.push(job) {
+                Ok(()) => {}
+                Err(_) => return Err(NoMemory),
+            }
+        }
+        Ok(Jobs { list })
+    }
+
+    /// The job at a place.
+    pub(crate) fn at(&self, place: usize) -> &Job
+        requires { place < length self.now }
+        ensures { (d : asked.Job) → result.now ≡ get_or self.now place d }
+    {
+        &self.list[place]
+    }
+
+    /// Makes the job of the entity with an id that under the controls held. It takes no memory.
+    pub(crate) fn renew(&mut self, table: &EntityTable, store: &Store, id: u8)
+        requires graph { IsSignalGraph table.now }
+        requires sized { length self.old ≡ length table.now }
+        ensures { (before : Controls) → AreJobs table.now before self.old → AreSameBut id before (held_in store.now)
+            → AreJobs table.now (held_in store.now) self.new }
+    {
+        let place = table.place_of(id);
+        if place < self.list.len() {
+            ask(&mut self.list[place], table, store, table.at(place));
+        }
+    }
+}
