@@ -11,7 +11,7 @@ use Rattle.uac_graph.specs.Meaning.{entity}
 use Rattle.uac_units.specs.Hearing.{Reading}
 use Rattle.uac_script.specs.declared.line.Mark.{Mark}
 use Rattle.uac_script.specs.Line.{loss_of}
-use Rattle.uac_script.specs.Phrase.{appends, controls, deviates, sets}
+use Rattle.uac_script.specs.Phrase.{deviates, sets}
 use Rattle.uac_topology.specs.Function.{FunctionFields}
 use Rattle.uac_running.specs.RunningWorld.{RunningWorld}
 use Rattle.uac_running.specs.Kept.{RunningFields, StandsBetween}
@@ -42,35 +42,14 @@ pub deviates_said : (domain : ℕ) (passed ppm : ℤ) (p p' : RunningFields) (re
 deviates_said domain passed ppm p p' result same does shown r written s =
     subst (λ (z : ℤ). Does (step_running r (deviates (pos domain) z)) false (StandsFor (stages.Running p') shown) written written result) same (does shown r written s)
 
--- the bytes that were passed on are the line's
-pub controls_said : (setup passed sent : List ℕ) (p p' : RunningFields) (written written' : Option (List ℕ)) (result : Result (Unit {0}) BusFault) → passed ≡ sent
+-- the value that was passed on is the line's
+pub sets_said : (name : List ℕ) (kept value : ℤ) (p p' : RunningFields) (written written' : Option (List ℕ)) (result : Result (Unit {0}) BusFault) → kept ≡ value
     → ((shown : List Reading) (r : RunningWorld) → StandsBetween p shown r
-    → Does (step_running r (controls setup passed)) false (StandsFor (stages.Running p') shown) written written' result)
-    → (shown : List Reading) (r : RunningWorld) → StandsBetween p shown r
-    → Does (step_running r (controls setup sent)) false (StandsFor (stages.Running p') shown) written written' result
-controls_said setup passed sent p p' written written' result same does shown r s =
-    subst (λ (bytes : List ℕ). Does (step_running r (controls setup bytes)) false (StandsFor (stages.Running p') shown) written written' result) same (does shown r s)
-
--- the name and the value that were passed on are the line's
-pub sets_said : (passed name : List ℕ) (kept value : ℤ) (p p' : RunningFields) (written written' : Option (List ℕ)) (result : Result (Unit {0}) BusFault)
-    → passed ≡ name → kept ≡ value
-    → ((shown : List Reading) (r : RunningWorld) → StandsBetween p shown r
-    → Does (step_running r (sets passed kept)) false (StandsFor (stages.Running p') shown) written written' result)
+    → Does (step_running r (sets name kept)) false (StandsFor (stages.Running p') shown) written written' result)
     → (shown : List Reading) (r : RunningWorld) → StandsBetween p shown r
     → Does (step_running r (sets name value)) false (StandsFor (stages.Running p') shown) written written' result
-sets_said passed name kept value p p' written written' result same exact does shown r s =
-    subst (λ (bytes : List ℕ). Does (step_running r (sets bytes value)) false (StandsFor (stages.Running p') shown) written written' result) same
-    (subst (λ (z : ℤ). Does (step_running r (sets passed z)) false (StandsFor (stages.Running p') shown) written written' result) exact (does shown r s))
-
--- the samples that were passed on are the line's
-pub appends_said : (interface : ℕ) (passed samples : List ℤ) (p p' : RunningFields) (result : Result (Unit {0}) BusFault) → passed ≡ samples
-    → ((shown : List Reading) (r : RunningWorld) (written : Option (List ℕ)) → StandsBetween p shown r
-    → Does (step_running r (appends (pos interface) passed)) true (StandsFor (stages.Running p') shown) written written result)
-    → (shown : List Reading) (r : RunningWorld) (written : Option (List ℕ)) → StandsBetween p shown r
-    → Does (step_running r (appends (pos interface) samples)) true (StandsFor (stages.Running p') shown) written written result
-appends_said interface passed samples p p' result same does shown r written s =
-    subst (λ (zs : List ℤ). Does (step_running r (appends (pos interface) zs)) true (StandsFor (stages.Running p') shown) written written result) same
-    (does shown r written s)
+sets_said name kept value p p' written written' result exact does shown r s =
+    subst (λ (z : ℤ). Does (step_running r (sets name z)) false (StandsFor (stages.Running p') shown) written written' result) exact (does shown r s)
 
 -- the second rule is broken
 pub append_broken : (b c : Bool) (s : Step) → b ≡ true → c ≡ false → unless b 6 (unless c 7 s) ≡ breaks_rule 7

@@ -3,8 +3,8 @@ use Rattle.std.proofs.Common.{◌≡◌, ℕ, Bool, true, false, List, ◌++◌,
 use Rattle.std.specs.Prelude.{OnOk}
 use Rattle.std.proofs.KnownBytes.{Appends-nil}
 use Rattle.uac_grammar.specs.Reading as reader
-use Rattle.uac_script.specs.declared.line.Line.{Line}
-use Rattle.uac_script.specs.declared.line.Line.TheVariants as lines
+use Rattle.uac_script.specs.declared.lent.LentLine.{LentLine}
+use Rattle.uac_script.specs.declared.lent.LentLine.TheVariants as lines
 use Rattle.uac_running.specs.Kept as play
 use Rattle.uac_running.specs.Kept.{RunningFields}
 use Rattle.uac_running.specs.RunningWorld.{RunningWorld}
@@ -12,11 +12,12 @@ use Rattle.uac_bus.specs.declared.bus.Stage.TheVariants as stages
 use Rattle.uac_pcm.specs.declared.tones.Tone.{Tone}
 use Rattle.uac_pcm.specs.declared.tones.Tone.TheVariants.{Silent, Ramp, Noise}
 use Rattle.uac_units.specs.Hearing.{Reading}
-use Rattle.uac_script.specs.Line.{voice_of_tone, phrase_of}
+use Rattle.uac_script.specs.Line.{voice_of_tone}
+use Rattle.uac_script.specs.Lent.{lent_phrase}
 use Rattle.uac_script.specs.Phrase.{Phrase, idle, feeds, goes}
 use Rattle.uac_bus.specs.declared.fault.BusFault.{BusFault}
 use Rattle.uac_bus.specs.World.{World, describing, running, Step, done, refused, unless, breaks_rule, tone_of, fed, gone, step, step_running}
-use Rattle.uac_bus.specs.Kept.{BusFields, Stands, StandsFor, Reaches, Prevents, Does, is_append, may_want}
+use Rattle.uac_bus.specs.Kept.{BusFields, Stands, StandsFor, Reaches, Prevents, Does, Answers, is_append, may_want}
 
 -- a tone is what its words spell
 pub tone_back : (tone : Tone) → tone_of (voice_of_tone tone) ≡ tone
@@ -40,6 +41,12 @@ answered (done next text) memory bus shown written written' (Ok _) none does = (
 answered (refused fault) memory bus shown written written' (Ok _) none does = absurd does
 answered s memory bus shown written written' (Err fault) none does = does
 
+-- two lines that say the same are answered the same
+pub answers_same : (p q : Phrase) (w : World) (bus : BusFields) (shown : List Reading) (written written' : Option (List ℕ)) (result : Result (Unit {0}) BusFault)
+    → p ≡ q → Answers p w bus shown written written' result → Answers q w bus shown written written' result
+answers_same p q w bus shown written written' result same answers =
+    subst (λ (said : Phrase). Answers said w bus shown written written' result) same answers
+
 -- ---- a line in each stage
 
 -- a line that does nothing
@@ -50,24 +57,16 @@ idle_in r shown (describing bytes heard) written s = (s, Appends-nil written)
 idle_in r shown (running world) written s = absurd s
 
 -- more bytes
-fed_here : (r r' : reader.Reading) (more : List ℕ) (shown : List Reading) (w : World) (written : Option (List ℕ)) (result : Result (Unit {0}) BusFault)
+pub fed_in : (r r' : reader.Reading) (more : List ℕ) (shown : List Reading) (w : World) (written : Option (List ℕ)) (result : Result (Unit {0}) BusFault)
     → StandsFor (stages.Describing r) shown w
     → (r.stop ≡ None → (heard : List Reading) (old : Option (List ℕ)) → Does (fed (r.taken ++ more) heard) true (StandsFor (stages.Describing r') heard) old old result)
     → Does (step (feeds more) w) (may_want (feeds more) w) (StandsFor (stages.Describing r') shown) written written result
 unfolding step
-fed_here r r' more shown (describing bytes heard) written result s does =
+fed_in r r' more shown (describing bytes heard) written result s does =
     let before : Does (fed (r.taken ++ more) shown) true (StandsFor (stages.Describing r') shown) written written result = does s.1 shown written in
     subst (λ (bs : List ℕ). Does (fed (bs ++ more) heard) true (StandsFor (stages.Describing r') shown) written written result) s.0
     (subst (λ (xs : List Reading). Does (fed (r.taken ++ more) xs) true (StandsFor (stages.Describing r') shown) written written result) s.2 before)
-fed_here r r' more shown (running world) written result s does = absurd s
-
-pub fed_in : (r r' : reader.Reading) (more bytes : List ℕ) (shown : List Reading) (w : World) (written : Option (List ℕ)) (result : Result (Unit {0}) BusFault)
-    → more ≡ bytes → StandsFor (stages.Describing r) shown w
-    → (r.stop ≡ None → (heard : List Reading) (old : Option (List ℕ)) → Does (fed (r.taken ++ more) heard) true (StandsFor (stages.Describing r') heard) old old result)
-    → Does (step (feeds bytes) w) (may_want (feeds bytes) w) (StandsFor (stages.Describing r') shown) written written result
-fed_in r r' more bytes shown w written result same s does =
-    subst (λ (bs : List ℕ). Does (step (feeds bs) w) (may_want (feeds bs) w) (StandsFor (stages.Describing r') shown) written written result) same
-    (fed_here r r' more shown w written result s does)
+fed_in r r' more shown (running world) written result s does = absurd s
 
 -- the descriptor's end, of a reader that was taken out
 pub begun_in : (r whole : reader.Reading) (p : RunningFields) (shown : List Reading) (w : World) (written written' : Option (List ℕ))
@@ -88,10 +87,16 @@ unbegun_in r whole fault shown (describing bytes heard) written written' same s 
     (subst (λ (xs : List Reading). Prevents fault true (gone whole.taken xs) written written') s.2 (prevents shown))
 unbegun_in r whole fault shown (running world) written written' same s prevents = absurd s
 
+-- the descriptor's end once more
+pub gone_before : (p : RunningFields) (shown : List Reading) (w : World) → StandsFor (stages.Running p) shown w → step goes w ≡ breaks_rule 5
+unfolding step
+gone_before p shown (describing bytes heard) s = absurd s
+gone_before p shown (running r) s = refl
+
 -- any other line
-pub early_in : (r : reader.Reading) (line : Line) (shown : List Reading) (w : World) → StandsFor (stages.Describing r) shown w
+pub early_in : (r : reader.Reading) (line : LentLine) (shown : List Reading) (w : World) → StandsFor (stages.Describing r) shown w
     → (line ≡ lines.Nothing → ⊥) → ((bytes : _) → line ≡ lines.Bytes bytes → ⊥) → (line ≡ lines.Go → ⊥)
-    → step (phrase_of line) w ≡ breaks_rule 5
+    → step (lent_phrase line) w ≡ breaks_rule 5
 unfolding step
 early_in r line shown (running world) s nothing bytes go = absurd s
 early_in r lines.Nothing shown (describing bs heard) s nothing bytes go = absurd (nothing refl)

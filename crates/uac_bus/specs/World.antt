@@ -1,5 +1,6 @@
 -- The world under a script, and what each line makes of it (profile).
-use Rattle.std.specs.Prelude.{ℕ, ◌%◌, ◌==◌, ◌&&◌, not, Bool, true, false, ℤ, pos, negsuc, List, [], ◌∷◌, ◌++◌, length, Option, None, Some, Result, Ok, Err}
+use Rattle.std.specs.Prelude.{ℕ, ◌%◌, ◌==◌, ◌&&◌, not, Bool, true, false, ℤ, pos, negsuc, List, [], ◌∷◌, ◌++◌, length, Option, None, Some}
+use Rattle.std.specs.Prelude.{Result, Ok, Err}
 use Rattle.std.specs.List.{list_any, list_all, find}
 use Rattle.std.specs.Option.{option_map_or}
 use Rattle.uac_pcm.specs.declared.tones.Tone.{Tone}
@@ -15,9 +16,11 @@ use Rattle.uac_graph.specs.Meaning.{entity}
 use Rattle.uac_units.specs.Hearing.{Reading}
 use Rattle.uac_script.specs.declared.line.MarkKind.{MarkKind}
 use Rattle.uac_script.specs.declared.line.MarkKind.TheVariants.{Out, In, Feedback}
-use Rattle.uac_script.specs.Phrase.{Voice, silent, ramps, hisses, Loss, Phrase, idle, feeds, goes, controls, gets, sets, shows, breaks, appends, tracks, jacks, deviates, runs, details, reports}
+use Rattle.uac_script.specs.Phrase.{Voice, silent, ramps, hisses, Loss, Phrase, idle, feeds, goes, controls, gets, sets, shows, breaks}
+use Rattle.uac_script.specs.Phrase.{appends, tracks, jacks, deviates, runs, details, reports}
 use Rattle.uac_transcript.specs.Transcript.{Said}
-use Rattle.uac_running.specs.RunningWorld.{RunningWorld, at_start, has_jack, has_domain, with_tone, with_deviation, with_detail, with_samples_on, with_track}
+use Rattle.uac_running.specs.RunningWorld.{RunningWorld, at_start, has_jack, has_domain, with_tone, with_deviation, with_detail}
+use Rattle.uac_running.specs.RunningWorld.{with_samples_on, with_track}
 use Rattle.uac_running.specs.Events.{Told, microframes}
 use Rattle.uac_running.specs.Transfers.{element_named, read_element, set_element, show_element, transfer, with_break}
 use Rattle.uac_request.specs.Requests.{setup_of}
@@ -83,7 +86,8 @@ fed bytes meters = if_no_fault (shown_fault bytes) (silently (describing bytes m
 unfoldable pub gone : List ℕ → List Reading → Step
 gone bytes meters =
     let function = function_of (blocks_of bytes) in
-    if_no_fault (first_fault bytes) (if_sound (first_broken (blocks_of bytes)) (done (running (at_start bytes function meters)) (ready_line function ∷ [])))
+    if_no_fault (first_fault bytes)
+    (if_sound (first_broken (blocks_of bytes)) (done (running (at_start bytes function meters)) (ready_line function ∷ [])))
 
 abbrev pub step_describing : List ℕ → List Reading → Phrase → Step
 step_describing bytes meters idle = silently (describing bytes meters)
@@ -142,7 +146,8 @@ step_running r (shows name) = on_element (element_named r name) (λ x. told (sho
 step_running r (breaks after) = silently (running (with_break after r))
 step_running r (appends number samples) =
     unless (has_out r.device.function.streams (size_of number)) 6
-    (unless (are_frames r.device.function (size_of number) (length samples)) 7 (silently (running (with_samples_on (size_of number) samples r))))
+    (unless (are_frames r.device.function (size_of number) (length samples)) 7
+    (silently (running (with_samples_on (size_of number) samples r))))
 step_running r (tracks number voice) =
     unless (has_out r.device.function.streams (size_of number)) 6 (silently (running (with_track (size_of number) (tone_of voice) r)))
 step_running r (jacks terminal voice) =

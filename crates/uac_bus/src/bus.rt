@@ -5,6 +5,8 @@ ghost use Rattle.uac_units.specs.Hearing.{Reading};
 ghost use Rattle.uac_units.specs.Panel.{readings};
 ghost use Rattle.uac_edges.specs.Faults.{Rose};
 ghost use Rattle.uac_script.specs.Line.{phrase_of, Keeps};
+ghost use Rattle.uac_script.specs.Lent.{lent_phrase, LentKeeps};
+ghost use Rattle.uac_script.specs.Phrase.{goes};
 ghost use Rattle.uac_bus.specs.World.{World, start, step, finish_of};
 ghost use Rattle.uac_bus.specs.Kept.{Stands, StandsFor, Does, Answers, may_want, is_final};
 
@@ -17,7 +19,7 @@ use std::mem;
 use uac_edges::Sink;
 use uac_grammar::Reader;
 use uac_running::Running;
-use uac_script::Line;
+use uac_script::{LentLine, Line};
 use uac_units::{Meter, Meters, Rack, Unit};
 
 /// How far a script is.
@@ -79,19 +81,66 @@ impl Bus {
             (K.written sink.old) (K.written sink.new) result }
 
         // A fault that was answered before is answered again.
-        ensures again { (fault : BusFault) → self.old.fault ≡ Some fault → (result ≡ Err fault) × (self.new ≡ self.old) × (sink.new ≡ sink.old) }
+        ensures again { (fault : BusFault) → self.old.fault ≡ Some fault → (result ≡ Err fault) × (self.new ≡ self.old)
+            × (sink.new ≡ sink.old) }
         ensures unheard_again { (fault : BusFault) → self.old.fault ≡ Some fault
-            → readings (λ v x. (⟦<dyn Meter as Meter>⟧ v).reading_of x) meters.new ≡ readings (λ v x. (⟦<dyn Meter as Meter>⟧ v).reading_of x) meters.old }
+            → readings (λ v x. (⟦<dyn Meter as Meter>⟧ v).reading_of x) meters.new
+            ≡ readings (λ v x. (⟦<dyn Meter as Meter>⟧ v).reading_of x) meters.old }
         ensures kept { IfErr result (λ fault. is_final fault ≡ true → self.new.fault ≡ Some fault) }
 
         // What stays.
         ensures script { IfErr result (λ fault. is_final fault ≡ false → self.new ≡ self.old) }
         ensures unwritten { IfErr result (λ fault. fault ≢ BusFault.WriteFault → sink.new ≡ sink.old) }
         ensures unheard { IfErr result (λ fault. fault ≢ BusFault.WriteFault
-            → readings (λ v x. (⟦<dyn Meter as Meter>⟧ v).reading_of x) meters.new ≡ readings (λ v x. (⟦<dyn Meter as Meter>⟧ v).reading_of x) meters.old) }
+            → readings (λ v x. (⟦<dyn Meter as Meter>⟧ v).reading_of x) meters.new
+            ≡ readings (λ v x. (⟦<dyn Meter as Meter>⟧ v).reading_of x) meters.old) }
 
         // A failed write has its cause in this call, where it wasn't kept.
-        ensures cause { IfErr result (λ fault. fault ≡ BusFault.WriteFault → (self.old.fault ≡ Some BusFault.WriteFault) ⊎ Rose (K.faults sink.old) (K.faults sink.new)) }
+        ensures cause { IfErr result (λ fault. fault ≡ BusFault.WriteFault → (self.old.fault ≡ Some BusFault.WriteFault)
+            ⊎ Rose (K.faults sink.old) (K.faults sink.new)) }
+        ensures never_falls { K.faults sink.old ≤ K.faults sink.new }
+    {
+        self.lent_line(line.lend(), rack, meters, sink)
+    }
+
+    /// The same of a line whose long parts lie elsewhere.
+    ///
+    /// # Errors
+    ///
+    /// Those of `line`.
+    pub fn lent_line<K: Sink>(
+        &mut self,
+        line: LentLine<'_>,
+        rack: &Rack,
+        meters: &mut Meters,
+        sink: &mut K,
+    ) -> Result<(), BusFault>
+        requires rack { IsFitted (λ v x. (⟦<dyn Unit as Unit>⟧ v).kind_of x) rack.now }
+        requires keeps { LentKeeps line }
+
+        // What it does, in every world for which the bus and the meters stand: the step of what the line says, with its lines.
+        ensures answers { (w : World) → Stands self.old (readings (λ v x. (⟦<dyn Meter as Meter>⟧ v).reading_of x) meters.old) w
+            → Answers (lent_phrase line.entry) w self.new (readings (λ v x. (⟦<dyn Meter as Meter>⟧ v).reading_of x) meters.new)
+            (K.written sink.old) (K.written sink.new) result }
+
+        // A fault that was answered before is answered again.
+        ensures again { (fault : BusFault) → self.old.fault ≡ Some fault → (result ≡ Err fault) × (self.new ≡ self.old)
+            × (sink.new ≡ sink.old) }
+        ensures unheard_again { (fault : BusFault) → self.old.fault ≡ Some fault
+            → readings (λ v x. (⟦<dyn Meter as Meter>⟧ v).reading_of x) meters.new
+            ≡ readings (λ v x. (⟦<dyn Meter as Meter>⟧ v).reading_of x) meters.old }
+        ensures kept { IfErr result (λ fault. is_final fault ≡ true → self.new.fault ≡ Some fault) }
+
+        // What stays.
+        ensures script { IfErr result (λ fault. is_final fault ≡ false → self.new ≡ self.old) }
+        ensures unwritten { IfErr result (λ fault. fault ≢ BusFault.WriteFault → sink.new ≡ sink.old) }
+        ensures unheard { IfErr result (λ fault. fault ≢ BusFault.WriteFault
+            → readings (λ v x. (⟦<dyn Meter as Meter>⟧ v).reading_of x) meters.new
+            ≡ readings (λ v x. (⟦<dyn Meter as Meter>⟧ v).reading_of x) meters.old) }
+
+        // A failed write has its cause in this call, where it wasn't kept.
+        ensures cause { IfErr result (λ fault. fault ≡ BusFault.WriteFault → (self.old.fault ≡ Some BusFault.WriteFault)
+            ⊎ Rose (K.faults sink.old) (K.faults sink.new)) }
         ensures never_falls { K.faults sink.old ≤ K.faults sink.new }
     {
         if let Some(fault) = self.fault {
@@ -134,20 +183,45 @@ fn is_kept(fault: BusFault) -> bool
     }
 }
 
+/// The descriptor's end. It is apart from the other lines, since a call clears at its entry what it has room for, here a whole device.
+fn go<K: Sink>(alloc: Global, stage: &mut Stage, sink: &mut K) -> Result<(), BusFault>
+    ensures does { (shown : List Reading) (w : World) → StandsFor stage.old shown w
+        → Does (step goes w) (may_want goes w) (StandsFor stage.new shown) (K.written sink.old) (K.written sink.new) result }
+    ensures script { IfErr result (λ fault. is_final fault ≡ false → stage.new ≡ stage.old) }
+    ensures unwritten { IfErr result (λ fault. fault ≢ BusFault.WriteFault → sink.new ≡ sink.old) }
+    ensures cause { IfErr result (λ fault. fault ≡ BusFault.WriteFault → Rose (K.faults sink.old) (K.faults sink.new)) }
+    ensures never_falls { K.faults sink.old ≤ K.faults sink.new }
+{
+    match stage {
+        Stage::Describing(reader) => {
+            let whole = mem::replace(reader, Reader::new(alloc));
+            match begin(alloc, whole, sink) {
+                Ok(running) => {
+                    *stage = Stage::Running(running);
+                    Ok(())
+                }
+                Err(fault) => Err(fault),
+            }
+        }
+        Stage::Running(_) => Err(BusFault::Script(5)),
+    }
+}
+
 /// Does a line, however far the script is.
 fn advance<K: Sink>(
     alloc: Global,
     stage: &mut Stage,
-    line: &Line,
+    line: LentLine<'_>,
     rack: &Rack,
     meters: &mut Meters,
     sink: &mut K,
 ) -> Result<(), BusFault>
     requires rack { IsFitted (λ v x. (⟦<dyn Unit as Unit>⟧ v).kind_of x) rack.now }
-    requires keeps { Keeps line.now }
+    requires keeps { LentKeeps line }
     ensures does { (w : World) → StandsFor stage.old (readings (λ v x. (⟦<dyn Meter as Meter>⟧ v).reading_of x) meters.old) w
-        → Does (step (phrase_of line.now) w) (may_want (phrase_of line.now) w)
-        (StandsFor stage.new (readings (λ v x. (⟦<dyn Meter as Meter>⟧ v).reading_of x) meters.new)) (K.written sink.old) (K.written sink.new) result }
+        → Does (step (lent_phrase line.entry) w) (may_want (lent_phrase line.entry) w)
+        (StandsFor stage.new (readings (λ v x. (⟦<dyn Meter as Meter>⟧ v).reading_of x) meters.new)) (K.written sink.old)
+        (K.written sink.new) result }
     ensures script { IfErr result (λ fault. is_final fault ≡ false → stage.new ≡ stage.old) }
     ensures unwritten { IfErr result (λ fault. fault ≢ BusFault.WriteFault → sink.new ≡ sink.old) }
     ensures unheard { IfErr result (λ fault. fault ≢ BusFault.WriteFault → meters.new ≡ meters.old) }
@@ -156,18 +230,9 @@ fn advance<K: Sink>(
 {
     match stage {
         Stage::Describing(reader) => match line {
-            Line::Nothing => Ok(()),
-            Line::Bytes(bytes) => feed(reader, bytes.as_slice()),
-            Line::Go => {
-                let whole = mem::replace(reader, Reader::new(alloc));
-                match begin(alloc, whole, sink) {
-                    Ok(running) => {
-                        *stage = Stage::Running(running);
-                        Ok(())
-                    }
-                    Err(fault) => Err(fault),
-                }
-            }
+            LentLine::Nothing => Ok(()),
+            LentLine::Bytes(bytes) => feed(reader, bytes),
+            LentLine::Go => go(alloc, stage, sink),
             _ => Err(BusFault::Script(5)),
         },
         Stage::Running(running) => play(running, line, rack, meters, sink),

@@ -70,7 +70,8 @@ fn with_bytes(
     function: Function,
     blocks: &[Block],
 ) -> Result<SoundDescriptor, BusFault>
-    ensures ok { IfOk result (λ described. (described.function ≡ function) × (described.configuration ≡ configuration_of (flat_map spelling blocks.now))) }
+    ensures ok { IfOk result (λ described. (described.function ≡ function)
+        × (described.configuration ≡ configuration_of (flat_map spelling blocks.now))) }
     ensures err { IfErr result (λ fault. fault ≡ BusFault.NoMemory) }
 {
     let bytes = match bytes_of(alloc, blocks) {

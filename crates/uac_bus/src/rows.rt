@@ -4,7 +4,8 @@ ghost use Rattle.uac_units.specs.Fitting.{IsFitted};
 ghost use Rattle.uac_units.specs.Hearing.{Reading};
 ghost use Rattle.uac_units.specs.Panel.{readings};
 ghost use Rattle.uac_edges.specs.Faults.{Rose};
-ghost use Rattle.uac_script.specs.Line.{phrase_of, voice_of_tone, loss_of, Keeps};
+ghost use Rattle.uac_script.specs.Line.{voice_of_tone, loss_of};
+ghost use Rattle.uac_script.specs.Lent.{lent_phrase, LentKeeps};
 ghost use Rattle.uac_script.specs.Phrase as phrase;
 ghost use Rattle.uac_running.specs.RunningWorld.{RunningWorld};
 ghost use Rattle.uac_running.specs.Kept.{StandsBetween};
@@ -18,14 +19,15 @@ use crate::transfers::{control, get, set, show};
 use uac_edges::Sink;
 use uac_pcm::Tone;
 use uac_running::Running;
-use uac_script::{Line, Mark};
+use uac_script::{LentLine, Mark};
 use uac_topology::laws::{functions_are_sound, interfaces_are_numbered};
 use uac_units::{Meter, Meters, Rack, Unit};
 
 /// Samples for a track.
 fn append(running: &mut Running, interface: u8, samples: &[i32]) -> Result<(), BusFault>
     ensures does { (shown : List Reading) (r : RunningWorld) (written : Option (List ℕ)) → StandsBetween running.old shown r
-        → Does (step_running r (phrase.appends (pos interface) samples.now)) true (StandsFor (Stage.Running running.new) shown) written written result }
+        → Does (step_running r (phrase.appends (pos interface) samples.now)) true
+        (StandsFor (Stage.Running running.new) shown) written written result }
     ensures unwritten { IfErr result (λ fault. fault ≢ BusFault.WriteFault) }
     ensures script { IfErr result (λ fault. is_final fault ≡ false → running.new ≡ running.old) }
 {
@@ -47,7 +49,8 @@ fn append(running: &mut Running, interface: u8, samples: &[i32]) -> Result<(), B
 /// The tone of a track.
 fn track(running: &mut Running, interface: u8, tone: &Tone) -> Result<(), BusFault>
     ensures does { (shown : List Reading) (r : RunningWorld) (written : Option (List ℕ)) → StandsBetween running.old shown r
-        → Does (step_running r (phrase.tracks (pos interface) (voice_of_tone tone.now))) false (StandsFor (Stage.Running running.new) shown) written written result }
+        → Does (step_running r (phrase.tracks (pos interface) (voice_of_tone tone.now))) false
+        (StandsFor (Stage.Running running.new) shown) written written result }
     ensures rule { IfErr result (λ fault. is_final fault ≡ false) }
     ensures unchanged { OnErr result (running.new ≡ running.old) }
 {
@@ -61,7 +64,8 @@ fn track(running: &mut Running, interface: u8, tone: &Tone) -> Result<(), BusFau
 /// The tone of an input jack.
 fn set_jack(running: &mut Running, terminal: u8, tone: &Tone) -> Result<(), BusFault>
     ensures does { (shown : List Reading) (r : RunningWorld) (written : Option (List ℕ)) → StandsBetween running.old shown r
-        → Does (step_running r (phrase.jacks (pos terminal) (voice_of_tone tone.now))) false (StandsFor (Stage.Running running.new) shown) written written result }
+        → Does (step_running r (phrase.jacks (pos terminal) (voice_of_tone tone.now))) false
+        (StandsFor (Stage.Running running.new) shown) written written result }
     ensures rule { IfErr result (λ fault. is_final fault ≡ false) }
     ensures unchanged { OnErr result (running.new ≡ running.old) }
 {
@@ -77,7 +81,8 @@ fn deviate(running: &mut Running, domain: u8, ppm: i32) -> Result<(), BusFault>
     requires low { negsuc 99999 ≤ℤ ppm }
     requires high { ppm ≤ℤ pos 100000 }
     ensures does { (shown : List Reading) (r : RunningWorld) (written : Option (List ℕ)) → StandsBetween running.old shown r
-        → Does (step_running r (phrase.deviates (pos domain) ppm)) false (StandsFor (Stage.Running running.new) shown) written written result }
+        → Does (step_running r (phrase.deviates (pos domain) ppm)) false
+        (StandsFor (Stage.Running running.new) shown) written written result }
     ensures rule { IfErr result (λ fault. is_final fault ≡ false) }
     ensures unchanged { OnErr result (running.new ≡ running.old) }
 {
@@ -100,7 +105,8 @@ fn run<K: Sink>(
     requires rack { IsFitted (λ v x. (⟦<dyn Unit as Unit>⟧ v).kind_of x) rack.now }
     ensures does { (r : RunningWorld) → StandsBetween running.old (readings (λ v x. (⟦<dyn Meter as Meter>⟧ v).reading_of x) meters.old) r
         → Does (step_running r (phrase.runs (pos count) (map loss_of marks.now))) false
-        (StandsFor (Stage.Running running.new) (readings (λ v x. (⟦<dyn Meter as Meter>⟧ v).reading_of x) meters.new)) (K.written sink.old) (K.written sink.new) result }
+        (StandsFor (Stage.Running running.new) (readings (λ v x. (⟦<dyn Meter as Meter>⟧ v).reading_of x) meters.new)) (K.written sink.old)
+        (K.written sink.new) result }
     ensures script { IfErr result (λ fault. is_final fault ≡ false → running.new ≡ running.old) }
     ensures unwritten { IfErr result (λ fault. fault ≢ BusFault.WriteFault → sink.new ≡ sink.old) }
     ensures unheard { IfErr result (λ fault. fault ≢ BusFault.WriteFault → meters.new ≡ meters.old) }
@@ -120,7 +126,8 @@ fn run<K: Sink>(
 fn report<K: Sink>(running: &Running, meters: &Meters, sink: &mut K) -> Result<(), BusFault>
     ensures does { (r : RunningWorld) → StandsBetween running.now (readings (λ v x. (⟦<dyn Meter as Meter>⟧ v).reading_of x) meters.now) r
         → Does (step_running r phrase.reports) false
-        (StandsFor (Stage.Running running.now) (readings (λ v x. (⟦<dyn Meter as Meter>⟧ v).reading_of x) meters.now)) (K.written sink.old) (K.written sink.new) result }
+        (StandsFor (Stage.Running running.now) (readings (λ v x. (⟦<dyn Meter as Meter>⟧ v).reading_of x) meters.now)) (K.written sink.old)
+        (K.written sink.new) result }
     ensures cause { IfErr result (λ fault. (fault ≡ BusFault.WriteFault) × Rose (K.faults sink.old) (K.faults sink.new)) }
     ensures never_falls { K.faults sink.old ≤ K.faults sink.new }
 {
@@ -133,16 +140,17 @@ fn report<K: Sink>(running: &Running, meters: &Meters, sink: &mut K) -> Result<(
 /// Does a line of the running device.
 pub(crate) fn play<K: Sink>(
     running: &mut Running,
-    line: &Line,
+    line: LentLine<'_>,
     rack: &Rack,
     meters: &mut Meters,
     sink: &mut K,
 ) -> Result<(), BusFault>
     requires rack { IsFitted (λ v x. (⟦<dyn Unit as Unit>⟧ v).kind_of x) rack.now }
-    requires keeps { Keeps line.now }
+    requires keeps { LentKeeps line }
     ensures does { (r : RunningWorld) → StandsBetween running.old (readings (λ v x. (⟦<dyn Meter as Meter>⟧ v).reading_of x) meters.old) r
-        → Does (step_running r (phrase_of line.now)) (is_append (phrase_of line.now))
-        (StandsFor (Stage.Running running.new) (readings (λ v x. (⟦<dyn Meter as Meter>⟧ v).reading_of x) meters.new)) (K.written sink.old) (K.written sink.new) result }
+        → Does (step_running r (lent_phrase line.entry)) (is_append (lent_phrase line.entry))
+        (StandsFor (Stage.Running running.new) (readings (λ v x. (⟦<dyn Meter as Meter>⟧ v).reading_of x) meters.new)) (K.written sink.old)
+        (K.written sink.new) result }
     ensures script { IfErr result (λ fault. is_final fault ≡ false → running.new ≡ running.old) }
     ensures unwritten { IfErr result (λ fault. fault ≢ BusFault.WriteFault → sink.new ≡ sink.old) }
     ensures unheard { IfErr result (λ fault. fault ≢ BusFault.WriteFault → meters.new ≡ meters.old) }
@@ -150,26 +158,26 @@ pub(crate) fn play<K: Sink>(
     ensures never_falls { K.faults sink.old ≤ K.faults sink.new }
 {
     match line {
-        Line::Nothing => Ok(()),
-        Line::Bytes(_) => Err(BusFault::Script(5)),
-        Line::Go => Err(BusFault::Script(5)),
-        Line::Control { setup, sent } => control(running, *setup, sent.as_slice(), sink),
-        Line::Get(name) => get(running, name.as_slice(), sink),
-        Line::Set(name, value) => set(running, name.as_slice(), *value, sink),
-        Line::Show(name) => show(running, name.as_slice(), sink),
-        Line::Break { after } => {
-            running.set_break(*after);
+        LentLine::Nothing => Ok(()),
+        LentLine::Bytes(_) => Err(BusFault::Script(5)),
+        LentLine::Go => Err(BusFault::Script(5)),
+        LentLine::Control { setup, sent } => control(running, setup, sent, sink),
+        LentLine::Get(name) => get(running, name, sink),
+        LentLine::Set(name, value) => set(running, name, value, sink),
+        LentLine::Show(name) => show(running, name, sink),
+        LentLine::Break { after } => {
+            running.set_break(after);
             Ok(())
         }
-        Line::Append { interface, samples } => { append(running, *interface, samples.as_slice()) }
-        Line::Track { interface, tone } => track(running, *interface, tone),
-        Line::Jack { terminal, tone } => set_jack(running, *terminal, tone),
-        Line::Deviate { domain, ppm } => deviate(running, *domain, *ppm),
-        Line::Run { count, marks } => run(running, *count, marks.as_slice(), rack, meters, sink),
-        Line::Detail(level) => {
-            running.set_detail(*level);
+        LentLine::Append { interface, samples } => append(running, interface, samples),
+        LentLine::Track { interface, tone } => track(running, interface, &tone),
+        LentLine::Jack { terminal, tone } => set_jack(running, terminal, &tone),
+        LentLine::Deviate { domain, ppm } => deviate(running, domain, ppm),
+        LentLine::Run { count, marks } => run(running, count, marks, rack, meters, sink),
+        LentLine::Detail(level) => {
+            running.set_detail(level);
             Ok(())
         }
-        Line::Report => report(running, meters, sink),
+        LentLine::Report => report(running, meters, sink),
     }
 }

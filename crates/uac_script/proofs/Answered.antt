@@ -9,9 +9,11 @@ use Rattle.hex.specs.declared.error.FromHexError.{FromHexError}
 use Rattle.hex.proofs.HexLemmas.{decode_of-ok}
 use Rattle.std.specs.Result.{result_ok}
 use Rattle.uac_script.specs.declared.line.Line.{Line}
+use Rattle.uac_script.specs.declared.lent.LentLine.{LentLine}
 use Rattle.uac_script.specs.Words.{Word, words_of, is_idle, hex_of}
 use Rattle.uac_script.specs.Phrase.{Phrase, idle, feeds, goes, controls, gets, sets, shows, breaks, appends, tracks, jacks, deviates, runs, details, reports, is_in_range}
 use Rattle.uac_script.specs.Line.{IsRow, Spells, begins_known, phrase_of, HasNoEmptyPart, Keeps, Says, IsOutOfRange, IsMisspelt, IsUnknown}
+use Rattle.uac_script.specs.Lent.{lent_phrase, lent_said, LentKeeps}
 use Rattle.uac_script.specs.Reading.{row_of, judged, judged_row, answer_of, answer, said}
 use Rattle.uac_script.proofs.Grammar.{row_sound, row_complete, row_of-letter}
 
@@ -218,15 +220,35 @@ says_only text (Err rule) (inl h) = ap (λ r. Err r) h.0 ∙ sym (then_two text 
 says_only text (Err rule) (inr (inl h)) = ap (λ r. Err r) h.0 ∙ sym (then_three text (case_of text) h.1)
 says_only text (Err rule) (inr (inr h)) = ap (λ r. Err r) h.0 ∙ sym (then_four text h.1)
 
--- ---- the clauses of `Line::read`
+-- ---- the clauses of `Line::read` and of `LentLine::read`
+
+-- a phrase in range that has no empty part
+abbrev KeepsPhrase : Phrase → Type 0
+KeepsPhrase phrase = (is_in_range phrase ≡ true) × HasNoEmptyPart phrase
+
+keeps_answer : (text : List ℕ) (r : Result Phrase ℕ) → r ≡ answer text → IfOk r KeepsPhrase
+keeps_answer text (Ok phrase) e = let o = ok_then text phrase (case_of text) (sym e) in (o.1, spells_there text phrase o.0)
+keeps_answer text (Err rule) e = tt
+
+refuses_answer : (text : List ℕ) (r : Result Phrase ℕ) → r ≡ answer text → IfErr r (λ rule. (2 ≤ rule) × (rule ≤ 4))
+refuses_answer text (Ok phrase) e = tt
+refuses_answer text (Err rule) e = rules_only text rule (case_of text) (sym e)
 
 pub read_says : (text : List ℕ) (r : Result Line ℕ) → said r ≡ answer text → Says text (said r)
 read_says text r e = says_answer text (said r) (sym e)
 
 pub read_keeps : (text : List ℕ) (r : Result Line ℕ) → said r ≡ answer text → IfOk r Keeps
-read_keeps text (Ok line) e = let o = ok_then text (phrase_of line) (case_of text) (sym e) in (o.1, spells_there text (phrase_of line) o.0)
+read_keeps text (Ok line) e = keeps_answer text (Ok (phrase_of line)) e
 read_keeps text (Err rule) e = tt
 
 pub read_refuses : (text : List ℕ) (r : Result Line ℕ) → said r ≡ answer text → IfErr r (λ rule. (2 ≤ rule) × (rule ≤ 4))
 read_refuses text (Ok line) e = tt
-read_refuses text (Err rule) e = rules_only text rule (case_of text) (sym e)
+read_refuses text (Err rule) e = refuses_answer text (Err rule) e
+
+pub lent_keeps : (text : List ℕ) (r : Result LentLine ℕ) → lent_said r ≡ answer text → IfOk r LentKeeps
+lent_keeps text (Ok line) e = keeps_answer text (Ok (lent_phrase line)) e
+lent_keeps text (Err rule) e = tt
+
+pub lent_refuses : (text : List ℕ) (r : Result LentLine ℕ) → lent_said r ≡ answer text → IfErr r (λ rule. (2 ≤ rule) × (rule ≤ 4))
+lent_refuses text (Ok line) e = tt
+lent_refuses text (Err rule) e = refuses_answer text (Err rule) e

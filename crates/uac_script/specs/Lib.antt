@@ -1,9 +1,13 @@
+-- What the program's theorem says: to be read and believed.
 pub mod Words
 pub mod Numerals
 pub mod Phrase
-pub mod Line
 pub mod Reading
-pub mod Saying
 pub mod Lines
+-- What the laws say besides.
+pub mod Line
+pub mod Saying
+-- What the contracts below them cite: steps of the code, no part of what is promised.
+pub mod Lent
 pub mod Taking
 pub mod Looking

@@ -1,5 +1,6 @@
 -- Profile: the lines of the script, one case for each row of their table.
-use Rattle.std.specs.Prelude.{◌≡◌, ◌≢◌, ℕ, ◌==◌, Bool, true, false, if◌then◌else◌, List, [], ◌∷◌, map, length, codes, pos, Some, Result, Ok, Err, ◌⊎◌}
+use Rattle.std.specs.Prelude.{◌≡◌, ◌≢◌, ℕ, ◌==◌, Bool, true, false, if◌then◌else◌, List, [], ◌∷◌, map, length, codes, pos, Some, Result, Ok}
+use Rattle.std.specs.Prelude.{Err, ◌⊎◌}
 use Rattle.std.specs.List.{list_any}
 use Rattle.uac_pcm.specs.declared.tones.Tone.{Tone}
 use Rattle.uac_pcm.specs.declared.tones.Tone.TheVariants.{Silent, Ramp, Noise}
@@ -7,10 +8,12 @@ use Rattle.uac_script.specs.declared.line.MarkKind.{MarkKind}
 use Rattle.uac_script.specs.declared.line.MarkKind.TheVariants.{Out, In, Feedback}
 use Rattle.uac_script.specs.declared.line.Mark.{Mark}
 use Rattle.uac_script.specs.declared.line.Line.{Line}
-use Rattle.uac_script.specs.declared.line.Line.TheVariants.{Nothing, Bytes, Go, Control, Get, Set, Show, Break, Append, Track, Jack, Deviate, Run, Detail, Report}
+use Rattle.uac_script.specs.declared.line.Line.TheVariants.{Nothing, Bytes, Go, Control, Get, Set, Show, Break, Append, Track, Jack}
+use Rattle.uac_script.specs.declared.line.Line.TheVariants.{Deviate, Run, Detail, Report}
 use Rattle.uac_script.specs.Words.{Word, words_of, is_idle, hex_of}
 use Rattle.uac_edges.specs.Numerals.{numeral}
-use Rattle.uac_script.specs.Phrase.{Voice, silent, ramps, hisses, Loss, Phrase, idle, feeds, goes, controls, gets, sets, shows, breaks, appends, tracks, jacks, deviates, runs, details, reports, is_in_range}
+use Rattle.uac_script.specs.Phrase.{Voice, silent, ramps, hisses, Loss, Phrase, idle, feeds, goes, controls, gets, sets, shows, breaks}
+use Rattle.uac_script.specs.Phrase.{appends, tracks, jacks, deviates, runs, details, reports, is_in_range}
 
 -- ---- how a line is spelt
 
@@ -35,7 +38,8 @@ IsRow words idle = ⊥
 IsRow words (feeds bytes) = (digits : Word) × (words ≡ codes "d" ∷ digits ∷ []) × (hex_of digits ≡ Some bytes)
 IsRow words goes = words ≡ codes "g" ∷ []
 IsRow words (controls setup sent) = (head : Word) × (hex_of head ≡ Some setup) × (length setup ≡ 8)
-    × (((words ≡ codes "c" ∷ head ∷ []) × (sent ≡ [])) ⊎ ((digits : Word) × (words ≡ codes "c" ∷ head ∷ digits ∷ []) × (hex_of digits ≡ Some sent)))
+    × (((words ≡ codes "c" ∷ head ∷ []) × (sent ≡ []))
+    ⊎ ((digits : Word) × (words ≡ codes "c" ∷ head ∷ digits ∷ []) × (hex_of digits ≡ Some sent)))
 IsRow words (gets name) = (words ≡ codes "h" ∷ codes "get" ∷ name ∷ []) × (name ≢ [])
 IsRow words (sets name value) = (words ≡ codes "h" ∷ codes "set" ∷ name ∷ numeral value ∷ []) × (name ≢ [])
 IsRow words (shows name) = (words ≡ codes "h" ∷ codes "show" ∷ name ∷ []) × (name ≢ [])

@@ -1,5 +1,6 @@
 -- Profile: the lines of a script, each ended by a newline; a last line without one counts if it isn't empty.
-use Rattle.std.specs.Prelude.{◌≡◌, ◌≢◌, ℕ, ◌+◌, ◌==◌, Bool, true, false, not, nat_lt, if◌then◌else◌, List, [], ◌++◌, length, take, drop, take_while, Option, None, Some, ◌⊎◌, Result, Ok, Err}
+use Rattle.std.specs.Prelude.{◌≡◌, ◌≢◌, ℕ, ◌+◌, ◌==◌, Bool, true, false, not, nat_lt, if◌then◌else◌, List, [], ◌++◌, length, take, drop}
+use Rattle.std.specs.Prelude.{take_while, Option, None, Some, ◌⊎◌, Result, Ok, Err}
 use Rattle.std.specs.Io.KnownBytes.{Consumes, IsAtEnd}
 use Rattle.uac_edges.specs.Faults.{Rose}
 use Rattle.uac_script.specs.declared.lines.Next.{Next}
@@ -52,7 +53,8 @@ pub record Splitting : Type 0 where
   pub stop : Option LineStop
   pub ended : Bool
 
--- these bytes, and nothing else, are the next line: with their newline they are so many bytes; or no newline ends them, and they are the last
+-- these bytes, and nothing else, are the next line: with their newline they are so many bytes; or no newline ends them, and they are the
+-- last
 pub record Goes (old new : Splitting) (bytes rest : List ℕ) (size : ℕ) (last : Bool) : Type 0 where
   pub text : new.text ≡ bytes
   pub number : new.number ≡ old.number + 1

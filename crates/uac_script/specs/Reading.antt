@@ -1,5 +1,7 @@
--- Profile: the table of lines, read from the words behind the first one. `proofs/Grammar.antt` shows that it reads exactly what `Spells` spells.
-use Rattle.std.specs.Prelude.{ℕ, ◌==◌, ◌&&◌, Bool, true, false, if◌then◌else◌, List, [], ◌∷◌, map, length, slice_index, codes, ℤ, pos, Option, Some, None, is_some, unwrap_or, Result, Ok, Err}
+-- Profile: the table of lines, read from the words behind the first one. `proofs/Grammar.antt` shows that it reads exactly what `Spells`
+-- spells.
+use Rattle.std.specs.Prelude.{ℕ, ◌==◌, ◌&&◌, Bool, true, false, if◌then◌else◌, List, [], ◌∷◌, map, length, slice_index, codes, ℤ, pos}
+use Rattle.std.specs.Prelude.{Option, Some, None, is_some, unwrap_or, Result, Ok, Err}
 use Rattle.std.specs.List.{list_all}
 use Rattle.std.specs.Option.{option_map}
 use Rattle.std.specs.Str.{bytes_eq}
@@ -9,7 +11,9 @@ use Rattle.uac_script.specs.declared.line.MarkKind.TheVariants.{Out, In, Feedbac
 use Rattle.uac_script.specs.declared.line.Line.{Line}
 use Rattle.uac_script.specs.Words.{Word, words_of, is_idle, hex_of}
 use Rattle.uac_script.specs.Numerals.{is_number, value_of}
-use Rattle.uac_script.specs.Phrase.{Voice, silent, ramps, hisses, Loss, Phrase, idle, feeds, goes, controls, gets, sets, shows, breaks, appends, tracks, jacks, deviates, runs, details, reports, is_id, is_signed, is_voice_in_range, is_in_range}
+use Rattle.uac_script.specs.Phrase.{Voice, silent, ramps, hisses, Loss, Phrase, idle, feeds, goes, controls, gets, sets, shows, breaks}
+use Rattle.uac_script.specs.Phrase.{appends, tracks, jacks, deviates, runs, details, reports, is_id, is_signed, is_voice_in_range}
+use Rattle.uac_script.specs.Phrase.{is_in_range}
 use Rattle.uac_script.specs.Line.{phrase_of, voice_of_tone}
 
 -- nothing, or exactly one word
@@ -80,7 +84,8 @@ abbrev pub appends_of : List Word → Option Phrase
 appends_of [] = None
 appends_of (word ∷ []) = None
 appends_of (word ∷ sample ∷ samples) =
-    if is_number word && list_all is_number (sample ∷ samples) then Some (appends (value_of word) (map value_of (sample ∷ samples))) else None
+    if is_number word && list_all is_number (sample ∷ samples) then Some (appends (value_of word) (map value_of (sample ∷ samples)))
+    else None
 
 abbrev pub ramp_of : Word × Word → Option Voice
 ramp_of (start, step) = if is_number start && is_number step then Some (ramps (value_of start) (value_of step)) else None

@@ -1,24 +1,22 @@
-ghost use Rattle.std.specs.Prelude.{◌≡◌, ◌≤◌, length, Option, None};
-ghost use Rattle.std.specs.Option.{option_map};
+ghost use Rattle.std.specs.Prelude.{◌≡◌, ◌≤◌, length, Option, None, IfSome};
+ghost use Rattle.std.specs.Option.{option_copied};
 ghost use Rattle.uac_script.specs.Words.{hex_of};
 ghost use Rattle.uac_script.specs.Reading.{setup_of};
 
-use arrayvec::ArrayVec;
 use hex::FromHex;
 
-/// The bytes that a word of HEX spells: a positive even number of digits of either case.
-pub fn bytes(word: &[u8]) -> Option<ArrayVec<u8, 2048>>
+/// The bytes that a word of HEX spells, in `room`: a positive even number of digits of either case.
+pub fn bytes<'a>(word: &[u8], room: &'a mut [u8; 2048]) -> Option<&'a [u8]>
     requires { length word.now ≤ 4096 }
-    ensures { option_map (λ bytes. bytes.items) result ≡ hex_of word.now }
+    ensures bytes { option_copied result ≡ hex_of word.now }
+    ensures fits { IfSome result (λ bytes. length bytes.now ≤ 2048) }
 {
     if word.is_empty() {
         return None;
     }
-    let mut room = [0; 2048];
     let len = word.len() / 2;
-    let bytes = &mut room[..len];
-    hex::decode_to_slice(word, bytes).ok()?;
-    ArrayVec::try_from(&room[..len]).ok()
+    hex::decode_to_slice(word, &mut room[..len]).ok()?;
+    Some(&room[..len])
 }
 
 /// The eight setup bytes of a control transfer, where the word spells eight.

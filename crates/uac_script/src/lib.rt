@@ -5,6 +5,8 @@
 mod hex_bytes;
 /// What holds of every line.
 pub mod laws;
+/// A line whose long parts lie elsewhere.
+mod lent;
 /// A line of the script.
 mod line;
 /// The lines of a script, from a source in pieces of any size.
@@ -13,6 +15,8 @@ mod lines;
 mod lists;
 /// Numbers and bytes as words spell them.
 mod numbers;
+/// A line with its long parts in itself.
+mod owned;
 /// A whole line, by its first word.
 mod reading;
 /// The rows of the table of lines.
@@ -20,8 +24,10 @@ mod rows;
 /// The words of a line, one after the other.
 mod words;
 
+pub use lent::{LentLine, LineRoom};
 pub use line::{Line, Mark, MarkKind, Name};
 pub use lines::{LineStop, Lines, Next};
+pub use reading::is_idle;
 pub use uac_edges::{
     Failed, MemorySink, MemorySource, Sink, Source, StdSink, StdSource, SteadySource, TextLine,
     give_all,

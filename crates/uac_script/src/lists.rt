@@ -1,14 +1,16 @@
 //! The rows of the table of lines that end in a list of words: samples, or marks.
-ghost use Rattle.std.specs.Prelude.{◌≡◌, ◌≤◌, ◌&&◌, true, false, Option, Some, None, map, MatchOption, IsTrue};
-ghost use Rattle.std.specs.Option.{option_map};
+ghost use Rattle.std.specs.Prelude.{◌≡◌, ◌≤◌, ◌&&◌, true, false, length, Option, Some, None, map, MatchOption, IsTrue, IfSome, IfOk};
+ghost use Rattle.std.specs.Option.{option_copied};
 ghost use Rattle.std.specs.List.{list_all};
 ghost use Rattle.uac_script.specs.Words.{words_left, bytes_left};
 ghost use Rattle.uac_script.specs.Numerals.{is_number};
-ghost use Rattle.uac_script.specs.Reading.{said, judged, appends_of, runs_of, samples_of, kind_of, is_mark, mark_of};
+ghost use Rattle.uac_script.specs.Reading.{judged, appends_of, runs_of, samples_of, kind_of, is_mark, mark_of};
 ghost use Rattle.uac_script.specs.Phrase.{is_id, are_losses_in_range};
 ghost use Rattle.uac_script.specs.Line.{loss_of};
+ghost use Rattle.uac_script.specs.Lent.{lent_said, Fits};
 
-use crate::line::{Line, Mark, MarkKind};
+use crate::lent::LentLine;
+use crate::line::{Mark, MarkKind};
 use crate::numbers::{id, is_number, signed, within};
 use crate::rows::{MISSPELT, OUT_OF_RANGE};
 use crate::words::Words;
@@ -27,22 +29,27 @@ fn are_numbers(mut words: Words<'_>) -> bool
 }
 
 // The samples that the words spell, where each is in range.
-fn samples(mut words: Words<'_>) -> Option<ArrayVec<i32, 2048>>
+fn samples<'a>(mut words: Words<'_>, samples: &'a mut ArrayVec<i32, 2048>) -> Option<&'a [i32]>
     requires numbers { IsTrue (list_all is_number (words_left words.rest)) }
     requires room { bytes_left words.rest ≤ 4096 }
-    ensures { option_map (λ samples. samples.items) result ≡ samples_of (words_left words.entry.rest) }
+    ensures samples { option_copied result ≡ samples_of (words_left words.entry.rest) }
+    ensures fits { IfSome result (λ samples. length samples.now ≤ 2048) }
 {
-    let mut samples = ArrayVec::new();
+    samples.clear();
     while let Some(word) = words.take() {
         samples.push(signed(word)?);
     }
-    Some(samples)
+    Some(samples.as_slice())
 }
 
 /// Samples for a track.
-pub fn append(mut words: Words<'_>) -> Result<Line, u8>
+pub fn append<'a>(
+    mut words: Words<'_>,
+    room: &'a mut ArrayVec<i32, 2048>,
+) -> Result<LentLine<'a>, u8>
     requires { bytes_left words.rest ≤ 4096 }
-    ensures { said result ≡ judged (appends_of (words_left words.entry.rest)) }
+    ensures says { lent_said result ≡ judged (appends_of (words_left words.entry.rest)) }
+    ensures fits { IfOk result Fits }
 {
     let Some(interface) = words.take() else {
         return Err(MISSPELT);
@@ -53,8 +60,8 @@ pub fn append(mut words: Words<'_>) -> Result<Line, u8>
     let Some(interface) = id(interface) else {
         return Err(OUT_OF_RANGE);
     };
-    match samples(words) {
-        Some(samples) => Ok(Line::Append { interface, samples }),
+    match samples(words, room) {
+        Some(samples) => Ok(LentLine::Append { interface, samples }),
         None => Err(OUT_OF_RANGE),
     }
 }
@@ -106,25 +113,27 @@ fn are_marks(mut words: Words<'_>) -> bool
 }
 
 // The marks that the words spell, where each is in range and there are no more than 24.
-fn marks(mut words: Words<'_>) -> Option<ArrayVec<Mark, 24>>
+fn marks<'a>(mut words: Words<'_>, marks: &'a mut ArrayVec<Mark, 24>) -> Option<&'a [Mark]>
     requires { IsTrue (list_all is_mark (words_left words.rest)) }
-    ensures { MatchOption result (are_losses_in_range (map mark_of (words_left words.entry.rest)) ≡ false)
+    ensures marks { MatchOption result (are_losses_in_range (map mark_of (words_left words.entry.rest)) ≡ false)
         (λ marks. (are_losses_in_range (map mark_of (words_left words.entry.rest)) ≡ true)
-        × (map loss_of marks.items ≡ map mark_of (words_left words.entry.rest))) }
+        × (map loss_of marks.now ≡ map mark_of (words_left words.entry.rest))) }
+    ensures fits { IfSome result (λ marks. length marks.now ≤ 24) }
 {
-    let mut marks = ArrayVec::new();
+    marks.clear();
     while let Some(word) = words.take() {
         let mark = mark(word)?;
         if marks.try_push(mark).is_err() {
             return None;
         }
     }
-    Some(marks)
+    Some(marks.as_slice())
 }
 
 /// Microframes, and what is lost in each of them.
-pub fn run(mut words: Words<'_>) -> Result<Line, u8>
-    ensures { said result ≡ judged (runs_of (words_left words.entry.rest)) }
+pub fn run<'a>(mut words: Words<'_>, room: &'a mut ArrayVec<Mark, 24>) -> Result<LentLine<'a>, u8>
+    ensures says { lent_said result ≡ judged (runs_of (words_left words.entry.rest)) }
+    ensures fits { IfOk result Fits }
 {
     let Some(count) = words.take() else {
         return Err(MISSPELT);
@@ -135,8 +144,8 @@ pub fn run(mut words: Words<'_>) -> Result<Line, u8>
     let Some(count) = within(count, 1, 8_000) else {
         return Err(OUT_OF_RANGE);
     };
-    match marks(words) {
-        Some(marks) => Ok(Line::Run {
+    match marks(words, room) {
+        Some(marks) => Ok(LentLine::Run {
             count: count as u32,
             marks,
         }),

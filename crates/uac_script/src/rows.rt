@@ -1,17 +1,18 @@
 //! The rows of the table of lines, each read from the words behind the first one.
-ghost use Rattle.std.specs.Prelude.{◌≡◌, ◌≤◌, ◌==◌, length, Option, Some, None, IsTrue};
-ghost use Rattle.std.specs.Option.{option_map};
+ghost use Rattle.std.specs.Prelude.{◌≡◌, ◌≤◌, ◌==◌, length, Option, Some, None, IsTrue, IfSome, IfOk};
+ghost use Rattle.std.specs.Option.{option_copied};
 ghost use Rattle.uac_script.specs.Words.{words_left, bytes_left};
 ghost use Rattle.uac_script.specs.Numerals.{is_number};
-ghost use Rattle.uac_script.specs.Reading.{said, said_voice, said_signal, judged, judged_voice, judged_signal, name_of, only_of, then_of, when_empty, feeds_of, controls_of, element_of, breaks_of, voice_of, signal_of, tracks_of, jacks_of, deviates_of, details_of, sets_of, pair_of, sent_of, ramp_of, numbered};
+ghost use Rattle.uac_script.specs.Reading.{said_voice, said_signal, judged, judged_voice, judged_signal, name_of, only_of, then_of};
+ghost use Rattle.uac_script.specs.Reading.{when_empty, feeds_of, controls_of, element_of, breaks_of, voice_of, signal_of, tracks_of};
+ghost use Rattle.uac_script.specs.Reading.{jacks_of, deviates_of, details_of, sets_of, pair_of, sent_of, ramp_of, numbered};
 ghost use Rattle.uac_script.specs.Phrase.{silent, hisses, is_in_range};
-ghost use Rattle.uac_script.specs.Line.{phrase_of};
+ghost use Rattle.uac_script.specs.Lent.{lent_phrase, lent_said, Fits};
 
 use crate::hex_bytes::{bytes, setup};
-use crate::line::{Line, Name};
+use crate::lent::LentLine;
 use crate::numbers::{id, is_number, signed, within};
 use crate::words::Words;
-use arrayvec::ArrayVec;
 use uac_pcm::Tone;
 
 /// Rule S3: the words aren't as in the table.
@@ -21,9 +22,11 @@ pub const MISSPELT: u8 = 3;
 pub const OUT_OF_RANGE: u8 = 4;
 
 /// A line that has no word but its first.
-pub fn alone(line: Line, words: Words<'_>) -> Result<Line, u8>
-    requires { IsTrue (is_in_range (phrase_of line)) }
-    ensures { said result ≡ (judged (when_empty (phrase_of line) (words_left words.entry.rest))) }
+pub fn alone<'a>(line: LentLine<'a>, words: Words<'_>) -> Result<LentLine<'a>, u8>
+    requires range { IsTrue (is_in_range (lent_phrase line)) }
+    requires room { Fits line }
+    ensures says { lent_said result ≡ (judged (when_empty (lent_phrase line.entry) (words_left words.entry.rest))) }
+    ensures fits { IfOk result Fits }
 {
     if words.is_empty() {
         Ok(line)
@@ -33,35 +36,38 @@ pub fn alone(line: Line, words: Words<'_>) -> Result<Line, u8>
 }
 
 /// The next bytes of the descriptor.
-pub fn feed(words: Words<'_>) -> Result<Line, u8>
+pub fn feed<'a>(words: Words<'_>, room: &'a mut [u8; 2048]) -> Result<LentLine<'a>, u8>
     requires { bytes_left words.rest ≤ 4097 }
-    ensures { said result ≡ judged (feeds_of (words_left words.entry.rest)) }
+    ensures says { lent_said result ≡ judged (feeds_of (words_left words.entry.rest)) }
+    ensures fits { IfOk result Fits }
 {
     let Some(digits) = words.only() else {
         return Err(MISSPELT);
     };
-    match bytes(digits) {
-        Some(bytes) => Ok(Line::Bytes(bytes)),
+    match bytes(digits, room) {
+        Some(bytes) => Ok(LentLine::Bytes(bytes)),
         None => Err(MISSPELT),
     }
 }
 
 // The bytes that a control transfer sends.
-fn sent(words: Words<'_>) -> Option<ArrayVec<u8, 2048>>
+fn sent<'a>(words: Words<'_>, room: &'a mut [u8; 2048]) -> Option<&'a [u8]>
     requires { bytes_left words.rest ≤ 4097 }
-    ensures { option_map (λ sent. sent.items) result ≡ sent_of (words_left words.entry.rest) }
+    ensures sent { option_copied result ≡ sent_of (words_left words.entry.rest) }
+    ensures fits { IfSome result (λ sent. length sent.now ≤ 2048) }
 {
     if words.is_empty() {
-        return Some(ArrayVec::new());
+        return Some(&room[..0]);
     }
     let digits = words.only()?;
-    bytes(digits)
+    bytes(digits, room)
 }
 
 /// A control transfer.
-pub fn control(mut words: Words<'_>) -> Result<Line, u8>
+pub fn control<'a>(mut words: Words<'_>, room: &'a mut [u8; 2048]) -> Result<LentLine<'a>, u8>
     requires { bytes_left words.rest ≤ 4097 }
-    ensures { said result ≡ judged (controls_of (words_left words.entry.rest)) }
+    ensures says { lent_said result ≡ judged (controls_of (words_left words.entry.rest)) }
+    ensures fits { IfOk result Fits }
 {
     let Some(head) = words.take() else {
         return Err(MISSPELT);
@@ -69,36 +75,38 @@ pub fn control(mut words: Words<'_>) -> Result<Line, u8>
     let Some(setup) = setup(head) else {
         return Err(MISSPELT);
     };
-    match sent(words) {
-        Some(sent) => Ok(Line::Control { setup, sent }),
+    match sent(words, room) {
+        Some(sent) => Ok(LentLine::Control { setup, sent }),
         None => Err(MISSPELT),
     }
 }
 
 // A name: any word but the empty one.
-fn name(word: &[u8]) -> Option<Name>
-    requires { length word.now ≤ 4096 }
-    ensures { option_map (λ name. name.items) result ≡ name_of word.now }
+fn name(word: &[u8]) -> Option<&[u8]>
+    ensures name { option_copied result ≡ name_of word.now }
+    ensures same { IfSome result (λ name. length name.now ≡ length word.now) }
 {
     if word.is_empty() {
         return None;
     }
-    Name::try_from(word).ok()
+    Some(word)
 }
 
 // The last word, as a name.
-fn last_name(words: Words<'_>) -> Option<Name>
+fn last_name(words: Words<'_>) -> Option<&[u8]>
     requires { bytes_left words.rest ≤ 4097 }
-    ensures { option_map (λ name. name.items) result ≡ then_of name_of (only_of (words_left words.entry.rest)) }
+    ensures name { option_copied result ≡ then_of name_of (only_of (words_left words.entry.rest)) }
+    ensures fits { IfSome result (λ name. length name.now ≤ 4096) }
 {
     let word = words.only()?;
     name(word)
 }
 
 // Sets an element, by its name and the value.
-fn set(words: Words<'_>) -> Result<Line, u8>
+fn set(words: Words<'_>) -> Result<LentLine<'_>, u8>
     requires { bytes_left words.rest ≤ 4097 }
-    ensures { said result ≡ judged (then_of sets_of (pair_of (words_left words.entry.rest))) }
+    ensures says { lent_said result ≡ judged (then_of sets_of (pair_of (words_left words.entry.rest))) }
+    ensures fits { IfOk result Fits }
 {
     let Some((word, numeral)) = words.pair() else {
         return Err(MISSPELT);
@@ -110,15 +118,16 @@ fn set(words: Words<'_>) -> Result<Line, u8>
         return Err(MISSPELT);
     };
     match signed(numeral) {
-        Some(value) => Ok(Line::Set(name, value)),
+        Some(value) => Ok(LentLine::Set(name, value)),
         None => Err(OUT_OF_RANGE),
     }
 }
 
 /// Reads, sets or shows an element.
-pub fn element(mut words: Words<'_>) -> Result<Line, u8>
+pub fn element(mut words: Words<'_>) -> Result<LentLine<'_>, u8>
     requires { bytes_left words.rest ≤ 4097 }
-    ensures { said result ≡ judged (element_of (words_left words.entry.rest)) }
+    ensures says { lent_said result ≡ judged (element_of (words_left words.entry.rest)) }
+    ensures fits { IfOk result Fits }
 {
     let Some(verb) = words.take() else {
         return Err(MISSPELT);
@@ -131,23 +140,24 @@ pub fn element(mut words: Words<'_>) -> Result<Line, u8>
         return Err(MISSPELT);
     }
     match last_name(words) {
-        Some(name) if get => Ok(Line::Get(name)),
-        Some(name) => Ok(Line::Show(name)),
+        Some(name) if get => Ok(LentLine::Get(name)),
+        Some(name) => Ok(LentLine::Show(name)),
         None => Err(MISSPELT),
     }
 }
 
 /// The next transfer breaks.
-pub fn break_at(words: Words<'_>) -> Result<Line, u8>
-    ensures { said result ≡ judged (breaks_of (words_left words.entry.rest)) }
+pub fn break_at<'a>(words: Words<'_>) -> Result<LentLine<'a>, u8>
+    ensures says { lent_said result ≡ judged (breaks_of (words_left words.entry.rest)) }
+    ensures fits { IfOk result Fits }
 {
     let Some(word) = words.only() else {
         return Err(MISSPELT);
     };
     if word == b"before".as_slice() {
-        Ok(Line::Break { after: false })
+        Ok(LentLine::Break { after: false })
     } else if word == b"after".as_slice() {
-        Ok(Line::Break { after: true })
+        Ok(LentLine::Break { after: true })
     } else {
         Err(MISSPELT)
     }
@@ -238,28 +248,31 @@ fn signal(mut words: Words<'_>) -> Result<(u8, Tone), u8>
 }
 
 /// The tone of a track.
-pub fn track(words: Words<'_>) -> Result<Line, u8>
-    ensures { said result ≡ judged (tracks_of (words_left words.entry.rest)) }
+pub fn track<'a>(words: Words<'_>) -> Result<LentLine<'a>, u8>
+    ensures says { lent_said result ≡ judged (tracks_of (words_left words.entry.rest)) }
+    ensures fits { IfOk result Fits }
 {
     match signal(words) {
-        Ok((interface, tone)) => Ok(Line::Track { interface, tone }),
+        Ok((interface, tone)) => Ok(LentLine::Track { interface, tone }),
         Err(rule) => Err(rule),
     }
 }
 
 /// The tone of an input jack.
-pub fn jack(words: Words<'_>) -> Result<Line, u8>
-    ensures { said result ≡ judged (jacks_of (words_left words.entry.rest)) }
+pub fn jack<'a>(words: Words<'_>) -> Result<LentLine<'a>, u8>
+    ensures says { lent_said result ≡ judged (jacks_of (words_left words.entry.rest)) }
+    ensures fits { IfOk result Fits }
 {
     match signal(words) {
-        Ok((terminal, tone)) => Ok(Line::Jack { terminal, tone }),
+        Ok((terminal, tone)) => Ok(LentLine::Jack { terminal, tone }),
         Err(rule) => Err(rule),
     }
 }
 
 /// The deviation of a domain.
-pub fn deviate(words: Words<'_>) -> Result<Line, u8>
-    ensures { said result ≡ judged (deviates_of (words_left words.entry.rest)) }
+pub fn deviate<'a>(words: Words<'_>) -> Result<LentLine<'a>, u8>
+    ensures says { lent_said result ≡ judged (deviates_of (words_left words.entry.rest)) }
+    ensures fits { IfOk result Fits }
 {
     let Some((domain, ppm)) = words.pair() else {
         return Err(MISSPELT);
@@ -271,7 +284,7 @@ pub fn deviate(words: Words<'_>) -> Result<Line, u8>
         return Err(OUT_OF_RANGE);
     };
     match within(ppm, -100_000, 100_000) {
-        Some(ppm) => Ok(Line::Deviate {
+        Some(ppm) => Ok(LentLine::Deviate {
             domain,
             ppm: ppm as i32,
         }),
@@ -280,8 +293,9 @@ pub fn deviate(words: Words<'_>) -> Result<Line, u8>
 }
 
 /// How much is printed.
-pub fn detail(words: Words<'_>) -> Result<Line, u8>
-    ensures { said result ≡ judged (details_of (words_left words.entry.rest)) }
+pub fn detail<'a>(words: Words<'_>) -> Result<LentLine<'a>, u8>
+    ensures says { lent_said result ≡ judged (details_of (words_left words.entry.rest)) }
+    ensures fits { IfOk result Fits }
 {
     let Some(level) = words.only() else {
         return Err(MISSPELT);
@@ -290,7 +304,7 @@ pub fn detail(words: Words<'_>) -> Result<Line, u8>
         return Err(MISSPELT);
     }
     match within(level, 0, 2) {
-        Some(level) => Ok(Line::Detail(level as u8)),
+        Some(level) => Ok(LentLine::Detail(level as u8)),
         None => Err(OUT_OF_RANGE),
     }
 }

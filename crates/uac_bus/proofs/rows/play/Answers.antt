@@ -1,33 +1,22 @@
 use Rattle.std.proofs.Common.{w32, FitsSigned, rules}
 use Rattle.std.proofs.lemmas.Int.{to_z-of_z}
-use Rattle.uac_bus.proofs.Rowing.{appends_said, controls_said, deviates_said, sets_said}
+use Rattle.uac_bus.proofs.Rowing.{deviates_said, sets_said}
 use Rattle.uac_bus.proofs.rows.play.Goals as goal
 
 pub returns-in-Control-clause-does : goal.returns-in-Control-clause-does
-returns-in-Control-clause-does g c =
-    let does =
-    controls_said c.in-Control.setup c.as_slice.result.now c.in-Control.sent.items c.args.running.now c.control.new.running
-    (g.K.Sink.written c.args.sink.now) (g.K.Sink.written c.control.new.sink) c.control.result c.as_slice.ensures.value c.control.ensures.does
-    in
-    λ r s. rw c.in-Control.is (does _ r s)
+returns-in-Control-clause-does g c = λ r s. rw c.in-Control.is (c.control.ensures.does _ r s)
 
 pub returns-in-Set-clause-does : goal.returns-in-Set-clause-does
 returns-in-Set-clause-does g c =
     let fits : FitsSigned w32 c.in-Set.value = search rules in
     let does =
-    sets_said c.as_slice-in-Set.result.now c.in-Set.name.items _ c.in-Set.value c.args.running.now c.set.new.running
-    (g.K.Sink.written c.args.sink.now) (g.K.Sink.written c.set.new.sink) c.set.result c.as_slice-in-Set.ensures.value (to_z-of_z w32 c.in-Set.value fits)
-    c.set.ensures.does
+    sets_said c.in-Set.name.now _ c.in-Set.value c.args.running.now c.set.new.running (g.K.Sink.written c.args.sink.now) (g.K.Sink.written c.set.new.sink)
+    c.set.result (to_z-of_z w32 c.in-Set.value fits) c.set.ensures.does
     in
     λ r s. rw c.in-Set.is (does _ r s)
 
 pub returns-in-Append-clause-does : goal.returns-in-Append-clause-does
-returns-in-Append-clause-does g c =
-    let does =
-    appends_said c.in-Append.interface c.as_slice-in-Append.result.now c.in-Append.samples.items c.args.running.now c.append.new.running c.append.result
-    c.as_slice-in-Append.ensures.value c.append.ensures.does
-    in
-    λ r s. rw c.in-Append.is (does _ r _ s)
+returns-in-Append-clause-does g c = λ r s. rw c.in-Append.is (c.append.ensures.does _ r _ s)
 
 pub returns-in-Track-clause-does : goal.returns-in-Track-clause-does
 returns-in-Track-clause-does g c = λ r s. rw c.in-Track.is (c.track.ensures.does _ r _ s)

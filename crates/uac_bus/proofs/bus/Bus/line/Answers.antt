@@ -1,4 +1,5 @@
+use Rattle.uac_bus.proofs.Stepping.{answers_same}
 use Rattle.uac_bus.proofs.bus.Bus.line.Goals as goal
 
-pub returns-in-Err-clause-answers : goal.returns-in-Err-clause-answers
-returns-in-Err-clause-answers g c = λ w s. c.in-Err.ensures.does w (rw (← c.self.view_is) at s.stage)
+pub returns-clause-answers : goal.returns-clause-answers
+returns-clause-answers g c = λ w s. answers_same _ _ w _ _ _ _ _ c.lend.ensures (c.lent_line.ensures.answers w s)

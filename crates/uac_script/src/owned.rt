@@ -1,0 +1,52 @@
+//! A line with its long parts in itself, of one whose long parts lie elsewhere.
+ghost use Rattle.std.specs.Prelude.{◌≡◌, ◌≤◌, length};
+ghost use Rattle.uac_script.specs.Line.{phrase_of};
+ghost use Rattle.uac_script.specs.Lent.{lent_phrase, Fits};
+
+use crate::lent::LentLine;
+use crate::line::Line;
+use arrayvec::ArrayVec;
+
+// The items, copied.
+fn copied<T: Copy + Default, const N: usize>(items: &[T]) -> ArrayVec<T, N>
+    requires { length items.now ≤ N }
+    ensures { result.items ≡ items.now }
+{
+    match ArrayVec::try_from(items) {
+        Ok(copy) => copy,
+        Err(_) => unreachable!(),
+    }
+}
+
+/// The same line, with its long parts copied into it.
+pub fn owned(line: LentLine<'_>) -> Line
+    requires { Fits line }
+    ensures { phrase_of result ≡ lent_phrase line.entry }
+{
+    match line {
+        LentLine::Nothing => Line::Nothing,
+        LentLine::Bytes(bytes) => Line::Bytes(copied(bytes)),
+        LentLine::Go => Line::Go,
+        LentLine::Control { setup, sent } => Line::Control {
+            setup,
+            sent: copied(sent),
+        },
+        LentLine::Get(name) => Line::Get(copied(name)),
+        LentLine::Set(name, value) => Line::Set(copied(name), value),
+        LentLine::Show(name) => Line::Show(copied(name)),
+        LentLine::Break { after } => Line::Break { after },
+        LentLine::Append { interface, samples } => Line::Append {
+            interface,
+            samples: copied(samples),
+        },
+        LentLine::Track { interface, tone } => Line::Track { interface, tone },
+        LentLine::Jack { terminal, tone } => Line::Jack { terminal, tone },
+        LentLine::Deviate { domain, ppm } => Line::Deviate { domain, ppm },
+        LentLine::Run { count, marks } => Line::Run {
+            count,
+            marks: copied(marks),
+        },
+        LentLine::Detail(level) => Line::Detail(level),
+        LentLine::Report => Line::Report,
+    }
+}
