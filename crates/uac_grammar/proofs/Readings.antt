@@ -1,6 +1,7 @@
--- What holds of a reader's parts, byte after byte.
-use Rattle.std.proofs.Common.{◌≡◌, ◌≢◌, ◌≤◌, ◌<◌, ◌+◌, ◌==◌, ℕ, zero, suc, Bool, true, not, cond, List, [], ◌∷◌, ◌++◌, length, refl, ap, ◌∙◌, sym, subst, inl, inr, arith, append_assoc, append-nil, length-append, Option, Some, None}
+-- What holds of a reader's parts, part after part of its input.
+use Rattle.std.proofs.Common.{◌≡◌, ◌≢◌, ◌≤◌, ◌+◌, ◌==◌, ℕ, zero, suc, Bool, true, not, cond, List, [], ◌∷◌, ◌++◌, length, take, drop, refl, ap, ◌∙◌, sym, subst, inl, inr, arith, append_assoc, append-nil, length-append, Option, Some, None}
 use Rattle.std.proofs.lemmas.Bool.{cases_Bool}
+use Rattle.std.proofs.lemmas.List.{take-append-drop}
 use Rattle.std.proofs.lemmas.Bool.Decides.{nat_tests}
 use Rattle.uac_descriptor.specs.Reading.{AreBytes}
 use Rattle.uac_descriptor.specs.declared.block.Block.{Block}
@@ -17,7 +18,7 @@ use Rattle.uac_grammar.specs.declared.fault.ReadStop.{ReadStop}
 use Rattle.uac_grammar.specs.declared.fault.ReadStop.TheVariants.{Fault, NoMemory}
 use Rattle.uac_grammar.specs.Reading.{IsUnstopped, most_taken, IsPartial, IsGoing, IsReading}
 use Rattle.uac_grammar.specs.Stop.{is_shown, shown_within, shown_fault, stop_at, first_stop, shown_stop}
-use Rattle.uac_grammar.specs.Verdict.{Shows, IsKept}
+use Rattle.uac_grammar.specs.Verdict.{Shows, IsKept, Keeps, IsUnchanged, Refuses}
 use Rattle.uac_grammar.proofs.Verdicts.{partial_one, pending_faults}
 
 -- ---- faults that are shown
@@ -118,7 +119,7 @@ going_keeps blocks s place pending bytes b going are kept =
       partial = partial_one [] (omega arith);
     }
 
--- a byte more of a block
+-- more bytes of a block
 pub going_partial : (blocks : List Block) (s : State) (place : ℕ) (pending bytes : List ℕ) → IsGoing blocks s place pending
     → AreBytes bytes → IsPartial bytes → IsGoing blocks s place bytes
 going_partial blocks s place pending bytes going are partial = record {
@@ -128,28 +129,51 @@ going_partial blocks s place pending bytes going are partial = record {
   partial = partial;
 }
 
--- the bytes of a block and one more
-pub one_more : (front pending : List ℕ) (byte : ℕ) → AreBytes (front ++ pending) → byte < 256 → AreBytes (pending ++ byte ∷ [])
-one_more front pending byte are small = bytes_both pending (byte ∷ []) (bytes_right front pending are) only
-  where
-    only : AreBytes (byte ∷ [])
-    only zero = small
-    only (suc i) = omega arith
+-- the same, of blocks and a state that are still so
+pub going_stays : (old new : List Block) (s t : State) (place : ℕ) (pending bytes : List ℕ) → IsGoing old s place pending → AreBytes bytes
+    → IsPartial bytes → IsUnchanged old new s t → IsGoing new t place bytes
+going_stays old new s t place pending bytes going are partial same =
+    subst (λ (bs : List Block). IsGoing bs t place bytes) (sym same.blocks)
+    (subst (λ (u : State). IsGoing old u place bytes) (sym same.state) (going_partial old s place pending bytes going are partial))
 
--- the bytes that were taken, with a byte that ends a block
-pub going_taken : (blocks : List Block) (s : State) (place : ℕ) (pending bytes : List ℕ) (byte : ℕ) (b : Block) → IsGoing blocks s place pending
-    → AreBytes bytes → bytes ≡ pending ++ byte ∷ [] → IsKept s place bytes b → spellings (blocks ++ b ∷ []) ++ [] ≡ (spellings blocks ++ pending) ++ byte ∷ []
-going_taken blocks s place pending bytes byte b going are e kept =
+-- behind a block that is kept
+pub going_more : (old new : List Block) (s t : State) (place : ℕ) (pending bytes : List ℕ) → IsGoing old s place pending → AreBytes bytes
+    → Keeps old new s t place bytes → IsGoing new t (place + length bytes) []
+going_more old new s t place pending bytes going are keeps =
+    subst (λ (bs : List Block). IsGoing bs t (place + length bytes) []) (sym keeps.more)
+    (subst (λ (u : State). IsGoing (old ++ keeps.block ∷ []) u (place + length bytes) []) (sym keeps.behind)
+    (going_keeps old s place pending bytes keeps.block going are keeps.kept))
+
+-- the first of some bytes
+front_bytes : (n : ℕ) (bytes : List ℕ) → AreBytes bytes → AreBytes (take n bytes)
+front_bytes zero bytes are i = omega arith
+front_bytes (suc n) [] are i = omega arith
+front_bytes (suc n) (x ∷ xs) are zero = are 0
+front_bytes (suc n) (x ∷ xs) are (suc i) = front_bytes n xs (λ j. are (suc j)) i
+
+-- the bytes of a block and the first of some more
+pub more_bytes : (front pending : List ℕ) (n : ℕ) (bytes : List ℕ) → AreBytes (front ++ pending) → AreBytes bytes → AreBytes (pending ++ take n bytes)
+more_bytes front pending n bytes are more = bytes_both pending (take n bytes) (bytes_right front pending are) (front_bytes n bytes more)
+
+-- the bytes that were taken, with those that end a block
+pub going_taken : (blocks : List Block) (s : State) (place : ℕ) (pending more : List ℕ) (b : Block) → IsGoing blocks s place pending
+    → AreBytes (pending ++ more) → IsKept s place (pending ++ more) b → spellings (blocks ++ b ∷ []) ++ [] ≡ (spellings blocks ++ pending) ++ more
+going_taken blocks s place pending more b going are kept =
     append-nil (spellings (blocks ++ b ∷ []))
-    ∙ ((block_read blocks s place bytes b going.read are kept.read kept.unbroken).1
-    ∙ (ap (λ (xs : List ℕ). spellings blocks ++ xs) e ∙ sym (append_assoc (spellings blocks) pending (byte ∷ []))))
+    ∙ ((block_read blocks s place (pending ++ more) b going.read are kept.read kept.unbroken).1 ∙ sym (append_assoc (spellings blocks) pending more))
 
--- and with one that doesn't, and more
-pub taken_more : (blocks : List Block) (pending bytes : List ℕ) (byte : ℕ) (rest : List ℕ) → bytes ≡ pending ++ byte ∷ []
-    → (spellings blocks ++ pending) ++ byte ∷ rest ≡ spellings blocks ++ (bytes ++ rest)
-taken_more blocks pending bytes byte rest e =
-    append_assoc (spellings blocks) pending (byte ∷ rest)
-    ∙ ap (λ (xs : List ℕ). spellings blocks ++ xs) (sym (append_assoc pending (byte ∷ []) rest) ∙ ap (λ (xs : List ℕ). xs ++ rest) (sym e))
+pub taken_kept : (old new : List Block) (s t : State) (place : ℕ) (pending more : List ℕ) → IsGoing old s place pending → AreBytes (pending ++ more)
+    → Keeps old new s t place (pending ++ more) → spellings new ++ [] ≡ (spellings old ++ pending) ++ more
+taken_kept old new s t place pending more going are keeps =
+    ap (λ (bs : List Block). spellings bs ++ []) keeps.more ∙ going_taken old s place pending more keeps.block going are keeps.kept
+
+-- and with those that show a fault, whatever follows
+pub taken_more : (blocks : List Block) (pending bytes : List ℕ) (n : ℕ)
+    → (spellings blocks ++ pending) ++ bytes ≡ spellings blocks ++ ((pending ++ take n bytes) ++ drop n bytes)
+taken_more blocks pending bytes n =
+    append_assoc (spellings blocks) pending bytes
+    ∙ ap (λ (xs : List ℕ). spellings blocks ++ xs)
+    (ap (λ (xs : List ℕ). pending ++ xs) (sym (take-append-drop n bytes)) ∙ sym (append_assoc pending (take n bytes) (drop n bytes)))
 
 -- ---- the end
 
@@ -210,6 +234,24 @@ reading_stopped blocks s place pending bytes fault going shows = record {
   stopped = λ (stop : ReadStop) (same : Some (Fault fault) ≡ Some stop) (_ : stop ≢ NoMemory) (rest : List ℕ).
       going_shows blocks s place pending bytes fault going shows rest ∙ same;
 }
+
+-- bytes that are refused
+pub reading_refused : (old new : List Block) (s t : State) (place : ℕ) (pending bytes : List ℕ) (stop : ReadStop) → IsGoing old s place pending
+    → Refuses old new s t place bytes stop → IsReading new t place bytes (Some stop)
+reading_refused old new s t place pending bytes (Fault fault) going (shows, same) =
+    subst (λ (bs : List Block). IsReading bs t place bytes (Some (Fault fault))) (sym same.blocks)
+    (subst (λ (u : State). IsReading old u place bytes (Some (Fault fault))) (sym same.state)
+    (reading_stopped old s place pending bytes fault going shows))
+reading_refused old new s t place pending bytes NoMemory going _ = record {
+  going = λ (none : Some NoMemory ≡ None). absurd (cc);
+  stopped = λ (stop : ReadStop) (same : Some NoMemory ≡ Some stop) (other : stop ≢ NoMemory) (rest : List ℕ).
+      absurd (other (let it : NoMemory ≡ stop = cc in sym it));
+}
+
+pub refused_shows : (old new : List Block) (s t : State) (place : ℕ) (pending bytes : List ℕ) (stop : ReadStop) → IsGoing old s place pending
+    → Refuses old new s t place bytes stop → stop ≢ NoMemory → (rest : List ℕ) → shown_stop (spellings old ++ (bytes ++ rest)) ≡ Some stop
+refused_shows old new s t place pending bytes (Fault fault) going (shows, same) other rest = going_shows old s place pending bytes fault going shows rest
+refused_shows old new s t place pending bytes NoMemory going _ other rest = absurd (other refl)
 
 pub reading_going : (blocks : List Block) (s : State) (place : ℕ) (pending : List ℕ) (stop : Option ReadStop) → stop ≡ None
     → IsGoing blocks s place pending → IsReading blocks s place pending stop

@@ -1,14 +1,17 @@
 -- The row of a block, from its context, its type and its subtype.
-use Rattle.std.proofs.Common.{◌≡◌, ◌≤◌, ◌<◌, ℕ, true, false, List, [], ◌∷◌, length, drop, refl, ap, ◌∙◌, arith, None}
+use Rattle.std.proofs.Common.{◌≡◌, ◌≤◌, ◌<◌, ℕ, true, false, List, [], ◌∷◌, length, drop, not, refl, ap, ◌∙◌, arith, Some, None, IsTrue}
 use Rattle.std.specs.Prelude.{slice_index}
-use Rattle.uac_descriptor.specs.Layout.{IsWhole}
-use Rattle.uac_descriptor.specs.Reading.{is_whole, block_of, has_length}
+use Rattle.std.proofs.lemmas.Bool.Decides.{nat_tests}
+use Rattle.uac_descriptor.specs.Layout.{IsWhole, is_parting}
+use Rattle.uac_descriptor.specs.Reading.{is_whole, block_of, has_length, fields}
 -- under a name without a hyphen, as `using(..)` wants it
 pub use Rattle.uac_descriptor.proofs.SpeltAsRead.{IsWhole-is_whole as whole_is}
 use Rattle.uac_descriptor.specs.Rows as rows
-use Rattle.uac_grammar.specs.Row.{read_row}
+use Rattle.uac_grammar.specs.Row.{read_row, has_row}
 use Rattle.uac_descriptor.specs.Rows.{Row, row_beside, rows_of, row_in, row_of, control_row, streaming_row, class_endpoint_row, parting_rows}
 use Rattle.uac_descriptor.specs.declared.context.Context.{Context}
+use Rattle.uac_descriptor.specs.declared.context.Context.TheVariants.{DeviceFront, ControlInterface, StreamingInterface, ForeignInterface}
+use Rattle.uac_descriptor.specs.declared.block.Block.TheVariants as variant
 
 -- bytes that aren't one block are read as none
 pub block_none : (context : Context) (bytes : List ℕ) → is_whole bytes ≡ false → block_of context bytes ≡ None
@@ -53,3 +56,30 @@ streaming_too_short bytes short = ap (λ (rest : List ℕ). read_row (streaming_
 
 pub endpoint_too_short : (bytes : List ℕ) → length bytes < 3 → read_row (class_endpoint_row rows.too_short (drop 2 bytes)) bytes ≡ None
 endpoint_too_short bytes short = ap (λ (rest : List ℕ). read_row (class_endpoint_row rows.too_short rest) bytes) (no_subtype bytes short) ∙ none_too_short bytes
+
+-- no context has a row for a type other than these
+other_row : (context : Context) (kind : ℕ) (rest : List ℕ) → has_row kind ≡ false → row_beside kind (rows_of context rest) rows.foreign ≡ rows.foreign
+other_row DeviceFront kind rest e = grind (arith, nat_tests)
+other_row ControlInterface kind rest e = grind (arith, nat_tests)
+other_row StreamingInterface kind rest e = grind (arith, nat_tests)
+other_row ForeignInterface kind rest e = grind (arith, nat_tests)
+
+whole_test : (bytes : List ℕ) → IsWhole bytes → is_whole bytes ≡ true
+unfolding is_whole
+whole_test bytes (two, e) = grind (arith, nat_tests)
+
+foreign_row : (bytes : List ℕ) → read_row rows.foreign bytes ≡ Some (variant.Foreign bytes)
+unfolding has_length fields
+foreign_row bytes = refl
+
+-- such a block is kept whole in every context
+pub whole_block : (context : Context) (bytes : List ℕ) → IsWhole bytes → has_row (slice_index bytes 1) ≡ false
+    → block_of context bytes ≡ Some (variant.Foreign bytes)
+whole_block context bytes whole e =
+    block_row context bytes (whole_test bytes whole)
+    ∙ ap (λ (row : Row). read_row row bytes) (row_of_whole context bytes whole ∙ other_row context (slice_index bytes 1) (drop 2 bytes) e)
+    ∙ foreign_row bytes
+
+-- and doesn't part the descriptor
+pub no_row_parts : (kind : ℕ) → has_row kind ≡ false → IsTrue (not (is_parting kind))
+no_row_parts kind e = grind (arith, nat_tests)

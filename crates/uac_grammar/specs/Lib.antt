@@ -1,4 +1,6 @@
-pub mod Row
+-- What the program's theorem says: to be read and believed.
 pub mod Stop
+-- What the contracts below them cite: steps of the code, no part of what is promised.
+pub mod Row
 pub mod Reading
 pub mod Verdict

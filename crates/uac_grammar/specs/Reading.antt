@@ -42,4 +42,5 @@ pub record IsGoing (blocks : List Block) (state : State) (place : ℕ) (pending 
 -- what holds of a reader's parts
 pub record IsReading (blocks : List Block) (state : State) (place : ℕ) (pending : List ℕ) (stop : Option ReadStop) : Type 0 where
   pub going : stop ≡ None → IsGoing blocks state place pending
-  pub stopped : (s : ReadStop) → stop ≡ Some s → s ≢ NoMemory → (rest : List ℕ) → shown_stop (spellings blocks ++ (pending ++ rest)) ≡ Some s
+  pub stopped : (s : ReadStop) → stop ≡ Some s → s ≢ NoMemory → (rest : List ℕ)
+      → shown_stop (spellings blocks ++ (pending ++ rest)) ≡ Some s

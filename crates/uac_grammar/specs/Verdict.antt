@@ -1,14 +1,16 @@
 -- What a verdict on the bytes of a block says, of all that may follow them.
-use Rattle.std.specs.Prelude.{◌≡◌, ℕ, ◌+◌, List, ◌++◌, length, Some, None}
+use Rattle.std.specs.Prelude.{◌≡◌, ℕ, ◌+◌, Bool, true, false, List, [], ◌∷◌, ◌++◌, length, max, Some, None}
 use Rattle.uac_descriptor.specs.Reading.{block_of}
 use Rattle.uac_descriptor.specs.declared.block.Block.{Block}
 use Rattle.uac_sentence.specs.Cutting.{IsPiece}
 use Rattle.uac_sentence.specs.Fault.{IsShown, faults_from}
 use Rattle.uac_sentence.specs.declared.faults.GrammarFault.{GrammarFault}
-use Rattle.uac_sentence.specs.Grammar.{grammar, rule_broken}
+use Rattle.uac_sentence.specs.Grammar.{grammar, rule_broken, state_after}
 use Rattle.uac_sentence.specs.declared.states.State.{State}
 use Rattle.uac_grammar.specs.declared.judge.Verdict.{Verdict}
-use Rattle.uac_grammar.specs.declared.judge.Verdict.TheVariants.{Partial, Broken, Whole, NoMemory}
+use Rattle.uac_grammar.specs.declared.judge.Verdict.TheVariants.{Partial, Kept, Stopped}
+use Rattle.uac_grammar.specs.declared.fault.ReadStop.{ReadStop}
+use Rattle.uac_grammar.specs.declared.fault.ReadStop.TheVariants.{Fault, NoMemory}
 use Rattle.uac_grammar.specs.Reading.{IsPartial}
 
 -- behind the blocks that left this state at this place, these bytes show this fault, whatever follows
@@ -22,8 +24,39 @@ pub record IsKept (state : State) (place : ℕ) (bytes : List ℕ) (block : Bloc
   pub read : block_of state.context bytes ≡ Some block
   pub unbroken : rule_broken state place (length bytes) block ≡ None
 
-abbrev pub IsVerdict : State → ℕ → List ℕ → Verdict → Type 0
-IsVerdict state place bytes Partial = IsPartial bytes
-IsVerdict state place bytes (Broken fault) = Shows state place bytes fault
-IsVerdict state place bytes (Whole block) = IsKept state place bytes block
-IsVerdict state place bytes NoMemory = Unit {0}
+-- where these bytes are kept as a block more: the blocks and the state before and behind it
+pub record Keeps (old new : List Block) (s t : State) (place : ℕ) (bytes : List ℕ) : Type 0 where
+  pub block : Block
+  pub kept : IsKept s place bytes block
+  pub more : new ≡ old ++ block ∷ []
+  pub behind : t ≡ state_after s place block
+
+-- nothing was kept
+pub record IsUnchanged (old new : List Block) (s t : State) : Type 0 where
+  pub blocks : new ≡ old
+  pub state : t ≡ s
+
+-- where they are not kept: at a fault, all is as it was; where there is no memory, nothing is known
+abbrev pub Refuses : List Block → List Block → State → State → ℕ → List ℕ → ReadStop → Type 0
+Refuses old new s t place bytes (Fault fault) = Shows s place bytes fault × IsUnchanged old new s t
+Refuses old new s t place bytes NoMemory = Unit {0}
+
+abbrev pub IsVerdict : List Block → List Block → State → State → ℕ → List ℕ → Verdict → Type 0
+IsVerdict old new s t place bytes Partial = IsPartial bytes × IsUnchanged old new s t
+IsVerdict old new s t place bytes Kept = Keeps old new s t place bytes
+IsVerdict old new s t place bytes (Stopped stop) = Refuses old new s t place bytes stop
+
+-- ---- the bytes that are judged
+
+-- how many bytes a block has of this length byte; but two show that a length below 2 is wrong
+abbrev pub wanted : ℕ → ℕ
+wanted size = max size 2
+
+abbrev pub is_kept : Verdict → Bool
+is_kept Kept = true
+is_kept _ = false
+
+-- what is pending behind these bytes
+abbrev pub left_by : Verdict → List ℕ → List ℕ
+left_by Kept bytes = []
+left_by _ bytes = bytes

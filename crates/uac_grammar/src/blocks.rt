@@ -1,11 +1,12 @@
 // One block from its bytes: the row by context, type and subtype, then the row's length and fields.
-ghost use Rattle.std.specs.Prelude.{◌≡◌, IfOk, slice_index, drop};
+ghost use Rattle.std.specs.Prelude.{◌≡◌, IfOk, slice_index, drop, false, Some};
 ghost use Rattle.uac_descriptor.specs.Layout.{IsWhole};
 ghost use Rattle.uac_descriptor.specs.Reading.{block_of, is_whole};
 ghost use Rattle.uac_descriptor.specs.Rows as rows;
 ghost use Rattle.uac_descriptor.specs.declared.context.Context.TheVariants as contexts;
 ghost use Rattle.uac_descriptor.specs.Rows.{control_row, streaming_row, class_endpoint_row, row_in};
-ghost use Rattle.uac_grammar.specs.Row.{read_row};
+ghost use Rattle.uac_descriptor.specs.declared.context.Context.{Context};
+ghost use Rattle.uac_grammar.specs.Row.{read_row, has_row};
 
 /// The class blocks of the audio control interface.
 mod control;
@@ -20,6 +21,7 @@ use control::{
     clock_multiplier, clock_selector, clock_source, effect, feature, header, input_terminal, mixer,
     output_terminal, selector,
 };
+use parts::list_of;
 use standard::{association, configuration, endpoint, foreign, interface};
 use std::alloc::Global;
 use streaming::{class_endpoint, extra, general, type_one};
@@ -29,7 +31,7 @@ use uac_descriptor::codes::{
     HEADER, INPUT_TERMINAL, INTERFACE, INTERFACE_ASSOCIATION, MIXER_UNIT, OUTPUT_TERMINAL,
     SELECTOR_UNIT,
 };
-use uac_descriptor::{Block, Context, NoMemory};
+use uac_descriptor::{Block, Context, Foreign, NoMemory};
 
 /// The block that these bytes are read as in this context, or none where they aren't one block or not of
 /// their row's length.
@@ -50,6 +52,31 @@ pub(crate) fn read_block(
         Context::StreamingInterface => in_streaming(alloc, bytes),
         Context::ForeignInterface => parting(alloc, bytes),
     }
+}
+
+/// A context may have a row of its own for a block of this type.
+pub(crate) fn has_row(kind: u8) -> bool
+    ensures { result ≡ has_row kind }
+{
+    kind == CONFIGURATION
+        || kind == INTERFACE
+        || kind == ENDPOINT
+        || kind == INTERFACE_ASSOCIATION
+        || kind == CS_INTERFACE
+        || kind == CS_ENDPOINT
+}
+
+/// The block that these bytes are read as in every context, since none has a row for their type.
+#[tactic(auto, using(crate::proofs::RowsIn::whole_block, crate::proofs::RowsIn::no_row_parts))]
+#[inline(always)]
+pub(crate) fn read_whole(alloc: Global, bytes: &[u8]) -> Result<Block, NoMemory>
+    requires whole { IsWhole bytes.now }
+    requires no_row { has_row (slice_index bytes.now 1) ≡ false }
+    ensures { IfOk result (λ block. (context : Context) → block_of context bytes.now ≡ Some block) }
+{
+    Ok(Block::Foreign(Foreign {
+        bytes: list_of(alloc, bytes)?,
+    }))
 }
 
 /// The first byte says how many there are, at least 2.

@@ -1,52 +1,131 @@
-ghost use Rattle.std.specs.Prelude.{◌≡◌, ◌<◌, ◌≤◌, length, slice_index};
+ghost use Rattle.std.specs.Prelude.{◌≡◌, ◌<◌, ◌≤◌, length, slice_index, MatchResult, Some};
+ghost use Rattle.uac_descriptor.specs.Reading.{block_of};
+ghost use Rattle.uac_sentence.specs.Cutting.{IsPiece};
 ghost use Rattle.uac_sentence.specs.Fault.{faults_from};
 ghost use Rattle.uac_sentence.specs.Grammar.{grammar};
 ghost use Rattle.uac_sentence.specs.declared.states.TheConstants.{FURTHEST};
 ghost use Rattle.uac_grammar.specs.Reading.{IsPartial};
-ghost use Rattle.uac_grammar.specs.Verdict.{IsVerdict};
+ghost use Rattle.uac_grammar.specs.Verdict.{IsVerdict, Keeps, Refuses, is_kept};
 
-use crate::blocks::read_block;
+use crate::blocks::{has_row, read_block, read_whole};
+use crate::fault::ReadStop;
 use std::alloc::Global;
 use uac_descriptor::Block;
 use uac_sentence::{GrammarFault, State};
 
 /// What the bytes of a block so far come to.
-#[derive(Drop)]
+#[derive(Clone, Copy)]
 pub(crate) enum Verdict {
     /// The block isn't whole.
     Partial,
-    /// The bytes break a rule, whatever follows.
-    Broken(GrammarFault),
-    /// The block is whole, and breaks no rule.
-    Whole(Block),
-    /// No memory was found for the block.
-    NoMemory,
+    /// The block is whole and breaks no rule: it is kept.
+    Kept,
+    /// The bytes break a rule, whatever follows, or there was no memory for the block.
+    Stopped(ReadStop),
 }
 
-/// Judges the bytes so far of the block that begins at this place, behind those that left this state.
-pub(crate) fn judge(alloc: Global, state: &State, place: u32, bytes: &[u8]) -> Verdict
+impl Verdict {
+    /// The block is kept.
+    pub(crate) fn is_kept(self) -> bool
+        ensures { result ≡ is_kept self }
+    {
+        matches!(self, Verdict::Kept)
+    }
+}
+
+/// Judges the bytes so far of the block that begins at this place, behind the blocks that left this state, and keeps the block.
+pub(crate) fn judge(
+    alloc: Global,
+    blocks: &mut Vec<Block>,
+    state: &mut State,
+    place: u32,
+    bytes: &[u8],
+) -> Verdict
     requires fits { place ≤ FURTHEST }
     requires no_more { 2 < length bytes.now → length bytes.now ≤ slice_index bytes.now 0 }
-    ensures { IsVerdict state.now place bytes.now result }
+    ensures { IsVerdict blocks.old.items blocks.new.items state.old state.new place bytes.now result }
 {
     if bytes.len() < 2 {
         return Verdict::Partial;
     }
     let length = bytes[0];
     if length < 2 {
-        return Verdict::Broken(GrammarFault { rule: 2, at: place });
+        return Verdict::Stopped(ReadStop::Fault(GrammarFault { rule: 2, at: place }));
     }
     if bytes.len() < length as usize {
         return Verdict::Partial;
     }
-    let block = match read_block(alloc, state.context, bytes) {
-        Ok(Some(block)) => block,
-        Ok(None) => return Verdict::Broken(GrammarFault { rule: 3, at: place }),
-        Err(_) => return Verdict::NoMemory,
-    };
-    match state.rule_broken(place, length, &block) {
-        Some(rule) => Verdict::Broken(GrammarFault { rule, at: place }),
-        None => Verdict::Whole(block),
+    match keep(alloc, blocks, state, place, bytes) {
+        Ok(()) => Verdict::Kept,
+        Err(stop) => Verdict::Stopped(stop),
+    }
+}
+
+/// Reads a whole block at this place, and keeps it unless it breaks a rule.
+fn keep(
+    alloc: Global,
+    blocks: &mut Vec<Block>,
+    state: &mut State,
+    place: u32,
+    bytes: &[u8],
+) -> Result<(), ReadStop>
+    requires fits { place ≤ FURTHEST }
+    requires piece { IsPiece bytes.now }
+    ensures { MatchResult result (λ _. Keeps blocks.old.items blocks.new.items state.old state.new place bytes.now)
+        (λ stop. Refuses blocks.old.items blocks.new.items state.old state.new place bytes.now stop) }
+{
+    if has_row(bytes[1]) {
+        return keep_by_row(alloc, blocks, state, place, bytes);
+    }
+    match read_whole(alloc, bytes) {
+        Ok(block) => keep_block(blocks, state, place, bytes, block),
+        Err(_) => Err(ReadStop::NoMemory),
+    }
+}
+
+/// The same, of a block that a row of the layouts may read. It stands apart, so that the room that the rows take on the stack is
+/// prepared for such blocks alone.
+#[inline(never)]
+fn keep_by_row(
+    alloc: Global,
+    blocks: &mut Vec<Block>,
+    state: &mut State,
+    place: u32,
+    bytes: &[u8],
+) -> Result<(), ReadStop>
+    requires fits { place ≤ FURTHEST }
+    requires piece { IsPiece bytes.now }
+    ensures { MatchResult result (λ _. Keeps blocks.old.items blocks.new.items state.old state.new place bytes.now)
+        (λ stop. Refuses blocks.old.items blocks.new.items state.old state.new place bytes.now stop) }
+{
+    match read_block(alloc, state.context, bytes) {
+        Ok(Some(block)) => keep_block(blocks, state, place, bytes, block),
+        Ok(None) => Err(ReadStop::Fault(GrammarFault { rule: 3, at: place })),
+        Err(_) => Err(ReadStop::NoMemory),
+    }
+}
+
+/// Keeps the block that these bytes at this place are read as, unless it breaks a rule.
+fn keep_block(
+    blocks: &mut Vec<Block>,
+    state: &mut State,
+    place: u32,
+    bytes: &[u8],
+    block: Block,
+) -> Result<(), ReadStop>
+    requires fits { place ≤ FURTHEST }
+    requires piece { IsPiece bytes.now }
+    requires read { block_of state.old.context bytes.now ≡ Some block }
+    ensures { MatchResult result (λ _. Keeps blocks.old.items blocks.new.items state.old state.new place bytes.now)
+        (λ stop. Refuses blocks.old.items blocks.new.items state.old state.new place bytes.now stop) }
+{
+    if let Some(rule) = state.rule_broken(place, bytes[0], &block) {
+        return Err(ReadStop::Fault(GrammarFault { rule, at: place }));
+    }
+    state.take(place, &block);
+    match blocks.push(block) {
+        Ok(()) => Ok(()),
+        Err(_) => Err(ReadStop::NoMemory),
     }
 }
 

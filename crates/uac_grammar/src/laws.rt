@@ -34,5 +34,6 @@ pub fn written_blocks_are_read_back()
     ensures written { (bytes : List ℕ) (blocks : List Block) → IsSentence bytes blocks → flat_map spelling blocks ≡ bytes }
     ensures accepted { (blocks : List Block) → AreBytes (flat_map spelling blocks) → IsSentence (flat_map spelling blocks) blocks
         → first_stop (flat_map spelling blocks) ≡ None }
-    ensures same { (blocks read : List Block) → IsSentence (flat_map spelling blocks) blocks → IsSentence (flat_map spelling blocks) read → read ≡ blocks }
+    ensures same { (blocks read : List Block) → IsSentence (flat_map spelling blocks) blocks → IsSentence (flat_map spelling blocks) read
+        → read ≡ blocks }
 {}

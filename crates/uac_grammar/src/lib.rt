@@ -7,6 +7,8 @@ mod fault;
 mod blocks;
 /// What the bytes of a block come to, and the end of the input.
 mod judge;
+/// The next bytes of a block.
+mod next;
 /// Laws of the definitions.
 pub mod laws;
 /// The reader.

@@ -1,11 +1,12 @@
-ghost use Rattle.std.specs.Prelude.{◌≡◌, ◌≢◌, ◌≤◌, ℕ, List, [], ◌∷◌, ◌++◌, length, IsOk, IfOk, OnOk, IfErr, MatchResult, None};
+ghost use Rattle.std.specs.Prelude.{◌≡◌, ◌≢◌, ◌≤◌, ◌<◌, [], ◌++◌, length, take, IsOk, IfOk, OnOk, IfErr, MatchResult, None};
 ghost use Rattle.uac_sentence.specs.Grammar.{first_fault};
 ghost use Rattle.uac_sentence.specs.Sentence.{IsSentence};
 ghost use Rattle.uac_grammar.specs.Reading.{Reading, IsUnstopped, most_taken};
 ghost use Rattle.uac_grammar.specs.Stop.{first_stop, shown_stop};
 
 use crate::fault::ReadStop;
-use crate::judge::{Verdict, judge, judge_end};
+use crate::judge::{Verdict, judge_end};
+use crate::next::{Next, judge_next};
 use arrayvec::ArrayVec;
 use std::alloc::Global;
 use std::marker::Model;
@@ -62,52 +63,55 @@ impl Reader {
 
         // where there was no stop
         ensures takes { self.old.stop ≡ None → self.new.stop ≡ None → self.new.taken ≡ self.old.taken ++ piece.now }
-        ensures shown { self.old.stop ≡ None → self.new.stop ≢ Some ReadStop.NoMemory → self.new.stop ≡ shown_stop (self.old.taken ++ piece.now) }
+        ensures shown { self.old.stop ≡ None → self.new.stop ≢ Some ReadStop.NoMemory
+            → self.new.stop ≡ shown_stop (self.old.taken ++ piece.now) }
         ensures bounded { OnOk result (length self.new.taken ≤ most_taken) }
     {
         if let Some(stop) = self.stop {
             return Err(stop);
         }
-        for byte in piece {
-            if let Err(stop) = self.take(*byte) {
-                return Err(stop);
+        let mut rest = piece;
+        while !rest.is_empty() {
+            match self.take(rest) {
+                Ok(count) => rest = &rest[count..],
+                Err(stop) => return Err(stop),
             }
         }
         Ok(())
     }
 
-    /// Takes one byte, and keeps the block that it ends.
-    fn take(&mut self, byte: u8) -> Result<(), ReadStop>
-        requires { self.old.stop ≡ None }
-        ensures taken { IsOk result → self.new.taken ≡ self.old.taken ++ byte ∷ [] }
+    /// Takes the first of these bytes, up to the end of a block, and keeps the block; or all of them, where they end before it. It
+    /// answers how many it took.
+    fn take(&mut self, bytes: &[u8]) -> Result<usize, ReadStop>
+        requires unstopped { self.old.stop ≡ None }
+        requires some { 0 < length bytes.now }
+        ensures within { IfOk result (λ count. (0 < count) × (count ≤ length bytes.now)) }
+        ensures taken { IfOk result (λ count. self.new.taken ≡ self.old.taken ++ take count bytes.now) }
         ensures going { IsOk result → IsUnstopped self.new }
         ensures stopped { IfErr result (λ s. self.new.stop ≡ Some s) }
-        ensures shown { IfErr result (λ s. s ≢ ReadStop.NoMemory → (rest : List ℕ) → shown_stop (self.old.taken ++ byte ∷ rest) ≡ Some s) }
+        ensures shown { IfErr result (λ s. s ≢ ReadStop.NoMemory → shown_stop (self.old.taken ++ bytes.now) ≡ Some s) }
     {
-        self.pending.push(byte);
-        match judge(self.alloc, &self.state, self.place, self.pending.as_slice()) {
-            Verdict::Partial => Ok(()),
-            Verdict::Broken(fault) => {
-                self.stop = Some(ReadStop::Fault(fault));
-                Err(ReadStop::Fault(fault))
+        let Next {
+            count,
+            size,
+            verdict,
+        } = judge_next(
+            self.alloc,
+            &mut self.blocks,
+            &mut self.state,
+            self.place,
+            &mut self.pending,
+            bytes,
+        );
+        match verdict {
+            Verdict::Partial => Ok(count),
+            Verdict::Kept => {
+                self.place += size as u32;
+                Ok(count)
             }
-            Verdict::NoMemory => {
-                self.stop = Some(ReadStop::NoMemory);
-                Err(ReadStop::NoMemory)
-            }
-            Verdict::Whole(block) => {
-                self.state.take(self.place, &block);
-                match self.blocks.push(block) {
-                    Ok(()) => {
-                        self.place += self.pending.len() as u32;
-                        self.pending.clear();
-                        return Ok(());
-                    }
-                    Err(_) => {
-                        self.stop = Some(ReadStop::NoMemory);
-                        return Err(ReadStop::NoMemory);
-                    }
-                }
+            Verdict::Stopped(stop) => {
+                self.stop = Some(stop);
+                Err(stop)
             }
         }
     }

@@ -1,6 +1,7 @@
 -- A block's bytes begin with their number, and the blocks' bytes stand one after the other.
-use Rattle.std.proofs.Common.{false, ◌==◌, decimal, ◌≡◌, ℕ, ◌+◌, ◌-◌, ◌<◌, ◌≤◌, List, [], ◌∷◌, ◌++◌, length, take, drop, get_or, flat_map, arith, refl, ap, sym, ◌∙◌, append_assoc, length-append}
+use Rattle.std.proofs.Common.{false, ◌==◌, decimal, ◌≡◌, ℕ, ◌+◌, ◌-◌, ◌<◌, ◌≤◌, List, [], ◌∷◌, ◌++◌, length, take, drop, get_or, flat_map, arith, refl, ap, sym, ◌∙◌, append_assoc, append-nil, length-append}
 use Rattle.std.proofs.lemmas.List.{get_or_append_left, take_at, drop_at, drop_more, drop-drop, length-drop, take_rest}
+use Rattle.std.proofs.Math.ListN.{drop_of_length-le}
 use Rattle.uac_descriptor.specs.declared.block.Block.{Block}
 use Rattle.uac_descriptor.specs.Laws.{HasSpelling}
 use Rattle.uac_descriptor.specs.Layout.{IsWhole}
@@ -39,13 +40,34 @@ unfolding block_line
 line-spelling place b bytes text e t = t ∙ ap (line_of place (kind_of b)) e
 
 -- the lines so far, this block's line and the rest are all lines
-pub lines_more : (place i : ℕ) (blocks : List Block) (b : Block) (text : List ℕ) → i < length blocks → b ≡ get_or blocks i b
+lines_more : (place i : ℕ) (blocks : List Block) (b : Block) (text : List ℕ) → i < length blocks → b ≡ get_or blocks i b
     → text ++ block_lines place (drop i blocks) ≡ block_lines 0 blocks
     → (text ++ block_line place b) ++ block_lines (place + length (spelling b)) (drop (i + 1) blocks) ≡ block_lines 0 blocks
 lines_more place i blocks b text h is whole =
     let split : drop i blocks ≡ b ∷ drop (i + 1) blocks = drop_more blocks i b h ∙ ap (λ x. x ∷ drop (i + 1) blocks) (sym is) in
     append_assoc text (block_line place b) (block_lines (place + length (spelling b)) (drop (i + 1) blocks))
     ∙ (ap (λ xs. text ++ block_lines place xs) (sym split) ∙ whole)
+
+-- the same where a front of the lines that waited was written, and this block's line waits behind the others
+pub lines_wait : (place size i : ℕ) (blocks : List Block) (b : Block) (text front before after now : List ℕ) → i < length blocks → b ≡ get_or blocks i b
+    → before ≡ front ++ after → now ≡ after ++ block_line place b → size ≡ length (spelling b)
+    → (text ++ before) ++ block_lines place (drop i blocks) ≡ block_lines 0 blocks
+    → ((text ++ front) ++ now) ++ block_lines (place + size) (drop (i + 1) blocks) ≡ block_lines 0 blocks
+lines_wait place size i blocks b text front before after now h is parts waits n whole =
+    let line : List ℕ = block_line place b in
+    let rest : List Block = drop (i + 1) blocks in
+    let grouped : (text ++ front) ++ now ≡ (text ++ before) ++ line =
+    ap (λ (xs : List ℕ). (text ++ front) ++ xs) waits
+    ∙ (sym (append_assoc (text ++ front) after line)
+    ∙ ap (λ (xs : List ℕ). xs ++ line) (append_assoc text front after ∙ ap (λ (xs : List ℕ). text ++ xs) (sym parts))) in
+    ap (λ (k : ℕ). ((text ++ front) ++ now) ++ block_lines (place + k) rest) n
+    ∙ (ap (λ (xs : List ℕ). xs ++ block_lines (place + length (spelling b)) rest) grouped ∙ lines_more place i blocks b (text ++ before) h is whole)
+
+-- behind the last block the lines are all lines
+pub lines_end : (place i : ℕ) (blocks : List Block) (text : List ℕ) → length blocks ≤ i → text ++ block_lines place (drop i blocks) ≡ block_lines 0 blocks
+    → text ≡ block_lines 0 blocks
+lines_end place i blocks text past whole =
+    sym (append-nil text) ∙ (ap (λ (bs : List Block). text ++ block_lines place bs) (sym (drop_of_length-le blocks past)) ∙ whole)
 
 -- the bytes behind this block are those of the rest
 pub bytes_more : (bytes : List ℕ) (place size i : ℕ) (blocks : List Block) (b : Block) → i < length blocks → b ≡ get_or blocks i b

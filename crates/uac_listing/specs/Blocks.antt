@@ -1,5 +1,6 @@
 -- The lines of `show` (profile): each block's place, kind and bytes.
-use Rattle.std.specs.Prelude.{◌≡◌, ℕ, ◌+◌, List, [], ◌∷◌, ◌++◌, length, codes, decimal}
+use Rattle.std.specs.Prelude.{◌≡◌, ℕ, ◌+◌, List, [], ◌∷◌, ◌++◌, length, codes, decimal, Option}
+use Rattle.std.specs.Io.KnownBytes.{Appends}
 use Rattle.hex.specs.Hex.{encode_lower}
 use Rattle.uac_descriptor.specs.declared.block.Block as block
 use Rattle.uac_descriptor.specs.declared.block.Block.TheVariants as variant
@@ -45,3 +46,9 @@ block_lines place (b ∷ blocks) = block_line place b ++ block_lines (place + le
 pub record BeginsWith (bytes front : List ℕ) : Type 0 where
   pub behind : List ℕ
   pub parts : bytes ≡ front ++ behind
+
+-- of a text that waits, a front was written, and the rest waits
+pub record Gives (old new : Option (List ℕ)) (before after : List ℕ) : Type 0 where
+  pub front : List ℕ
+  pub parts : before ≡ front ++ after
+  pub appended : Appends old new front

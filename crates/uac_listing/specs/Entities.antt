@@ -51,7 +51,8 @@ ids_text (id ∷ ids) = decimal id ++ more_ids ids
 -- the line up to the sources, and behind them
 unfoldable pub entity_head : entity.Entity → List ℕ
 entity_head e =
-    codes "entity " ++ decimal e.id ++ codes " " ++ name_of e.kind ++ codes " channels " ++ channels_text e.kind e.cluster.channels ++ codes " sources "
+    codes "entity " ++ decimal e.id ++ codes " " ++ name_of e.kind ++ codes " channels " ++ channels_text e.kind e.cluster.channels
+    ++ codes " sources "
 
 unfoldable pub entity_tail : entity.Entity → List ℕ
 entity_tail e = codes " clock " ++ clock_text e.kind e.clock ++ codes "\n"

@@ -1,47 +1,66 @@
 // Printing the blocks of a descriptor.
-ghost use Rattle.std.specs.Prelude.{◌≡◌, ◌≤◌, length, flat_map, IfOk};
+ghost use Rattle.std.specs.Prelude.{◌≡◌, ◌≤◌, ◌+◌, ◌++◌, length, flat_map, MatchResult, OnOk};
 ghost use Rattle.uac_descriptor.specs.Spelling.{spelling};
 ghost use Rattle.uac_edges.specs.Faults.{HasCause};
-ghost use Rattle.uac_edges.specs.Writing.{Writes};
-ghost use Rattle.uac_listing.specs.Blocks.{block_line, block_lines, kind_of, line_of, BeginsWith};
+ghost use Rattle.uac_edges.specs.Writing.{AppendsFront, Writes};
+ghost use Rattle.uac_listing.specs.Blocks.{block_line, block_lines, kind_of, line_of, BeginsWith, Gives};
 
 use uac_descriptor::Block;
 use uac_descriptor::laws::has_spelling;
 use uac_edges::{Failed, Sink, TextLine, give_all};
 
-/// Writes a line for each block; the bytes are theirs, one after the other.
+/// No line of a block is longer.
+const LINE: usize = 580;
+
+/// Room for the lines that are given to a sink at once.
+const ROOM: usize = 4096;
+
+/// Writes a line for each block; the bytes are theirs, one after the other. The sink is given many lines at once.
 pub fn write_blocks<K: Sink>(sink: &mut K, blocks: &[Block], bytes: &[u8]) -> Result<(), Failed>
     requires { bytes.now ≡ flat_map spelling blocks.now }
     ensures written { Writes (K.written sink.old) (K.written sink.new) result (block_lines 0 blocks.now) }
     ensures cause { HasCause (K.faults sink.old) (K.faults sink.new) result }
 {
+    let mut lines = TextLine::new();
     let mut place = 0;
     for block in blocks {
-        match write_block(sink, place, block, &bytes[place..]) {
-            Ok(size) => place += size,
+        match make_room(sink, &mut lines) {
+            Ok(()) => place += push_block(&mut lines, place, block, &bytes[place..]),
             Err(failed) => return Err(failed),
         }
     }
-    Ok(())
+    give_all(sink, lines.as_bytes())
 }
 
-/// Writes the line of a block at a place, where its bytes are in front; answers how many they are.
-fn write_block<K: Sink>(
-    sink: &mut K,
-    place: usize,
-    block: &Block,
-    rest: &[u8],
-) -> Result<usize, Failed>
-    requires { BeginsWith rest.now (spelling block.now) }
-    ensures written { Writes (K.written sink.old) (K.written sink.new) result (block_line place block.now) }
-    ensures size { IfOk result (λ size. size ≡ length (spelling block.now)) }
+/// Gives the lines to the sink where there is no room for one more.
+fn make_room<K: Sink>(sink: &mut K, lines: &mut TextLine<ROOM>) -> Result<(), Failed>
+    ensures given { MatchResult result (λ _. Gives (K.written sink.old) (K.written sink.new) lines.old lines.new)
+        (λ _. AppendsFront (K.written sink.old) (K.written sink.new) lines.old) }
+    ensures room { OnOk result (length lines.new + LINE ≤ ROOM) }
     ensures cause { HasCause (K.faults sink.old) (K.faults sink.new) result }
 {
-    let bytes = front(block, rest);
-    match give_all(sink, line_of(place, block, bytes).as_bytes()) {
-        Ok(()) => Ok(bytes.len()),
+    if lines.as_bytes().len() <= ROOM - LINE {
+        return Ok(());
+    }
+    match give_all(sink, lines.as_bytes()) {
+        Ok(()) => {
+            *lines = TextLine::new();
+            Ok(())
+        }
         Err(failed) => Err(failed),
     }
+}
+
+/// Appends the line of a block at a place, where its bytes are in front; answers how many they are.
+fn push_block(lines: &mut TextLine<ROOM>, place: usize, block: &Block, rest: &[u8]) -> usize
+    requires begins { BeginsWith rest.now (spelling block.now) }
+    requires room { length lines.old + LINE ≤ ROOM }
+    ensures text { lines.new ≡ lines.old ++ block_line place block.now }
+    ensures size { result ≡ length (spelling block.now) }
+{
+    let bytes = front(block, rest);
+    push_line(lines, place, block, bytes);
+    bytes.len()
 }
 
 /// The block's bytes, in front of these.
@@ -54,19 +73,18 @@ fn front<'a>(block: &Block, rest: &'a [u8]) -> &'a [u8]
     &rest[..usize::from(rest[0])]
 }
 
-/// The line for a block at a place: its kind, and its bytes in hexadecimal.
-fn line_of(place: usize, block: &Block, bytes: &[u8]) -> TextLine<580>
-    requires { length bytes.now ≤ 255 }
-    ensures { result ≡ line_of place (kind_of block.now) bytes.now }
+/// Appends the line for a block at a place: its kind, and its bytes in hexadecimal.
+fn push_line(lines: &mut TextLine<ROOM>, place: usize, block: &Block, bytes: &[u8])
+    requires few { length bytes.now ≤ 255 }
+    requires room { length lines.old + LINE ≤ ROOM }
+    ensures { lines.new ≡ lines.old ++ line_of place (kind_of block.now) bytes.now }
 {
-    let mut line = TextLine::new();
-    line.push_number(place as u64);
-    line.push(b" ");
-    line.push(kind_of(block));
-    line.push(b" ");
-    line.push_hex(bytes);
-    line.push(b"\n");
-    line
+    lines.push_number(place as u64);
+    lines.push(b" ");
+    lines.push(kind_of(block));
+    lines.push(b" ");
+    lines.push_hex(bytes);
+    lines.push(b"\n");
 }
 
 /// A block's kind.

@@ -4,7 +4,8 @@ ghost use Rattle.std.specs.Option.{option_map};
 ghost use Rattle.uac_alt.specs.Streams as streams;
 ghost use Rattle.uac_edges.specs.Faults.{HasCause};
 ghost use Rattle.uac_edges.specs.Writing.{Writes};
-ghost use Rattle.uac_listing.specs.Settings.{direction_text, idle_line, interface_lines, number_text, running_line, setting_line, setting_lines, terminal_text, valid_text};
+ghost use Rattle.uac_listing.specs.Settings.{direction_text, idle_line, interface_lines, number_text, running_line, setting_line};
+ghost use Rattle.uac_listing.specs.Settings.{setting_lines, terminal_text, valid_text};
 
 use uac_alt::packet_room;
 use uac_edges::{Failed, Sink, TextLine, give_all};

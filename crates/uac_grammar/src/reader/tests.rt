@@ -74,7 +74,7 @@ fn fault(rule: u8, at: u32) -> ReadStop {
 
 #[test]
 fn the_headset_is_written_back(rt: HostRuntime) {
-    for cut in [1, 293] {
+    for cut in [1, 5, 293] {
         match written_back(rt.alloc(), &HEADSET, cut) {
             Ok(out) => assert_eq!(rt; out.as_slice(), HEADSET.as_slice(), "in pieces of {cut}"),
             Err(stop) => assert_eq!(rt; Some(stop), None, "in pieces of {cut}"),

@@ -1,29 +1,37 @@
-use Rattle.std.proofs.Common.{List, ℕ, ◌++◌, arith, subst}
-use Rattle.uac_edges.specs.Writing.{AppendsFront}
-use Rattle.uac_edges.proofs.WritingLemmas.{Appends-twice, AppendsFront-after, AppendsFront-longer}
-use Rattle.uac_listing.specs.Blocks.{block_line}
-use Rattle.uac_listing.proofs.ListingLemmas.{lines_more, bytes_more}
+use Rattle.std.proofs.Common.{List, ℕ, ◌++◌, arith, ap, subst, ◌∙◌}
+use Rattle.uac_edges.specs.Writing.{AppendsFront, Writes}
+use Rattle.uac_edges.proofs.WritingLemmas.{Appends-twice, AppendsFront-after, AppendsFront-longer, Writes-after}
+use Rattle.uac_listing.proofs.ListingLemmas.{lines_wait, lines_end, bytes_more}
 use Rattle.uac_listing.proofs.blocks.write_blocks.Goals as goal
 
 pub returns-in-Err-clause-written : goal.returns-in-Err-clause-written
 returns-in-Err-clause-written g c =
     let i = c.loop-block.invariant in
-    let b = c.block-item.result in
-    let lines = lines_more c.loop-block.place c.loop-block.block-index c.args.blocks.now b i.text c.loop-block-test.true c.block-item.is i.whole in
-    subst (λ (text : List ℕ). AppendsFront (g.K.Sink.written c.args.sink.now) (g.K.Sink.written c.write_block.new.sink) text) lines
-    (AppendsFront-longer _ _ (i.text ++ block_line c.loop-block.place b) _ (AppendsFront-after _ _ _ i.text _ i.written c.in-Err.ensures.written))
+    subst (λ (text : List ℕ). AppendsFront (g.K.Sink.written c.args.sink.now) (g.K.Sink.written c.make_room.new.sink) text) i.whole
+    (AppendsFront-longer _ _ (i.text ++ c.loop-block.lines) _ (AppendsFront-after _ _ _ i.text _ i.written c.in-Err.ensures.given))
 
 pub loop-block-preserved : goal.loop-block-preserved
 loop-block-preserved g c =
     let i = c.loop-block.invariant in
     let b = c.block-item.result in
-    let lines = lines_more c.loop-block.place c.loop-block.block-index c.args.blocks.now b i.text c.loop-block-test.true c.block-item.is i.whole in
-    let bytes = bytes_more c.args.bytes.now c.loop-block.place c.in-Ok.size c.loop-block.block-index c.args.blocks.now b c.loop-block-test.true c.block-item.is i.within i.rest c.in-Ok.ensures.size in
+    let given = c.in-Ok.ensures.given in
+    let bytes = bytes_more c.args.bytes.now c.loop-block.place c.push_block-place.result c.loop-block.block-index c.args.blocks.now b c.loop-block-test.true c.block-item.is i.within i.rest
+    c.push_block-place.ensures.size in
     record {
       within = bytes.0;
       rest = bytes.1;
-      text = i.text ++ block_line c.loop-block.place b;
-      written = Appends-twice _ _ _ _ _ i.written c.in-Ok.ensures.written;
-      whole = rw c.in-Ok.ensures.size lines;
+      text = i.text ++ given.front;
+      written = Appends-twice _ _ _ _ _ i.written given.appended;
+      whole =
+          lines_wait c.loop-block.place c.push_block-place.result c.loop-block.block-index c.args.blocks.now b i.text given.front c.loop-block.lines c.make_room.new.lines
+          c.push_block-place.new.lines c.loop-block-test.true c.block-item.is given.parts c.push_block-place.ensures.text c.push_block-place.ensures.size i.whole;
       never_falls = (let cause = c.in-Ok.ensures.cause.never_falls in omega arith);
     }
+
+pub returns-clause-written : goal.returns-clause-written
+returns-clause-written g c =
+    let i = c.loop-block.invariant in
+    let all = ap (λ (waiting : List ℕ). i.text ++ waiting) c.as_bytes.ensures.text
+    ∙ lines_end c.loop-block.place c.loop-block.block-index c.args.blocks.now (i.text ++ c.loop-block.lines) c.loop-block-test.false i.whole in
+    subst (λ (text : List ℕ). Writes (g.K.Sink.written c.args.sink.now) (g.K.Sink.written c.give_all.new.sink) c.give_all.result text) all
+    (Writes-after _ _ _ c.give_all.result i.text _ i.written c.give_all.ensures.written)

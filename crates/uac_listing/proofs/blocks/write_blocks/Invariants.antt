@@ -10,6 +10,6 @@ invariant-loop-block g l = record {
   rest : drop l.place l.bytes ≡ flat_map spelling (drop l.block-index l.blocks);
   text : List ℕ;
   written : Appends (g.K.Sink.written l.fn.sink) (g.K.Sink.written l.sink) text;
-  whole : text ++ block_lines l.place (drop l.block-index l.blocks) ≡ block_lines 0 l.blocks;
+  whole : (text ++ l.lines) ++ block_lines l.place (drop l.block-index l.blocks) ≡ block_lines 0 l.blocks;
   never_falls : g.K.Sink.faults l.fn.sink ≤ g.K.Sink.faults l.sink;
 }

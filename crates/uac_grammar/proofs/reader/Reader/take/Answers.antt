@@ -1,66 +1,98 @@
-use Rattle.std.proofs.Common.{◌≡◌, ◌+◌, ℕ, List, [], ◌∷◌, ◌++◌, length, ap, sym, ◌∙◌, arith}
-use Rattle.uac_sentence.specs.Grammar.{state_after}
+use Rattle.std.proofs.Common.{◌≡◌, ◌+◌, ℕ, List, [], ◌++◌, length, take, drop, ap, sym, ◌∙◌, arith, rules, length-append, append_assoc}
+use Rattle.std.proofs.lemmas.List.{length-take-le}
 use Rattle.uac_sentence.specs.Sentence.{spellings}
 use Rattle.uac_grammar.specs.Reading.{Reading}
 use Rattle.uac_grammar.specs.Stop.{shown_stop}
-use Rattle.uac_grammar.proofs.Readings.{one_more, going_shows, going_keeps, going_partial, going_taken, taken_more, reading_stopped, reading_going, unstopped}
+use Rattle.uac_grammar.proofs.Readings.{more_bytes, going_more, going_stays, taken_kept, taken_more, reading_going, reading_refused, refused_shows, unstopped}
 use Rattle.uac_grammar.proofs.reader.Reader.take.Goals as goal
+
+pub overflow_add-self : goal.overflow_add-self
+overflow_add-self c =
+    let none = ap (λ (r : Reading). r.stop) c.self.view_is ∙ c.requires.unstopped in
+    let fits = (c.self.invariant.going none).fits in
+    omega arith
 
 pub invariant_of-self : goal.invariant_of-self
 invariant_of-self c =
     let inside = c.self.inside in
-    let none = ap (λ (r : Reading). r.stop) c.self.view_is ∙ c.requires in
+    let next = c.judge_next-count in
+    let seen : List ℕ = inside.pending.items ++ take next.result.count c.args.bytes.now in
+    let none = ap (λ (r : Reading). r.stop) c.self.view_is ∙ c.requires.unstopped in
     let going = c.self.invariant.going none in
-    let are = rw (sym c.push.ensures.items) at (one_more (spellings inside.blocks.items) inside.pending.items c.args.byte going.bytes (omega (arith, c.ranges.byte.fits))) in
-    let partial = rw c.as_slice.ensures.value at c.in-Partial.ensures in
-    reading_going inside.blocks.items inside.state inside.place c.push.new.self.items inside.stop none
-    (going_partial inside.blocks.items inside.state inside.place inside.pending.items c.push.new.self.items going are partial)
+    let are = more_bytes (spellings inside.blocks.items) inside.pending.items next.result.count c.args.bytes.now going.bytes (λ i. search rules) in
+    let partial = rw c.in-Partial.is at next.ensures.verdict in
+    let left = rw c.in-Partial.is at next.ensures.left in
+    rw left (reading_going next.new.blocks.items next.new.state inside.place seen inside.stop none
+    (going_stays inside.blocks.items next.new.blocks.items inside.state next.new.state inside.place inside.pending.items seen going are partial.0 partial.1))
 
-pub invariant_of-self-in-Broken : goal.invariant_of-self-in-Broken
-invariant_of-self-in-Broken c =
+pub invariant_of-self-in-Kept : goal.invariant_of-self-in-Kept
+invariant_of-self-in-Kept c =
     let inside = c.self.inside in
-    let none = ap (λ (r : Reading). r.stop) c.self.view_is ∙ c.requires in
-    let shows = rw c.as_slice.ensures.value at c.in-Broken.ensures in
-    reading_stopped inside.blocks.items inside.state inside.place inside.pending.items c.push.new.self.items c.in-Broken.fault (c.self.invariant.going none) shows
-
-pub invariant_of-self-in-Ok : goal.invariant_of-self-in-Ok
-invariant_of-self-in-Ok c =
-    let inside = c.self.inside in
-    let none = ap (λ (r : Reading). r.stop) c.self.view_is ∙ c.requires in
+    let next = c.judge_next-count in
+    let seen : List ℕ = inside.pending.items ++ take next.result.count c.args.bytes.now in
+    let none = ap (λ (r : Reading). r.stop) c.self.view_is ∙ c.requires.unstopped in
     let going = c.self.invariant.going none in
-    let are = rw (sym c.push.ensures.items) at (one_more (spellings inside.blocks.items) inside.pending.items c.args.byte going.bytes (omega (arith, c.ranges.byte.fits))) in
-    let kept = rw c.as_slice.ensures.value at c.in-Whole.ensures in
-    let next = going_keeps inside.blocks.items inside.state inside.place inside.pending.items c.push.new.self.items c.in-Whole.block going are kept in
-    rw (c.in-Ok.ensures.items, c.take.ensures, c.len.ensures.value, c.clear.ensures)
-    (reading_going (inside.blocks.items ++ c.in-Whole.block ∷ []) (state_after inside.state inside.place c.in-Whole.block) (inside.place + length c.push.new.self.items) [] inside.stop none next)
+    let are = more_bytes (spellings inside.blocks.items) inside.pending.items next.result.count c.args.bytes.now going.bytes (λ i. search rules) in
+    let kept = rw c.in-Kept.is at next.ensures.verdict in
+    let left = rw c.in-Kept.is at next.ensures.left in
+    let size : next.result.size ≡ length seen =
+    omega (arith, length-append inside.pending.items (take next.result.count c.args.bytes.now), length-take-le next.result.count c.args.bytes.now next.ensures.within) in
+    rw (size, left) (reading_going next.new.blocks.items next.new.state (inside.place + length seen) [] inside.stop none
+    (going_more inside.blocks.items next.new.blocks.items inside.state next.new.state inside.place inside.pending.items seen going are kept))
 
-pub returns-in-Ok-clause-taken : goal.returns-in-Ok-clause-taken
-returns-in-Ok-clause-taken c = λ ok.
+pub invariant_of-self-in-Stopped : goal.invariant_of-self-in-Stopped
+invariant_of-self-in-Stopped c =
     let inside = c.self.inside in
-    let none = ap (λ (r : Reading). r.stop) c.self.view_is ∙ c.requires in
+    let next = c.judge_next-count in
+    let none = ap (λ (r : Reading). r.stop) c.self.view_is ∙ c.requires.unstopped in
+    let refused = rw c.in-Stopped.is at next.ensures.verdict in
+    let left = rw c.in-Stopped.is at next.ensures.left in
+    rw left (reading_refused inside.blocks.items next.new.blocks.items inside.state next.new.state inside.place inside.pending.items
+    (inside.pending.items ++ take next.result.count c.args.bytes.now) c.in-Stopped.stop (c.self.invariant.going none) refused)
+
+pub returns-in-Kept-clause-taken : goal.returns-in-Kept-clause-taken
+returns-in-Kept-clause-taken c =
+    let inside = c.self.inside in
+    let next = c.judge_next-count in
+    let none = ap (λ (r : Reading). r.stop) c.self.view_is ∙ c.requires.unstopped in
     let going = c.self.invariant.going none in
-    let are = rw (sym c.push.ensures.items) at (one_more (spellings inside.blocks.items) inside.pending.items c.args.byte going.bytes (omega (arith, c.ranges.byte.fits))) in
-    let kept = rw c.as_slice.ensures.value at c.in-Whole.ensures in
+    let are = more_bytes (spellings inside.blocks.items) inside.pending.items next.result.count c.args.bytes.now going.bytes (λ i. search rules) in
+    let kept = rw c.in-Kept.is at next.ensures.verdict in
+    let left = rw c.in-Kept.is at next.ensures.left in
     let taken : c.args.self.now.taken ≡ spellings inside.blocks.items ++ inside.pending.items = ap (λ (r : Reading). r.taken) (sym c.self.view_is) in
-    rw (c.in-Ok.ensures.items, c.clear.ensures, taken)
-    (going_taken inside.blocks.items inside.state inside.place inside.pending.items c.push.new.self.items c.args.byte c.in-Whole.block going are c.push.ensures.items kept)
+    rw (left, taken)
+    (taken_kept inside.blocks.items next.new.blocks.items inside.state next.new.state inside.place inside.pending.items (take next.result.count c.args.bytes.now) going are kept)
 
-pub returns-in-Ok-clause-going : goal.returns-in-Ok-clause-going
-returns-in-Ok-clause-going c = λ ok.
-    let none = ap (λ (r : Reading). r.stop) c.self.view_is ∙ c.requires in
-    unstopped c.push-in-Whole.new.self.items c.take.new.self (c.self.inside.place + c.len.result) c.clear.new.self.items c.self.inside.stop (invariant_of-self-in-Ok c) none
+pub returns-in-Kept-clause-going : goal.returns-in-Kept-clause-going
+returns-in-Kept-clause-going c = λ ok.
+    let next = c.judge_next-count in
+    let none = ap (λ (r : Reading). r.stop) c.self.view_is ∙ c.requires.unstopped in
+    unstopped next.new.blocks.items next.new.state (c.self.inside.place + next.result.size) next.new.pending.items c.self.inside.stop (invariant_of-self-in-Kept c) none
+
+pub returns-in-Partial-clause-taken : goal.returns-in-Partial-clause-taken
+returns-in-Partial-clause-taken c =
+    let inside = c.self.inside in
+    let next = c.judge_next-count in
+    let partial = rw c.in-Partial.is at next.ensures.verdict in
+    let left = rw c.in-Partial.is at next.ensures.left in
+    let same = partial.1.blocks in
+    let taken : c.args.self.now.taken ≡ spellings inside.blocks.items ++ inside.pending.items = ap (λ (r : Reading). r.taken) (sym c.self.view_is) in
+    rw (left, taken, same) (sym (append_assoc (spellings inside.blocks.items) inside.pending.items (take next.result.count c.args.bytes.now)))
 
 pub returns-in-Partial-clause-going : goal.returns-in-Partial-clause-going
 returns-in-Partial-clause-going c = λ ok.
-    let inside = c.self.inside in
-    let none = ap (λ (r : Reading). r.stop) c.self.view_is ∙ c.requires in
-    unstopped inside.blocks.items inside.state inside.place c.push.new.self.items inside.stop (invariant_of-self c) none
+    let next = c.judge_next-count in
+    let none = ap (λ (r : Reading). r.stop) c.self.view_is ∙ c.requires.unstopped in
+    unstopped next.new.blocks.items next.new.state c.self.inside.place next.new.pending.items c.self.inside.stop (invariant_of-self c) none
 
-pub returns-in-Broken-clause-shown : goal.returns-in-Broken-clause-shown
-returns-in-Broken-clause-shown c = λ other rest.
+pub returns-in-Stopped-clause-shown : goal.returns-in-Stopped-clause-shown
+returns-in-Stopped-clause-shown c = λ other.
     let inside = c.self.inside in
-    let none = ap (λ (r : Reading). r.stop) c.self.view_is ∙ c.requires in
-    let shows = rw c.as_slice.ensures.value at c.in-Broken.ensures in
+    let next = c.judge_next-count in
+    let count = next.result.count in
+    let none = ap (λ (r : Reading). r.stop) c.self.view_is ∙ c.requires.unstopped in
+    let refused = rw c.in-Stopped.is at next.ensures.verdict in
     let taken : c.args.self.now.taken ≡ spellings inside.blocks.items ++ inside.pending.items = ap (λ (r : Reading). r.taken) (sym c.self.view_is) in
-    ap shown_stop (ap (λ (xs : List ℕ). xs ++ c.args.byte ∷ rest) taken ∙ taken_more inside.blocks.items inside.pending.items c.push.new.self.items c.args.byte rest c.push.ensures.items)
-    ∙ going_shows inside.blocks.items inside.state inside.place inside.pending.items c.push.new.self.items c.in-Broken.fault (c.self.invariant.going none) shows rest
+    ap shown_stop (ap (λ (xs : List ℕ). xs ++ c.args.bytes.now) taken ∙ taken_more inside.blocks.items inside.pending.items c.args.bytes.now count)
+    ∙ refused_shows inside.blocks.items next.new.blocks.items inside.state next.new.state inside.place inside.pending.items
+    (inside.pending.items ++ take count c.args.bytes.now) c.in-Stopped.stop (c.self.invariant.going none) refused other (drop count c.args.bytes.now)

@@ -1,0 +1,124 @@
+// The next bytes of a block: as many as it lacks, or all that are there. A fault can show only at a block's second byte, for a
+// wrong length, or at its last, so nothing is judged in between.
+ghost use Rattle.std.specs.Prelude.{◌≡◌, ◌≤◌, ◌<◌, ◌+◌, ◌++◌, [], length, take};
+ghost use Rattle.uac_sentence.specs.declared.states.TheConstants.{FURTHEST};
+ghost use Rattle.uac_grammar.specs.Reading.{IsPartial};
+ghost use Rattle.uac_grammar.specs.Verdict.{IsVerdict, wanted, left_by};
+
+use crate::judge::{Verdict, judge};
+use arrayvec::ArrayVec;
+use std::alloc::Global;
+use uac_descriptor::Block;
+use uac_sentence::State;
+
+/// What the next bytes come to.
+#[derive(Clone, Copy)]
+pub(crate) struct Next {
+    /// How many bytes were taken.
+    pub count: usize,
+    /// How many bytes of their block there are with them.
+    pub size: usize,
+    /// What these bytes come to.
+    pub verdict: Verdict,
+}
+
+/// Judges the pending bytes of a block and the next ones, which are pending behind it unless they end the block.
+pub(crate) fn judge_next(
+    alloc: Global,
+    blocks: &mut Vec<Block>,
+    state: &mut State,
+    place: u32,
+    pending: &mut ArrayVec<u8, 255>,
+    bytes: &[u8],
+) -> Next
+    requires fits { place ≤ FURTHEST }
+    requires partial { IsPartial pending.old.items }
+    requires some { 0 < length bytes.now }
+    ensures some { 0 < result.count }
+    ensures within { result.count ≤ length bytes.now }
+    ensures size { result.size ≡ length pending.old.items + result.count }
+    ensures short { result.size ≤ 255 }
+    ensures verdict { IsVerdict blocks.old.items blocks.new.items state.old state.new place
+        (pending.old.items ++ take result.count bytes.now) result.verdict }
+    ensures left { pending.new.items ≡ left_by result.verdict (pending.old.items ++ take result.count bytes.now) }
+{
+    if pending.is_empty() {
+        judge_front(alloc, blocks, state, place, pending, bytes)
+    } else {
+        judge_more(alloc, blocks, state, place, pending, bytes)
+    }
+}
+
+/// Judges a block where it stands, with no pending byte.
+fn judge_front(
+    alloc: Global,
+    blocks: &mut Vec<Block>,
+    state: &mut State,
+    place: u32,
+    pending: &mut ArrayVec<u8, 255>,
+    bytes: &[u8],
+) -> Next
+    requires fits { place ≤ FURTHEST }
+    requires none { pending.old.items ≡ [] }
+    requires some { 0 < length bytes.now }
+    ensures some { 0 < result.count }
+    ensures within { result.count ≤ length bytes.now }
+    ensures size { result.size ≡ result.count }
+    ensures short { result.size ≤ 255 }
+    ensures verdict { IsVerdict blocks.old.items blocks.new.items state.old state.new place (take result.count bytes.now) result.verdict }
+    ensures left { pending.new.items ≡ left_by result.verdict (take result.count bytes.now) }
+{
+    let count = wanted(bytes[0]).min(bytes.len());
+    let front = &bytes[..count];
+    let verdict = judge(alloc, blocks, state, place, front);
+    if !verdict.is_kept() {
+        let _fits = pending.try_extend_from_slice(front);
+    }
+    Next {
+        count,
+        size: count,
+        verdict,
+    }
+}
+
+/// Judges the pending bytes with more.
+fn judge_more(
+    alloc: Global,
+    blocks: &mut Vec<Block>,
+    state: &mut State,
+    place: u32,
+    pending: &mut ArrayVec<u8, 255>,
+    bytes: &[u8],
+) -> Next
+    requires fits { place ≤ FURTHEST }
+    requires partial { IsPartial pending.old.items }
+    requires begun { 0 < length pending.old.items }
+    requires some { 0 < length bytes.now }
+    ensures some { 0 < result.count }
+    ensures within { result.count ≤ length bytes.now }
+    ensures size { result.size ≡ length pending.old.items + result.count }
+    ensures short { result.size ≤ 255 }
+    ensures verdict { IsVerdict blocks.old.items blocks.new.items state.old state.new place
+        (pending.old.items ++ take result.count bytes.now) result.verdict }
+    ensures left { pending.new.items ≡ left_by result.verdict (pending.old.items ++ take result.count bytes.now) }
+{
+    let count = (wanted(pending[0]) - pending.len()).min(bytes.len());
+    let _fits = pending.try_extend_from_slice(&bytes[..count]);
+    let size = pending.len();
+    let verdict = judge(alloc, blocks, state, place, pending.as_slice());
+    if verdict.is_kept() {
+        pending.clear();
+    }
+    Next {
+        count,
+        size,
+        verdict,
+    }
+}
+
+/// How many bytes a block has of this length byte; but two show that a length below 2 is wrong.
+fn wanted(length: u8) -> usize
+    ensures { result ≡ wanted length }
+{
+    (length as usize).max(2)
+}
