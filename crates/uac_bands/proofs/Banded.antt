@@ -6,7 +6,7 @@ use Rattle.std.proofs.lemmas.Nat.{mul-le}
 use Rattle.uac_clock.specs.declared.values.Nominal.{Nominal}
 use Rattle.uac_clock.specs.Nominal.{HasRoom}
 use Rattle.uac_clock.proofs.Listed.{has_room}
-use Rattle.uac_rate.specs.Levels.{FallsDue, Fills, Interval, IsHeld, IsInterval, IsPriming, Point, Within, came_of}
+use Rattle.uac_rate.specs.Levels.{FallsDue, Fills, Interval, IsHeld, IsInterval, IsJustPrimed, IsPriming, Point, Within, came_of}
 use Rattle.uac_rate.specs.Steadiness.{latest_run}
 use Rattle.uac_rate.proofs.LevelsLemmas.{falls_due, filled, interval_robust, interval_size, primed_robust, rates_band, robust_near, whole_packets}
 use Rattle.uac_alt.specs.Streams.{StreamFields}
@@ -25,7 +25,7 @@ frames_in None o = 0
 frames_in (Some bytes) o = length (frames_of o.stream bytes)
 
 -- whether it is lost
-abbrev is_lost : Option (List ℕ) → Bool
+abbrev pub is_lost : Option (List ℕ) → Bool
 is_lost None = true
 is_lost (Some bytes) = false
 
@@ -51,7 +51,7 @@ taken_not_over o bytes fits over =
     apart : arrival.Taken ≡ arrival.Over → ⊥
     apart same = cc
 
-is_below : (a b : ℕ) → a < b → nat_lt a b ≡ true
+pub is_below : (a b : ℕ) → a < b → nat_lt a b ≡ true
 is_below a b h = grind arith
 
 not_below : (a b : ℕ) → b ≤ a → nat_lt a b ≡ false
@@ -77,7 +77,7 @@ module _ (l : Life) (packet : Option (List ℕ)) (step : ℕ) (band : InBand l) 
   abbrev values : Nominal
   values = l.out.stream.nominal
 
-  abbrev n : ℕ
+  abbrev pub n : ℕ
   n = ticks_then step l
 
   abbrev start : ℕ
@@ -179,10 +179,10 @@ module _ (l : Life) (packet : Option (List ℕ)) (step : ℕ) (band : InBand l) 
   -- ---- the life behind it
 
   -- where no packet was due
-  abbrev waited_life : ℕ → Life
+  abbrev pub waited_life : ℕ → Life
   waited_life taken = record l { out = waited_out taken n l.out; steps = l.steps ++ step ∷ [] }
 
-  lived_not_due : (o : Option ℕ) → l.out.target ≡ o → IsAt o l → is_due l.out.stream l.out.microframes ≡ false
+  pub lived_not_due : (o : Option ℕ) → l.out.target ≡ o → IsAt o l → is_due l.out.stream l.out.microframes ≡ false
       → (lost : Bool) → life_after packet step lost l ≡ waited_life (taken_by o n)
   unfolding life_after
   lived_not_due o is place due lost =
@@ -196,10 +196,10 @@ module _ (l : Life) (packet : Option (List ℕ)) (step : ℕ) (band : InBand l) 
       (no_report s period l.out.microframes band.intervals (is_some_more ((l.out.microframes + 1) % s) due))))
 
   -- where one was
-  abbrev ended_life : ℕ → Life
+  abbrev pub ended_life : ℕ → Life
   ended_life taken = record l { out = ended_out packet taken n l.out; pace = sent l.pace; steps = l.steps ++ step ∷ [] }
 
-  lived_due : (o : Option ℕ) → l.out.target ≡ o → IsAt o l → is_due l.out.stream l.out.microframes ≡ true
+  pub lived_due : (o : Option ℕ) → l.out.target ≡ o → IsAt o l → is_due l.out.stream l.out.microframes ≡ true
       → (lost : Bool) → life_after packet step lost l ≡ with_feedback lost (ended_life (taken_by o n))
   unfolding life_after
   lived_due o is place due lost =
@@ -218,7 +218,7 @@ module _ (l : Life) (packet : Option (List ℕ)) (step : ℕ) (band : InBand l) 
   taken_at None filling came some = let whole = band.taken in omega arith
   taken_at (Some target) behind came some = (plays target behind.0 behind.1 came n some (omega arith)).0
 
-  ticked_on : is_due l.out.stream l.out.microframes ≡ false → (clock : ℕ) → HasTicked l clock → (taken : ℕ)
+  abbrev ticked_on : is_due l.out.stream l.out.microframes ≡ false → (clock : ℕ) → HasTicked l clock → (taken : ℕ)
       → HasTicked (waited_life taken) clock
   ticked_on due clock t taken = record {
     steps = t.steps + step;
@@ -227,6 +227,25 @@ module _ (l : Life) (packet : Option (List ℕ)) (step : ℕ) (band : InBand l) 
     ticks = so_many clock t;
     phase = phase_after clock t;
   }
+
+  -- a primed stream is behind the same point, with one step more
+  pub behind_not_due : is_due l.out.stream l.out.microframes ≡ false → (target : ℕ) (p : Point) (b : IsBehind l target p)
+      → (on : IsBehind (waited_life n) target p) × (on.ticked.steps ≡ b.ticked.steps + step)
+  behind_not_due due target p b =
+      let holds = (plays target p b 0 n (omega arith) (omega arith)).0 in
+      let whole = band.taken in (
+        record {
+          robust = b.robust;
+          target_is = b.target_is;
+          level = omega (arith, b.level);
+          host = b.host;
+          value = b.value;
+          lost = b.lost;
+          waited = b.waited ∙ sym (ap (λ (k : ℕ). k % period) (at.start (is_some_more ((l.out.microframes + 1) % s) due)));
+          ticked = ticked_on due p.clock b.ticked n;
+        },
+        refl,
+      )
 
   place_not_due : (o : Option ℕ) → IsAt o l → is_due l.out.stream l.out.microframes ≡ false → IsAt o (waited_life (taken_by o n))
   place_not_due None filling due = record {
@@ -237,21 +256,7 @@ module _ (l : Life) (packet : Option (List ℕ)) (step : ℕ) (band : InBand l) 
     ticked = ticked_on due filling.clock filling.ticked 0;
   }
   place_not_due (Some target) behind due =
-      let b = behind.1 in
-      let holds = (plays target behind.0 b 0 n (omega arith) (omega arith)).0 in
-      let whole = band.taken in (
-        behind.0,
-        record {
-          robust = b.robust;
-          target_is = b.target_is;
-          level = omega (arith, b.level);
-          host = b.host;
-          value = b.value;
-          lost = b.lost;
-          waited = b.waited ∙ sym (ap (λ (k : ℕ). k % period) (at.start (is_some_more ((l.out.microframes + 1) % s) due)));
-          ticked = ticked_on due behind.0.clock b.ticked n;
-        },
-      )
+      (behind.0, (behind_not_due due target behind.0 behind.1).0)
 
   stays_not_due : is_due l.out.stream l.out.microframes ≡ false → (lost : Bool) → InBand (life_after packet step lost l)
   stays_not_due due lost = subst InBand (sym (lived_not_due l.out.target refl band.at due lost)) (record {
@@ -327,7 +332,7 @@ module _ (l : Life) (packet : Option (List ℕ)) (step : ℕ) (band : InBand l) 
     -- ---- of a primed one
 
     module _ (target : ℕ) (is : l.out.target ≡ Some target) (p : Point) (b : IsBehind l target p) where
-      abbrev end_point : Point
+      abbrev pub end_point : Point
       end_point = record {
         level = length (l.out.arrived ++ came_for packet all l.out) - (l.out.taken + n);
         target = p.target;
@@ -348,30 +353,33 @@ module _ (l : Life) (packet : Option (List ℕ)) (step : ℕ) (band : InBand l) 
           let whole = band.taken in
           omega (arith, b.level)
 
-      interval : Interval values s period (is_lost packet) p end_point
-      interval = record {
-        steps = b.ticked.steps + step;
-        slight = slight_due p.clock b.ticked;
-        sent = next_size l.pace;
-        sent_is = size_is ∙ sym (ap (λ (k : ℕ). k / 65536) paced);
-        host_is = refl;
-        ticks = all;
-        ticks_is = so_many p.clock b.ticked;
-        clock_is = refl;
-        level_is = level_ends;
-        target_is = refl;
-        value_is = refl;
-        waited_is = ap (λ (k : ℕ). k + s) (sym b.waited);
-        in_time = falls.in_time;
-        lost_is = refl;
-      }
+      pub interval : (i : Interval values s period (is_lost packet) p end_point) × (i.steps ≡ b.ticked.steps + step)
+      interval = (
+        record {
+          steps = b.ticked.steps + step;
+          slight = slight_due p.clock b.ticked;
+          sent = next_size l.pace;
+          sent_is = size_is ∙ sym (ap (λ (k : ℕ). k / 65536) paced);
+          host_is = refl;
+          ticks = all;
+          ticks_is = so_many p.clock b.ticked;
+          clock_is = refl;
+          level_is = level_ends;
+          target_is = refl;
+          value_is = refl;
+          waited_is = ap (λ (k : ℕ). k + s) (sym b.waited);
+          in_time = falls.in_time;
+          lost_is = refl;
+        },
+        refl,
+      )
 
-      ended_primed : HasEndedAt (ended_life n) target end_point
+      pub ended_primed : HasEndedAt (ended_life n) target end_point
       ended_primed = record {
         primed = ap (λ (o : Option ℕ). target_after o
             (length (l.out.arrived ++ came_for packet all l.out) - (l.out.taken + n)) l.out.stream) is;
         ended = has_ended (Some target) (p, b) p.clock b.ticked;
-        robust = interval_robust values 65 s period (is_lost packet) p end_point (rates_band values band.nominal room) interval b.robust;
+        robust = interval_robust values 65 s period (is_lost packet) p end_point (rates_band values band.nominal room) interval.0 b.robust;
         target_is = b.target_is;
         level = refl;
         host = ap (λ (k : ℕ). k % 65536) paced ∙ sym host_after;
@@ -382,7 +390,7 @@ module _ (l : Life) (packet : Option (List ℕ)) (step : ℕ) (band : InBand l) 
     -- ---- of a priming one
 
     module _ (is : l.out.target ≡ None) (filling : IsFilling l) where
-      abbrev level_now : ℕ
+      abbrev pub level_now : ℕ
       level_now = length (l.out.arrived ++ came_for packet all l.out) - (l.out.taken + 0)
 
       steps_now : ℕ
@@ -414,13 +422,13 @@ module _ (l : Life) (packet : Option (List ℕ)) (step : ℕ) (band : InBand l) 
               inl (omega arith)
 
       -- whether it is primed now
-      target_by : (b : Bool) → nat_lt level_now (priming_level l.out.stream) ≡ b
+      pub target_by : (b : Bool) → nat_lt level_now (priming_level l.out.stream) ≡ b
           → (ended_life 0).out.target ≡ (if b then None else Some level_now)
       target_by b test =
           ap (λ (o : Option ℕ). target_after o level_now l.out.stream) is
           ∙ ap (λ (c : Bool). if c then None else Some level_now) test
 
-      abbrev first_point : Point
+      abbrev pub first_point : Point
       first_point = record {
         level = level_now;
         target = level_now;
@@ -431,18 +439,21 @@ module _ (l : Life) (packet : Option (List ℕ)) (step : ℕ) (band : InBand l) 
         lost = latest_run l.reports;
       }
 
-      ended_first : priming_level l.out.stream ≤ level_now → HasEndedAt (ended_life 0) level_now first_point
+      pub just_primed : priming_level l.out.stream ≤ level_now → IsJustPrimed values s period first_point
+      just_primed reached = record {
+        counted = record { host = omega arith; clock = omega arith; lost = band.few; waited = falls.in_time };
+        level = refl;
+        value = filling.value;
+        target = filled values s (priming_level l.out.stream) (out_level l.out) level_now room band.intervals.serves
+            (priming_least l.out.stream)
+            filling.level reached fills;
+      }
+
+      pub ended_first : priming_level l.out.stream ≤ level_now → HasEndedAt (ended_life 0) level_now first_point
       ended_first reached = record {
         primed = target_by false (not_below level_now (priming_level l.out.stream) reached);
         ended = has_ended None filling filling.clock filling.ticked;
-        robust = primed_robust values 65 s period first_point (rates_band values band.nominal room) (record {
-          counted = record { host = omega arith; clock = omega arith; lost = band.few; waited = falls.in_time };
-          level = refl;
-          value = filling.value;
-          target = filled values s (priming_level l.out.stream) (out_level l.out) level_now room band.intervals.serves
-              (priming_least l.out.stream)
-              filling.level reached fills;
-        });
+        robust = primed_robust values 65 s period first_point (rates_band values band.nominal room) (just_primed reached);
         target_is = refl;
         level = refl;
         host = refl;

@@ -192,7 +192,7 @@ module _ (clock : ℕ) (millionths : ℤ) where
     with_domain out pace o =
         option_and_then (λ d. option_map (λ place. record { out = out; pace = pace; steps = d.steps; reports = r.given.feedback place }) (place_of r.device.function k)) o
 
-    life_off : life_of after k ≡ life_of r k
+    pub life_off : life_of after k ≡ life_of r k
     unfolding life_of with_deviation deviated
     life_off = by (r.device.outs k) (r.host.paces k)
       where

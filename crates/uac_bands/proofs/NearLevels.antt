@@ -1,4 +1,4 @@
--- A steady microframe tells levels near their targets alone.
+-- A steady microframe tells levels near their targets alone; what a level that is told may be to its target is a parameter.
 use Rattle.std.proofs.Common.{◌≡◌, ◌∙◌, sym, refl, ap, subst, ℕ, ◌+◌, ◌%◌, ◌==◌, ◌&&◌, nat_le, Bool, true, false, if◌then◌else◌, List, [], ◌∷◌, map, filter, Option, Some, None}
 use Rattle.std.specs.Prelude.{⊤}
 use Rattle.std.specs.List.{All}
@@ -8,7 +8,6 @@ use Rattle.std.proofs.lemmas.List.Elements.{All-cons, All-nil}
 use Rattle.uac_entities.specs.declared.stream.StreamInterface.{StreamInterface}
 use Rattle.uac_rate.specs.Levels.{Within}
 use Rattle.uac_rate.specs.Steadiness.{one_more}
-use Rattle.uac_rate.specs.Steadiness as steadiness
 use Rattle.uac_alt.specs.Streams.{StreamFields}
 use Rattle.uac_flow.specs.Streams.{OutStream, feedback_of, is_due, out_level, settled_out}
 use Rattle.uac_host.specs.Calls.{reported}
@@ -20,7 +19,8 @@ use Rattle.uac_streaming.specs.StreamingWorld.{StreamingWorld, all_settled, find
 use Rattle.uac_running.specs.RunningWorld.{RunningWorld, streaming_of}
 use Rattle.uac_running.specs.Events.{all_given, domain_microframe, domain_microframes, microframe, tick}
 use Rattle.uac_bands.specs.Life.{Life, life_after, with_end, with_feedback, with_packet, with_step}
-use Rattle.uac_bands.specs.Bands.{InBand, passed}
+use Rattle.uac_bands.specs.Bands.{passed}
+use Rattle.uac_bands.specs.Projection.{next_life}
 use Rattle.uac_bands.specs.Run.{RunInBand, SteadyMicroframesTellNear, StreamInBand}
 use Rattle.uac_bands.proofs.Once.{Among, clock_among, numbers_differ}
 use Rattle.uac_bands.proofs.Shown.{Place, Shows, packet_at, packet_shown, settled_here, settled_other, track_after}
@@ -33,10 +33,10 @@ use Rattle.uac_bands.proofs.Unstarted.{RestsNow, RunsNone, before_the_end_none, 
 use Rattle.uac_bands.proofs.SteadyRun.{few_behind, next_in_band}
 use Rattle.uac_bands.proofs.Quiet.{IsQuiet, domains_say, fetched, maybe_one, microframe_says, numbered, tick_quiet, ticked_on, ticks_say, turns_once_say}
 
-module _ (k : ℕ) where
-  -- where it tells a level of this interface's primed stream, that is near its target
-  abbrev IsNear : Said → Type 0
-  IsNear said = (level target : ℕ) → said ≡ says_level k level (Some target) → Within 130 level target
+module _ (Q : ℕ → ℕ → Type 0) (k : ℕ) where
+  -- where it tells a level of this interface's primed stream, that is so to its target
+  abbrev pub IsNear : Said → Type 0
+  IsNear said = (level target : ℕ) → said ≡ says_level k level (Some target) → Q level target
 
   quiet : IsQuiet IsNear
   quiet = record {
@@ -101,7 +101,7 @@ module _ (k : ℕ) where
       turns_once_say IsNear (settled_turn detail) k (end_other detail) (RunsNone k) (λ n v other nothing. settled_none k detail [] n v nothing)
       (end_none detail) (numbers w.device.function) w (numbers_differ w.device.function) none
 
-  none_near : (losses : List Loss) (r : RunningWorld) → RestsNow k r → All IsNear (microframe losses r).lines
+  pub none_near : (losses : List Loss) (r : RunningWorld) → RestsNow k r → All IsNear (microframe losses r).lines
   none_near losses r none =
       microframe_says IsNear quiet losses r (ticks_near (fetched losses r).device.function.domains (fetched losses r))
       (ends_near_none (ticked_on losses r).detail (streaming_of (ticked_on losses r)) (before_the_end_none k losses (numbered r) none))
@@ -109,14 +109,15 @@ module _ (k : ℕ) where
 -- ---- where it runs one
 
 -- where it is due now, its level behind the end is near its target
-abbrev IsNearThen : OutStream → Type 0
-IsNearThen x =
-    is_due x.stream x.microframes ≡ true → (target : ℕ) → (settled_out x).target ≡ Some target → Within 130 (out_level (settled_out x)) target
+abbrev IsNearThen : (ℕ → ℕ → Type 0) → OutStream → Type 0
+IsNearThen Q x =
+    is_due x.stream x.microframes ≡ true → (target : ℕ) → (settled_out x).target ≡ Some target → Q (out_level (settled_out x)) target
 
-module _ (p : Place) (detail : ℕ) where
-  end_here : (w : StreamingWorld) (l : Life) (t : Track) → Shows p w l t → IsNearThen l.out → All (IsNear p.interface) (settled_turn detail p.interface w).lines
+module _ (Q : ℕ → ℕ → Type 0) (p : Place) (detail : ℕ) where
+  end_here : (w : StreamingWorld) (l : Life) (t : Track) → Shows p w l t → IsNearThen Q l.out
+      → All (IsNear Q p.interface) (settled_turn detail p.interface w).lines
   unfolding settled_turn is_due_in level_of target_of
-  end_here w l t s near = by (is_told p.interface detail p.interface w.device) refl (behind (settled_here p detail [] w l t s).out)
+  end_here w l t s near = by (is_told Q p.interface detail p.interface w.device) refl (behind (settled_here p detail [] w l t s).out)
     where
       behind : (settled_turn detail p.interface w).world.device.outs p.interface ≡ Some (settled_out l.out)
           → (level_of (settled p.interface w.device) p.interface ≡ out_level (settled_out l.out))
@@ -126,33 +127,33 @@ module _ (p : Place) (detail : ℕ) where
         ap (λ (o : Option OutStream). option_and_then (λ x. x.target) o) out,
       )
 
-      by : (b : Bool) → is_told p.interface detail p.interface w.device ≡ b
+      by : (b : Bool) → is_told Q p.interface detail p.interface w.device ≡ b
           → (level_of (settled p.interface w.device) p.interface ≡ out_level (settled_out l.out))
           × (target_of (settled p.interface w.device) p.interface ≡ (settled_out l.out).target)
-          → All (IsNear p.interface) (if b then level_line p.interface p.interface w.device ∷ [] else [])
-      by false told after = All-nil (IsNear p.interface)
+          → All (IsNear Q p.interface) (if b then level_line Q p.interface p.interface w.device ∷ [] else [])
+      by false told after = All-nil (IsNear Q p.interface)
       by true told after =
-          All-cons (IsNear p.interface) (level_line p.interface p.interface w.device) [] (λ level target same.
+          All-cons (IsNear Q p.interface) (level_line Q p.interface p.interface w.device) [] (λ level target same.
           (let detailed = and_parts (nat_le 2 detail) _ told in
           let out = and_parts (goes_out w.device.function p.interface) _ detailed.1 in
           let due : is_due l.out.stream l.out.microframes ≡ true =
           sym (ap (λ (o : Option OutStream). either_due o (w.device.ins p.interface)) s.out) ∙ out.1 in
           let level_is : level_of (settled p.interface w.device) p.interface ≡ level = cc in
           let target_is : target_of (settled p.interface w.device) p.interface ≡ Some target = cc in
-          subst (λ (n : ℕ). Within 130 n target) (sym after.0 ∙ level_is) (near due target (sym after.1 ∙ target_is))))
-          (All-nil (IsNear p.interface))
+          subst (λ (n : ℕ). Q n target) (sym after.0 ∙ level_is) (near due target (sym after.1 ∙ target_is))))
+          (All-nil (IsNear Q p.interface))
 
-  ends_near_here : (w : StreamingWorld) (l : Life) (t : Track) → Shows p w l t → IsNearThen l.out
-      → All (IsNear p.interface) (all_settled detail w).lines
+  ends_near_here : (w : StreamingWorld) (l : Life) (t : Track) → Shows p w l t → IsNearThen Q l.out
+      → All (IsNear Q p.interface) (all_settled detail w).lines
   unfolding all_settled
   ends_near_here w l t s near =
-      turns_once_say (IsNear p.interface) (settled_turn detail) p.interface (end_other p.interface detail) (λ v. Shows p v l t)
+      turns_once_say (IsNear Q p.interface) (settled_turn detail) p.interface (end_other Q p.interface detail) (λ v. Shows p v l t)
       (λ n v other there. settled_other p detail [] n v l t other there) (λ v there. end_here v l t there near) (numbers w.device.function) w
       (numbers_differ w.device.function) s
 
 -- ---- the life behind the microframe
 
-feedback_out : (lost : Bool) (m : Life) → (with_feedback lost m).out ≡ m.out
+pub feedback_out : (lost : Bool) (m : Life) → (with_feedback lost m).out ≡ m.out
 feedback_out lost m = by (feedback_of m.out)
   where
     by : (o : Option ℕ)
@@ -164,10 +165,14 @@ settled_count : (x : OutStream) → (settled_out x).microframes ≡ x.microframe
 unfolding settled_out
 settled_count x = refl
 
-near_then : (packet : Option (List ℕ)) (step : ℕ) (lost : Bool) (l : Life) → InBand (life_after packet step lost l)
-    → IsNearThen (with_step step (with_packet packet l)).out
+-- so is the level of a primed stream where a service interval has ended
+abbrev pub EndsSo : (ℕ → ℕ → Type 0) → Life → Type 0
+EndsSo Q l = (target : ℕ) → passed l.out ≡ 0 → l.out.target ≡ Some target → Q (out_level l.out) target
+
+near_then : (Q : ℕ → ℕ → Type 0) (packet : Option (List ℕ)) (step : ℕ) (lost : Bool) (l : Life) → EndsSo Q (life_after packet step lost l)
+    → IsNearThen Q (with_step step (with_packet packet l)).out
 unfolding life_after
-near_then packet step lost l band due target is =
+near_then Q packet step lost l so due target is =
     let x : OutStream = (with_step step (with_packet packet l)).out in
     let out : (life_after packet step lost l).out ≡ settled_out x = feedback_out lost (with_end (with_step step (with_packet packet l))) in
     let ends : passed (life_after packet step lost l).out ≡ 0 =
@@ -175,31 +180,32 @@ near_then packet step lost l band due target is =
     ∙ ap (λ (n : ℕ). n % (settled_out x).stream.service) (settled_count x)
     ∙ ap (λ (of : StreamFields). (x.microframes + 1) % of.service) (ended_streams x)
     ∙ is_zero ((x.microframes + 1) % x.stream.service) due in
-    subst (λ (o : OutStream). Within 130 (out_level o) target) out
-    (ends_near (life_after packet step lost l) target band (ap (λ (o : OutStream). o.target) out ∙ is) ends)
+    subst (λ (o : OutStream). Q (out_level o) target) out (so target ends (ap (λ (o : OutStream). o.target) out ∙ is))
 
-some_near : (losses : List Loss) (r : RunningWorld) (k : ℕ) (l : Life) (d : Domain) → RunInBand r → StreamInBand r k l d
-    → steadiness.is_steady (microframe losses r).world.given ≡ true → All (IsNear k) (microframe losses r).lines
-some_near losses r k l d band stream steady = opened r k l d stream.runs (λ clock place steps is s.
+pub some_near : (Q : ℕ → ℕ → Type 0) (losses : List Loss) (r : RunningWorld) (k : ℕ) (l : Life) (d : Domain) → RunInBand r → StreamInBand r k l d
+    → EndsSo Q (next_life losses r k l d) → All (IsNear Q k) (microframe losses r).lines
+some_near Q losses r k l d band stream so = opened r k l d stream.runs (λ clock place steps is s.
     (let p : Place = place_in r k d clock place in
     let t : Track = r.host.tracks k in
     let packet : Option (List ℕ) = if loses_out losses k then None else Some (packet_at l.pace t) in
     let clocked : Among clock r.device.function.domains = subst (Among clock) band.ordered.clocks (clock_among clock r.device.domains (record d { steps = l.steps }) s.domain) in
     let ticked = before_the_end p is band.ordered.numbers losses band.ordered.apart clocked (numbered r) l t s in
-    let few = few_behind losses r band steady k l d stream.runs in
-    let next : InBand (life_after packet (step_at p) (loses_report losses k) l) =
-    subst (λ (n : ℕ). InBand (life_after packet n (loses_report losses k) l)) (sym (step_is r k d clock place))
-    (subst (λ (b : List ℕ). InBand (life_after (if loses_out losses k then None else Some b) (step_in r.device d) (loses_report losses k) l))
-    (packet_shown p (streaming_of r) l t s) (next_in_band losses r k l d stream few)) in
-    microframe_says (IsNear k) (quiet k) losses r (ticks_near k (fetched losses r).device.function.domains (fetched losses r))
-    (ends_near_here p (ticked_on losses r).detail (streaming_of (ticked_on losses r)) (with_step (step_at p) (with_packet packet l)) (track_after l t) ticked
-    (near_then packet (step_at p) (loses_report losses k) l next))))
+    let next : EndsSo Q (life_after packet (step_at p) (loses_report losses k) l) =
+    subst (λ (n : ℕ). EndsSo Q (life_after packet n (loses_report losses k) l)) (sym (step_is r k d clock place))
+    (subst (λ (b : List ℕ). EndsSo Q (life_after (if loses_out losses k then None else Some b) (step_in r.device d) (loses_report losses k) l))
+    (packet_shown p (streaming_of r) l t s) so) in
+    microframe_says (IsNear Q k) (quiet Q k) losses r (ticks_near Q k (fetched losses r).device.function.domains (fetched losses r))
+    (ends_near_here Q p (ticked_on losses r).detail (streaming_of (ticked_on losses r)) (with_step (step_at p) (with_packet packet l)) (track_after l t) ticked
+    (near_then Q packet (step_at p) (loses_report losses k) l next))))
 
 pub tell_near : SteadyMicroframesTellNear
 tell_near losses r band steady j said below k level target = by (r.device.outs k) refl j said below level target
   where
-    by : (o : Option OutStream) → r.device.outs k ≡ o → All (IsNear k) (microframe losses r).lines
-    by None none = none_near k losses r none
+    by : (o : Option OutStream) → r.device.outs k ≡ o → All (IsNear (Within 130) k) (microframe losses r).lines
+    by None none = none_near (Within 130) k losses r none
     by (Some o) there =
         let stream = band.streams k o there in
-        some_near losses r k stream.0 stream.1 band stream.3 steady
+        let l : Life = stream.0 in
+        let d : Domain = stream.1 in
+        let next = next_in_band losses r k l d stream.3 (few_behind losses r band steady k l d stream.3.runs) in
+        some_near (Within 130) losses r k l d band stream.3 (λ target ends is. ends_near (next_life losses r k l d) target next is ends)

@@ -24,7 +24,7 @@ clock_goes all step clock steps same =
     let ticks : ticks_in (all ++ step ∷ []) ≡ (sum all % 65536 + sum (step ∷ [])) / 65536 = by.0 in
     (omega (arith, on.0), omega (arith, by.1, on.1))
 
-times_more : (n x : ℕ) → (n + 1) * x ≡ n * x + x
+pub times_more : (n x : ℕ) → (n + 1) * x ≡ n * x + x
 times_more n x = rw add-one (omega arith)
 
 pub slight_goes : (n e f steps step : ℕ) → Within (n * e) steps (n * f) → Within e step f

@@ -13,7 +13,7 @@ use Rattle.uac_alt.specs.Streams.{StreamFields}
 use Rattle.uac_flow.specs.Streams.{feedback_of, out_level, priming_level, reports_now}
 use Rattle.uac_host.specs.Calls.{held, reported}
 use Rattle.uac_bands.specs.Life.{Life, with_feedback}
-use Rattle.uac_bands.specs.Bands.{HasTicked, InBand, IsAt, passed}
+use Rattle.uac_bands.specs.Bands.{HasTicked, InBand, IsAt, IsBehind, passed}
 
 -- ---- what a primed ring holds
 
@@ -148,12 +148,12 @@ point_after lost values q = record q { waited = 0; lost = lost_after lost q.lost
 
 -- when its report falls due, and when not
 not_yet : (m : Life) (waited clock : ℕ) → HasEnded m waited clock → (m.out.microframes % m.out.stream.period == 0) ≡ false
-    → waited ≡ (m.out.microframes - passed m.out) % m.out.stream.period
+    → (waited < m.out.stream.period) × (waited ≡ (m.out.microframes - passed m.out) % m.out.stream.period)
 not_yet m waited clock ended none =
     let some = is_some_more (m.out.microframes % m.out.stream.period) none in
     let all : m.out.microframes - passed m.out ≡ m.out.microframes = omega (arith, ended.passed_is) in
     elim (cases_lt waited m.out.stream.period) [
-      | inl less ↦ sym (ended.before less) ∙ sym (ap (λ (k : ℕ). k % m.out.stream.period) all)
+      | inl less ↦ (less, sym (ended.before less) ∙ sym (ap (λ (k : ℕ). k % m.out.stream.period) all))
       | inr more ↦ absurd (let now = ended.due (omega (arith, ended.in_time)) in omega arith)
     ]
 
@@ -253,10 +253,17 @@ value_there m false target q at =
     ∙ sym (held_stays m.out.stream (report_of values target (out_level m.out)) here.least here.most)
     ∙ sym (ap (λ (s : StreamFields). held s (report_of values target (out_level m.out))) at.ended.same)
 
--- a primed one by the report of its level
-pub primed_reported : (m : Life) (lost : Bool) (target : ℕ) (q : Point) → HasEndedAt m target q
-    → latest_run (with_feedback lost m).reports ≤ 3 → InBand (with_feedback lost m)
-primed_reported m lost target q at few = by (m.out.microframes % m.out.stream.period == 0) refl
+-- a primed stream behind the end of an interval: the point there is that of the end, or that behind the report which fell due
+pub record Goes (m : Life) (lost : Bool) (target : ℕ) (q : Point) (behind_it : Life) : Type 0 where
+  pub band : InBand behind_it
+  pub point : Point
+  pub behind : IsBehind behind_it target point
+  pub ends : ((q.waited < m.out.stream.period) × (point ≡ q)) ⊎ Reported m.out.stream.nominal m.out.stream.period lost q point
+
+-- a primed one goes on by the report of its level
+pub primed_goes : (m : Life) (lost : Bool) (target : ℕ) (q : Point) → HasEndedAt m target q
+    → latest_run (with_feedback lost m).reports ≤ 3 → Goes m lost target q (with_feedback lost m)
+primed_goes m lost target q at few = by (m.out.microframes % m.out.stream.period == 0) refl
   where
     values : Nominal
     values = m.out.stream.nominal
@@ -270,22 +277,25 @@ primed_reported m lost target q at few = by (m.out.microframes % m.out.stream.pe
     ticked : HasTicked m q.clock
     ticked = ticked_at_end m q.waited q.clock at.ended
 
-    by : (b : Bool) → (m.out.microframes % m.out.stream.period == 0) ≡ b → InBand (with_feedback lost m)
+    by : (b : Bool) → (m.out.microframes % m.out.stream.period == 0) ≡ b → Goes m lost target q (with_feedback lost m)
     by false none =
-        subst InBand (sym (no_feedback m lost (reports_by m false at.ended.begun none)))
-        (in_band_still m q.waited q.clock at.ended (subst (λ (t : Option ℕ). IsAt t m) (sym at.primed) (
-          q,
-          record {
-            robust = at.robust;
-            target_is = at.target_is;
-            level = omega (arith, at.level, at.ended.ticks);
-            host = at.host;
-            value = at.value;
-            lost = at.lost;
-            waited = not_yet m q.waited q.clock at.ended none;
-            ticked = ticked;
-          },
-        )))
+        let yet = not_yet m q.waited q.clock at.ended none in
+        let behind : IsBehind m target q = record {
+          robust = at.robust;
+          target_is = at.target_is;
+          level = omega (arith, at.level, at.ended.ticks);
+          host = at.host;
+          value = at.value;
+          lost = at.lost;
+          waited = yet.1;
+          ticked = ticked;
+        } in
+        subst (Goes m lost target q) (sym (no_feedback m lost (reports_by m false at.ended.begun none))) (record {
+          band = in_band_still m q.waited q.clock at.ended (subst (λ (t : Option ℕ). IsAt t m) (sym at.primed) (q, behind));
+          point = q;
+          behind = behind;
+          ends = inl (yet.0, refl);
+        })
     by true now =
         let is : with_feedback lost m ≡ with_report lost value m = some_feedback m lost (Some target)
         (reports_by m true at.ended.begun now) at.primed in
@@ -305,23 +315,29 @@ primed_reported m lost target q at few = by (m.out.microframes % m.out.stream.pe
           host_is = refl;
           clock_is = refl;
         } in
-        subst InBand (sym is)
-        (in_band lost value m q.waited q.clock at.ended few_now
-        (subst (λ (t : Option ℕ). IsAt t (with_report lost value m)) (sym at.primed) (
-          after,
-          record {
-            robust = report_robust values 65 m.out.stream.service m.out.stream.period lost q after (rates_band values at.ended.nominal room)
-                at.ended.intervals report at.robust;
-            target_is = at.target_is;
-            level = omega (arith, at.level, at.ended.ticks);
-            host = host_there lost;
-            value = value_there m lost target q at;
-            lost = runs;
-            waited = due.1;
-            ticked = ticked_with lost value m q.clock ticked;
-          },
-        )))
+        let behind : IsBehind (with_report lost value m) target after = record {
+          robust = report_robust values 65 m.out.stream.service m.out.stream.period lost q after (rates_band values at.ended.nominal room)
+              at.ended.intervals report at.robust;
+          target_is = at.target_is;
+          level = omega (arith, at.level, at.ended.ticks);
+          host = host_there lost;
+          value = value_there m lost target q at;
+          lost = runs;
+          waited = due.1;
+          ticked = ticked_with lost value m q.clock ticked;
+        } in
+        subst (Goes m lost target q) (sym is) (record {
+          band = in_band lost value m q.waited q.clock at.ended few_now
+              (subst (λ (t : Option ℕ). IsAt t (with_report lost value m)) (sym at.primed) (after, behind));
+          point = after;
+          behind = behind;
+          ends = inr report;
+        })
       where
         host_there : (b : Bool) → q.host ≡ sum (with_report b value m).pace.used % 65536
         host_there true = at.host
         host_there false = at.host
+
+pub primed_reported : (m : Life) (lost : Bool) (target : ℕ) (q : Point) → HasEndedAt m target q
+    → latest_run (with_feedback lost m).reports ≤ 3 → InBand (with_feedback lost m)
+primed_reported m lost target q at few = (primed_goes m lost target q at few).band

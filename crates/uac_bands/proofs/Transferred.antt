@@ -271,7 +271,7 @@ module _ (p : Setup) (bytes : List ℕ) (r : RunningWorld) (band : RunInBand r) 
   abbrev after : Held
   after = after_request r.device.function held p bytes
 
-  abbrev begun : Option StreamFields
+  abbrev pub begun : Option StreamFields
   begun = stream_in_setting r.device.function r.device.controls p.index p.value
 
   abbrev asked_device : DeviceWorld
@@ -295,10 +295,10 @@ module _ (p : Setup) (bytes : List ℕ) (r : RunningWorld) (band : RunInBand r) 
             (λ place placed. refl) (rates_last k o there stream.1.clock),
       )))
 
-  abbrev given_then : Given
+  abbrev pub given_then : Given
   given_then = if is_some begun then given_at (place_of r.device.function p.index) steadiness.restarted r.given else r.given
 
-  reports_elsewhere : (k place : ℕ) → (k == p.index) ≡ false → place_of r.device.function k ≡ Some place
+  pub reports_elsewhere : (k place : ℕ) → (k == p.index) ≡ false → place_of r.device.function k ≡ Some place
       → given_then.feedback place ≡ r.given.feedback place
   reports_elsewhere k place other placed = by (is_some begun)
     where

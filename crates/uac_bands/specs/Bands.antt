@@ -1,6 +1,7 @@
 -- A stream to the device whose clock and feedback are steady: where it is between two microframes, and that it stays there (profile;
 -- feedback is that of USB 2.0, 5.12.4.2).
-use Rattle.std.specs.Prelude.{◌≡◌, ℕ, ◌+◌, ◌-◌, ◌*◌, ◌/◌, ◌%◌, ◌<◌, ◌≤◌, Bool, true, false, List, [], ◌∷◌, ◌++◌, length, sum, Option, None, Some}
+use Rattle.std.specs.Prelude.{◌≡◌, ℕ, ◌+◌, ◌-◌, ◌*◌, ◌/◌, ◌%◌, ◌<◌, ◌≤◌, Bool, true, false, List, [], ◌∷◌, ◌++◌, length, sum, Option, None}
+use Rattle.std.specs.Prelude.{Some}
 use Rattle.uac_clock.specs.Nominal.{IsNominal}
 use Rattle.uac_clock.specs.Ticks.{ticks_in}
 use Rattle.uac_clock.specs.declared.values.Nominal.{Nominal}

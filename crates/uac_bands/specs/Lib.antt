@@ -1,7 +1,9 @@
 -- The life of one stream.
+-- What the program's theorem says: to be read and believed.
 pub mod Life
 pub mod Bands
 pub mod Run
 pub mod Projection
-pub mod Beginnings
 pub mod Transfers
+-- What the laws say besides.
+pub mod Beginnings

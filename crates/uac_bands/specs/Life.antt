@@ -34,7 +34,8 @@ life_of r interface =
     option_and_then (λ out.
     option_and_then (λ pace.
     option_and_then (λ d.
-    option_map (λ place. record { out = out; pace = pace; steps = d.steps; reports = r.given.feedback place }) (place_of r.device.function interface))
+    option_map (λ place. record { out = out; pace = pace; steps = d.steps; reports = r.given.feedback place })
+    (place_of r.device.function interface))
     (domain_on r interface))
     (r.host.paces interface))
     (r.device.outs interface)
@@ -62,7 +63,8 @@ with_end l = record l { out = settled_out l.out }
 -- where a report is due, it comes to the host, or is lost
 abbrev pub with_feedback : Bool → Life → Life
 with_feedback lost l =
-    option_map_or (λ value. record l { pace = if lost then l.pace else reported value l.pace; reports = one_more lost l.reports }) (feedback_of l.out) l
+    option_map_or (λ value. record l { pace = if lost then l.pace else reported value l.pace; reports = one_more lost l.reports })
+    (feedback_of l.out) l
 
 -- a microframe: its packet if it is due, none where that is lost; a step of its clock; its end; and its report if one is due
 unfoldable pub life_after : Option (List ℕ) → ℕ → Bool → Life → Life

@@ -6,7 +6,8 @@ ghost use Rattle.uac_bands.specs.Bands.{StartsInBand, StaysInBand, HoldsEnough, 
 ghost use Rattle.uac_bands.specs.Run.{SteadyMicroframesKeepBands, MicroframesFindNoneEmpty, SteadyMicroframesTellNear};
 ghost use Rattle.uac_bands.specs.Run.{SteadinessLooksBack, SteadyRunsStaySteady};
 ghost use Rattle.uac_bands.specs.Beginnings.{RunsStartInBand, CallsKeepBands};
-ghost use Rattle.uac_bands.specs.Transfers.{TransfersKeepBands, MicroframesKeepSound, CallsKeepSound, TransfersKeepSound, RunsStartSound, CallsLookBack};
+ghost use Rattle.uac_bands.specs.Transfers.{TransfersKeepBands, MicroframesKeepSound, CallsKeepSound, TransfersKeepSound, RunsStartSound};
+ghost use Rattle.uac_bands.specs.Transfers.{CallsLookBack};
 
 /// All that a microframe makes of a stream to the device follows from its own packet, its own clock, and whether its packet and its report
 /// were lost.
