@@ -1,0 +1,270 @@
+-- A running device under a generated script: what the lines leave of its stream, between groups of microframes and within one.
+use Rattle.std.proofs.Common.{◌≡◌, ◌∙◌, sym, refl, ap, subst, ℕ, zero, suc, ◌+◌, ◌/◌, ◌%◌, ◌≤◌, ◌<◌, ◌==◌, ◌&&◌, not, if◌then◌else◌, Bool, true, false, ℤ, List, [], Option, None, Some, arith}
+use Rattle.std.specs.Option.{option_and_then, option_map}
+use Rattle.uac_rate.specs.Steadiness.{Given, is_slight, is_steady, nothing_given, restarted}
+use Rattle.uac_rate.specs.Steadiness as steadiness
+use Rattle.uac_pcm.specs.declared.tones.Tone.{Tone}
+use Rattle.uac_topology.specs.Function.{FunctionFields}
+use Rattle.uac_store.specs.declared.keys.Key.{Key}
+use Rattle.uac_alt.specs.Streams.{StreamFields}
+use Rattle.uac_units.specs.Hearing.{Reading}
+use Rattle.uac_request.specs.Requests.{after_request, held_by, reply_of, setup_of}
+use Rattle.uac_device.specs.DeviceWorld.{DeviceWorld, controlled, deviated, fresh, out_from, stream_in_setting, tells_done}
+use Rattle.uac_device.specs.DeviceWorld as device
+use Rattle.uac_flow.specs.Streams.{OutStream, started_out}
+use Rattle.uac_mixer.specs.declared.link.When.{When}
+use Rattle.uac_mixer.specs.declared.link.When.TheVariants as when
+use Rattle.uac_script.specs.Phrase.{Loss}
+use Rattle.uac_streaming.specs.StreamingWorld.{StreamingWorld, followed, given_at, loses_report, numbers, place_of}
+use Rattle.uac_running.specs.RunningWorld.{RunningWorld, at_start, streaming_of, with_deviation, with_track}
+use Rattle.uac_running.specs.Transfers.{acts, breaks_before, transferred}
+use Rattle.uac_running.specs.Events.{microframe, microframes}
+use Rattle.uac_bands.proofs.Once.{Among}
+use Rattle.uac_generated.proofs.Beats.{Beats, Plays, microframe_beats}
+use Rattle.uac_generated.proofs.Reports.{IsKept, anew_kept, at_most, none_kept, off_kept, steady_of}
+use Rattle.uac_generated.proofs.Spelt.{rate_setup, setting_setup}
+use Rattle.uac_generated.proofs.Timely.{Beat, IsWell, beat_of, bound, given_behind, next_beat, well_in, well_lost, well_on}
+
+-- of a function: interface 1 is one of those, at this place among them, and a stream that it starts in setting 1 has its reports each
+-- eight microframes
+pub record HasOne (function : FunctionFields) (place : ℕ) : Type 0 where
+  pub among : Among 1 (numbers function)
+  pub placed : place_of function 1 ≡ Some place
+  pub eight : (controls : List (Key × ℤ)) (stream : StreamFields) → stream_in_setting function controls 1 1 ≡ Some stream
+      → stream.out ≡ true → stream.period ≡ 8
+
+module _ (function : FunctionFields) (place : ℕ) where
+  -- a running device of it: interface 1 alone may run a stream to the device, of which so many microframes have passed, but for multiples
+  -- of eight, and which lost so many reports at most since one came
+  pub record IsPlaying (passed most : ℕ) (r : RunningWorld) : Type 0 where
+    pub beat : Option Beat
+    pub given : Given
+    pub beats : Beats function 1 beat given (streaming_of r)
+    pub well : IsWell place passed most beat given
+
+  pub steady_now : (passed most : ℕ) (r : RunningWorld) → IsPlaying passed most r → is_steady r.given ≡ true
+  steady_now passed most r is =
+      subst (λ (g : Given). is_steady g ≡ true) (sym is.beats.given_is) (steady_of place (bound most is.beat) is.given is.well.kept)
+
+  -- ---- microframes
+
+  module _ (has : HasOne function place) where
+    behind : (losses : List Loss) (lost : Bool) (r : RunningWorld) (beat : Option Beat) (given : Given) → loses_report losses 1 ≡ lost
+        → Beats function 1 beat given (streaming_of r)
+        → Beats function 1 (option_map next_beat beat) (given_behind lost (Some place) (option_map next_beat beat) given) (streaming_of (microframe losses r).world)
+    behind losses lost r beat given is beats =
+        subst (λ (b : Bool). Beats function 1 (option_map next_beat beat) (given_behind b (Some place) (option_map next_beat beat) given) (streaming_of (microframe losses r).world)) is
+        (subst (λ (o : Option ℕ). Beats function 1 (option_map next_beat beat) (given_behind (loses_report losses 1) o (option_map next_beat beat) given) (streaming_of (microframe losses r).world)) has.placed
+        (microframe_beats function 1 has.among losses r beat given beats))
+
+    -- so many microframes that lose no report, the last of which ends eight, so that a report came
+    pub all_come : (losses : List Loss) (count passed most : ℕ) (r : RunningWorld) → loses_report losses 1 ≡ false
+        → (passed + suc count) % 8 ≡ 0 → IsPlaying passed most r → IsPlaying 0 0 (microframes losses (suc count) r).world
+    unfolding microframes
+    all_come losses zero passed most r comes due is = record {
+      beat = option_map next_beat is.beat;
+      given = given_behind false (Some place) (option_map next_beat is.beat) is.given;
+      beats = behind losses false r is.beat is.given comes is.beats;
+      well = well_in place passed most is.beat is.given due is.well;
+    }
+    all_come losses (suc count) passed most r comes due is =
+        all_come losses count (passed + 1) most (microframe losses r).world comes (omega arith) (record {
+          beat = option_map next_beat is.beat;
+          given = given_behind false (Some place) (option_map next_beat is.beat) is.given;
+          beats = behind losses false r is.beat is.given comes is.beats;
+          well = well_on place passed most is.beat is.given is.well;
+        })
+
+    -- so many that lose no report
+    pub some_come : (losses : List Loss) (count passed most : ℕ) (r : RunningWorld) → loses_report losses 1 ≡ false
+        → IsPlaying passed most r → IsPlaying (passed + count) most (microframes losses count r).world
+    unfolding microframes
+    some_come losses zero passed most r comes is =
+        subst (λ (n : ℕ). IsPlaying n most r) (let same : passed ≡ passed + 0 = omega arith in same) is
+    some_come losses (suc count) passed most r comes is =
+        subst (λ (n : ℕ). IsPlaying n most (microframes losses (suc count) r).world) (let same : passed + 1 + count ≡ passed + suc count = omega arith in same)
+        (some_come losses count (passed + 1) most (microframe losses r).world comes (record {
+          beat = option_map next_beat is.beat;
+          given = given_behind false (Some place) (option_map next_beat is.beat) is.given;
+          beats = behind losses false r is.beat is.given comes is.beats;
+          well = well_on place passed most is.beat is.given is.well;
+        }))
+
+    -- so many that lose their reports, of the first 32
+    pub all_lost : (losses : List Loss) (count passed : ℕ) (r : RunningWorld) → loses_report losses 1 ≡ true → passed + count < 32
+        → IsPlaying passed (passed / 8) r → IsPlaying (passed + count) ((passed + count) / 8) (microframes losses count r).world
+    unfolding microframes
+    all_lost losses zero passed r lost few is =
+        subst (λ (n : ℕ). IsPlaying n (n / 8) r) (let same : passed ≡ passed + 0 = omega arith in same) is
+    all_lost losses (suc count) passed r lost few is =
+        subst (λ (n : ℕ). IsPlaying n (n / 8) (microframes losses (suc count) r).world) (let same : passed + 1 + count ≡ passed + suc count = omega arith in same)
+        (all_lost losses count (passed + 1) (microframe losses r).world lost (omega arith) (record {
+          beat = option_map next_beat is.beat;
+          given = given_behind true (Some place) (option_map next_beat is.beat) is.given;
+          beats = behind losses true r is.beat is.given lost is.beats;
+          well = well_lost place passed is.beat is.given (omega arith) is.well;
+        }))
+
+  -- ---- between them
+
+  pub starts : (bytes : List ℕ) (shown : List Reading) → IsPlaying 0 0 (at_start bytes function shown)
+  unfolding at_start fresh
+  starts bytes shown = record {
+    beat = None;
+    given = nothing_given;
+    beats = record { plays = record { function_is = refl; own = refl; others = λ n other. refl }; given_is = refl };
+    well = record { timely = tt; kept = none_kept place 0 };
+  }
+
+  pub goes_off : (passed most clock : ℕ) (millionths : ℤ) (r : RunningWorld) → is_slight millionths ≡ true → IsPlaying passed most r
+      → IsPlaying passed most (with_deviation clock millionths r)
+  unfolding with_deviation deviated
+  goes_off passed most clock millionths r slight is = record {
+    beat = is.beat;
+    given = steadiness.deviated millionths is.given;
+    beats = record {
+      plays = record { function_is = is.beats.plays.function_is; own = is.beats.plays.own; others = is.beats.plays.others };
+      given_is = ap (steadiness.deviated millionths) is.beats.given_is;
+    };
+    well = record { timely = is.well.timely; kept = off_kept place (bound most is.beat) millionths is.given slight is.well.kept };
+  }
+
+  pub tracks_on : (passed most interface : ℕ) (tone : Tone) (r : RunningWorld) → IsPlaying passed most r
+      → IsPlaying passed most (with_track interface tone r)
+  unfolding with_track
+  tracks_on passed most interface tone r is = record {
+    beat = is.beat;
+    given = is.given;
+    beats = record {
+      plays = record { function_is = is.beats.plays.function_is; own = is.beats.plays.own; others = is.beats.plays.others };
+      given_is = is.beats.given_is;
+    };
+    well = is.well;
+  }
+
+  -- ---- transfers
+
+  -- the rate is set
+  pub rate_set : (bytes : List ℕ) (r : RunningWorld) → IsPlaying 0 0 r → IsPlaying 0 0 (transferred (setup_of rate_setup) bytes r)
+  unfolding transferred controlled
+  rate_set bytes r is = record {
+    beat = is.beat;
+    given = is.given;
+    beats = record { plays = by r.breaks; given_is = is.beats.given_is };
+    well = is.well;
+  }
+    where
+      by : (breaks : Option When) → Plays function 1 is.beat (acts breaks r.device (controlled (setup_of rate_setup) bytes r.device))
+      by None = record { function_is = is.beats.plays.function_is; own = is.beats.plays.own; others = is.beats.plays.others }
+      by (Some when.Before) = is.beats.plays
+      by (Some when.After) = record { function_is = is.beats.plays.function_is; own = is.beats.plays.own; others = is.beats.plays.others }
+
+  -- the setting is set: the device runs a stream from now on, or none
+  module _ (has : HasOne function place) (r : RunningWorld) (is : IsPlaying 0 0 r) where
+    abbrev begun : Option StreamFields
+    begun = stream_in_setting r.device.function r.device.controls 1 1
+
+    -- behind the setting the device is this, where it was done, and the streams follow
+    abbrev After : StreamingWorld → Type 0
+    After w = (beat : Option Beat) × (given : Given) × Beats function 1 beat given w × IsWell place 0 0 beat given
+
+    resting : (w : DeviceWorld) → Plays function 1 is.beat w → After (record (streaming_of r) { device = w })
+    resting w plays = (is.beat, is.given, record { plays = plays; given_is = is.beats.given_is }, is.well)
+
+    eight_of : (stream : StreamFields) → begun ≡ Some stream → stream.out ≡ true → stream.period ≡ 8
+    eight_of stream asked out =
+        has.eight r.device.controls stream
+        (subst (λ (f : FunctionFields). stream_in_setting f r.device.controls 1 1 ≡ Some stream) is.beats.plays.function_is asked) out
+
+    started : (w : DeviceWorld) → Plays function 1 is.beat w → After (followed 1 begun (record (streaming_of r) { device = device.restarted 1 begun w }))
+    unfolding device.restarted followed
+    started w plays = by begun refl
+      where
+        fresh_given : given_at (place_of w.function 1) restarted r.given ≡ restarted place is.given
+        fresh_given =
+            ap (λ (f : FunctionFields). given_at (place_of f 1) restarted r.given) plays.function_is
+            ∙ ap (λ (o : Option ℕ). given_at o restarted r.given) has.placed ∙ ap (restarted place) is.beats.given_is
+
+        anew : IsKept place 0 (restarted place is.given)
+        anew = anew_kept place (bound 0 is.beat) is.given is.well.kept
+
+        kept_now : IsKept place 0 is.given
+        kept_now = at_most place (bound 0 is.beat) 0 is.given (none_bound is.beat) is.well.kept
+          where
+            none_bound : (b : Option Beat) → bound 0 b ≤ 0
+            none_bound None = omega arith
+            none_bound (Some b) = omega arith
+
+        others : (o : Option OutStream) (n : ℕ) → (1 == n) ≡ false → (if n == 1 then o else w.outs n) ≡ None
+        others o n apart = off (n == 1) refl
+          where
+            off : (b : Bool) → (n == 1) ≡ b → (if b then o else w.outs n) ≡ None
+            off true same = absurd (clash n same apart)
+              where
+                clash : (n : ℕ) → (n == 1) ≡ true → (1 == n) ≡ false → ⊥
+                clash n same apart = grind arith
+            off false other = plays.others n apart
+
+        -- the stream goes to the device, or none runs to it
+        runs : (stream : StreamFields) → begun ≡ Some stream → (b : Bool) → stream.out ≡ b
+            → (beat : Option Beat) × (option_map beat_of (option_and_then out_from (Some stream)) ≡ beat) × IsWell place 0 0 beat (restarted place is.given)
+        runs stream asked true out =
+            let period : stream.period ≡ 8 = eight_of stream asked out in
+            let beat : Beat = record { period = stream.period; microframes = 0 } in
+            let begins : option_and_then out_from (Some stream) ≡ Some (started_out stream) = ap (λ (b : Bool). if b then Some (started_out stream) else None) out in
+            (Some beat, ap (option_map beat_of) begins, record { timely = (period, refl); kept = anew })
+        runs stream asked false out =
+            let begins : option_and_then out_from (Some stream) ≡ None = ap (λ (b : Bool). if b then Some (started_out stream) else None) out in
+            (None, ap (option_map beat_of) begins, record { timely = tt; kept = anew })
+
+        by : (o : Option StreamFields) → begun ≡ o → After (followed 1 o (record (streaming_of r) { device = device.restarted 1 o w }))
+        by None asked = (
+          None,
+          is.given,
+          record {
+            plays = record { function_is = plays.function_is; own = refl; others = others None };
+            given_is = is.beats.given_is;
+          },
+          record { timely = tt; kept = kept_now },
+        )
+        by (Some stream) asked =
+            let running = runs stream asked stream.out refl in (
+              running.0,
+              restarted place is.given,
+              record {
+                plays = record { function_is = plays.function_is; own = running.1; others = others (option_and_then out_from (Some stream)) };
+                given_is = fresh_given;
+              },
+              running.2,
+            )
+
+  pub setting_set : (has : HasOne function place) (r : RunningWorld) → IsPlaying 0 0 r → IsPlaying 0 0 (transferred (setup_of setting_setup) [] r)
+  unfolding transferred controlled
+  setting_set has r is = of_after _ (by (tells_done (reply_of r.device.function (held_by r.device.controls r.device.settings) (setup_of setting_setup) [])) r.breaks) (transferred (setup_of setting_setup) [] r) refl
+    where
+      asked : DeviceWorld
+      asked =
+          let after = after_request r.device.function (held_by r.device.controls r.device.settings) (setup_of setting_setup) [] in
+          record r.device { controls = after.controls; settings = after.settings }
+
+      asked_plays : Plays function 1 is.beat asked
+      asked_plays = record { function_is = is.beats.plays.function_is; own = is.beats.plays.own; others = is.beats.plays.others }
+
+      of_after : (w : StreamingWorld) → After has r is w → (v : RunningWorld) → streaming_of v ≡ w → IsPlaying 0 0 v
+      of_after w after v same = record {
+        beat = after.0;
+        given = after.1;
+        beats = subst (Beats function 1 after.0 after.1) (sym same) after.2;
+        well = after.3;
+      }
+
+      by : (done : Bool) (breaks : Option When)
+          → (let acted : DeviceWorld = if done then device.restarted 1 (begun has r is) asked else asked in
+          let w : StreamingWorld = record (streaming_of r) { device = acts breaks r.device acted } in
+          After has r is (if not (breaks_before breaks) && done then followed 1 (begun has r is) w else w))
+      by true None = started has r is asked asked_plays
+      by true (Some when.Before) = resting has r is r.device is.beats.plays
+      by true (Some when.After) = started has r is asked asked_plays
+      by false None = resting has r is asked asked_plays
+      by false (Some when.Before) = resting has r is r.device is.beats.plays
+      by false (Some when.After) = resting has r is asked asked_plays

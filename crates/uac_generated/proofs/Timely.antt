@@ -1,0 +1,106 @@
+-- When a stream has its reports, and that a script which marks as many of them lost as the generated ones do stays steady.
+use Rattle.std.proofs.Common.{◌≡◌, sym, refl, subst, ℕ, suc, ◌+◌, ◌/◌, ◌%◌, ◌<◌, ◌==◌, ◌&&◌, if◌then◌else◌, Bool, true, false, Option, None, Some, arith, inl, inr}
+use Rattle.std.specs.Prelude.{nat_lt}
+use Rattle.std.specs.Option.{option_map, option_map_or}
+use Rattle.std.proofs.lemmas.Bool.{and_from, cases_eq, eq-eqb, lt-ltb, ne_eqb}
+use Rattle.uac_rate.specs.Steadiness.{Given, reported}
+use Rattle.uac_flow.specs.Streams.{OutStream}
+use Rattle.uac_streaming.specs.StreamingWorld.{given_at}
+use Rattle.uac_generated.proofs.Reports.{IsKept, at_most, report_came, report_lost}
+
+-- the microframes between two reports of a stream, and those since its start
+pub record Beat : Type 0 where
+  pub period : ℕ
+  pub microframes : ℕ
+
+abbrev pub beat_of : OutStream → Beat
+beat_of o = record { period = o.stream.period; microframes = o.microframes }
+
+abbrev pub next_beat : Beat → Beat
+next_beat b = record b { microframes = b.microframes + 1 }
+
+-- a report falls due
+abbrev pub is_told : Beat → Bool
+is_told b = nat_lt 0 b.microframes && b.microframes % b.period == 0
+
+-- what is given behind a report of the stream of an interface, if one falls due
+abbrev pub told_at : Bool → Option ℕ → Bool → Given → Given
+told_at lost place told given = if told then given_at place (λ p. reported p lost) given else given
+
+abbrev pub given_behind : Bool → Option ℕ → Option Beat → Given → Given
+given_behind lost place beat given = told_at lost place (option_map_or is_told beat false) given
+
+-- a stream has its reports each eight microframes, and so many, but for multiples of eight, have passed
+abbrev pub IsTimely : ℕ → Option Beat → Type 0
+IsTimely passed None = Unit {0}
+IsTimely passed (Some b) = (b.period ≡ 8) × (b.microframes % 8 ≡ passed % 8)
+
+-- how many reports it may have lost since one came; where none runs, none
+abbrev pub bound : ℕ → Option Beat → ℕ
+bound most None = 0
+bound most (Some b) = most
+
+-- both, of the stream whose interface stands at a place
+pub record IsWell (place passed most : ℕ) (beat : Option Beat) (given : Given) : Type 0 where
+  pub timely : IsTimely passed beat
+  pub kept : IsKept place (bound most beat) given
+
+-- ---- whether a report falls due
+
+and_off : (a c : Bool) → c ≡ false → (a && c) ≡ false
+and_off true c off = off
+and_off false c off = refl
+
+told_on : (passed : ℕ) (b : Beat) → b.period ≡ 8 → b.microframes % 8 ≡ passed % 8 → (passed + 1) % 8 ≡ 0 → is_told (next_beat b) ≡ true
+told_on passed b eight timely due =
+    rw eight (and_from (nat_lt 0 (b.microframes + 1)) ((b.microframes + 1) % 8 == 0) (lt-ltb 0 (b.microframes + 1) (omega arith))
+    (eq-eqb ((b.microframes + 1) % 8) 0 (omega arith)))
+
+untold_on : (passed : ℕ) (b : Beat) → b.period ≡ 8 → b.microframes % 8 ≡ passed % 8 → ((passed + 1) % 8 ≡ 0 → ⊥) → is_told (next_beat b) ≡ false
+untold_on passed b eight timely quiet =
+    rw eight (and_off (nat_lt 0 (b.microframes + 1)) ((b.microframes + 1) % 8 == 0) (ne_eqb ((b.microframes + 1) % 8) 0 (λ same. quiet (omega arith))))
+
+timely_on : (passed : ℕ) (b : Beat) → b.period ≡ 8 → b.microframes % 8 ≡ passed % 8 → IsTimely (passed + 1) (Some (next_beat b))
+timely_on passed b eight count = (eight, omega arith)
+
+module _ (place : ℕ) where
+  -- ---- a microframe whose report, if one falls due, comes
+
+  pub well_on : (passed most : ℕ) (beat : Option Beat) (given : Given) → IsWell place passed most beat given
+      → IsWell place (passed + 1) most (option_map next_beat beat) (given_behind false (Some place) (option_map next_beat beat) given)
+  well_on passed most None given is = record { timely = tt; kept = is.kept }
+  well_on passed most (Some b) given is = record { timely = timely_on passed b is.timely.0 is.timely.1; kept = by (is_told (next_beat b)) }
+    where
+      by : (told : Bool) → IsKept place most (told_at false (Some place) told given)
+      by true = at_most place 0 most (reported place false given) (omega arith) (report_came place most given is.kept)
+      by false = is.kept
+
+  -- and one behind which it comes
+  pub well_in : (passed most : ℕ) (beat : Option Beat) (given : Given) → (passed + 1) % 8 ≡ 0 → IsWell place passed most beat given
+      → IsWell place 0 0 (option_map next_beat beat) (given_behind false (Some place) (option_map next_beat beat) given)
+  well_in passed most None given due is = record { timely = tt; kept = is.kept }
+  well_in passed most (Some b) given due is =
+      let told : is_told (next_beat b) ≡ true = told_on passed b is.timely.0 is.timely.1 due in
+      let count = is.timely.1 in
+      record {
+        timely = (is.timely.0, omega arith);
+        kept = subst (λ (t : Bool). IsKept place 0 (told_at false (Some place) t given)) (sym told) (report_came place most given is.kept);
+      }
+
+  -- ---- a microframe whose report, if one falls due, is lost; so it is only in the first of 32
+
+  pub well_lost : (passed : ℕ) (beat : Option Beat) (given : Given) → passed + 1 < 32 → IsWell place passed (passed / 8) beat given
+      → IsWell place (passed + 1) ((passed + 1) / 8) (option_map next_beat beat) (given_behind true (Some place) (option_map next_beat beat) given)
+  well_lost passed None given few is = record { timely = tt; kept = is.kept }
+  well_lost passed (Some b) given few is = record {
+    timely = timely_on passed b is.timely.0 is.timely.1;
+    kept = elim (cases_eq ((passed + 1) % 8) 0) [
+      | inl due ↦
+          subst (λ (t : Bool). IsKept place ((passed + 1) / 8) (told_at true (Some place) t given)) (sym (told_on passed b is.timely.0 is.timely.1 due))
+          (at_most place (suc (passed / 8)) ((passed + 1) / 8) (reported place true given) (omega arith)
+          (report_lost place (passed / 8) given (omega arith) is.kept))
+      | inr quiet ↦
+          subst (λ (t : Bool). IsKept place ((passed + 1) / 8) (told_at true (Some place) t given)) (sym (untold_on passed b is.timely.0 is.timely.1 quiet))
+          (at_most place (passed / 8) ((passed + 1) / 8) given (omega arith) is.kept)
+    ];
+  }

@@ -1,0 +1,3 @@
+-- Generated scripts.
+-- What the laws say besides.
+pub mod Generated

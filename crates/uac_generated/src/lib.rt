@@ -1,0 +1,4 @@
+//! Generated scripts run whole, and are steady: laws, each the contract of a function that does nothing.
+#![tactic(auto)]
+
+pub mod laws;

@@ -1,0 +1,270 @@
+-- No line of a microframe tells of a ring that was full: by the packets to the device, and by the ticks of all domains.
+use Rattle.std.proofs.Common.{arith, ◌≡◌, ◌≢◌, ◌∙◌, sym, refl, ap, subst, ℕ, zero, suc, ◌+◌, ◌≤◌, ◌<◌, ◌==◌, ◌&&◌, nat_eq, Bool, true, false, if◌then◌else◌, cond, List, [], ◌∷◌, map, filter, Option, Some, None, inl, inr}
+use Rattle.std.specs.List.{All, AllByRecursion, IsDistinct}
+use Rattle.std.specs.Option.{option_map_or}
+use Rattle.std.proofs.lemmas.Bool.{eqb-false, true≢false}
+use Rattle.std.proofs.lemmas.List.Elements.{All-append, All-cons, All-nil}
+use Rattle.std.proofs.lemmas.Map.Keys.{IsDistinct-head, IsDistinct-tail}
+use Rattle.uac_clock.specs.Ticks.{ticks_in}
+use Rattle.uac_entities.specs.declared.stream.StreamInterface.{StreamInterface}
+use Rattle.uac_topology.specs.Function.{FunctionFields}
+use Rattle.uac_flow.specs.Streams.{InStream, OutStream, arrival_of, is_due, is_full}
+use Rattle.uac_flow.specs.declared.arrival.Arrival.{Arrival}
+use Rattle.uac_flow.specs.declared.arrival.Arrival.TheVariants as arrivals
+use Rattle.uac_host.specs.HostWorld.{Track}
+use Rattle.uac_device.specs.DeviceWorld.{DeviceWorld, Domain, advanced, arrival_in, either_due, is_due_in, is_on, next_ticks, received}
+use Rattle.uac_script.specs.Phrase.{Loss}
+use Rattle.uac_transcript.specs.Transcript.{Said, says_over}
+use Rattle.uac_streaming.specs.Telling.{at_rest}
+use Rattle.uac_streaming.specs.StreamingWorld.{StreamingWorld, finds_full, goes_out, is_out_due, loses_out, numbers, out_packets, out_turn, over_lines, packet_sent, packet_to, sent_lines}
+use Rattle.uac_running.specs.RunningWorld.{RunningWorld, streaming_of}
+use Rattle.uac_running.specs.Events.{all_given, domain_microframe, domain_microframes, tick, tick_times}
+use Rattle.uac_bands.specs.Life.{Life}
+use Rattle.uac_bands.specs.Run.{RunInBand, StreamInBand}
+use Rattle.uac_bands.proofs.Once.{Among, apart_from, first_or_later, numbers_differ, other_number}
+use Rattle.uac_bands.proofs.Shown.{IsPlace, Place, Shows, if_false, out_other, packet_at, packet_shown}
+use Rattle.uac_bands.proofs.Lived.{opened, place_in}
+use Rattle.uac_bands.proofs.Banded.{never_over_full}
+use Rattle.uac_bands.proofs.SteadyRun.{steadily}
+use Rattle.uac_bands.proofs.Quiet.{numbered, turns_once_say}
+use Rattle.uac_overflow.proofs.Resting.{SendsNoneNow, advanced_sends_none, domain_sends_none, given_sends_none, tick_sends_none}
+use Rattle.uac_overflow.proofs.Ringing.{IsSpot, Rings, Spot, advanced_other, advanced_own, domain_elsewhere, domain_own, given_rings, has_room_left, on_clock_only, so_many, steps_on, tick_other, tick_own}
+use Rattle.uac_overflow.proofs.Hushed.{IsHushed, domains_hushed, out_turn_hushed, tick_hushed, ticks_hushed}
+
+and_false : (b : Bool) → (b && false) ≡ false
+and_false true = refl
+and_false false = refl
+
+module _ (k : ℕ) where
+  -- it isn't said that the ring of this interface was full
+  abbrev pub NotOver : Said → Type 0
+  NotOver said = said ≢ says_over k
+
+  pub hushed : IsHushed NotOver
+  hushed = record {
+    time = λ number same. cc;
+    out = λ interface frames arrival same. cc;
+    in_ = λ interface frames lost same. cc;
+    frame = λ interface samples same. cc;
+    played = λ terminal samples same. cc;
+    under = λ interface same. cc;
+    level = λ interface level target same. cc;
+    feedback = λ interface value lost same. cc;
+  }
+
+  -- ---- packets to the device
+
+  -- of another interface's packet
+  other_overs : (n : ℕ) (arrival : Arrival) → (k == n) ≡ false → All NotOver (over_lines n arrival)
+  other_overs n arrivals.Taken other = All-nil NotOver
+  other_overs n arrivals.Lost other = All-nil NotOver
+  other_overs n arrivals.Over other =
+      All-cons NotOver (says_over n) [] (λ same. eqb-false k n other (let number : n ≡ k = cc in sym number)) (All-nil NotOver)
+
+  -- and of its own, which has room
+  own_overs : (arrival : Arrival) → (arrival ≡ arrivals.Over → ⊥) → All NotOver (over_lines k arrival)
+  own_overs arrivals.Taken room = All-nil NotOver
+  own_overs arrivals.Lost room = All-nil NotOver
+  own_overs arrivals.Over room = absurd (room refl)
+
+  other_packets : (detail : ℕ) (losses : List Loss) (n : ℕ) (w : StreamingWorld) → (k == n) ≡ false
+      → All NotOver (out_turn detail losses n w).lines
+  other_packets detail losses n w other =
+      out_turn_hushed NotOver hushed detail losses n w
+      (λ due. other_overs n (arrival_in w.device n (packet_to (loses_out losses n) n w)) other)
+
+  -- ---- where it runs no stream to the device
+
+  no_arrival : (w : DeviceWorld) (packet : Option (List ℕ)) → w.outs k ≡ None → arrival_in w k packet ≡ arrivals.Over → ⊥
+  unfolding arrival_in
+  no_arrival w packet none over =
+      let lost : arrivals.Lost ≡ arrivals.Over = sym (ap (λ (o : Option OutStream). option_map_or (arrival_of packet) o arrivals.Lost) none) ∙ over in cc
+
+  out_none : (detail : ℕ) (losses : List Loss) (n : ℕ) (w : StreamingWorld) → (k == n) ≡ false → w.device.outs k ≡ None
+      → (out_turn detail losses n w).world.device.outs k ≡ None
+  unfolding out_turn packet_sent received
+  out_none detail losses n w other none = by (is_out_due w n)
+    where
+      by : (b : Bool)
+          → (if b then record { lines = sent_lines detail (loses_out losses n) n w; world = packet_sent (loses_out losses n) n w }
+          else at_rest w).world.device.outs k ≡ None
+      by true = if_false (k == n) _ (w.device.outs k) other ∙ none
+      by false = none
+
+  outs_none : (detail : ℕ) (losses : List Loss) (w : StreamingWorld) → w.device.outs k ≡ None → All NotOver (out_packets detail losses w).lines
+  unfolding out_packets
+  outs_none detail losses w none =
+      turns_once_say NotOver (out_turn detail losses) k (λ n v other. other_packets detail losses n v other) (λ v. v.device.outs k ≡ None)
+      (λ n v other rests. out_none detail losses n v other rests)
+      (λ v rests. out_turn_hushed NotOver hushed detail losses k v
+      (λ due. own_overs (arrival_in v.device k (packet_to (loses_out losses k) k v))
+      (no_arrival v.device (packet_to (loses_out losses k) k v) rests)))
+      (numbers w.device.function) w (numbers_differ w.device.function) none
+
+  -- ---- ticks
+
+  overs_not : (test : ℕ → Bool) → test k ≡ false → (ss : List StreamInterface)
+      → All NotOver (map (λ s. says_over s.number) (filter (λ s. test s.number) ss))
+  overs_not test fails [] = All-nil NotOver
+  overs_not test fails (s ∷ ss) = by (test s.number) refl (overs_not test fails ss)
+    where
+      by : (b : Bool) → test s.number ≡ b → All NotOver (map (λ x. says_over x.number) (filter (λ x. test x.number) ss))
+          → All NotOver (map (λ x. says_over x.number) (cond b (s ∷ filter (λ x. test x.number) ss) (filter (λ x. test x.number) ss)))
+      by true passes rest =
+          All-cons NotOver (says_over s.number) (map (λ x. says_over x.number) (filter (λ x. test x.number) ss))
+          (λ same. let number : s.number ≡ k = cc in true≢false (sym passes ∙ ap test number ∙ fails)) rest
+      by false fails_here rest = rest
+
+  -- ---- where it runs no stream from the device
+
+  none_tick : (c : ℕ) (r : RunningWorld) → SendsNoneNow k r → All NotOver (tick c r).lines
+  none_tick c r none =
+      let w : DeviceWorld = all_given c r in
+      tick_hushed NotOver hushed c r
+      (overs_not (finds_full c w)
+      (ap (λ (i : Option InStream). is_on w c k && option_map_or is_full i false) (given_sends_none k c r none) ∙ and_false (is_on w c k)))
+
+  none_domain : (c : ℕ) (r : RunningWorld) → SendsNoneNow k r → All NotOver (domain_microframe c r).lines
+  unfolding domain_microframe
+  none_domain c r none =
+      ticks_hushed NotOver hushed (SendsNoneNow k) c (none_tick c) (tick_sends_none k c) (next_ticks c r.device)
+      (record r { device = advanced c r.device }) (advanced_sends_none k c r none)
+
+  pub none_domains : (clocks : List ℕ) (r : RunningWorld) → SendsNoneNow k r → All NotOver (domain_microframes clocks r).lines
+  none_domains clocks r none = domains_hushed NotOver hushed (SendsNoneNow k) none_domain (domain_sends_none k) clocks r none
+
+-- ---- where it runs one to it
+
+module _ (p : Place) (is : IsPlace p) (detail : ℕ) (losses : List Loss) (l : Life) (t : Track) where
+  abbrev packet : Option (List ℕ)
+  packet = if loses_out losses p.interface then None else Some (packet_at l.pace t)
+
+  due_here : (w : StreamingWorld) → Shows p w l t → is_out_due w p.interface ≡ is_due l.out.stream l.out.microframes
+  unfolding is_due_in
+  due_here w s =
+      ap (λ (f : FunctionFields). goes_out f p.interface && either_due (w.device.outs p.interface) (w.device.ins p.interface)) s.function
+      ∙ ap (λ (b : Bool). b && either_due (w.device.outs p.interface) (w.device.ins p.interface)) is.out
+      ∙ ap (λ (o : Option OutStream). either_due o (w.device.ins p.interface)) s.out
+
+  arrives : (w : StreamingWorld) → Shows p w l t
+      → arrival_in w.device p.interface (packet_to (loses_out losses p.interface) p.interface w) ≡ arrival_of packet l.out
+  unfolding arrival_in
+  arrives w s =
+      ap (λ (o : Option OutStream). option_map_or (arrival_of (packet_to (loses_out losses p.interface) p.interface w)) o arrivals.Lost) s.out
+      ∙ ap (λ (bytes : List ℕ). arrival_of (if loses_out losses p.interface then None else Some bytes) l.out) (packet_shown p w l t s)
+
+  outs_room : (is_due l.out.stream l.out.microframes ≡ true → arrival_of packet l.out ≡ arrivals.Over → ⊥) → (w : StreamingWorld) → Shows p w l t
+      → All (NotOver p.interface) (out_packets detail losses w).lines
+  unfolding out_packets
+  outs_room room w s =
+      turns_once_say (NotOver p.interface) (out_turn detail losses) p.interface (λ n v other. other_packets p.interface detail losses n v other)
+      (λ v. Shows p v l t) (λ n v other there. out_other p detail losses n v l t other there)
+      (λ v there. out_turn_hushed (NotOver p.interface) (hushed p.interface) detail losses p.interface v
+      (λ due. own_overs p.interface (arrival_in v.device p.interface (packet_to (loses_out losses p.interface) p.interface v))
+      (λ over. room (sym (due_here v there) ∙ due) (sym (arrives v there) ∙ over))))
+      (numbers w.device.function) w (numbers_differ w.device.function) s
+
+stream_room : (losses : List Loss) (r : RunningWorld) (k : ℕ) (l : Life) (d : Domain) → StreamInBand r k l d
+    → All (NotOver k) (out_packets r.detail losses (streaming_of (numbered r))).lines
+stream_room losses r k l d stream = opened r k l d stream.runs (λ clock place steps is s.
+    (let p : Place = place_in r k d clock place in
+    let t : Track = r.host.tracks k in
+    outs_room p is r.detail losses l t
+    (λ due over. never_over_full l (packet_to (loses_out losses k) k (streaming_of r)) _ stream.band (steadily losses r k l d stream) due
+    (ap (λ (bytes : List ℕ). arrival_of (if loses_out losses k then None else Some bytes) l.out) (packet_shown p (streaming_of r) l t s) ∙ over))
+    (streaming_of (numbered r)) s))
+
+-- no packet to the device is without room
+pub outs_have_room : (losses : List Loss) (r : RunningWorld) → RunInBand r → (k : ℕ)
+    → All (NotOver k) (out_packets r.detail losses (streaming_of (numbered r))).lines
+outs_have_room losses r band k = by (r.device.outs k) refl
+  where
+    by : (o : Option OutStream) → r.device.outs k ≡ o → All (NotOver k) (out_packets r.detail losses (streaming_of (numbered r))).lines
+    by None none = outs_none k r.detail losses (streaming_of (numbered r)) none
+    by (Some o) there =
+        let stream = band.streams k o there in
+        stream_room losses r k stream.0 stream.1 stream.3
+
+-- ---- where it runs one from it
+
+module _ (p : Spot) (spot : IsSpot p) (after : ℕ) where
+  abbrev Not : Said → Type 0
+  Not = NotOver p.interface
+
+  other_tick : (few : ℕ) (steps : List ℕ) (c : ℕ) (r : RunningWorld) → (p.clock == c) ≡ false → Rings p after few steps r.device
+      → All Not (tick c r).lines
+  other_tick few steps c r other s =
+      let w : DeviceWorld = all_given c r in
+      let there = given_rings p spot after few steps c r s in
+      tick_hushed Not (hushed p.interface) c r
+      (overs_not p.interface (finds_full c w)
+      (ap (λ (b : Bool). b && option_map_or is_full (w.ins p.interface) false) (on_clock_only p spot w c there.function ∙ other)))
+
+  own_tick : (few : ℕ) (steps : List ℕ) (r : RunningWorld) → few < 2048 → Rings p after few steps r.device → All Not (tick p.clock r).lines
+  own_tick few steps r room s =
+      let w : DeviceWorld = all_given p.clock r in
+      let there = given_rings p spot after few steps p.clock r s in
+      tick_hushed Not (hushed p.interface) p.clock r
+      (overs_not p.interface (finds_full p.clock w)
+      (ap (λ (i : Option InStream). is_on w p.clock p.interface && option_map_or is_full i false) there.in_
+      ∙ ap (λ (b : Bool). is_on w p.clock p.interface && b) (has_room_left p.stream after few there.ring room there.is)
+      ∙ and_false (is_on w p.clock p.interface)))
+
+  own_ticks : (few : ℕ) (steps : List ℕ) (count : ℕ) (r : RunningWorld) → few + count ≤ 2048 → Rings p after few steps r.device
+      → All Not (tick_times count p.clock r).lines
+  unfolding tick_times
+  own_ticks few steps zero r room s = All-nil Not
+  own_ticks few steps (suc count) r room s =
+      All-append Not (tick p.clock r).lines (tick_times count p.clock (tick p.clock r).world).lines
+      (own_tick few steps r (one few count room) s)
+      (own_ticks (suc few) steps count (tick p.clock r).world (rest few count room) (tick_own p spot after few steps r s))
+    where
+      one : (a b : ℕ) → a + suc b ≤ 2048 → a < 2048
+      one a b h = omega arith
+
+      rest : (a b : ℕ) → a + suc b ≤ 2048 → suc a + b ≤ 2048
+      rest a b h = omega arith
+
+  other_domain : (few : ℕ) (steps : List ℕ) (c : ℕ) (r : RunningWorld) → (p.clock == c) ≡ false → Rings p after few steps r.device
+      → All Not (domain_microframe c r).lines
+  unfolding domain_microframe
+  other_domain few steps c r other s =
+      ticks_hushed Not (hushed p.interface) (λ v. Rings p after few steps v.device) c (λ v there. other_tick few steps c v other there)
+      (λ v there. tick_other p spot after few steps c v other there) (next_ticks c r.device) (record r { device = advanced c r.device })
+      (advanced_other p spot after few steps c r.device other s)
+
+  module _ (few : ℕ) (steps : List ℕ) (room : few + ticks_in (steps_on p steps) ≤ 2048) where
+    own_domain : (r : RunningWorld) → Rings p after few steps r.device → All Not (domain_microframe p.clock r).lines
+    unfolding domain_microframe
+    own_domain r s =
+        own_ticks few (steps_on p steps) (next_ticks p.clock r.device) (record r { device = advanced p.clock r.device })
+        (subst (λ (n : ℕ). few + n ≤ 2048) (sym (so_many p spot after few steps r.device s)) room) (advanced_own p spot after few steps r.device s)
+
+    apart_domains : (least : ℕ) (all : List ℕ) (clocks : List ℕ) (r : RunningWorld) → AllByRecursion (λ c. nat_eq p.clock c ≡ false) clocks
+        → Rings p after least all r.device → All Not (domain_microframes clocks r).lines
+    unfolding domain_microframes
+    apart_domains least all [] r apart s = All-nil Not
+    apart_domains least all (c ∷ cs) r apart s =
+        All-append Not (domain_microframe c r).lines (domain_microframes cs (domain_microframe c r).world).lines
+        (other_domain least all c r apart.0 s)
+        (apart_domains least all cs (domain_microframe c r).world apart.1 (domain_elsewhere p spot after least all c r apart.0 s))
+
+    -- no tick finds the ring full
+    pub ticks_have_room : (clocks : List ℕ) (r : RunningWorld) → IsDistinct nat_eq clocks → Among p.clock clocks → Rings p after few steps r.device
+        → All Not (domain_microframes clocks r).lines
+    unfolding domain_microframes
+    ticks_have_room [] r once there s = All-nil Not
+    ticks_have_room (c ∷ cs) r once there s = elim (first_or_later p.clock c cs there) [
+      | inl same ↦
+          All-append Not (domain_microframe c r).lines (domain_microframes cs (domain_microframe c r).world).lines
+          (subst (λ (m : ℕ). All Not (domain_microframe m r).lines) (sym same) (own_domain r s))
+          (apart_domains (few + ticks_in (steps_on p steps)) (steps_on p steps) cs (domain_microframe c r).world
+          (subst (λ (m : ℕ). AllByRecursion (λ y. nat_eq m y ≡ false) cs) same (IsDistinct-head nat_eq c cs once))
+          (subst (λ (m : ℕ). Rings p after (few + ticks_in (steps_on p steps)) (steps_on p steps) (domain_microframe m r).world.device)
+          (sym same) (domain_own p spot after few steps r s)))
+      | inr later ↦
+          (let other = other_number c p.clock (apart_from c p.clock cs (IsDistinct-head nat_eq c cs once) later) in
+          All-append Not (domain_microframe c r).lines (domain_microframes cs (domain_microframe c r).world).lines
+          (other_domain few steps c r other s)
+          (ticks_have_room cs (domain_microframe c r).world (IsDistinct-tail nat_eq c cs once) later (domain_elsewhere p spot after few steps c r other s)))
+    ]

@@ -1,0 +1,321 @@
+-- A run starts recorded, and what is asked of it between microframes leaves it so, control transfers too.
+use Rattle.std.proofs.Common.{arith, ◌≡◌, ◌∙◌, sym, refl, ap, subst, ℕ, ◌≤◌, ◌==◌, ◌&&◌, ◌||◌, not, Bool, true, false, if◌then◌else◌, ℤ, List, [], ◌∷◌, map, Option, Some, None, is_some}
+use Rattle.std.specs.List.{find, list_any}
+use Rattle.std.specs.Option.{option_and_then, option_map, option_map_or}
+use Rattle.std.proofs.lemmas.Bool.{and_parts, eqb-true, true≢false}
+use Rattle.uac_clock.specs.Nominal.{nominal_of}
+use Rattle.uac_entities.specs.declared.entity.Entity.{Entity}
+use Rattle.uac_entities.specs.declared.stream.StreamInterface.{StreamInterface}
+use Rattle.uac_topology.specs.Function.{FunctionFields}
+use Rattle.uac_store.specs.declared.keys.Key.{Key}
+use Rattle.uac_store.specs.Rates.{rate_of}
+use Rattle.uac_graph.specs.Meaning.{entity}
+use Rattle.uac_alt.specs.Streams.{StreamFields}
+use Rattle.uac_alt.specs.Settings.{setting_of, with_setting}
+use Rattle.uac_alt.specs.declared.settings.InterfaceSetting.{InterfaceSetting}
+use Rattle.uac_alt.proofs.Changed.{setting_of_changed}
+use Rattle.uac_alt.proofs.Fitting.{interval_fits}
+use Rattle.uac_request.specs.Requests.{Held, after_request, held_by, reply_of}
+use Rattle.uac_request.specs.declared.setup.Setup.{Setup}
+use Rattle.uac_request.proofs.Lasting.{rates_stay}
+use Rattle.uac_flow.specs.Streams.{InStream, OutStream, started_in}
+use Rattle.uac_device.specs.DeviceWorld.{DeviceWorld, Domain, controlled, deviated, fresh, in_from, out_from, replaced_at, restarted, sets_interface, stream_in_setting, tells_done}
+use Rattle.uac_device.specs.Linked.{IsOutput}
+use Rattle.uac_device.proofs.LinkedLemmas.{linked}
+use Rattle.uac_device.proofs.StreamsLemmas.{stream_fits}
+use Rattle.uac_mixer.specs.declared.link.When.{When}
+use Rattle.uac_mixer.specs.declared.link.When.TheVariants as when
+use Rattle.uac_mixer.specs.Transfers.{view_after}
+use Rattle.uac_mixer.specs.ViewWorld.{ViewWorld}
+use Rattle.uac_streaming.specs.StreamingWorld.{followed}
+use Rattle.uac_running.specs.RunningWorld.{RunningWorld, at_start, streaming_of, with_detail, with_deviation, with_samples_on, with_streaming, with_tone, with_track}
+use Rattle.uac_running.specs.Transfers.{acts, breaks_before, comes_back, transferred, with_break}
+use Rattle.uac_bands.specs.Life.{clock_on, domain_on}
+use Rattle.uac_bands.specs.Run.{RunInBand}
+use Rattle.uac_bands.specs.Transfers.{IsInSetting, IsSoundRun}
+use Rattle.uac_bands.proofs.Once.{own_number}
+use Rattle.uac_bands.proofs.Shown.{if_true}
+use Rattle.uac_bands.proofs.Asked.{asked_of, parts_of}
+use Rattle.uac_bands.proofs.Begun.{found_off, off, off_clock}
+use Rattle.uac_bands.proofs.SoundRuns.{known_clock}
+use Rattle.uac_overflow.specs.Recording.{AreRecorded, CallsStayRecorded, IsRecorded, RunsStartRecorded, TransfersStayRecorded}
+use Rattle.uac_overflow.proofs.Settled.{controls_same, none_broken, other_setting, running_by, same_settings, set_settings}
+use Rattle.uac_overflow.proofs.Clocked.{any_among, clock_known, found_stream}
+
+-- ---- the start
+
+pub runs_start_recorded : RunsStartRecorded
+unfolding at_start fresh
+runs_start_recorded descriptor function meters k i there = absurd (let none : None ≡ Some i = there in cc)
+
+-- ---- another world by the same function and domains
+
+module _ (r other : RunningWorld) (cs : List (Key × ℤ)) (ss : List InterfaceSetting) (outs : ℕ → Option OutStream) (ins : ℕ → Option InStream) where
+  abbrev changed : RunningWorld
+  changed = record other { device = record r.device { controls = cs; settings = ss; outs = outs; ins = ins } }
+
+  abbrev entities : List Entity
+  entities = r.device.function.entities
+
+  stays_there : (k : ℕ) (i : InStream) (d : Domain) → IsRecorded r k i d → setting_of ss k ≡ setting_of r.device.settings k
+      → rate_of entities cs d.clock ≡ rate_of entities r.device.controls d.clock → IsRecorded changed k i d
+  stays_there k i d rec setting rate = record {
+    comes = rec.comes;
+    set = (rec.set.0, setting ∙ rec.set.1, rec.set.2);
+    domain = rec.domain;
+    nominal = rec.nominal;
+    rate = ap (option_and_then nominal_of) rate ∙ rec.rate;
+    serves = rec.serves;
+    fits = rec.fits;
+    gone = rec.gone;
+    few = rec.few;
+  }
+
+-- a run is recorded by its device
+carried : (r other : RunningWorld) → AreRecorded r → AreRecorded (record other { device = r.device })
+carried r other recorded k i there =
+    let rec = recorded k i there in
+    (rec.0, stays_there r other r.device.controls r.device.settings r.device.outs r.device.ins k i rec.0 rec.1 refl refl)
+
+-- ---- what is asked of it between microframes
+
+module _ (clock : ℕ) (millionths : ℤ) (r : RunningWorld) where
+  domain_off : (k : ℕ) → domain_on (with_deviation clock millionths r) k ≡ option_map (off clock millionths) (domain_on r k)
+  unfolding with_deviation deviated
+  domain_off k = by (clock_on r k)
+    where
+      by : (o : Option ℕ)
+          → option_and_then (λ c. find (λ d. d.clock == c) (map (off clock millionths) r.device.domains)) o
+          ≡ option_map (off clock millionths) (option_and_then (λ c. find (λ d. d.clock == c) r.device.domains) o)
+      by None = refl
+      by (Some c) = found_off clock millionths c r.device.domains
+
+  recorded_off : (k : ℕ) (i : InStream) (d : Domain) → IsRecorded r k i d → IsRecorded (with_deviation clock millionths r) k i (off clock millionths d)
+  unfolding with_deviation deviated
+  recorded_off k i d rec = record {
+    comes = rec.comes;
+    set = rec.set;
+    domain = domain_off k ∙ ap (option_map (off clock millionths)) rec.domain;
+    nominal = rec.nominal;
+    rate =
+        ap (λ (n : ℕ). option_and_then nominal_of (rate_of r.device.function.entities r.device.controls n)) (off_clock clock millionths d) ∙ rec.rate;
+    serves = rec.serves;
+    fits = rec.fits;
+    gone = rec.gone;
+    few = rec.few;
+  }
+
+  deviation_keeps : AreRecorded r → AreRecorded (with_deviation clock millionths r)
+  unfolding with_deviation deviated
+  deviation_keeps recorded k i there =
+      let rec = recorded k i there in
+      (off clock millionths rec.0, recorded_off k i rec.0 rec.1)
+
+pub calls_stay_recorded : CallsStayRecorded
+unfolding with_tone with_detail with_break with_samples_on with_track
+calls_stay_recorded r recorded = record {
+  tone = λ terminal tone. carried r (with_tone terminal tone r) recorded;
+  detail = λ level. carried r (with_detail level r) recorded;
+  breaks = λ after. carried r (with_break after r) recorded;
+  samples = λ interface samples. carried r (with_samples_on interface samples r) recorded;
+  track = λ interface tone. carried r (with_track interface tone r) recorded;
+  deviation = λ clock millionths slight. deviation_keeps clock millionths r recorded;
+}
+
+-- ---- a stream that starts
+
+some_of : {A : Type 0} (o : Option A) → is_some o ≡ true → (x : A) × (o ≡ Some x)
+some_of None is = absurd (true≢false (sym is))
+some_of (Some x) is = (x, refl)
+
+clock_of : (clock : ℕ) (ds : List Domain) (d : Domain) → find (λ d. d.clock == clock) ds ≡ Some d → d.clock ≡ clock
+clock_of clock [] d e = absurd (cc)
+clock_of clock (x ∷ xs) d e = by (x.clock == clock) refl e (clock_of clock xs d)
+  where
+    by : (b : Bool) → (x.clock == clock) ≡ b → (if b then Some x else find (λ d. d.clock == clock) xs) ≡ Some d
+        → (find (λ d. d.clock == clock) xs ≡ Some d → d.clock ≡ clock) → d.clock ≡ clock
+    by true is found rest = let same : x ≡ d = cc in ap (λ (e : Domain). e.clock) (sym same) ∙ eqb-true x.clock clock is
+    by false is found rest = rest found
+
+module _ (r : RunningWorld) (band : RunInBand r) (sound : IsSoundRun r) (k number : ℕ) (s : StreamFields)
+    (is : stream_in_setting r.device.function r.device.controls k number ≡ Some s) (comes : s.out ≡ false) where
+  -- its domain
+  has_domain : (carrier : StreamInterface) → find (λ c. c.number == k) r.device.function.streams ≡ Some carrier
+      → (d : Domain) × (find (λ d. d.clock == (entity r.device.function.entities carrier.terminal).clock) r.device.domains ≡ Some d)
+  has_domain carrier there =
+      let function : FunctionFields = r.device.function in
+      let asked = asked_of function r.device.controls k number s is in
+      let fits = stream_fits function sound.sound asked.rate k number s asked.of in
+      let same : fits.carrier ≡ carrier = let both : Some fits.carrier ≡ Some carrier = sym fits.there ∙ there in cc in
+      let goes : carrier.out ≡ false = ap (λ (c : StreamInterface). c.out) (sym same) ∙ sym fits.out ∙ comes in
+      let some : 1 ≤ (entity function.entities carrier.terminal).cluster.channels =
+      subst (λ (c : StreamInterface). 1 ≤ (entity function.entities c.terminal).cluster.channels) same
+      (subst (λ (n : ℕ). 1 ≤ n) fits.channels fits.some) in
+      let output = found_stream (λ c. c.out ≡ false → IsOutput (entity function.entities c.terminal)) k function.streams carrier (linked function sound.sound).outputs there in
+      let clock : ℕ = (entity function.entities carrier.terminal).clock in
+      let known = clock_known function sound.sound carrier (output goes some) in
+      some_of (find (λ (d : Domain). d.clock == clock) r.device.domains)
+      (known_clock clock r.device.domains
+      ∙ ap (list_any (λ (n : ℕ). n == clock)) band.ordered.clocks ∙ any_among clock function.domains known)
+
+  starts_there : (other : RunningWorld) (cs : List (Key × ℤ)) (ss : List InterfaceSetting) (outs : ℕ → Option OutStream) (ins : ℕ → Option InStream)
+      → setting_of ss k ≡ Some number
+      → ((id : ℕ) → rate_of r.device.function.entities cs id ≡ rate_of r.device.function.entities r.device.controls id)
+      → (d : Domain) × IsRecorded (changed r other cs ss outs ins) k (started_in s) d
+  starts_there other cs ss outs ins setting rates =
+      let function : FunctionFields = r.device.function in
+      let asked = asked_of function r.device.controls k number s is in
+      let fits = stream_fits function sound.sound asked.rate k number s asked.of in
+      let parts = parts_of function asked.rate k number s asked.of in
+      let clock : ℕ = (entity function.entities asked.carrier.terminal).clock in
+      let found = has_domain asked.carrier asked.there in
+      let d : Domain = found.0 in
+      let on_clock : clock_on r k ≡ Some clock = ap (option_map (λ (c : StreamInterface). (entity function.entities c.terminal).clock)) asked.there in (
+        d,
+        record {
+          comes = ap (λ (o : Option StreamInterface). option_map_or (λ c. not c.out) o false) fits.there ∙ ap not (sym fits.out ∙ comes);
+          set = (number, setting, parts.setting);
+          domain = ap (option_and_then (λ (c : ℕ). find (λ (d : Domain). d.clock == c) r.device.domains)) on_clock ∙ found.1;
+          nominal = fits.runs.rate;
+          rate =
+              ap (option_and_then nominal_of)
+              (rates d.clock ∙ ap (rate_of function.entities r.device.controls) (clock_of clock r.device.domains d found.1) ∙ asked.at)
+              ∙ parts.nominal;
+          serves = fits.runs.serves;
+          fits = interval_fits function asked.rate k number s asked.of;
+          gone = omega arith;
+          few = omega arith;
+        },
+      )
+
+-- ---- a request
+
+module _ (p : Setup) (bytes : List ℕ) (r : RunningWorld) (band : RunInBand r) (sound : IsSoundRun r) (recorded : AreRecorded r) where
+  abbrev held : Held
+  held = held_by r.device.controls r.device.settings
+
+  abbrev after : Held
+  after = after_request r.device.function held p bytes
+
+  abbrev begun : Option StreamFields
+  begun = stream_in_setting r.device.function r.device.controls p.index p.value
+
+  abbrev done : Bool
+  done = tells_done (reply_of r.device.function held p bytes)
+
+  abbrev asked_device : DeviceWorld
+  asked_device = record r.device { controls = after.controls; settings = after.settings }
+
+  -- while a stream runs, no rate changes
+  rates_last : (k : ℕ) → IsInSetting r k → (id : ℕ)
+      → rate_of r.device.function.entities after.controls id ≡ rate_of r.device.function.entities r.device.controls id
+  rates_last k set id = rates_stay r.device.function held p bytes sound.store (running_by r.device.settings k set.0 set.1 set.2) id
+
+  acts_alone : (other : RunningWorld) → (sets_interface p && done) ≡ false → AreRecorded (record other { device = asked_device })
+  acts_alone other not_set k i there =
+      let rec = recorded k i there in (
+        rec.0,
+        stays_there r other after.controls after.settings r.device.outs r.device.ins k i rec.0 rec.1
+            (ap (λ (ss : List InterfaceSetting). setting_of ss k) (same_settings r.device.function held p bytes not_set))
+            (rates_last k rec.1.set rec.0.clock),
+      )
+
+  module _ (other : RunningWorld) (set : (sets_interface p && done) ≡ true) where
+    abbrev outs_then : ℕ → Option OutStream
+    outs_then = replaced_at p.index (option_and_then out_from begun) r.device.outs
+
+    abbrev ins_then : ℕ → Option InStream
+    ins_then = replaced_at p.index (option_and_then in_from begun) r.device.ins
+
+    abbrev Then : ℕ → InStream → Type 0
+    Then k i = (d : Domain) × IsRecorded (changed r other after.controls after.settings outs_then ins_then) k i d
+
+    settings_are : after.settings ≡ with_setting r.device.settings p.index p.value
+    settings_are =
+        let both = and_parts (sets_interface p) done set in
+        set_settings r.device.function held p bytes both.0 (none_broken r.device.function held p bytes both.1)
+
+    elsewhere : (k : ℕ) (i : InStream) → (k == p.index) ≡ false → r.device.ins k ≡ Some i → Then k i
+    elsewhere k i apart there =
+        let rec = recorded k i there in (
+          rec.0,
+          stays_there r other after.controls after.settings outs_then ins_then k i rec.0 rec.1
+              (ap (λ (ss : List InterfaceSetting). setting_of ss k) settings_are ∙ other_setting k p.index p.value r.device.settings apart)
+              (rates_last k rec.1.set rec.0.clock),
+        )
+
+    here : (i : InStream) (b : Option StreamFields) → begun ≡ b → option_and_then in_from b ≡ Some i → Then p.index i
+    here i None is there = absurd (cc)
+    here i (Some s) is there = by s.out refl there
+      where
+        asked_setting : setting_of after.settings p.index ≡ Some p.value
+        asked_setting =
+            let asked = asked_of r.device.function r.device.controls p.index p.value s is in
+            let known : is_some (setting_of r.device.settings p.index) ≡ true =
+            sound.settings p.index
+            ∙ ap (λ (o : Option StreamInterface). p.index == r.device.function.control_interface || is_some o) asked.there
+            ∙ either (p.index == r.device.function.control_interface) in
+            ap (λ (ss : List InterfaceSetting). setting_of ss p.index) settings_are
+            ∙ setting_of_changed r.device.settings p.index p.value p.index known
+            ∙ if_true (p.index == p.index) (Some p.value) (setting_of r.device.settings p.index) (own_number p.index)
+          where
+            either : (b : Bool) → (b || true) ≡ true
+            either true = refl
+            either false = refl
+
+        by : (b : Bool) → s.out ≡ b → (if b then None else Some (started_in s)) ≡ Some i → Then p.index i
+        by true goes none = absurd (cc)
+        by false comes some =
+            let same : started_in s ≡ i = cc in
+            let controls = controls_same r.device.function held p bytes (and_parts (sets_interface p) done set).0 in
+            subst (Then p.index) same
+            (starts_there r band sound p.index p.value s is comes other after.controls after.settings outs_then ins_then asked_setting
+            (λ id. ap (λ (cs : List (Key × ℤ)). rate_of r.device.function.entities cs id) controls))
+
+    restarts : AreRecorded (record other { device = restarted p.index begun asked_device })
+    unfolding restarted
+    restarts k i there = by k i (k == p.index) refl there
+      where
+        by : (k : ℕ) (i : InStream) (b : Bool) → (k == p.index) ≡ b
+            → (if b then option_and_then in_from begun else r.device.ins k) ≡ Some i → Then k i
+        by k i true same there = subst (λ (n : ℕ). Then n i) (sym (eqb-true k p.index same)) (here i begun refl there)
+        by k i false apart there = elsewhere k i apart there
+
+-- ---- a transfer
+
+pub transfers_stay_recorded : TransfersStayRecorded
+unfolding transferred followed controlled restarted
+transfers_stay_recorded p bytes r band sound recorded = by r.breaks
+  where
+    view : ViewWorld
+    view = view_after r.device.function.control_interface p bytes (comes_back p bytes r) r.view
+
+    begun_then : Option StreamFields
+    begun_then = stream_in_setting r.device.function r.device.controls p.index p.value
+
+    done_then : Bool
+    done_then = tells_done (reply_of r.device.function (held_by r.device.controls r.device.settings) p bytes)
+
+    asked_then : DeviceWorld
+    asked_then =
+        let after = after_request r.device.function (held_by r.device.controls r.device.settings) p bytes in
+        record r.device { controls = after.controls; settings = after.settings }
+
+    world : Bool → DeviceWorld → RunningWorld
+    world b device =
+        let s = record (streaming_of r) { device = device } in
+        record (with_streaming r (if b then followed p.index begun_then s else s)) { view = view; breaks = None }
+
+    acted : (b : Bool) → (sets_interface p && done_then) ≡ b → AreRecorded (world b (if b then restarted p.index begun_then asked_then else asked_then))
+    acted true is = restarts p bytes r band sound recorded (world true (restarted p.index begun_then asked_then)) is
+    acted false is = acts_alone p bytes r band sound recorded (world false asked_then) is
+
+    rests : (b : Bool) → AreRecorded (world (b && false) r.device)
+    rests true = carried r (world false r.device) recorded
+    rests false = carried r (world false r.device) recorded
+
+    by : (o : Option When)
+        → AreRecorded (world (sets_interface p && (not (breaks_before o) && done_then)) (acts o r.device (controlled p bytes r.device)))
+    by None = acted (sets_interface p && done_then) refl
+    by (Some when.Before) = rests (sets_interface p)
+    by (Some when.After) = acted (sets_interface p && done_then) refl

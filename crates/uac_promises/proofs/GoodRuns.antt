@@ -1,0 +1,100 @@
+-- Runs that are sound, in their bands, with few frames in the rings of their streams from the device and trails of those to it: microframes
+-- leave them so, and all that these print is as promised.
+use Rattle.std.proofs.Common.{◌≡◌, ℕ, zero, suc, true, List, map}
+use Rattle.std.specs.List.{All}
+use Rattle.std.proofs.lemmas.List.Elements.{All-append, All-map, All-nil}
+use Rattle.uac_descriptor.specs.Reading.{AreBytes}
+use Rattle.uac_rate.specs.Steadiness.{is_steady}
+use Rattle.uac_script.specs.Phrase.{Loss}
+use Rattle.uac_running.specs.RunningWorld.{RunningWorld}
+use Rattle.uac_running.specs.Events.{microframe, microframes}
+use Rattle.uac_bus.specs.World.{World, describing, running}
+use Rattle.uac_bands.specs.Run.{RunInBand}
+use Rattle.uac_bands.specs.Transfers.{IsSoundRun}
+use Rattle.uac_bands.proofs.LookingBack.{looks_back}
+use Rattle.uac_bands.proofs.NearLevels.{tell_near}
+use Rattle.uac_bands.proofs.NoneEmpty.{find_none_empty}
+use Rattle.uac_bands.proofs.SoundRuns.{microframes_keep_sound}
+use Rattle.uac_bands.proofs.SteadyRun.{keep_bands}
+use Rattle.uac_overflow.specs.Recording.{AreRecorded, CallsStayRecorded, MicroframesStayRecorded, RunsStartRecorded, TransfersStayRecorded}
+use Rattle.uac_homing.specs.Past.{Pasts, pasts_after}
+use Rattle.uac_homing.specs.Homing.{CallsStayTrailed, HaveTrails, MicroframesStayTrailed, RunsStartTrailed, TransfersStayTrailed}
+use Rattle.uac_promises.specs.Watched.{Seen, microframes_seen, watched_in}
+use Rattle.uac_promises.specs.Promises.{IsKept}
+
+-- what is said of one microframe, transfer or call: of rings that have room, and of streams that come home
+pub record LawsOfSteps : Type 0 where
+  pub start_recorded : RunsStartRecorded
+  pub microframes_recorded : MicroframesStayRecorded
+  pub calls_recorded : CallsStayRecorded
+  pub transfers_recorded : TransfersStayRecorded
+  pub start_trailed : RunsStartTrailed
+  pub microframes_trailed : MicroframesStayTrailed
+  pub calls_trailed : CallsStayTrailed
+  pub transfers_trailed : TransfersStayTrailed
+
+pub record IsGoodRun (r : RunningWorld) (pasts : Pasts) : Type 0 where
+  pub band : RunInBand r
+  pub sound : IsSoundRun r
+  pub recorded : AreRecorded r
+  pub trails : HaveTrails r pasts
+
+-- a descriptor's bytes are bytes; a running device is all that
+abbrev pub IsGoodIn : World → Pasts → Type 0
+IsGoodIn (describing bytes meters) pasts = AreBytes bytes
+IsGoodIn (running r) pasts = IsGoodRun r pasts
+
+-- so it is behind what was seen, and all that was seen is as promised
+pub record LeavesKept (next : World) (seen : Seen) : Type 0 where
+  pub good : IsGoodIn next seen.pasts
+  pub kept : All IsKept seen.lines
+
+-- ---- microframes
+
+microframes_before : (losses : List Loss) (count : ℕ) (r : RunningWorld) → is_steady (microframes losses count r).world.given ≡ true
+    → is_steady r.given ≡ true
+unfolding microframes
+microframes_before losses zero r h = h
+microframes_before losses (suc count) r h = looks_back losses r (microframes_before losses count (microframe losses r).world h)
+
+module _ (laws : LawsOfSteps) where
+  -- what is seen of one microframe
+  abbrev microframe_seen : List Loss → RunningWorld → Pasts → Seen
+  microframe_seen losses r pasts = record {
+    lines = map (watched_in (running (microframe losses r).world) (pasts_after losses r pasts)) (microframe losses r).lines;
+    pasts = pasts_after losses r pasts;
+  }
+
+  microframe_keeps : (losses : List Loss) (r : RunningWorld) (pasts : Pasts) → IsGoodRun r pasts
+      → is_steady (microframe losses r).world.given ≡ true
+      → LeavesKept (running (microframe losses r).world) (microframe_seen losses r pasts)
+  microframe_keeps losses r pasts good steady =
+      let records = laws.microframes_recorded losses r good.band good.sound good.recorded in
+      let trails = laws.microframes_trailed losses r pasts good.band steady good.trails in
+      let full = find_none_empty losses r good.band in
+      let near = tell_near losses r good.band steady in
+      record {
+        good = record {
+          band = keep_bands losses r good.band steady;
+          sound = microframes_keep_sound losses r good.sound;
+          recorded = records.stays;
+          trails = trails.stays;
+        };
+        kept = All-map IsKept (watched_in (running (microframe losses r).world) (pasts_after losses r pasts)) (microframe losses r).lines
+            (λ k d h. record { no_under = full k d h; no_over = records.no_over k d h; near = near k d h; close = trails.close k d h });
+      }
+
+  pub microframes_keep : (losses : List Loss) (count : ℕ) (r : RunningWorld) (pasts : Pasts) → IsGoodRun r pasts
+      → is_steady (microframes losses count r).world.given ≡ true
+      → LeavesKept (running (microframes losses count r).world) (microframes_seen losses count r pasts)
+  unfolding microframes microframes_seen
+  microframes_keep losses zero r pasts good steady = record { good = good; kept = All-nil IsKept }
+  microframes_keep losses (suc count) r pasts good steady =
+      let next : RunningWorld = (microframe losses r).world in
+      let first = microframe_keeps losses r pasts good (microframes_before losses count next steady) in
+      let rest = microframes_keep losses count next (pasts_after losses r pasts) first.good steady in
+      record {
+        good = rest.good;
+        kept = All-append IsKept (microframe_seen losses r pasts).lines
+            (microframes_seen losses count next (pasts_after losses r pasts)).lines first.kept rest.kept;
+      }

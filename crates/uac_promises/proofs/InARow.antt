@@ -1,0 +1,159 @@
+-- Lines in a row: each leaves the world good and keeps what is promised.
+use Rattle.std.proofs.Common.{◌≡◌, ◌∙◌, ◌+◌, sym, refl, subst, ℕ, true, List, [], ◌∷◌, ◌++◌, map, None, Result, Ok, Err, rules}
+use Rattle.std.specs.List.{All, AllByRecursion}
+use Rattle.std.proofs.lemmas.List.{map-append}
+use Rattle.std.proofs.lemmas.List.Elements.{All-append, All-from_recursion, All-map, All-nil, All-weaker, recursion_from_All}
+use Rattle.uac_descriptor.specs.Reading.{AreBytes}
+use Rattle.uac_units.specs.Hearing.{Reading}
+use Rattle.uac_script.specs.Phrase.{Phrase, feeds}
+use Rattle.uac_script.specs.Reading.{answer}
+use Rattle.uac_transcript.specs.Transcript.{Said}
+use Rattle.uac_bus.specs.World.{Step, World, describing, done, refused, running, start, step, step_describing}
+use Rattle.uac_bus.specs.After.{After, after, and_then, said_step, with_one_more}
+use Rattle.uac_bus.proofs.AfterLemmas.{after_one_more}
+use Rattle.uac_bands.specs.Run.{IsNearLevel, IsNoUnder}
+use Rattle.uac_overflow.specs.Recording.{IsNoOver}
+use Rattle.uac_homing.specs.Past.{Pasts, no_pasts}
+use Rattle.uac_steady.specs.Scripts.{IsInBand, behind_lines, is_steady_in}
+use Rattle.uac_steady.proofs.Steps.{WasSteady, describing_looks_back, running_looks_back}
+use Rattle.uac_steady.proofs.Beginning.{feeds_bytes}
+use Rattle.uac_promises.specs.Watched.{Watch, and_then_seen, line_seen, microframes_of, watched}
+use Rattle.uac_promises.specs.Promises.{IsKept, IsRecordedIn, KeepsPromises, OneMoreLineIsKept, SteadyScriptsKeepPromises}
+use Rattle.uac_promises.proofs.SeenLines.{lines_are_seen, said_in}
+use Rattle.uac_promises.proofs.GoodRuns.{IsGoodIn, LawsOfSteps}
+use Rattle.uac_promises.proofs.OneByOne.{KeepsAll, running_keeps_all}
+use Rattle.uac_promises.proofs.GoodBeginnings.{describing_keeps_all}
+
+-- ---- looking back
+
+step_looks_back : (phrase : Phrase) (w : World) → WasSteady w (step phrase w)
+unfolding step
+step_looks_back phrase (describing bytes meters) = describing_looks_back bytes meters (step_describing bytes meters phrase)
+step_looks_back phrase (running r) = running_looks_back r phrase
+
+said_looks_back : (said : Result Phrase ℕ) (w : World) → WasSteady w (said_step said w)
+said_looks_back (Ok phrase) w = step_looks_back phrase w
+said_looks_back (Err rule) w = tt
+
+lines_look_back : (saids : List (Result Phrase ℕ)) (w : World) → is_steady_in (after saids w).world ≡ true → is_steady_in w ≡ true
+unfolding after
+lines_look_back [] w h = h
+lines_look_back (said ∷ saids) w h = by (said_step said w) (said_looks_back said w) (lines_look_back saids) h
+  where
+    by : (s : Step) → WasSteady w s → ((next : World) → is_steady_in (after saids next).world ≡ true → is_steady_in next ≡ true)
+        → is_steady_in (and_then s w (after saids)).world ≡ true → is_steady_in w ≡ true
+    by (done next lines) back rest steady = back (rest next steady)
+    by (refused fault) back rest steady = steady
+
+-- ---- lines in a row
+
+-- a world that lines leave, and what was seen on the way
+record LeavesAll (next : World) (seen : List Watch) : Type 0 where
+  band : IsInBand next
+  recorded : IsRecordedIn next
+  kept : All IsKept seen
+
+in_band : (w : World) (pasts : Pasts) → IsGoodIn w pasts → IsInBand w
+in_band (describing bytes meters) pasts good = tt
+in_band (running r) pasts good = good.band
+
+in_rings : (w : World) (pasts : Pasts) → IsGoodIn w pasts → IsRecordedIn w
+in_rings (describing bytes meters) pasts good = tt
+in_rings (running r) pasts good = good.recorded
+
+none_more : (w : World) (pasts : Pasts) → IsGoodIn w pasts → LeavesAll w []
+none_more w pasts good = record { band = in_band w pasts good; recorded = in_rings w pasts good; kept = All-nil IsKept }
+
+-- what these lines leave, from whatever good world
+abbrev TheRest : List (Result Phrase ℕ) → Type 0
+TheRest saids =
+    (next : World) (later : Pasts) → IsGoodIn next later → is_steady_in (after saids next).world ≡ true
+    → LeavesAll (after saids next).world (watched saids next later).lines
+
+-- a line, and those behind it
+with_first : (saids : List (Result Phrase ℕ)) (w : World) (pasts : Pasts) → IsGoodIn w pasts
+    → (phrase : Phrase) (s : Step) → KeepsAll (microframes_of phrase) w pasts s → TheRest saids
+    → is_steady_in (and_then s w (after saids)).world ≡ true
+    → LeavesAll (and_then s w (after saids)).world (and_then_seen s (microframes_of phrase) w pasts (watched saids)).lines
+with_first saids w pasts good phrase (done next lines) keeps rest h =
+    let seen = line_seen (microframes_of phrase) w next lines pasts in
+    let leaves = keeps (lines_look_back saids next h) in
+    let later = rest next seen.pasts leaves.good h in
+    record {
+      band = later.band;
+      recorded = later.recorded;
+      kept = All-append IsKept seen.lines (watched saids next seen.pasts).lines leaves.kept later.kept;
+    }
+with_first saids w pasts good phrase (refused fault) keeps rest h = none_more w pasts good
+
+module _ (laws : LawsOfSteps) where
+  step_keeps_all : (phrase : Phrase) (w : World) (pasts : Pasts) → IsGoodIn w pasts
+      → ((more : List ℕ) → phrase ≡ feeds more → AreBytes more) → KeepsAll (microframes_of phrase) w pasts (step phrase w)
+  unfolding step
+  step_keeps_all phrase (describing bytes meters) pasts good feed = describing_keeps_all laws bytes meters pasts phrase good feed
+  step_keeps_all phrase (running r) pasts good feed = running_keeps_all laws r pasts good phrase
+
+  lines_keep_all : (texts : List (List ℕ)) → TheRest (map answer texts)
+  unfolding after watched
+  lines_keep_all [] w pasts good steady = none_more w pasts good
+  lines_keep_all (text ∷ texts) w pasts good steady = by (answer text) refl (lines_keep_all texts) steady
+    where
+      by : (said : Result Phrase ℕ) → answer text ≡ said → TheRest (map answer texts)
+          → is_steady_in (after (said ∷ map answer texts) w).world ≡ true
+          → LeavesAll (after (said ∷ map answer texts) w).world (watched (said ∷ map answer texts) w pasts).lines
+      by (Ok phrase) is rest h =
+          with_first (map answer texts) w pasts good phrase (step phrase w)
+          (step_keeps_all phrase w pasts good
+          (λ more same. feeds_bytes text more (let all : answer text ≡ Ok (feeds more) = cc in all))) rest h
+      by (Err rule) is rest h = none_more w pasts good
+
+  pub steady_scripts_keep_promises : SteadyScriptsKeepPromises
+  steady_scripts_keep_promises texts shown steady =
+      let leaves = lines_keep_all texts (start shown) no_pasts (λ i. no_bytes i) steady in
+      record { band = leaves.band; recorded = leaves.recorded; kept = leaves.kept }
+    where
+      no_bytes : AreBytes []
+      no_bytes i = search rules
+
+-- ---- one line more
+
+-- what holds of all lines that are seen holds of all that are printed
+all_printed : (P : Said → Type 0) → ((watch : Watch) → IsKept watch → P watch.said)
+    → (texts : List (List ℕ)) (shown : List Reading) → KeepsPromises texts shown → All P (behind_lines texts shown).lines
+all_printed P each texts shown keeps =
+    subst (All P) (lines_are_seen (map answer texts) (start shown) no_pasts)
+    (All-map P said_in (watched (map answer texts) (start shown) no_pasts).lines
+    (All-weaker IsKept (λ watch. P watch.said) each (watched (map answer texts) (start shown) no_pasts).lines keeps.kept))
+
+-- what holds of lines one behind the other holds of the later
+latter : (P : Said → Type 0) (front back : List Said) → All P (front ++ back) → All P back
+latter P front back all = All-from_recursion P back (by front (recursion_from_All P (front ++ back) all))
+  where
+    by : (xs : List Said) → AllByRecursion P (xs ++ back) → AllByRecursion P back
+    by [] each = each
+    by (x ∷ xs) each = by xs each.1
+
+pub one_more_line_is_kept : SteadyScriptsKeepPromises → OneMoreLineIsKept
+one_more_line_is_kept promises texts text shown next lines whole does steady =
+    let keeps = promises (texts ++ text ∷ []) shown (subst (λ (a : After). is_steady_in a.world ≡ true) (sym becomes) steady) in
+    record {
+      no_under = kept IsNoUnder (all_printed IsNoUnder (λ watch is. is.no_under) (texts ++ text ∷ []) shown keeps);
+      no_over = kept IsNoOver (all_printed IsNoOver (λ watch is. is.no_over) (texts ++ text ∷ []) shown keeps);
+      near = kept IsNearLevel (all_printed IsNearLevel (λ watch is. is.near) (texts ++ text ∷ []) shown keeps);
+    }
+  where
+    so_far : After
+    so_far = behind_lines texts shown
+
+    one : After
+    one = record so_far { lines = so_far.lines ++ lines; world = next; count = so_far.count + 1 }
+
+    by : (a : After) → a.refusal ≡ None → said_step (answer text) a.world ≡ done next lines
+        → with_one_more (answer text) a ≡ record a { lines = a.lines ++ lines; world = next; count = a.count + 1 }
+    by a none is = rw (none, is) refl
+
+    becomes : behind_lines (texts ++ text ∷ []) shown ≡ one
+    becomes = rw map-append (after_one_more (map answer texts) (answer text) (start shown) ∙ by so_far whole does)
+
+    kept : (P : Said → Type 0) → All P (behind_lines (texts ++ text ∷ []) shown).lines → All P lines
+    kept P all = latter P so_far.lines lines (subst (λ (a : After). All P a.lines) becomes all)

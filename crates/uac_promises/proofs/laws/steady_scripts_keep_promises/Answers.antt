@@ -1,0 +1,11 @@
+use Rattle.uac_promises.proofs.AllScripts.{all_scripts_keep_promises}
+use Rattle.uac_promises.proofs.InARow.{one_more_line_is_kept}
+use Rattle.uac_promises.proofs.SeenLines.{lines_are_seen}
+use Rattle.uac_promises.proofs.laws.steady_scripts_keep_promises.Goals as goal
+
+pub returns : goal.returns
+returns c = record {
+  promises = all_scripts_keep_promises;
+  seen = lines_are_seen;
+  one_more = one_more_line_is_kept all_scripts_keep_promises;
+}

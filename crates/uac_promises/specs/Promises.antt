@@ -1,0 +1,63 @@
+-- What is promised of every line that a steady script prints (profile; feedback is that of USB 2.0, 5.12.4.2).
+use Rattle.std.specs.Prelude.{◌≡◌, ℕ, true, List, map, None, Result}
+use Rattle.std.specs.List.{All}
+use Rattle.uac_units.specs.Hearing.{Reading}
+use Rattle.uac_script.specs.Phrase.{Phrase}
+use Rattle.uac_script.specs.Reading.{answer}
+use Rattle.uac_transcript.specs.Transcript.{Said}
+use Rattle.uac_bus.specs.World.{World, describing, done, running, start}
+use Rattle.uac_bus.specs.After.{after, said_step}
+use Rattle.uac_bands.specs.Run.{IsNearLevel, IsNoUnder}
+use Rattle.uac_overflow.specs.Recording.{AreRecorded, IsNoOver}
+use Rattle.uac_homing.specs.Past.{Pasts, no_pasts}
+use Rattle.uac_homing.specs.Homing.{IsClose}
+use Rattle.uac_steady.specs.Scripts.{IsInBand, behind_lines, is_steady_in}
+use Rattle.uac_promises.specs.Watched.{Watch, watched}
+
+-- a level is close in a world
+abbrev pub IsCloseIn : World → Pasts → Said → Type 0
+IsCloseIn (describing bytes meters) pasts said = Unit {0}
+IsCloseIn (running r) pasts said = IsClose r pasts said
+
+-- a printed line tells of no ring that was found empty, and of none that had no room; and if it tells a level of a primed stream, that is
+-- within 130 frames of its target, within 4 once the stream has settled behind its last lost packet, and within 3 where it lost none since
+-- it was primed
+pub record IsKept (w : Watch) : Type 0 where
+  pub no_under : IsNoUnder w.said
+  pub no_over : IsNoOver w.said
+  pub near : IsNearLevel w.said
+  pub close : IsCloseIn w.world w.pasts w.said
+
+-- rings of streams from the device hold no more than their interval can bring
+abbrev pub IsRecordedIn : World → Type 0
+IsRecordedIn (describing bytes meters) = Unit {0}
+IsRecordedIn (running r) = AreRecorded r
+
+-- the lines that are seen are those that are printed
+abbrev pub LinesAreSeen : Type 0
+LinesAreSeen =
+    (saids : List (Result Phrase ℕ)) (w : World) (pasts : Pasts)
+    → map (λ watch. watch.said) (watched saids w pasts).lines ≡ (after saids w).lines
+
+-- lines of a script that leave a steady world: each stream is in its band there, and every line that they printed is as promised
+pub record KeepsPromises (texts : List (List ℕ)) (shown : List Reading) : Type 0 where
+  pub band : IsInBand (behind_lines texts shown).world
+  pub recorded : IsRecordedIn (behind_lines texts shown).world
+  pub kept : All IsKept (watched (map answer texts) (start shown) no_pasts).lines
+
+-- so it is for every list of lines
+abbrev pub SteadyScriptsKeepPromises : Type 0
+SteadyScriptsKeepPromises =
+    (texts : List (List ℕ)) (shown : List Reading) → is_steady_in (behind_lines texts shown).world ≡ true → KeepsPromises texts shown
+
+-- what one line more prints, behind lines of which none was refused, in a world that is steady behind it
+pub record PrintsKept (lines : List Said) : Type 0 where
+  pub no_under : All IsNoUnder lines
+  pub no_over : All IsNoOver lines
+  pub near : All IsNearLevel lines
+
+abbrev pub OneMoreLineIsKept : Type 0
+OneMoreLineIsKept =
+    (texts : List (List ℕ)) (text : List ℕ) (shown : List Reading) (next : World) (lines : List Said)
+    → (behind_lines texts shown).refusal ≡ None → said_step (answer text) (behind_lines texts shown).world ≡ done next lines
+    → is_steady_in next ≡ true → PrintsKept lines

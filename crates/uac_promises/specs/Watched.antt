@@ -1,0 +1,76 @@
+-- The lines that a script prints, each with the world in which it is printed, and with how long ago each stream was primed and lost a
+-- packet (profile).
+use Rattle.std.specs.Prelude.{ℕ, zero, suc, List, [], ◌∷◌, ◌++◌, map, Option, Some, None, Result, Ok, Err}
+use Rattle.uac_script.specs.Phrase.{Loss, Phrase, idle, feeds, goes, controls, gets, sets, shows, breaks, appends, tracks, jacks, deviates}
+use Rattle.uac_script.specs.Phrase.{runs, details, reports}
+use Rattle.uac_transcript.specs.Transcript.{Said}
+use Rattle.uac_running.specs.RunningWorld.{RunningWorld}
+use Rattle.uac_running.specs.Events.{microframe}
+use Rattle.uac_bus.specs.World.{Step, World, describing, done, refused, running, size_of, step}
+use Rattle.uac_homing.specs.Past.{Pasts, pasts_after}
+
+-- a printed line, the world behind the microframe or the line of the script that printed it, and the pasts of its streams there
+pub record Watch : Type 0 where
+  pub said : Said
+  pub world : World
+  pub pasts : Pasts
+
+abbrev pub watched_in : World → Pasts → Said → Watch
+watched_in w pasts said = record { said = said; world = w; pasts = pasts }
+
+-- printed lines, and the pasts behind them
+pub record Seen : Type 0 where
+  pub lines : List Watch
+  pub pasts : Pasts
+
+abbrev pub seen_first : List Watch → Seen → Seen
+seen_first lines rest = record rest { lines = lines ++ rest.lines }
+
+-- so many microframes with these losses: the lines of each with the world behind it
+unfoldable pub microframes_seen : List Loss → ℕ → RunningWorld → Pasts → Seen
+microframes_seen losses zero r pasts = record { lines = []; pasts = pasts }
+microframes_seen losses (suc n) r pasts =
+    let next = (microframe losses r).world in
+    let later = pasts_after losses r pasts in
+    seen_first (map (watched_in (running next) later) (microframe losses r).lines) (microframes_seen losses n next later)
+
+-- the microframes for which a line of a script asks
+pub record Microframes : Type 0 where
+  pub count : ℕ
+  pub losses : List Loss
+
+abbrev pub microframes_of : Phrase → Option Microframes
+microframes_of idle = None
+microframes_of (feeds bytes) = None
+microframes_of goes = None
+microframes_of (controls setup sent) = None
+microframes_of (gets name) = None
+microframes_of (sets name value) = None
+microframes_of (shows name) = None
+microframes_of (breaks after) = None
+microframes_of (appends number samples) = None
+microframes_of (tracks number voice) = None
+microframes_of (jacks terminal voice) = None
+microframes_of (deviates clock millionths) = None
+microframes_of (runs count losses) = Some (record { count = size_of count; losses = losses })
+microframes_of (details level) = None
+microframes_of reports = None
+
+-- a line of a script that was done in a world: the microframes that it asks for are seen one by one; and else the lines that it prints, in
+-- the world that it leaves
+unfoldable pub line_seen : Option Microframes → World → World → List Said → Pasts → Seen
+line_seen None w next lines pasts = record { lines = map (watched_in next pasts) lines; pasts = pasts }
+line_seen (Some m) (describing bytes meters) next lines pasts = record { lines = map (watched_in next pasts) lines; pasts = pasts }
+line_seen (Some m) (running r) next lines pasts = microframes_seen m.losses m.count r pasts
+
+-- one line behind the other, up to the first that is refused
+abbrev pub and_then_seen : Step → Option Microframes → World → Pasts → (World → Pasts → Seen) → Seen
+and_then_seen (done next lines) m w pasts go =
+    let first = line_seen m w next lines pasts in
+    seen_first first.lines (go next first.pasts)
+and_then_seen (refused fault) m w pasts go = record { lines = []; pasts = pasts }
+
+unfoldable pub watched : List (Result Phrase ℕ) → World → Pasts → Seen
+watched [] w pasts = record { lines = []; pasts = pasts }
+watched (Ok phrase ∷ saids) w pasts = and_then_seen (step phrase w) (microframes_of phrase) w pasts (watched saids)
+watched (Err rule ∷ saids) w pasts = record { lines = []; pasts = pasts }
