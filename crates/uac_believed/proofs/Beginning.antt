@@ -1,5 +1,5 @@
 -- The lines of a descriptor: what they feed is bytes, and what the host knows of the device that the bytes describe is so from the start.
-use Rattle.std.proofs.Common.{◌≡◌, sym, refl, ℕ, ℤ, List, [], ◌∷◌, ◌++◌, map, Option, None, Some, IfSome}
+use Rattle.std.proofs.Common.{◌≡◌, sym, refl, ap, ℕ, ℤ, true, List, [], ◌∷◌, ◌++◌, map, Option, None, Some, is_some, IfSome}
 use Rattle.std.specs.List.{AllByRecursion}
 use Rattle.std.proofs.lemmas.List.Elements.{All-map}
 use Rattle.uac_descriptor.specs.Reading.{AreBytes}
@@ -11,13 +11,15 @@ use Rattle.uac_topology.specs.Function.{FunctionFields}
 use Rattle.uac_topology.specs.Topology.{IsSoundFunction, first_broken}
 use Rattle.uac_topology.proofs.PinLemmas.{have_pins}
 use Rattle.uac_store.specs.declared.keys.Key.{Key}
+use Rattle.uac_store.specs.Controls.{IsStoreOf}
 use Rattle.uac_store.specs.Keyed.{value_of}
 use Rattle.uac_store.proofs.Soundness.{keyed}
 use Rattle.uac_mixer.specs.Agreement.{IsAgreed}
 use Rattle.uac_mixer.specs.Elements.{listed, unread}
 use Rattle.uac_mixer.specs.ViewWorld.{IsViewOf, known_view, read_from}
 use Rattle.uac_mixer.specs.declared.element.Element.{Element}
-use Rattle.uac_mixer.proofs.Members.{none_read}
+use Rattle.uac_mixer.proofs.Agreed.{held_as}
+use Rattle.uac_mixer.proofs.Members.{IsElementOf, all_listed, none_read}
 use Rattle.uac_mixer.proofs.Stored.{starts}
 use Rattle.uac_grammar.specs.Stop.{shown_fault}
 use Rattle.uac_script.specs.Phrase.{Phrase, idle, feeds, goes, controls, gets, sets, shows, breaks, appends, tracks, jacks, deviates, runs, details, reports}
@@ -28,7 +30,7 @@ use Rattle.uac_device.specs.DeviceWorld.{fresh}
 use Rattle.uac_bus.specs.Description.{blocks_of, function_of}
 use Rattle.uac_bus.specs.World.{describing, done, fed, gone, if_no_fault, if_sound, running, silently, step_describing}
 use Rattle.uac_steady.proofs.Beginning.{appended_bytes, described}
-use Rattle.uac_believed.proofs.Worlds.{IsBelieved, Keeps}
+use Rattle.uac_believed.proofs.Worlds.{Begins, IsBegun, IsBelieved}
 
 -- ---- the device that bytes without a fault describe
 
@@ -52,6 +54,23 @@ known_agrees entities values =
     itself None = tt
     itself (Some v) = refl
 
+-- each element that is listed has a value
+known_at : (entities : List Entity) (values : List (Key × ℤ)) (x : Element) → IsStoreOf entities values → IsElementOf entities x
+    → is_some (read_from values x).value ≡ true
+known_at entities values x store is = ap is_some (held_as entities values x store is).is
+
+each_known : (entities : List Entity) (values : List (Key × ℤ)) (xs : List Element) → IsStoreOf entities values
+    → AllByRecursion (IsElementOf entities) xs → AllByRecursion (λ (x : Element). is_some x.value ≡ true) (map (read_from values) xs)
+each_known entities values [] store are = tt
+each_known entities values (x ∷ xs) store are = (known_at entities values x store are.0, each_known entities values xs store are.1)
+
+all_known : (function : FunctionFields) → IsSoundFunction function
+    → AllByRecursion (λ (x : Element). is_some x.value ≡ true) (known_view function.entities (fresh function).controls).elements
+unfolding known_view fresh
+all_known function sound =
+    each_known function.entities (fresh function).controls (listed function.entities) (starts have_pins keyed function sound)
+    (all_listed function.entities (keyed function sound).apart)
+
 starts_believed : (bytes : List ℕ) (function : FunctionFields) (meters : List Reading) → IsSoundFunction function
     → IsBelieved (at_start bytes function meters)
 unfolding at_start fresh
@@ -62,43 +81,49 @@ starts_believed bytes function meters sound = record {
   agreed = known_agrees function.entities (fresh function).controls;
 }
 
+starts_begun : (bytes : List ℕ) (function : FunctionFields) (meters : List Reading) → IsSoundFunction function
+    → IsBegun (at_start bytes function meters)
+unfolding at_start
+starts_begun bytes function meters sound =
+    record { believed = starts_believed bytes function meters sound; known = all_known function sound }
+
 -- ---- lines
 
-fed_keeps : (bytes : List ℕ) (meters : List Reading) → AreBytes bytes → Keeps (fed bytes meters)
+fed_begins : (bytes : List ℕ) (meters : List Reading) → AreBytes bytes → Begins (fed bytes meters)
 unfolding fed
-fed_keeps bytes meters are = by (shown_fault bytes)
+fed_begins bytes meters are = by (shown_fault bytes)
   where
-    by : (o : Option GrammarFault) → Keeps (if_no_fault o (silently (describing bytes meters)))
+    by : (o : Option GrammarFault) → Begins (if_no_fault o (silently (describing bytes meters)))
     by None = are
     by (Some fault) = tt
 
-gone_keeps : (bytes : List ℕ) (meters : List Reading) → AreBytes bytes → Keeps (gone bytes meters)
+gone_begins : (bytes : List ℕ) (meters : List Reading) → AreBytes bytes → Begins (gone bytes meters)
 unfolding gone
-gone_keeps bytes meters are = by (first_fault bytes) refl (first_broken (blocks_of bytes)) refl
+gone_begins bytes meters are = by (first_fault bytes) refl (first_broken (blocks_of bytes)) refl
   where
     function : FunctionFields
     function = function_of (blocks_of bytes)
 
     by : (f : Option GrammarFault) → first_fault bytes ≡ f → (b : Option TopologyFault) → first_broken (blocks_of bytes) ≡ b
-        → Keeps (if_no_fault f (if_sound b (done (running (at_start bytes function meters)) (ready_line function ∷ []))))
-    by None whole None sound = starts_believed bytes function meters ((described bytes are whole sound).sound)
+        → Begins (if_no_fault f (if_sound b (done (running (at_start bytes function meters)) (ready_line function ∷ []))))
+    by None whole None sound = starts_begun bytes function meters ((described bytes are whole sound).sound)
     by None whole (Some fault) broken = tt
     by (Some fault) at b is = tt
 
-pub describing_keeps : (bytes : List ℕ) (meters : List Reading) (phrase : Phrase) → AreBytes bytes
-    → ((more : List ℕ) → phrase ≡ feeds more → AreBytes more) → Keeps (step_describing bytes meters phrase)
-describing_keeps bytes meters idle are feed = are
-describing_keeps bytes meters (feeds more) are feed = fed_keeps (bytes ++ more) meters (appended_bytes bytes more are (feed more refl))
-describing_keeps bytes meters goes are feed = gone_keeps bytes meters are
-describing_keeps bytes meters (controls setup sent) are feed = tt
-describing_keeps bytes meters (gets name) are feed = tt
-describing_keeps bytes meters (sets name value) are feed = tt
-describing_keeps bytes meters (shows name) are feed = tt
-describing_keeps bytes meters (breaks later) are feed = tt
-describing_keeps bytes meters (appends number samples) are feed = tt
-describing_keeps bytes meters (tracks number voice) are feed = tt
-describing_keeps bytes meters (jacks terminal voice) are feed = tt
-describing_keeps bytes meters (deviates clock millionths) are feed = tt
-describing_keeps bytes meters (runs count losses) are feed = tt
-describing_keeps bytes meters (details level) are feed = tt
-describing_keeps bytes meters reports are feed = tt
+pub describing_begins : (bytes : List ℕ) (meters : List Reading) (phrase : Phrase) → AreBytes bytes
+    → ((more : List ℕ) → phrase ≡ feeds more → AreBytes more) → Begins (step_describing bytes meters phrase)
+describing_begins bytes meters idle are feed = are
+describing_begins bytes meters (feeds more) are feed = fed_begins (bytes ++ more) meters (appended_bytes bytes more are (feed more refl))
+describing_begins bytes meters goes are feed = gone_begins bytes meters are
+describing_begins bytes meters (controls setup sent) are feed = tt
+describing_begins bytes meters (gets name) are feed = tt
+describing_begins bytes meters (sets name value) are feed = tt
+describing_begins bytes meters (shows name) are feed = tt
+describing_begins bytes meters (breaks later) are feed = tt
+describing_begins bytes meters (appends number samples) are feed = tt
+describing_begins bytes meters (tracks number voice) are feed = tt
+describing_begins bytes meters (jacks terminal voice) are feed = tt
+describing_begins bytes meters (deviates clock millionths) are feed = tt
+describing_begins bytes meters (runs count losses) are feed = tt
+describing_begins bytes meters (details level) are feed = tt
+describing_begins bytes meters reports are feed = tt

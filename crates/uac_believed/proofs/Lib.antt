@@ -4,3 +4,7 @@ pub mod Microframes
 pub mod Transferred
 pub mod Beginning
 pub mod Lines
+pub mod Telling
+pub mod Known
+pub mod Lost
+pub mod Worked

@@ -10,14 +10,14 @@ use Rattle.uac_script.specs.Reading.{answer}
 use Rattle.uac_running.specs.RunningWorld.{RunningWorld, with_detail, with_deviation, with_samples_on, with_tone, with_track}
 use Rattle.uac_running.specs.Events.{microframes}
 use Rattle.uac_running.specs.Transfers.{element_named, read_element, set_element, show_element, transfer, with_break}
-use Rattle.uac_bus.specs.World.{Step, World, are_frames, describing, done, on_element, refused, running, silently, size_of, start, step, step_running, told, tone_of, unless}
+use Rattle.uac_bus.specs.World.{Step, World, are_frames, describing, done, on_element, refused, running, silently, size_of, start, step, step_describing, step_running, told, tone_of, unless}
 use Rattle.uac_bus.specs.After.{after, and_then, said_step}
 use Rattle.uac_believed.specs.Believed.{KnownValuesAreSo}
-use Rattle.uac_believed.proofs.Worlds.{IsBelieved, IsGood, Keeps, is_so}
+use Rattle.uac_believed.proofs.Worlds.{IsBelieved, IsGood, Keeps, begins_good, is_so}
 use Rattle.uac_believed.proofs.Microframes.{microframes_believed}
 use Rattle.uac_believed.proofs.Transferred.{transfers_believed}
 use Rattle.uac_steady.proofs.Beginning.{feeds_bytes}
-use Rattle.uac_believed.proofs.Beginning.{describing_keeps}
+use Rattle.uac_believed.proofs.Beginning.{describing_begins}
 
 -- ---- a line of a running device
 
@@ -62,7 +62,8 @@ running_keeps r agree reports = agree
 
 step_keeps : (phrase : Phrase) (w : World) → IsGood w → ((more : List ℕ) → phrase ≡ feeds more → AreBytes more) → Keeps (step phrase w)
 unfolding step
-step_keeps phrase (describing bytes meters) good feed = describing_keeps bytes meters phrase good feed
+step_keeps phrase (describing bytes meters) good feed =
+    begins_good (step_describing bytes meters phrase) (describing_begins bytes meters phrase good feed)
 step_keeps phrase (running r) good feed = running_keeps r good phrase
 
 said_keeps : (text : List ℕ) (w : World) → IsGood w → Keeps (said_step (answer text) w)

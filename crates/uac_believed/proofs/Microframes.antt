@@ -35,6 +35,11 @@ microframe_view losses r =
     let fetched = with_streaming sent (in_packets v.detail losses (streaming_of sent)).world in
     domains_view fetched.device.function.domains fetched
 
+pub microframes_view : (losses : List Loss) (count : ℕ) (r : RunningWorld) → (microframes losses count r).world.view ≡ r.view
+unfolding microframes
+microframes_view losses zero r = refl
+microframes_view losses (suc count) r = microframes_view losses count (microframe losses r).world ∙ microframe_view losses r
+
 pub microframes_believed : (losses : List Loss) (count : ℕ) (r : RunningWorld) → IsBelieved r
     → IsBelieved (microframes losses count r).world
 unfolding microframes

@@ -1,5 +1,6 @@
 -- The worlds in which what the host knows is so, and stays so.
-use Rattle.std.proofs.Common.{◌≡◌, sym, subst, ℤ, List}
+use Rattle.std.proofs.Common.{◌≡◌, sym, subst, ℤ, true, List, is_some}
+use Rattle.std.specs.List.{AllByRecursion}
 use Rattle.uac_descriptor.specs.Reading.{AreBytes}
 use Rattle.uac_topology.specs.Function.{FunctionFields}
 use Rattle.uac_topology.specs.Topology.{IsSoundFunction}
@@ -7,6 +8,7 @@ use Rattle.uac_store.specs.declared.keys.Key.{Key}
 use Rattle.uac_store.specs.Controls.{IsStoreOf}
 use Rattle.uac_mixer.specs.Agreement.{IsAgreed}
 use Rattle.uac_mixer.specs.ViewWorld.{IsViewOf, ViewWorld}
+use Rattle.uac_mixer.specs.declared.element.Element.{Element}
 use Rattle.uac_running.specs.RunningWorld.{RunningWorld}
 use Rattle.uac_bus.specs.World.{Step, World, describing, done, refused, running}
 use Rattle.uac_believed.specs.Believed.{IsSoIn}
@@ -37,7 +39,23 @@ carried f g c d v w function controls view agree =
     subst (λ (h : FunctionFields). Agree h d w) (sym function)
     (subst (λ (e : List (Key × ℤ)). Agree f e w) (sym controls) (subst (λ (u : ViewWorld). Agree f c u) (sym view) agree))
 
+-- just behind the descriptor's end each value is known
+pub record IsBegun (r : RunningWorld) : Type 0 where
+  pub believed : IsBelieved r
+  pub known : AllByRecursion (λ (x : Element). is_some x.value ≡ true) r.view.elements
+
+-- a line before it, or that of it: bytes of a descriptor stay bytes, and the device begins
+abbrev pub Begins : Step → Type 0
+Begins (done (describing bytes meters) lines) = AreBytes bytes
+Begins (done (running r) lines) = IsBegun r
+Begins (refused fault) = Unit {0}
+
 -- a line keeps a world good
 abbrev pub Keeps : Step → Type 0
 Keeps (done next lines) = IsGood next
 Keeps (refused fault) = Unit {0}
+
+pub begins_good : (s : Step) → Begins s → Keeps s
+begins_good (done (describing bytes meters) lines) begins = begins
+begins_good (done (running r) lines) begins = begins.believed
+begins_good (refused fault) begins = tt

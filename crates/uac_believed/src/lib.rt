@@ -1,4 +1,4 @@
-//! What the host knows of a device is so behind every list of lines: a law, as the contract of a function that does nothing.
+//! Behind every list of lines, what the host knows of a device and what not: laws, each the contract of a function that does nothing.
 #![tactic(auto)]
 
 pub mod laws;

@@ -1,0 +1,265 @@
+-- Behind lines, the value of each element is known or unknown as was told of it last.
+use Rattle.std.proofs.Common.{◌≡◌, ◌∙◌, refl, sym, ap, subst, ℕ, Bool, true, false, List, [], ◌∷◌, length, map, rules, Option, None, Some, is_some, unwrap_or, option_map, option_and_then, Result, Ok, Err}
+use Rattle.std.specs.List.{AllByRecursion, AllZip, cons_option}
+use Rattle.std.proofs.lemmas.List.Elements.{All-from_recursion}
+use Rattle.uac_descriptor.specs.Reading.{AreBytes}
+use Rattle.uac_mixer.specs.Elements.{fits_element, unread}
+use Rattle.uac_mixer.specs.Transfers.{is_for}
+use Rattle.uac_mixer.specs.declared.element.Element.{Element}
+use Rattle.uac_script.specs.Phrase.{Phrase, idle, feeds, goes, controls, gets, sets, shows, breaks, appends, tracks, jacks, deviates, runs, details, reports}
+use Rattle.uac_script.specs.Reading.{answer}
+use Rattle.uac_request.specs.Requests.{setup_of}
+use Rattle.uac_running.specs.RunningWorld.{RunningWorld, with_detail, with_deviation, with_samples_on, with_tone, with_track}
+use Rattle.uac_running.specs.Events.{microframes}
+use Rattle.uac_running.specs.Transfers.{element_named, read_element, set_element, show_element, transfer, with_break}
+use Rattle.uac_bus.specs.World.{Step, World, are_frames, describing, done, on_element, refused, running, silently, size_of, start, step, step_running, told, tone_of, unless}
+use Rattle.uac_bus.specs.After.{after, and_then, said_step}
+use Rattle.uac_believed.specs.Unknown.{ElementsStay, Transfer, ValuesAreKnownAsTold, elements_in, get_by, if_done, last_or, set_by, tells, tells_in, told_of, transfer_of}
+use Rattle.uac_steady.proofs.Beginning.{feeds_bytes}
+use Rattle.uac_units.specs.Hearing.{Reading}
+use Rattle.uac_believed.proofs.Worlds.{Begins}
+use Rattle.uac_believed.proofs.Beginning.{describing_begins}
+use Rattle.uac_believed.proofs.Microframes.{microframes_view}
+use Rattle.uac_believed.proofs.Telling.{IsToldOf, none_told, transfer_told}
+
+-- ---- a line of a running device
+
+-- what a line tells of each of these elements is what becomes of it; and the device runs on
+abbrev Tells : (Element → Option Bool) → List Element → Step → Type 0
+Tells told xs (done (running r) lines) = AllZip (λ x y. IsToldOf (told x) x y) xs r.view.elements
+Tells told xs (done (describing bytes meters) lines) = ⊥
+Tells told xs (refused fault) = Unit {0}
+
+abbrev TellsNone : List Element → Step → Type 0
+TellsNone xs s = Tells (λ x. None) xs s
+
+tells_unless : (told : Element → Option Bool) (xs : List Element) (b : Bool) (rule : ℕ) (s : Step) → Tells told xs s
+    → Tells told xs (unless b rule s)
+tells_unless told xs true rule s tells = tells
+tells_unless told xs false rule s tells = tt
+
+-- a line that names an element
+tells_on : (r : RunningWorld) (o : Option Element) (made : Element → Transfer) (of : Element → Step)
+    → ((x : Element) → Tells (λ y. tells r y (made x)) r.view.elements (of x))
+    → Tells (λ y. option_and_then (tells r y) (option_map made o)) r.view.elements (on_element o of)
+tells_on r None made of each = tt
+tells_on r (Some x) made of each = each x
+
+shows_none : (r : RunningWorld) (o : Option Element) (of : Element → Step) → ((x : Element) → TellsNone r.view.elements (of x))
+    → TellsNone r.view.elements (on_element o of)
+shows_none r None of each = tt
+shows_none r (Some x) of each = each x
+
+running_tells : (r : RunningWorld) (phrase : Phrase) → Tells (tells_in (running r) (Ok phrase)) r.view.elements (step_running r phrase)
+unfolding transfer read_element set_element show_element with_break with_samples_on with_track with_tone with_detail with_deviation
+running_tells r idle = none_told r.view.elements
+running_tells r (feeds more) = tt
+running_tells r goes = tt
+running_tells r (controls setup sent) = transfer_told r (record { setup = setup_of setup; sent = sent })
+running_tells r (gets name) =
+    tells_on r (element_named r name) (get_by r) (λ x. told (read_element x r)) (λ x. transfer_told r (get_by r x))
+running_tells r (sets name value) =
+    tells_on r (element_named r name) (set_by value r) (λ x. unless (fits_element x.kind value) 7 (told (set_element x value r)))
+    (λ x. tells_unless (λ y. tells r y (set_by value r x)) r.view.elements (fits_element x.kind value) 7 (told (set_element x value r))
+    (transfer_told r (set_by value r x)))
+running_tells r (shows name) = shows_none r (element_named r name) (λ x. told (show_element x r)) (λ x. none_told r.view.elements)
+running_tells r (breaks later) = none_told r.view.elements
+running_tells r (appends number samples) =
+    tells_unless (λ x. None) r.view.elements _ 6
+    (unless (are_frames r.device.function (size_of number) (length samples)) 7
+    (silently (running (with_samples_on (size_of number) samples r))))
+    (tells_unless (λ x. None) r.view.elements _ 7 (silently (running (with_samples_on (size_of number) samples r)))
+    (none_told r.view.elements))
+running_tells r (tracks number voice) =
+    tells_unless (λ x. None) r.view.elements _ 6 (silently (running (with_track (size_of number) (tone_of voice) r)))
+    (none_told r.view.elements)
+running_tells r (jacks terminal voice) =
+    tells_unless (λ x. None) r.view.elements _ 6 (silently (running (with_tone (size_of terminal) (tone_of voice) r)))
+    (none_told r.view.elements)
+running_tells r (deviates clock millionths) =
+    tells_unless (λ x. None) r.view.elements _ 6 (silently (running (with_deviation (size_of clock) millionths r)))
+    (none_told r.view.elements)
+running_tells r (runs count losses) =
+    tells_unless (λ x. None) r.view.elements _ 6 (told (microframes losses (size_of count) r))
+    (subst (λ v. AllZip (λ x y. IsToldOf None x y) r.view.elements v.elements) (sym (microframes_view losses (size_of count) r))
+    (none_told r.view.elements))
+running_tells r (details level) = none_told r.view.elements
+running_tells r reports = none_told r.view.elements
+
+said_tells : (r : RunningWorld) (said : Result Phrase ℕ) → Tells (tells_in (running r) said) r.view.elements (said_step said (running r))
+unfolding step
+said_tells r (Ok phrase) = running_tells r phrase
+said_tells r (Err rule) = tt
+
+-- ---- what is told of an element is told of its key and kind
+
+tells_over : (r : RunningWorld) (x : Element) (o : Option Transfer) → option_and_then (tells r (unread x)) o ≡ option_and_then (tells r x) o
+unfolding tells is_for
+tells_over r x None = refl
+tells_over r x (Some t) = refl
+
+tells_unread : (w : World) (said : Result Phrase ℕ) (x : Element) → tells_in w said (unread x) ≡ tells_in w said x
+tells_unread (describing bytes meters) said x = refl
+tells_unread (running r) (Ok phrase) x = tells_over r x (transfer_of phrase r)
+tells_unread (running r) (Err rule) x = refl
+
+told_unread : (saids : List (Result Phrase ℕ)) (w : World) (x : Element) → told_of saids w (unread x) ≡ told_of saids w x
+unfolding told_of
+told_unread [] w x = refl
+told_unread (said ∷ saids) w x = by (said_step said w) (told_unread saids)
+  where
+    by : (s : Step) → ((next : World) (y : Element) → told_of saids next (unread y) ≡ told_of saids next y)
+        → if_done s (λ next. cons_option (tells_in w said (unread x)) (told_of saids next (unread x)))
+        ≡ if_done s (λ next. cons_option (tells_in w said x) (told_of saids next x))
+    by (done next lines) rest = (λ j. cons_option (tells_unread w said x j) (rest next x j))
+    by (refused fault) rest = refl
+
+told_same : (saids : List (Result Phrase ℕ)) (w : World) (x y : Element) → unread y ≡ unread x → told_of saids w y ≡ told_of saids w x
+told_same saids w x y same = sym (told_unread saids w y) ∙ ap (told_of saids w) same ∙ told_unread saids w x
+
+-- ---- lines in a row
+
+-- what becomes of an element behind lines
+record IsLeft (saids : List (Result Phrase ℕ)) (r : RunningWorld) (x y : Element) : Type 0 where
+  pub same : unread y ≡ unread x
+  pub known : is_some y.value ≡ last_or (is_some x.value) (told_of saids (running r) x)
+
+-- the elements behind lines are those before them, each left as was told of it
+abbrev AreLeft : List (Result Phrase ℕ) → RunningWorld → World → Type 0
+AreLeft saids r (running last) = AllZip (IsLeft saids r) r.view.elements last.view.elements
+AreLeft saids r (describing bytes meters) = ⊥
+
+zip_itself : {X : Type 0} (R : X → X → Type 0) (xs : List X) → ((x : X) → R x x) → AllZip R xs xs
+zip_itself R [] each = tt
+zip_itself R (x ∷ xs) each = (each x, zip_itself R xs each)
+
+zip_both : {X : Type 0} (R S T : X → X → Type 0) → ((x y z : X) → R x y → S y z → T x z) → (xs ys zs : List X)
+    → AllZip R xs ys → AllZip S ys zs → AllZip T xs zs
+zip_both R S T both [] [] [] one next = tt
+zip_both R S T both [] [] (z ∷ zs) one next = absurd next
+zip_both R S T both [] (y ∷ ys) zs one next = absurd one
+zip_both R S T both (x ∷ xs) [] zs one next = absurd one
+zip_both R S T both (x ∷ xs) (y ∷ ys) [] one next = absurd next
+zip_both R S T both (x ∷ xs) (y ∷ ys) (z ∷ zs) one next = (both x y z one.0 next.0, zip_both R S T both xs ys zs one.1 next.1)
+
+pub last_cons : (o : Option Bool) (known : Bool) (rest : List Bool) → last_or known (cons_option o rest) ≡ last_or (unwrap_or o known) rest
+unfolding last_or
+last_cons None known rest = refl
+last_cons (Some told) known rest = refl
+
+left_behind : (saids : List (Result Phrase ℕ)) (r : RunningWorld) → AreLeft saids r (after saids (running r)).world
+unfolding after told_of last_or
+left_behind [] r = zip_itself (IsLeft [] r) r.view.elements (λ x. record { same = refl; known = refl })
+left_behind (said ∷ saids) r = by (said_step said (running r)) refl (said_tells r said) (left_behind saids)
+  where
+    -- the last that this line, which makes this step, and those behind it tell of an element
+    last_in : Element → Step → Bool
+    last_in x s = last_or (is_some x.value) (if_done s (λ w. cons_option (tells_in (running r) said x) (told_of saids w x)))
+
+    by : (s : Step) → said_step said (running r) ≡ s → Tells (tells_in (running r) said) r.view.elements s
+        → ((next : RunningWorld) → AreLeft saids next (after saids (running next)).world)
+        → AreLeft (said ∷ saids) r (and_then s (running r) (after saids)).world
+    by (done (describing bytes meters) lines) is tells rest = absurd tells
+    by (refused fault) is tells rest =
+        zip_itself (IsLeft (said ∷ saids) r) r.view.elements
+        (λ x. record {
+          same = refl;
+          known = sym (ap (last_in x) is);
+        })
+    by (done (running next) lines) is tells rest = onward (after saids (running next)).world (rest next)
+      where
+        both : (x y z : Element) → IsToldOf (tells_in (running r) said x) x y → IsLeft saids next y z → IsLeft (said ∷ saids) r x z
+        both x y z one left = record {
+          same = left.same ∙ one.same;
+          known =
+              left.known
+              ∙ ap (λ (known : Bool). last_or known (told_of saids (running next) y)) one.known
+              ∙ ap (last_or (unwrap_or (tells_in (running r) said x) (is_some x.value))) (told_same saids (running next) x y one.same)
+              ∙ sym (last_cons (tells_in (running r) said x) (is_some x.value) (told_of saids (running next) x))
+              ∙ sym (ap (last_in x) is);
+        }
+
+        onward : (last : World) → AreLeft saids next last → AreLeft (said ∷ saids) r last
+        onward (describing bytes meters) left = absurd left
+        onward (running last) left =
+            zip_both (λ x y. IsToldOf (tells_in (running r) said x) x y) (IsLeft saids next) (IsLeft (said ∷ saids) r) both r.view.elements
+            next.view.elements last.view.elements tells left
+
+-- ---- the elements stay
+
+zip_maps : {X Y : Type 0} (f : X → Y) (R : X → X → Type 0) → ((x y : X) → R x y → f y ≡ f x) → (xs ys : List X) → AllZip R xs ys
+    → map f ys ≡ map f xs
+zip_maps f R each [] [] all = refl
+zip_maps f R each [] (y ∷ ys) all = absurd all
+zip_maps f R each (x ∷ xs) [] all = absurd all
+zip_maps f R each (x ∷ xs) (y ∷ ys) all = (λ j. each x y all.0 j ∷ zip_maps f R each xs ys all.1 j)
+
+pub elements_stay : ElementsStay
+elements_stay saids r = by (after saids (running r)).world (left_behind saids r)
+  where
+    by : (last : World) → AreLeft saids r last → map unread (elements_in last) ≡ map unread r.view.elements
+    by (describing bytes meters) left = absurd left
+    by (running last) left = zip_maps unread (IsLeft saids r) (λ x y is. is.same) r.view.elements last.view.elements left
+
+-- ---- from the start on
+
+-- each element is known or unknown as was told of it last, and known where nothing was
+abbrev AreKnown : List (Result Phrase ℕ) → World → World → Type 0
+AreKnown saids w last = AllByRecursion (λ (x : Element). is_some x.value ≡ last_or true (told_of saids w x)) (elements_in last)
+
+zip_known : (saids : List (Result Phrase ℕ)) (r : RunningWorld) (xs ys : List Element)
+    → AllByRecursion (λ (x : Element). is_some x.value ≡ true) xs
+    → AllZip (IsLeft saids r) xs ys → AllByRecursion (λ (y : Element). is_some y.value ≡ last_or true (told_of saids (running r) y)) ys
+zip_known saids r [] [] known left = tt
+zip_known saids r [] (y ∷ ys) known left = absurd left
+zip_known saids r (x ∷ xs) [] known left = absurd left
+zip_known saids r (x ∷ xs) (y ∷ ys) known left = (
+  left.0.known ∙ ap (λ (b : Bool). last_or b (told_of saids (running r) x)) known.0
+      ∙ ap (last_or true) (sym (told_same saids (running r) x y left.0.same)),
+  zip_known saids r xs ys known.1 left.1,
+)
+
+begun_known : (saids : List (Result Phrase ℕ)) (r : RunningWorld) → AllByRecursion (λ (x : Element). is_some x.value ≡ true) r.view.elements
+    → AreKnown saids (running r) (after saids (running r)).world
+begun_known saids r known = by (after saids (running r)).world (left_behind saids r)
+  where
+    by : (last : World) → AreLeft saids r last → AreKnown saids (running r) last
+    by (describing bytes meters) left = absurd left
+    by (running last) left = zip_known saids r r.view.elements last.view.elements known left
+
+said_begins : (text bytes : List ℕ) (meters : List Reading) → AreBytes bytes → Begins (said_step (answer text) (describing bytes meters))
+unfolding step
+said_begins text bytes meters are = by (answer text) refl
+  where
+    by : (said : Result Phrase ℕ) → answer text ≡ said → Begins (said_step said (describing bytes meters))
+    by (Ok phrase) is =
+        describing_begins bytes meters phrase are
+        (λ more same. feeds_bytes text more (let all : answer text ≡ Ok (feeds more) = cc in all))
+    by (Err rule) is = tt
+
+known_behind : (texts : List (List ℕ)) (bytes : List ℕ) (meters : List Reading) → AreBytes bytes
+    → AreKnown (map answer texts) (describing bytes meters) (after (map answer texts) (describing bytes meters)).world
+unfolding after told_of
+known_behind [] bytes meters are = tt
+known_behind (text ∷ texts) bytes meters are =
+    by (said_step (answer text) (describing bytes meters)) (said_begins text bytes meters are) (known_behind texts)
+  where
+    saids : List (Result Phrase ℕ)
+    saids = map answer texts
+
+    by : (s : Step) → Begins s
+        → ((next : List ℕ) (shown : List Reading) → AreBytes next
+        → AreKnown saids (describing next shown) (after saids (describing next shown)).world)
+        → AllByRecursion (λ (x : Element). is_some x.value ≡ last_or true (if_done s (λ next. told_of saids next x)))
+        (elements_in (and_then s (describing bytes meters) (after saids)).world)
+    by (done (describing next shown) lines) begins rest = rest next shown begins
+    by (done (running r) lines) begins rest = begun_known saids r begins.known
+    by (refused fault) begins rest = tt
+
+pub values_are_known_as_told : ValuesAreKnownAsTold
+values_are_known_as_told texts shown =
+    All-from_recursion (λ (x : Element). is_some x.value ≡ last_or true (told_of (map answer texts) (start shown) x))
+    (elements_in (after (map answer texts) (start shown)).world) (known_behind texts [] shown no_bytes)
+  where
+    no_bytes : AreBytes []
+    no_bytes i = search rules

@@ -1,0 +1,5 @@
+use Rattle.uac_believed.proofs.Known.{elements_stay}
+use Rattle.uac_believed.proofs.laws.elements_stay.Goals as goal
+
+pub returns : goal.returns
+returns c = elements_stay

@@ -1,0 +1,151 @@
+-- When the host knows the value of a control. From the descriptor's end on it knows each, but for one of which a set broke: that one it
+-- doesn't know until a get brings all bytes of the control, or a set of it is done (Audio Class 2.0, 5.2.2; profile).
+use Rattle.std.specs.Prelude.{◌≡◌, ◌↔◌, ℕ, ◌==◌, ◌&&◌, ◌||◌, Bool, true, false, if◌then◌else◌, ℤ, List, [], ◌∷◌, ◌++◌, map, length, Option}
+use Rattle.std.specs.Prelude.{None, Some, is_some, option_map, option_and_then, Result, Ok, Err}
+use Rattle.std.specs.List.{All, cons_option}
+use Rattle.uac_units.specs.Hearing.{Reading}
+use Rattle.uac_request.specs.Requests.{Told, setup_of, value_bytes, is_done, is_stalled, with_bytes, with_descriptor}
+use Rattle.uac_request.specs.declared.setup.Setup.{Setup}
+use Rattle.uac_mixer.specs.Elements.{unread, width_of}
+use Rattle.uac_mixer.specs.Transfers as mixer
+use Rattle.uac_mixer.specs.Transfers.{get_of, set_of}
+use Rattle.uac_mixer.specs.declared.element.Element.{Element}
+use Rattle.uac_script.specs.Phrase.{Phrase, idle, feeds, goes, controls, gets, sets, shows, breaks, appends, tracks, jacks, deviates, runs}
+use Rattle.uac_script.specs.Phrase.{details, reports}
+use Rattle.uac_script.specs.Reading.{answer}
+use Rattle.uac_running.specs.RunningWorld.{RunningWorld}
+use Rattle.uac_running.specs.Transfers.{comes_back, element_named}
+use Rattle.uac_bus.specs.World.{Step, World, describing, done, refused, running, start}
+use Rattle.uac_bus.specs.After.{after, said_step}
+
+-- ---- the transfer that a line makes
+
+-- a control transfer: its setup packet, and the bytes that the host sends with it
+pub record Transfer : Type 0 where
+  pub setup : Setup
+  pub sent : List ℕ
+
+-- the host gets an element, or sets it to a value
+abbrev pub get_by : RunningWorld → Element → Transfer
+get_by r x = record { setup = get_of r.device.function.control_interface x; sent = [] }
+
+abbrev pub set_by : ℤ → RunningWorld → Element → Transfer
+set_by value r x = record { setup = set_of r.device.function.control_interface x; sent = value_bytes (width_of x.kind) value }
+
+-- the transfer that a line makes of a running device, if it makes one
+abbrev pub transfer_of : Phrase → RunningWorld → Option Transfer
+transfer_of (controls setup sent) r = Some (record { setup = setup_of setup; sent = sent })
+transfer_of (gets name) r = option_map (get_by r) (element_named r name)
+transfer_of (sets name value) r = option_map (set_by value r) (element_named r name)
+transfer_of idle r = None
+transfer_of (feeds bytes) r = None
+transfer_of goes r = None
+transfer_of (shows name) r = None
+transfer_of (breaks later) r = None
+transfer_of (appends interface samples) r = None
+transfer_of (tracks interface voice) r = None
+transfer_of (jacks terminal voice) r = None
+transfer_of (deviates clock millionths) r = None
+transfer_of (runs count losses) r = None
+transfer_of (details level) r = None
+transfer_of reports r = None
+
+-- ---- what it tells of an element
+
+-- nothing came back: the transfer broke
+abbrev pub is_broken : Option Told → Bool
+is_broken None = true
+is_broken (Some told) = false
+
+-- it is done
+abbrev pub says_done : Option Told → Bool
+says_done None = false
+says_done (Some (with_bytes bytes)) = false
+says_done (Some (with_descriptor from to)) = false
+says_done (Some is_done) = true
+says_done (Some (is_stalled rule)) = false
+
+-- so many bytes came
+abbrev pub brings : ℕ → Option Told → Bool
+brings count None = false
+brings count (Some (with_bytes bytes)) = length bytes == count
+brings count (Some (with_descriptor from to)) = false
+brings count (Some is_done) = false
+brings count (Some (is_stalled rule)) = false
+
+-- the transfer sets the element, or gets it
+abbrev pub is_set : RunningWorld → Element → Transfer → Bool
+is_set r x t = mixer.sets r.device.function.control_interface t.setup x
+
+abbrev pub is_get : RunningWorld → Element → Transfer → Bool
+is_get r x t = mixer.gets r.device.function.control_interface t.setup x
+
+abbrev pub came_back : RunningWorld → Transfer → Option Told
+came_back r t = comes_back t.setup t.sent r
+
+-- a set that broke tells that the element's value is unknown; a set that is done tells that it is known, and so does a get that brings all
+-- bytes of the control; any other transfer tells nothing of it
+unfoldable pub tells : RunningWorld → Element → Transfer → Option Bool
+tells r x t =
+    if is_set r x t && is_broken (came_back r t) then Some false
+    else if (is_set r x t && says_done (came_back r t)) || (is_get r x t && brings (width_of x.kind) (came_back r t)) then Some true
+    else None
+
+-- ---- what lines tell
+
+-- what a line tells of an element, by the transfer that it makes of a running device
+abbrev pub tells_in : World → Result Phrase ℕ → Element → Option Bool
+tells_in (describing bytes meters) said x = None
+tells_in (running r) (Ok phrase) x = option_and_then (tells r x) (transfer_of phrase r)
+tells_in (running r) (Err rule) x = None
+
+-- of what a line made of the world, where it was done
+abbrev pub if_done : Step → (World → List Bool) → List Bool
+if_done (done next lines) go = go next
+if_done (refused fault) go = []
+
+-- what lines told of an element, in order, up to the first line that is refused
+unfoldable pub told_of : List (Result Phrase ℕ) → World → Element → List Bool
+told_of [] w x = []
+told_of (said ∷ saids) w x = if_done (said_step said w) (λ next. cons_option (tells_in w said x) (told_of saids next x))
+
+-- the last of these, or this where there is none
+unfoldable pub last_or : Bool → List Bool → Bool
+last_or known [] = known
+last_or known (told ∷ rest) = last_or told rest
+
+-- ---- the laws
+
+-- the elements of the host's view, which begins with the running device
+abbrev pub elements_in : World → List Element
+elements_in (describing bytes meters) = []
+elements_in (running r) = r.view.elements
+
+-- behind every list of lines, by their texts, the value of an element is known or unknown as was told of it last; it is known where nothing
+-- was told
+abbrev pub ValuesAreKnownAsTold : Type 0
+ValuesAreKnownAsTold = (texts : List (List ℕ)) (shown : List Reading)
+    → All (λ x. is_some x.value ≡ last_or true (told_of (map answer texts) (start shown) x))
+    (elements_in (after (map answer texts) (start shown)).world)
+
+-- an element lost its value: at one of these lines, which was done, a set of it broke; and no line behind that one told of it that a set
+-- was done or that a get brought all bytes
+pub record IsLost (saids : List (Result Phrase ℕ)) (w : World) (x : Element) : Type 0 where
+  pub before : List (Result Phrase ℕ)
+  pub said : Result Phrase ℕ
+  pub behind : List (Result Phrase ℕ)
+  pub cut : saids ≡ before ++ said ∷ behind
+  pub whole : (after (before ++ said ∷ []) w).refusal ≡ None
+  pub broke : tells_in (after before w).world said x ≡ Some false
+  pub since : told_of behind (after (before ++ said ∷ []) w).world x ≡ []
+
+-- behind every list of lines exactly those values are unknown that were lost
+abbrev pub UnknownValuesAreLost : Type 0
+UnknownValuesAreLost = (texts : List (List ℕ)) (shown : List Reading)
+    → All (λ x. (x.value ≡ None) ↔ IsLost (map answer texts) (start shown) x)
+    (elements_in (after (map answer texts) (start shown)).world)
+
+-- the elements of a running device, but for their values, are the same ones in the same order behind every list of lines
+abbrev pub ElementsStay : Type 0
+ElementsStay = (saids : List (Result Phrase ℕ)) (r : RunningWorld)
+    → map unread (elements_in (after saids (running r)).world) ≡ map unread r.view.elements
