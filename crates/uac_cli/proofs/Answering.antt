@@ -116,6 +116,7 @@ module _ (shown : List Reading) (a b : Option (List ℕ)) (r r' : ℕ) (w w' : O
       | inl answers ↦ inl (answers, refl)
       | inr none ↦ inr (ap ended_in none)
     ];
+    lived = tt;
     closed = answered.closed;
     heard = (λ _. refl);
     unheard = (λ _. refl);
@@ -132,6 +133,7 @@ usage_run shown a r w w' f f' status closed = record {
   prompt = quiet_so_far [] nothing_shown;
   ended = tt;
   meant = inl ((refl, refl), refl);
+  lived = tt;
   closed = closed;
   heard = (λ _. refl);
   unheard = (λ _. refl);

@@ -71,10 +71,13 @@ done_call asked words shown shown' a b r r' w w' f f' status is done =
     inl (subst (λ (x : Option Words). AreAnswered x shown shown' a b r r' w w' f f' status) (sym is) done)
 
 -- they ask for none
+pub none_asked : (asked : Option Words) (fault : WordsFault) → fault ≡ faults.Usage → IsAnswer asked (Err fault) → asked ≡ None
+none_asked asked fault is answer = subst (λ (x : WordsFault). IsAnswer asked (Err x)) is answer
+
 pub usage_call : (asked : Option Words) (fault : WordsFault) (shown : List Reading) (a : Option (List ℕ)) (r : ℕ) (w w' : Option (List ℕ)) (f f' : ℕ) (status : Status)
     → fault ≡ faults.Usage → IsAnswer asked (Err fault) → Closes usage w w' f f' status → IsCall asked shown shown a a r r w w' f f' status
 usage_call asked fault shown a r w w' f f' status is answer closed =
-    let none : asked ≡ None = subst (λ (x : WordsFault). IsAnswer asked (Err x)) is answer in
+    let none = none_asked asked fault is answer in
     inl (subst (λ (x : Option Words). AreAnswered x shown shown a a r r w w' f f' status) (sym none) (usage_run shown a r w w' f f' status closed))
 
 -- there was no memory to read them

@@ -1,12 +1,11 @@
 -- How far a run is, and what it comes to from there.
-use Rattle.std.proofs.Common.{◌≡◌, ◌≢◌, ℕ, ◌+◌, ◌-◌, ◌≤◌, ◌⊎◌, inl, inr, Bool, true, false, List, [], ◌∷◌, ◌++◌, length, map, Option, None, Some, Result, Ok, Err, IfErr, refl, sym, ap, subst, ◌∙◌, arith, append_assoc, length-append}
+use Rattle.std.proofs.Common.{◌≡◌, ◌≢◌, ℕ, ◌+◌, ◌-◌, ◌≤◌, inl, inr, Bool, true, false, List, [], ◌∷◌, ◌++◌, length, map, Option, None, Some, Result, Ok, Err, refl, sym, ap, subst, ◌∙◌, arith, append_assoc, length-append}
 use Rattle.std.proofs.lemmas.List.{append-nil}
 use Rattle.std.specs.Io.KnownBytes.{Appends, Consumes, IsAtEnd, Keeps}
 use Rattle.uac_units.specs.Hearing.{Reading}
 use Rattle.uac_edges.specs.Faults.{Rose}
 use Rattle.uac_edges.specs.Writing.{AppendsFront}
 use Rattle.uac_script.specs.Lines.{line, long, past, unended, head_of, most_of_input, Splitting, Splits, Goes}
-use Rattle.uac_script.specs.Phrase.{Phrase}
 use Rattle.uac_script.specs.Reading.{answer}
 use Rattle.uac_script.specs.declared.lines.Next.{Next}
 use Rattle.uac_script.specs.declared.lines.Next.TheVariants as next
@@ -17,20 +16,22 @@ use Rattle.uac_script.proofs.HeadLemmas.{head_line-more}
 use Rattle.uac_edges.proofs.WritingLemmas.{Appends-twice, Appends-none, AppendsFront-after, AppendsFront-longer, Rose-earlier}
 use Rattle.uac_bus.specs.declared.fault.BusFault.{BusFault}
 use Rattle.uac_bus.specs.declared.fault.BusFault.TheVariants as faults
-use Rattle.uac_bus.specs.World.{World, describing, running, Step, done, refused, start, step, finish_of, meters_in}
+use Rattle.uac_bus.specs.World.{World, describing, running, Step, done, refused, start, finish_of, meters_in}
 use Rattle.uac_bus.specs.After.{after, said_step}
 use Rattle.uac_transcript.specs.Transcript.{Said}
 use Rattle.uac_transcript.specs.Printing.{text_of}
 use Rattle.uac_bus.specs.declared.bus.Stage.{Stage}
 use Rattle.uac_bus.specs.declared.bus.Stage.TheVariants as stages
-use Rattle.uac_bus.specs.Kept.{BusFields, Stands, StandsFor, Reaches, IsCut, Prevents, Answers, may_want}
+use Rattle.uac_bus.specs.Kept.{BusFields, Stands, StandsFor, Reaches, IsCut, Prevents}
 use Rattle.uac_cli.specs.declared.jobs.Job.TheVariants.{Run}
 use Rattle.uac_cli.specs.declared.status.Status.{Status}
 use Rattle.uac_cli.specs.declared.status.Status.TheVariants as statuses
 use Rattle.uac_cli.specs.Outcome.{End, at_end, read_failed, stopped, Outcome, no_memory, read_fault}
 use Rattle.uac_cli.specs.Run.{HasEnded, Closes, IsRun}
-use Rattle.uac_cli.specs.Running.{IsSilent, Leaves, Does, stop_outcome}
+use Rattle.uac_cli.specs.Running.{IsSilent, Leaves, stop_outcome}
 use Rattle.uac_cli.specs.Script.{IsLine, IsWanted, StandsBehind, wants}
+use Rattle.uac_cli.specs.Lived.{IsLived}
+use Rattle.uac_cli.proofs.LivedLemmas.{transcript_is_lived, wanted_is_lived}
 use Rattle.uac_cli.specs.Transcript.{Ending, misread, too_long, last_line, ends, behind, after_step, closed_by, finished, goes, transcript}
 use Rattle.uac_cli.proofs.Cutting.{HasDone, none_done, done_more, one_more_done, front_cut, rest_cut}
 use Rattle.uac_cli.proofs.Going.{line_size, goes_at, head_nothing, rest_is_done, rest_failed, behind-behind}
@@ -316,6 +317,7 @@ module _ (shown shown' : List Reading) (left left' : Option (List ℕ)) (reads r
     ended = ended;
     prompt = prompt;
     meant = inl (sym law);
+    lived = subst (IsLived shown taken) law (transcript_is_lived shown taken end);
     closed = closes_after ending.outcome text written mid written' writes writes' writes'' status front le closed;
     heard = heard;
     unheard = (λ other. absurd (other refl));
@@ -334,6 +336,7 @@ module _ (shown shown' : List Reading) (left left' : Option (List ℕ)) (reads r
     ended = ended;
     prompt = prompt;
     meant = inr (is_wanted shown taken text told rest w isdone is_line whole takes);
+    lived = wanted_is_lived shown taken _ (is_wanted shown taken text told rest w isdone is_line whole takes);
     closed = closes_after no_memory text written mid written' writes writes' writes'' status front le closed;
     heard = (λ _. heard);
     unheard = (λ other. absurd (other refl));
@@ -503,27 +506,6 @@ module _ (shown shown' : List Reading) (left mid left' : Option (List ℕ)) (wri
             (λ _. Stands-meters bus shown' far.world far.stands ∙ sym (finished_meters (old.number + 1) far.world)),
         o.over,
       )
-
--- ---- what the bus answers
-
--- a line of the bus, in the words of a line's text
-pub does_line : {X : Type 0} (told : X → Option (List ℕ)) (sink sink' : X) (phrase : Phrase) (w : World) (bus bus' : BusFields) (shown shown' : List Reading) (writes writes' : ℕ) (result : Result (Unit {0}) BusFault)
-    → bus.fault ≡ None → Answers phrase w bus' shown' (told sink) (told sink') result
-    → IfErr result (λ fault. fault ≢ faults.WriteFault → sink' ≡ sink)
-    → IfErr result (λ fault. fault ≢ faults.WriteFault → shown' ≡ shown)
-    → IfErr result (λ fault. fault ≡ faults.WriteFault → (bus.fault ≡ Some faults.WriteFault) ⊎ Rose writes writes')
-    → Does (step phrase w) (may_want phrase w) bus' shown shown' (told sink) (told sink') writes writes' result
-does_line told sink sink' phrase w bus bus' shown shown' writes writes' (Ok _) going answers unwritten unheard cause = (answers, tt)
-does_line told sink sink' phrase w bus bus' shown shown' writes writes' (Err (faults.Script rule)) going answers unwritten unheard cause =
-    (answers, record { heard = unheard (λ e. cc); kept = ap told (unwritten (λ e. cc)) })
-does_line told sink sink' phrase w bus bus' shown shown' writes writes' (Err (faults.Grammar fault)) going answers unwritten unheard cause =
-    (answers, record { heard = unheard (λ e. cc); kept = ap told (unwritten (λ e. cc)) })
-does_line told sink sink' phrase w bus bus' shown shown' writes writes' (Err (faults.Topology fault)) going answers unwritten unheard cause =
-    (answers, record { heard = unheard (λ e. cc); kept = ap told (unwritten (λ e. cc)) })
-does_line told sink sink' phrase w bus bus' shown shown' writes writes' (Err faults.NoMemory) going answers unwritten unheard cause =
-    (answers, record { heard = unheard (λ e. cc); kept = ap told (unwritten (λ e. cc)) })
-does_line told sink sink' phrase w bus bus' shown shown' writes writes' (Err faults.WriteFault) going answers unwritten unheard cause =
-    (answers, elim (cause refl) as (λ _. Rose writes writes') [ inl before ↦ absurd (let none : None ≡ Some faults.WriteFault = sym going ∙ before in cc) | inr rose ↦ rose ])
 
 -- ---- the last line
 

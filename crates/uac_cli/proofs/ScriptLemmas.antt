@@ -1,15 +1,18 @@
 -- A script's bytes are done as its lines are, one after the other.
-use Rattle.std.proofs.Common.{◌≡◌, ◌≢◌, ◌∙◌, sym, ap, refl, arith, ℕ, zero, suc, ◌+◌, ◌-◌, ◌<◌, ◌≤◌, ◌==◌, List, [], ◌∷◌, ◌++◌, length, map, take, drop, get_or, append_assoc, length-append, Option, None, Some}
-use Rattle.std.specs.List.{All, AllByRecursion}
+use Rattle.std.proofs.Common.{◌≡◌, ◌≢◌, ◌∙◌, sym, ap, refl, arith, ℕ, zero, suc, ◌+◌, ◌-◌, ◌<◌, ◌≤◌, ◌==◌, List, [], ◌∷◌, ◌++◌, length, map, take, drop, get_or, append_assoc, length-append, Option, None, Some, Result}
+use Rattle.std.specs.List.{All, AllByRecursion, AllZip}
 use Rattle.std.proofs.Math.Seq.{take-append_seam, drop-append-add}
 use Rattle.std.proofs.lemmas.Bool.{ne_eqb}
 use Rattle.std.proofs.lemmas.List.{length-take}
 use Rattle.std.proofs.lemmas.List.Sums.{position_or_len_is}
 use Rattle.uac_units.specs.Hearing.{Reading}
 use Rattle.uac_script.specs.Lines.{line, head_of, most_of_input}
+use Rattle.uac_script.specs.Line.{Says}
 use Rattle.uac_script.specs.Looking.{line_end}
+use Rattle.uac_script.specs.Phrase.{Phrase}
 use Rattle.uac_script.specs.Reading.{answer}
 use Rattle.uac_script.proofs.HeadLemmas.{head_line, line_end_in}
+use Rattle.uac_script.proofs.Sayings.{each_says_once}
 use Rattle.uac_transcript.specs.Printing.{text_of}
 use Rattle.uac_transcript.proofs.PrintingLemmas.{text_of-append}
 use Rattle.uac_bus.specs.declared.fault.BusFault.{BusFault}
@@ -107,3 +110,13 @@ pub script_lines : (shown : List Reading) (texts : List (List ℕ)) (rest : List
     ≡ come_to (after (map answer texts) (start shown)) 1 (λ w. goes (most_of_input - length (with_newlines texts)) rest end (length texts + 1) w)
 unfolding transcript
 script_lines shown texts rest end are fits = goes_lines texts most_of_input rest end 1 (start shown) are fits
+
+-- the same by what each line says
+pub script_said : (shown : List Reading) (texts : List (List ℕ)) (saids : List (Result Phrase ℕ)) (rest : List ℕ) (end : End) → AllZip Says texts saids
+    → AllByRecursion IsLine texts → length (with_newlines texts) ≤ most_of_input
+    → transcript shown (with_newlines texts ++ rest) end
+    ≡ come_to (after saids (start shown)) 1 (λ w. goes (most_of_input - length (with_newlines texts)) rest end (length texts + 1) w)
+script_said shown texts saids rest end say are fits =
+    script_lines shown texts rest end are fits
+    ∙ ap (λ (ss : List (Result Phrase ℕ)). come_to (after ss (start shown)) 1 (λ w. goes (most_of_input - length (with_newlines texts)) rest end (length texts + 1) w))
+    (sym ((each_says_once texts saids).0 say))

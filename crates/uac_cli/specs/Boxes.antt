@@ -11,6 +11,7 @@ abbrev pub fresh_readings : List Reading
 fresh_readings = record { kind = Peak; value = 0 } ∷ record { kind = Clipped; value = 0 } ∷ record { kind = Sum; value = 0 } ∷ []
 
 -- What a call comes to with such meters, which show something at its end.
-pub record IsFreshCall (words : Option Words) (left left' : Option (List ℕ)) (reads reads' : ℕ) (written written' : Option (List ℕ)) (writes writes' : ℕ) (status : Status) : Type 0 where
+pub record IsFreshCall (words : Option Words) (left left' : Option (List ℕ)) (reads reads' : ℕ) (written written' : Option (List ℕ))
+    (writes writes' : ℕ) (status : Status) : Type 0 where
   pub shown' : List Reading
   pub call : IsCall words fresh_readings shown' left left' reads reads' written written' writes writes' status

@@ -19,7 +19,8 @@ use Rattle.uac_cli.specs.Run.{Closes, IsRun}
 
 -- a rate's line: after how many microframes without a lost packet a stream is home
 abbrev pub settling_line : ℕ → List ℕ
-settling_line rate = option_map_or (λ bound. codes "rate " ++ decimal rate ++ codes " settle " ++ decimal bound ++ codes "\n") (bound_of rate) []
+settling_line rate = option_map_or (λ bound. codes "rate " ++ decimal rate ++ codes " settle " ++ decimal bound
+    ++ codes "\n") (bound_of rate) []
 
 -- one for each of the twelve rates, in their order
 abbrev pub settling : Outcome
@@ -34,19 +35,22 @@ pub record IsApart (shown shown' : List Reading) (left left' : Option (List ℕ)
   pub read : reads' ≡ reads
 
 -- nothing was taken or heard, and this is what was printed
-pub record Prints (outcome : Outcome) (shown shown' : List Reading) (left left' : Option (List ℕ)) (reads reads' : ℕ) (written written' : Option (List ℕ)) (writes writes' : ℕ) (status : Status) : Type 0 where
+pub record Prints (outcome : Outcome) (shown shown' : List Reading) (left left' : Option (List ℕ)) (reads reads' : ℕ)
+    (written written' : Option (List ℕ)) (writes writes' : ℕ) (status : Status) : Type 0 where
   pub apart : IsApart shown shown' left left' reads reads'
   pub closed : Closes outcome written written' writes writes' status
 
 -- `gen`: a number's script is run as from a source that has just its bytes and never fails; nothing is taken of the program's own
-pub record IsGenerated (number : ℕ) (shown shown' : List Reading) (left left' : Option (List ℕ)) (reads reads' : ℕ) (written written' : Option (List ℕ)) (writes writes' : ℕ) (status : Status) : Type 0 where
+pub record IsGenerated (number : ℕ) (shown shown' : List Reading) (left left' : Option (List ℕ)) (reads reads' : ℕ)
+    (written written' : Option (List ℕ)) (writes writes' : ℕ) (status : Status) : Type 0 where
   pub unread : Option (List ℕ)
   pub run : IsRun (Some Run) shown shown' (Some (script_of number)) unread 0 0 written written' writes writes' status
   pub untaken : left' ≡ left
   pub untouched : reads' ≡ reads
 
 -- what a command comes to
-abbrev pub IsDone : Command → List Reading → List Reading → Option (List ℕ) → Option (List ℕ) → ℕ → ℕ → Option (List ℕ) → Option (List ℕ) → ℕ → ℕ → Status → Type 0
+abbrev pub IsDone : Command → List Reading → List Reading → Option (List ℕ) → Option (List ℕ) → ℕ → ℕ → Option (List ℕ) → Option (List ℕ)
+    → ℕ → ℕ → Status → Type 0
 IsDone commands.Check shown shown' left left' reads reads' written written' writes writes' status =
     IsRun (Some (Describe Check)) shown shown' left left' reads reads' written written' writes writes' status
 IsDone commands.Show shown shown' left left' reads reads' written written' writes writes' status =
@@ -62,14 +66,16 @@ IsDone commands.Settle shown shown' left left' reads reads' written written' wri
 
 -- what words come to: the command that they ask for is done, over either rack, and words that ask for none take nothing and are told how
 -- the program is used
-abbrev pub AreAnswered : Option Words → List Reading → List Reading → Option (List ℕ) → Option (List ℕ) → ℕ → ℕ → Option (List ℕ) → Option (List ℕ) → ℕ → ℕ → Status → Type 0
+abbrev pub AreAnswered : Option Words → List Reading → List Reading → Option (List ℕ) → Option (List ℕ) → ℕ → ℕ → Option (List ℕ)
+    → Option (List ℕ) → ℕ → ℕ → Status → Type 0
 AreAnswered None shown shown' left left' reads reads' written written' writes writes' status =
     IsRun None shown shown' left left' reads reads' written written' writes writes' status
 AreAnswered (Some words) shown shown' left left' reads reads' written written' writes writes' status =
     IsDone words.command shown shown' left left' reads reads' written written' writes writes' status
 
 -- a call of the program: words come to that, or there was no memory to read them
-abbrev pub IsCall : Option Words → List Reading → List Reading → Option (List ℕ) → Option (List ℕ) → ℕ → ℕ → Option (List ℕ) → Option (List ℕ) → ℕ → ℕ → Status → Type 0
+abbrev pub IsCall : Option Words → List Reading → List Reading → Option (List ℕ) → Option (List ℕ) → ℕ → ℕ → Option (List ℕ)
+    → Option (List ℕ) → ℕ → ℕ → Status → Type 0
 IsCall words shown shown' left left' reads reads' written written' writes writes' status =
     AreAnswered words shown shown' left left' reads reads' written written' writes writes' status
     ⊎ Prints no_memory shown shown' left left' reads reads' written written' writes writes' status

@@ -78,7 +78,8 @@ sound description blocks function = record { text = text_of description blocks f
 -- what the topology says of blocks
 pub data IsVerdict (description : Description) (blocks : List Block) : Outcome → Type 0 where
   -- their function is sound
-  is_sound : (function : FunctionFields) → IsSound blocks → IsFunctionOf function blocks → IsVerdict description blocks (sound description blocks function)
+  is_sound : (function : FunctionFields) → IsSound blocks → IsFunctionOf function blocks
+      → IsVerdict description blocks (sound description blocks function)
   -- it breaks a rule first
   is_broken : (fault : TopologyFault) → first_broken blocks ≡ Some fault → IsVerdict description blocks (unsound fault)
 
@@ -91,9 +92,11 @@ pub data Answers (description : Description) (taken : List ℕ) : End → Outcom
   -- the bytes are all, and have a fault
   ends_in_fault : (fault : GrammarFault) → first_fault taken ≡ Some fault → Answers description taken at_end (refusal fault)
   -- the bytes are all, and are these blocks
-  is_read : (blocks : List Block) (outcome : Outcome) → IsSentence taken blocks → IsVerdict description blocks outcome → Answers description taken at_end outcome
+  is_read : (blocks : List Block) (outcome : Outcome) → IsSentence taken blocks → IsVerdict description blocks outcome
+      → Answers description taken at_end outcome
 
--- The same of any words: those that are no command take nothing and give the usage line. `run` has no such outcome: it prints lines of its own.
+-- The same of any words: those that are no command take nothing and give the usage line. `run` has no such outcome: it prints lines of its
+-- own.
 abbrev pub IsOutcome : Option Job → List ℕ → End → Outcome → Type 0
 IsOutcome None taken end outcome = (taken ≡ []) × (outcome ≡ usage)
 IsOutcome (Some (Describe description)) taken end outcome = Answers description taken end outcome

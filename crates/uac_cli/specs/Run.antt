@@ -19,6 +19,7 @@ use Rattle.uac_cli.specs.Reading.{StopsThere}
 use Rattle.uac_cli.specs.Outcome.{End, at_end, read_failed, stopped, Outcome, no_memory, refusal, unsound, IsVerdict, Answers, IsOutcome}
 use Rattle.uac_cli.specs.Transcript.{Ending, transcript}
 use Rattle.uac_cli.specs.Script.{IsWanted}
+use Rattle.uac_cli.specs.Lived.{IsLived}
 
 -- why no more was taken shows on the source: what is left, and its counts of faults before and after
 abbrev pub HasEnded : End → Option (List ℕ) → ℕ → ℕ → Type 0
@@ -49,9 +50,16 @@ WantsMemory None shown taken ending = ⊥
 WantsMemory (Some (Describe description)) shown taken ending = ending ≡ record { outcome = no_memory; meters = shown }
 WantsMemory (Some Run) shown taken ending = IsWanted shown taken ending
 
+-- A script's run goes line by line, and while what its lines give is steady, each line that they print is as promised.
+abbrev pub IsLivedFor : Option Job → List Reading → List ℕ → Ending → Type 0
+IsLivedFor None shown taken ending = Unit {0}
+IsLivedFor (Some (Describe description)) shown taken ending = Unit {0}
+IsLivedFor (Some Run) shown taken ending = IsLived shown taken ending
+
 -- The bytes that were taken, why no more were, and what they come to; or memory was wanted. Unless
 -- a write failed, the meters show at the end what they show in the world after the lines done; where no script runs they hear nothing.
-pub record IsRun (command : Option Job) (shown shown' : List Reading) (left left' : Option (List ℕ)) (reads reads' : ℕ) (written written' : Option (List ℕ)) (writes writes' : ℕ) (status : Status) : Type 0 where
+pub record IsRun (command : Option Job) (shown shown' : List Reading) (left left' : Option (List ℕ)) (reads reads' : ℕ)
+    (written written' : Option (List ℕ)) (writes writes' : ℕ) (status : Status) : Type 0 where
   pub taken : List ℕ
   pub end : End
   pub ending : Ending
@@ -59,12 +67,14 @@ pub record IsRun (command : Option Job) (shown shown' : List Reading) (left left
   pub ended : HasEnded end left' reads reads'
   pub prompt : IsPrompt command taken
   pub meant : IsEnding command shown taken end ending ⊎ WantsMemory command shown taken ending
+  pub lived : IsLivedFor command shown taken ending
   pub closed : Closes ending.outcome written written' writes writes' status
   pub heard : status ≢ statuses.WriteFault → shown' ≡ ending.meters
   pub unheard : command ≢ Some Run → shown' ≡ shown
 
 -- The same of what is said of one descriptor, and of its outcome alone.
-pub record IsAnswered (description : Description) (left left' : Option (List ℕ)) (reads reads' : ℕ) (written written' : Option (List ℕ)) (writes writes' : ℕ) (status : Status) : Type 0 where
+pub record IsAnswered (description : Description) (left left' : Option (List ℕ)) (reads reads' : ℕ) (written written' : Option (List ℕ))
+    (writes writes' : ℕ) (status : Status) : Type 0 where
   pub taken : List ℕ
   pub end : End
   pub outcome : Outcome
@@ -85,7 +95,8 @@ RefusesFunction (check.Fault fault) old new before after status = Closes (unsoun
 RefusesFunction check.NoMemory old new before after status = Closes no_memory old new before after status
 
 -- The text of a verdict on these blocks was written; or there was no memory for it.
-pub record Judges (description : Description) (blocks : List Block) (old new : Option (List ℕ)) (before after : ℕ) (status : Status) : Type 0 where
+pub record Judges (description : Description) (blocks : List Block) (old new : Option (List ℕ)) (before after : ℕ)
+    (status : Status) : Type 0 where
   pub outcome : Outcome
   pub meant : IsVerdict description blocks outcome ⊎ (outcome ≡ no_memory)
   pub closed : Closes outcome old new before after status

@@ -24,7 +24,8 @@ Leaves shown shown' written written' writes writes' _ = IsSilent shown shown' wr
 
 -- what a line that makes this step comes to: it is done, and the bus and the meters stand for the next world; or it fails. Memory may be
 -- wanted only where this says so
-abbrev pub Does : Step → Bool → BusFields → List Reading → List Reading → Option (List ℕ) → Option (List ℕ) → ℕ → ℕ → Result (Unit {0}) BusFault → Type 0
+abbrev pub Does : Step → Bool → BusFields → List Reading → List Reading → Option (List ℕ) → Option (List ℕ) → ℕ → ℕ
+    → Result (Unit {0}) BusFault → Type 0
 Does s memory bus shown shown' written written' writes writes' result =
     kept.Does s memory (kept.Stands bus shown') written written' result × IfErr result (Leaves shown shown' written written' writes writes')
 

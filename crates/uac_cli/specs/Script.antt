@@ -1,5 +1,6 @@
 -- A script as a list of lines, and what they come to (profile).
-use Rattle.std.specs.Prelude.{◌≡◌, ◌≢◌, ℕ, ◌+◌, ◌≤◌, ◌⊎◌, Bool, true, false, List, [], ◌∷◌, ◌++◌, length, map, flat_map, Option, None, Some, Result, Ok, Err}
+use Rattle.std.specs.Prelude.{◌≡◌, ◌≢◌, ℕ, ◌+◌, ◌≤◌, ◌⊎◌, Bool, true, false, List, [], ◌∷◌, ◌++◌, length, map, flat_map, Option, None, Some}
+use Rattle.std.specs.Prelude.{Result, Ok, Err}
 use Rattle.std.specs.List.{All, AllByRecursion}
 use Rattle.uac_script.specs.Lines.{most_of_line}
 use Rattle.uac_script.specs.Phrase.{Phrase}
@@ -51,4 +52,5 @@ pub record IsWanted (shown : List Reading) (taken : List ℕ) (ending : Ending) 
   pub whole : StandsBehind rest
   pub done : (after (map answer texts) (start shown)).refusal ≡ None
   pub takes : wants (answer text) (after (map answer texts) (start shown)).world ≡ true
-  pub is : ending ≡ behind (text_of (after (map answer texts) (start shown)).lines) (ends no_memory (after (map answer texts) (start shown)).world)
+  pub is : ending ≡ behind (text_of (after (map answer texts) (start shown)).lines)
+      (ends no_memory (after (map answer texts) (start shown)).world)

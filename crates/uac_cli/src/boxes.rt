@@ -4,8 +4,9 @@ ghost use Rattle.std.specs.Io.KnownBytes.{IsAtEnd};
 ghost use Rattle.uac_edges.specs.Faults.{Rose};
 ghost use Rattle.uac_units.specs.Fitting.{IsFitted};
 ghost use Rattle.uac_words.specs.Plain.{plainly};
-ghost use Rattle.uac_cli.specs.Boxes.{IsFreshCall};
+ghost use Rattle.uac_cli.specs.Boxes.{IsFreshCall, fresh_readings};
 ghost use Rattle.uac_cli.specs.Call.{ask_to_read};
+ghost use Rattle.uac_cli.specs.Completeness.{IsComplete};
 
 use crate::status::Status;
 use crate::top::{Racks, uac_main};
@@ -35,6 +36,11 @@ pub fn run_in_boxes<S: Source, K: Sink>(
     // The whole input was read.
     ensures ok { IfOk result (λ status. status ≡ Status.Ok → ask_to_read (plainly (map (λ word. string_bytes word) words.now)) ≡ true
         → IsAtEnd (S.left source.new)) }
+
+    // Where no read and no write failed and there was memory, status and text are what the whole input comes to, to its end.
+    ensures complete { IfOk result (λ status. IsComplete (plainly (map (λ word. string_bytes word) words.now)) fresh_readings
+        (S.left source.old) (S.faults source.old) (S.faults source.new)
+        (K.written sink.old) (K.written sink.new) (K.faults sink.old) (K.faults sink.new) status) }
 
     // Where there is no memory for the boxes nothing is taken and nothing is written.
     ensures untaken { OnErr result (source.new ≡ source.old) }
@@ -74,6 +80,9 @@ fn run_with_racks<S: Source, K: Sink>(
     ensures write_fault { IfOk result (λ status. status ≡ Status.WriteFault → Rose (K.faults sink.old) (K.faults sink.new)) }
     ensures ok { IfOk result (λ status. status ≡ Status.Ok → ask_to_read (plainly (map (λ word. string_bytes word) words.now)) ≡ true
         → IsAtEnd (S.left source.new)) }
+    ensures complete { IfOk result (λ status. IsComplete (plainly (map (λ word. string_bytes word) words.now)) fresh_readings
+        (S.left source.old) (S.faults source.old) (S.faults source.new)
+        (K.written sink.old) (K.written sink.new) (K.faults sink.old) (K.faults sink.new) status) }
     ensures untaken { OnErr result (source.new ≡ source.old) }
     ensures unwritten { OnErr result (sink.new ≡ sink.old) }
 {

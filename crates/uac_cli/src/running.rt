@@ -21,7 +21,7 @@ use crate::top::close;
 use std::alloc::Global;
 use uac_bus::{Bus, BusFault};
 use uac_edges::{Sink, Source};
-use uac_script::{Line, LineStop, Lines, Next};
+use uac_script::{LentLine, LineRoom, LineStop, Lines, Next, is_idle};
 use uac_units::{Meter, Meters, Rack, Unit};
 
 /// Does the lines of a script in order, up to the first that is refused, and prints what each prints, and the last line of a
@@ -35,7 +35,8 @@ pub fn run_script<S: Source, K: Sink>(
 ) -> Status
     requires { IsFitted (λ v x. (⟦<dyn Unit as Unit>⟧ v).kind_of x) rack.now }
     ensures run { IsRun (Some Run)
-        (readings (λ v x. (⟦<dyn Meter as Meter>⟧ v).reading_of x) meters.old) (readings (λ v x. (⟦<dyn Meter as Meter>⟧ v).reading_of x) meters.new)
+        (readings (λ v x. (⟦<dyn Meter as Meter>⟧ v).reading_of x) meters.old)
+        (readings (λ v x. (⟦<dyn Meter as Meter>⟧ v).reading_of x) meters.new)
         (S.left source.old) (S.left source.new) (S.faults source.old) (S.faults source.new)
         (K.written sink.old) (K.written sink.new) (K.faults sink.old) (K.faults sink.new) result }
     ensures read_fault { result ≡ Status.ReadFault → Rose (S.faults source.old) (S.faults source.new) }
@@ -44,9 +45,10 @@ pub fn run_script<S: Source, K: Sink>(
 {
     let mut bus = Bus::new(alloc);
     let mut lines = Lines::new();
+    let mut room = LineRoom::new();
     loop {
         match lines.next(source) {
-            Ok(Next::Line) => match do_line(&mut bus, lines.text(), rack, meters, sink) {
+            Ok(Next::Line) => match do_line(&mut bus, lines.text(), &mut room, rack, meters, sink) {
                 Ok(()) => {}
                 Err(fault) => return refuse_line(fault, lines.number(), sink),
             },
@@ -56,10 +58,11 @@ pub fn run_script<S: Source, K: Sink>(
     }
 }
 
-/// Does the line that a text spells.
+/// Does the line that a text spells. `room` is for its long parts.
 fn do_line<K: Sink>(
     bus: &mut Bus,
     text: &[u8],
+    room: &mut LineRoom,
     rack: &Rack,
     meters: &mut Meters,
     sink: &mut K,
@@ -68,19 +71,24 @@ fn do_line<K: Sink>(
     requires short { length text.now ≤ 4096 }
     ensures does { (w : World) → Stands bus.old (readings (λ v x. (⟦<dyn Meter as Meter>⟧ v).reading_of x) meters.old) w
         → Does (said_step (answer text.now) w) (wants (answer text.now) w) bus.new
-        (readings (λ v x. (⟦<dyn Meter as Meter>⟧ v).reading_of x) meters.old) (readings (λ v x. (⟦<dyn Meter as Meter>⟧ v).reading_of x) meters.new)
+        (readings (λ v x. (⟦<dyn Meter as Meter>⟧ v).reading_of x) meters.old)
+        (readings (λ v x. (⟦<dyn Meter as Meter>⟧ v).reading_of x) meters.new)
         (K.written sink.old) (K.written sink.new) (K.faults sink.old) (K.faults sink.new) result }
     ensures never_falls { K.faults sink.old ≤ K.faults sink.new }
 {
-    match Line::read(text) {
-        Ok(line) => bus.line(&line, rack, meters, sink),
+    if is_idle(text) {
+        return Ok(());
+    }
+    match LentLine::read(text, room) {
+        Ok(line) => bus.lent_line(line, rack, meters, sink),
         Err(rule) => Err(BusFault::Script(rule)),
     }
 }
 
 /// Prints why the line with this number was refused. Behind a write that failed nothing is printed.
 fn refuse_line<K: Sink>(fault: BusFault, number: u64, sink: &mut K) -> Status
-    ensures closed { Closes (last_line fault number) (K.written sink.old) (K.written sink.new) (K.faults sink.old) (K.faults sink.new) result }
+    ensures closed { Closes (last_line fault number) (K.written sink.old) (K.written sink.new) (K.faults sink.old)
+        (K.faults sink.new) result }
     ensures never_ok { result ≢ Status.Ok }
     ensures never_read { result ≢ Status.ReadFault }
     ensures cause { result ≡ Status.WriteFault → fault ≢ BusFault.WriteFault → Rose (K.faults sink.old) (K.faults sink.new) }
@@ -109,7 +117,8 @@ fn refuse_line<K: Sink>(fault: BusFault, number: u64, sink: &mut K) -> Status
 
 /// Prints why there is no next line; `number` is that of a line that is too long.
 fn stop_lines<K: Sink>(stop: LineStop, number: u64, sink: &mut K) -> Status
-    ensures closed { Closes (stop_outcome stop number) (K.written sink.old) (K.written sink.new) (K.faults sink.old) (K.faults sink.new) result }
+    ensures closed { Closes (stop_outcome stop number) (K.written sink.old) (K.written sink.new) (K.faults sink.old)
+        (K.faults sink.new) result }
     ensures never_ok { result ≢ Status.Ok }
     ensures read { result ≡ Status.ReadFault → stop ≡ LineStop.Failed }
     ensures cause { result ≡ Status.WriteFault → Rose (K.faults sink.old) (K.faults sink.new) }
@@ -126,7 +135,8 @@ fn finish<K: Sink>(bus: &Bus, number: u64, sink: &mut K) -> Status
     ensures closed { (meters : List Reading) (w : World) → Stands bus.now meters w
         → Closes (finished number w).outcome (K.written sink.old) (K.written sink.new) (K.faults sink.old) (K.faults sink.new) result }
     ensures never_read { result ≢ Status.ReadFault }
-    ensures cause { (meters : List Reading) (w : World) → Stands bus.now meters w → result ≡ Status.WriteFault → Rose (K.faults sink.old) (K.faults sink.new) }
+    ensures cause { (meters : List Reading) (w : World) → Stands bus.now meters w → result ≡ Status.WriteFault
+        → Rose (K.faults sink.old) (K.faults sink.new) }
 {
     match bus.finish() {
         Ok(()) => Status::Ok,

@@ -1,5 +1,9 @@
 // How a run ends.
 ghost use Rattle.std.specs.Prelude.{◌≡◌};
+ghost use Rattle.std.specs.Process.{exit_status};
+ghost use Rattle.uac_cli.specs.Exit.{exit_number};
+
+use std::process::ExitCode;
 
 /// How a run ended. Its number is the exit status of the process.
 #[derive(Clone, Copy, Debug, PartialEq, Eq)]
@@ -20,4 +24,11 @@ pub enum Status {
     NoMemory = 6,
     /// The input is too long.
     TooLong = 7,
+}
+
+/// The exit status of the process for a run that ended so.
+pub fn exit_code(status: Status) -> ExitCode
+    ensures { exit_status result ≡ exit_number status }
+{
+    ExitCode::from(status as u8)
 }

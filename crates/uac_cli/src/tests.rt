@@ -2,8 +2,10 @@
 ghost use Rattle.std.specs.Prelude.{◌<◌};
 
 use super::*;
+use crate::boxes::run_in_boxes;
+use std::alloc::Global;
 use std::test::Fail;
-use uac_descriptor::{ByteList, WordList};
+use uac_descriptor::{ByteList, NoMemory, WordList};
 use uac_edges::{MemorySink, MemorySource, SteadySource};
 
 /// The least descriptor: 35 bytes, blocks at 0, 9, 17 and 26.

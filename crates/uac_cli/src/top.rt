@@ -10,6 +10,7 @@ ghost use Rattle.uac_units.specs.Panel.{readings};
 ghost use Rattle.uac_store.specs.Controls.{initial_controls};
 ghost use Rattle.uac_words.specs.Plain.{plainly};
 ghost use Rattle.uac_cli.specs.Call.{IsCall, IsDone, IsGenerated, ask_to_read, reads_all};
+ghost use Rattle.uac_cli.specs.Completeness.{IsComplete};
 ghost use Rattle.uac_cli.specs.Outcome.{no_memory, sound, text_of};
 ghost use Rattle.uac_cli.specs.Run.{IsAnswered, Closes, Judges, Refuses, RefusesFunction};
 
@@ -58,7 +59,8 @@ pub fn uac_main<S: Source, K: Sink>(
 
     // Status, text and what the meters show follow from the words and the bytes that were taken.
     ensures call { IsCall (plainly (map (λ word. string_bytes word) words.now))
-        (readings (λ v x. (⟦<dyn Meter as Meter>⟧ v).reading_of x) meters.old) (readings (λ v x. (⟦<dyn Meter as Meter>⟧ v).reading_of x) meters.new)
+        (readings (λ v x. (⟦<dyn Meter as Meter>⟧ v).reading_of x) meters.old)
+        (readings (λ v x. (⟦<dyn Meter as Meter>⟧ v).reading_of x) meters.new)
         (S.left source.old) (S.left source.new) (S.faults source.old) (S.faults source.new)
         (K.written sink.old) (K.written sink.new) (K.faults sink.old) (K.faults sink.new) result }
 
@@ -67,7 +69,14 @@ pub fn uac_main<S: Source, K: Sink>(
     ensures write_fault { result ≡ Status.WriteFault → Rose (K.faults sink.old) (K.faults sink.new) }
 
     // The whole input was read, where the command reads it.
-    ensures ok { result ≡ Status.Ok → ask_to_read (plainly (map (λ word. string_bytes word) words.now)) ≡ true → IsAtEnd (S.left source.new) }
+    ensures ok { result ≡ Status.Ok → ask_to_read (plainly (map (λ word. string_bytes word) words.now)) ≡ true
+        → IsAtEnd (S.left source.new) }
+
+    // Where no read and no write failed and there was memory, status and text are what the whole input comes to, to its end.
+    ensures complete { IsComplete (plainly (map (λ word. string_bytes word) words.now))
+        (readings (λ v x. (⟦<dyn Meter as Meter>⟧ v).reading_of x) meters.old)
+        (S.left source.old) (S.faults source.old) (S.faults source.new)
+        (K.written sink.old) (K.written sink.new) (K.faults sink.old) (K.faults sink.new) result }
 {
     match uac_words::read(alloc, words) {
         Ok(words) => perform(alloc, words, source, sink, racks, meters),
@@ -88,7 +97,8 @@ fn perform<S: Source, K: Sink>(
     requires plain { IsFitted (λ v x. (⟦<dyn Unit as Unit>⟧ v).kind_of x) racks.now.plain }
     requires lanes { IsFitted (λ v x. (⟦<dyn Unit as Unit>⟧ v).kind_of x) racks.now.lanes }
     ensures done { IsDone words.command
-        (readings (λ v x. (⟦<dyn Meter as Meter>⟧ v).reading_of x) meters.old) (readings (λ v x. (⟦<dyn Meter as Meter>⟧ v).reading_of x) meters.new)
+        (readings (λ v x. (⟦<dyn Meter as Meter>⟧ v).reading_of x) meters.old)
+        (readings (λ v x. (⟦<dyn Meter as Meter>⟧ v).reading_of x) meters.new)
         (S.left source.old) (S.left source.new) (S.faults source.old) (S.faults source.new)
         (K.written sink.old) (K.written sink.new) (K.faults sink.old) (K.faults sink.new) result }
     ensures read_fault { result ≡ Status.ReadFault → Rose (S.faults source.old) (S.faults source.new) }
@@ -112,7 +122,8 @@ fn do_command<S: Source, K: Sink>(
 ) -> Status
     requires rack { IsFitted (λ v x. (⟦<dyn Unit as Unit>⟧ v).kind_of x) rack.now }
     ensures done { IsDone command
-        (readings (λ v x. (⟦<dyn Meter as Meter>⟧ v).reading_of x) meters.old) (readings (λ v x. (⟦<dyn Meter as Meter>⟧ v).reading_of x) meters.new)
+        (readings (λ v x. (⟦<dyn Meter as Meter>⟧ v).reading_of x) meters.old)
+        (readings (λ v x. (⟦<dyn Meter as Meter>⟧ v).reading_of x) meters.new)
         (S.left source.old) (S.left source.new) (S.faults source.old) (S.faults source.new)
         (K.written sink.old) (K.written sink.new) (K.faults sink.old) (K.faults sink.new) result }
     ensures read_fault { result ≡ Status.ReadFault → Rose (S.faults source.old) (S.faults source.new) }
@@ -139,7 +150,8 @@ fn generate<K: Sink>(
 ) -> Status
     requires rack { IsFitted (λ v x. (⟦<dyn Unit as Unit>⟧ v).kind_of x) rack.now }
     ensures generated { (left : Option (List ℕ)) (reads : ℕ) → IsGenerated number
-        (readings (λ v x. (⟦<dyn Meter as Meter>⟧ v).reading_of x) meters.old) (readings (λ v x. (⟦<dyn Meter as Meter>⟧ v).reading_of x) meters.new)
+        (readings (λ v x. (⟦<dyn Meter as Meter>⟧ v).reading_of x) meters.old)
+        (readings (λ v x. (⟦<dyn Meter as Meter>⟧ v).reading_of x) meters.new)
         left left reads reads (K.written sink.old) (K.written sink.new) (K.faults sink.old) (K.faults sink.new) result }
     ensures never_read { result ≢ Status.ReadFault }
     ensures write_fault { result ≡ Status.WriteFault → Rose (K.faults sink.old) (K.faults sink.new) }
@@ -200,7 +212,8 @@ fn print<K: Sink>(
     function: Function,
     sink: &mut K,
 ) -> Status
-    ensures { Closes (sound description blocks.now function) (K.written sink.old) (K.written sink.new) (K.faults sink.old) (K.faults sink.new) result
+    ensures { Closes (sound description blocks.now function) (K.written sink.old) (K.written sink.new) (K.faults sink.old)
+        (K.faults sink.new) result
         ⊎ Closes no_memory (K.written sink.old) (K.written sink.new) (K.faults sink.old) (K.faults sink.new) result }
 {
     match description {
@@ -222,7 +235,8 @@ fn refuse<K: Sink>(stop: ReadStop, sink: &mut K) -> Status
 
 /// Prints the elements of a fresh device, once all the memory for it is there.
 fn list<K: Sink>(alloc: Global, function: Function, sink: &mut K) -> Status
-    ensures { (blocks : List Block) → Closes (sound Description.Elements blocks function) (K.written sink.old) (K.written sink.new) (K.faults sink.old) (K.faults sink.new) result
+    ensures { (blocks : List Block) → Closes (sound Description.Elements blocks function) (K.written sink.old) (K.written sink.new)
+        (K.faults sink.old) (K.faults sink.new) result
         ⊎ Closes no_memory (K.written sink.old) (K.written sink.new) (K.faults sink.old) (K.faults sink.new) result }
 {
     match fresh_view(alloc, function) {
@@ -236,7 +250,8 @@ fn list<K: Sink>(alloc: Global, function: Function, sink: &mut K) -> Status
 
 /// Prints the blocks, the entities and the settings, once all the memory for it is there.
 fn show<K: Sink>(alloc: Global, blocks: &[Block], function: &Function, sink: &mut K) -> Status
-    ensures { Closes (sound Description.Show blocks.now function.now) (K.written sink.old) (K.written sink.new) (K.faults sink.old) (K.faults sink.new) result
+    ensures { Closes (sound Description.Show blocks.now function.now) (K.written sink.old) (K.written sink.new) (K.faults sink.old)
+        (K.faults sink.new) result
         ⊎ Closes no_memory (K.written sink.old) (K.written sink.new) (K.faults sink.old) (K.faults sink.new) result }
 {
     let store = match Store::new(alloc, function) {
@@ -279,7 +294,8 @@ fn write_all<K: Sink>(
 
 /// Writes the text of a run, whose status comes where the sink takes all of it.
 pub fn close<K: Sink>(sink: &mut K, text: &[u8], status: Status) -> Status
-    ensures { Closes (record { text = text.now; status = status }) (K.written sink.old) (K.written sink.new) (K.faults sink.old) (K.faults sink.new) result }
+    ensures { Closes (record { text = text.now; status = status }) (K.written sink.old) (K.written sink.new) (K.faults sink.old)
+        (K.faults sink.new) result }
 {
     match give_all(sink, text) {
         Ok(()) => status,

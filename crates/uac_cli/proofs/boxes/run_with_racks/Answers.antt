@@ -6,6 +6,7 @@ use Rattle.uac_words.specs.declared.commands.Words.{Words}
 use Rattle.uac_cli.specs.declared.status.Status.{Status}
 use Rattle.uac_cli.specs.Call.{IsCall}
 use Rattle.uac_cli.specs.Boxes.{IsFreshCall, fresh_readings}
+use Rattle.uac_cli.specs.Completeness.{IsComplete}
 use Rattle.uac_cli.proofs.boxes.run_with_racks.OwnLists as lists
 use Rattle.uac_cli.proofs.boxes.run_with_racks.Goals as goal
 
@@ -27,6 +28,13 @@ from_fresh words shown shown' left left' reads reads' written written' writes wr
   call = subst (λ (s : List Reading). IsCall words s shown' left left' reads reads' written written' writes writes' status) same call;
 }
 
+-- the same of what the whole input comes to
+whole_fresh : (words : Option Words) (shown : List Reading) (left : Option (List ℕ)) (reads reads' : ℕ) (written written' : Option (List ℕ)) (writes writes' : ℕ) (status : Status)
+    → shown ≡ fresh_readings → IsComplete words shown left reads reads' written written' writes writes' status
+    → IsComplete words fresh_readings left reads reads' written written' writes writes' status
+whole_fresh words shown left reads reads' written written' writes writes' status same complete =
+    subst (λ (s : List Reading). IsComplete words s left reads reads' written written' writes writes' status) same complete
+
 pub returns-clause-call : goal.returns-clause-call
 returns-clause-call g c =
     let peak : (lists.own-2.entry c.into_dyn_box.result.vtable).1.reading_of c.into_dyn_box.result.value ≡ record { kind = Peak; value = 0 } =
@@ -42,3 +50,19 @@ returns-clause-call g c =
     ∙ ap (λ m. (lists.own-2.entry lists.at-2-3).1.reading_of m) c.in_ok-new-3.ensures.ok ∙ c.new-5.ensures in
     from_fresh _ _ _ _ _ _ _ _ _ _ _ _ (c.new-meters.ensures ∙ pushed (λ b. (lists.own-2.entry b.vtable).1.reading_of b.value) c.new-list.result.items c.push.new.self.items c.push-2.new.self.items c.push-3.new.self.items c.into_dyn_box.result c.into_dyn_box-in_ok-new-2.result c.into_dyn_box-in_ok-new-3.result _ _ _
     c.new-list.ensures.items c.in_ok-push.ensures.items c.in_ok-push-2.ensures.items c.in_ok-push-3.ensures.items peak clipped sum) c.uac_main.ensures.call
+
+pub returns-clause-complete : goal.returns-clause-complete
+returns-clause-complete g c =
+    let peak : (lists.own-2.entry c.into_dyn_box.result.vtable).1.reading_of c.into_dyn_box.result.value ≡ record { kind = Peak; value = 0 } =
+    read_made lists.own-2 (lists.own-2.entry lists.at-2-1) lists.at-2-1 refl Reading (λ j. j.1.reading_of) _ _ _ c.into_dyn_box.ensures.1
+    ∙ ap (λ m. (lists.own-2.entry lists.at-2-1).1.reading_of m) c.in_ok-new.ensures.ok ∙ c.new.ensures in
+    let second = c.into_dyn_box-in_ok-new-2 in
+    let clipped : (lists.own-2.entry second.result.vtable).1.reading_of second.result.value ≡ record { kind = Clipped; value = 0 } =
+    read_made lists.own-2 (lists.own-2.entry lists.at-2-2) lists.at-2-2 refl Reading (λ j. j.1.reading_of) _ _ _ second.ensures.1
+    ∙ ap (λ m. (lists.own-2.entry lists.at-2-2).1.reading_of m) c.in_ok-new-2.ensures.ok ∙ c.new-3.ensures in
+    let third = c.into_dyn_box-in_ok-new-3 in
+    let sum : (lists.own-2.entry third.result.vtable).1.reading_of third.result.value ≡ record { kind = Sum; value = 0 } =
+    read_made lists.own-2 (lists.own-2.entry lists.at-2-3) lists.at-2-3 refl Reading (λ j. j.1.reading_of) _ _ _ third.ensures.1
+    ∙ ap (λ m. (lists.own-2.entry lists.at-2-3).1.reading_of m) c.in_ok-new-3.ensures.ok ∙ c.new-5.ensures in
+    whole_fresh _ _ _ _ _ _ _ _ _ _ (c.new-meters.ensures ∙ pushed (λ b. (lists.own-2.entry b.vtable).1.reading_of b.value) c.new-list.result.items c.push.new.self.items c.push-2.new.self.items c.push-3.new.self.items c.into_dyn_box.result c.into_dyn_box-in_ok-new-2.result c.into_dyn_box-in_ok-new-3.result _ _ _
+    c.new-list.ensures.items c.in_ok-push.ensures.items c.in_ok-push-2.ensures.items c.in_ok-push-3.ensures.items peak clipped sum) c.uac_main.ensures.complete

@@ -1,0 +1,182 @@
+-- From what a call took of its input to what the whole of it comes to.
+use Rattle.std.proofs.Common.{◌≡◌, ◌≢◌, ℕ, zero, suc, ◌+◌, ◌-◌, ◌<◌, ◌⊎◌, inl, inr, List, [], ◌∷◌, ◌++◌, length, Option, None, Some, refl, sym, ap, subst, ◌∙◌, arith}
+use Rattle.std.proofs.lemmas.List.{append-nil}
+use Rattle.std.specs.Io.KnownBytes.{Consumes, IsAtEnd}
+use Rattle.uac_descriptor.specs.Reading.{AreBytes}
+use Rattle.uac_descriptor.specs.declared.block.Block.{Block}
+use Rattle.uac_sentence.specs.declared.faults.GrammarFault.{GrammarFault}
+use Rattle.uac_sentence.specs.Grammar.{first_fault}
+use Rattle.uac_sentence.specs.Sentence.{IsSentence}
+use Rattle.uac_sentence.proofs.SentenceLaw.{sentence_none, sentence_unique}
+use Rattle.uac_grammar.specs.declared.fault.ReadStop.TheVariants.{Fault}
+use Rattle.uac_grammar.specs.Stop.{stop_at}
+use Rattle.uac_grammar.proofs.Readings.{shown_stop_first, shown_stop_stays}
+use Rattle.uac_grammar.proofs.Stops.{stop_at-Fault}
+use Rattle.uac_units.specs.Hearing.{Reading}
+use Rattle.uac_script.specs.Lines.{Head, line, long, past, unended, head_of, most_of_input}
+use Rattle.uac_script.specs.Reading.{answer}
+use Rattle.uac_script.proofs.HeadLemmas.{head_line-more, head_long-more, head_past-more}
+use Rattle.uac_transcript.specs.Printing.{text_of}
+use Rattle.uac_bus.specs.World.{World, Step, done, refused, start}
+use Rattle.uac_bus.specs.After.{said_step}
+use Rattle.uac_bus.proofs.Described.{function_is}
+use Rattle.uac_cli.specs.declared.jobs.Description.{Description}
+use Rattle.uac_cli.specs.declared.status.Status.TheVariants as statuses
+use Rattle.uac_cli.specs.Outcome.{End, at_end, read_failed, stopped, Outcome, refusal, sound, unsound, IsVerdict, is_sound, is_broken, Answers, shows_fault, fails, ends_in_fault, is_read}
+use Rattle.uac_cli.specs.Transcript.{Ending, after_step, behind, ends, goes, rest_done, transcript, unfinished}
+use Rattle.uac_cli.specs.Run.{HasEnded}
+use Rattle.uac_cli.specs.Completeness.{Rests}
+use Rattle.uac_cli.proofs.Going.{goes_at, line_size}
+
+-- ---- a script that stopped
+
+-- its bytes come to no refusal yet, or every longer input comes to the same
+abbrev IsTold : Ending → (List ℕ → End → Ending) → Type 0
+IsTold short longer = (short.outcome.status ≡ statuses.WriteFault) ⊎ ((more : List ℕ) (end : End) → longer more end ≡ short)
+
+told_behind : (text : List ℕ) (short : Ending) (longer : List ℕ → End → Ending) → IsTold short longer → IsTold (behind text short) (λ more end. behind text (longer more end))
+told_behind text short longer (inl waits) = inl waits
+told_behind text short longer (inr same) = inr (λ more end. ap (behind text) (same more end))
+
+told_step : (s : Step) (number : ℕ) (w : World) (go : World → Ending) (longer : List ℕ → End → World → Ending)
+    → ((next : World) → IsTold (go next) (λ more end. longer more end next)) → IsTold (after_step s number w go) (λ more end. after_step s number w (longer more end))
+told_step (done next lines) number w go longer told = told_behind (text_of lines) (go next) (λ more end. longer more end next) (told next)
+told_step (refused fault) number w go longer told = inr (λ more end. refl)
+
+told_same : (short short' : Ending) (longer longer' : List ℕ → End → Ending) → short' ≡ short → ((more : List ℕ) (end : End) → longer' more end ≡ longer more end)
+    → IsTold short longer → IsTold short' longer'
+told_same short short' longer longer' same each (inl waits) = inl (ap (λ (e : Ending). e.outcome.status) same ∙ waits)
+told_same short short' longer longer' same each (inr stays) = inr (λ more end. each more end ∙ stays more end ∙ sym same)
+
+-- bytes that no newline ends wait for more
+waits_for_more : (rest : List ℕ) (number : ℕ) (w : World) → rest_done rest stopped number w ≡ ends unfinished w
+waits_for_more [] number w = refl
+waits_for_more (b ∷ rest) number w = refl
+
+-- by what stands first, where that is told of what stands behind a line
+told_by : (h : Head) (spare : ℕ) (bytes : List ℕ) (number : ℕ) (w : World) → head_of spare bytes ≡ h
+    → ((text rest : List ℕ) → h ≡ line text rest → (next : World)
+    → IsTold (goes (spare - (length text + 1)) rest stopped (number + 1) next) (λ more end. goes (spare - (length text + 1)) (rest ++ more) end (number + 1) next))
+    → IsTold (goes spare bytes stopped number w) (λ more end. goes spare (bytes ++ more) end number w)
+told_by (line text rest) spare bytes number w is on =
+    let go : World → Ending = λ next. goes (spare - (length text + 1)) rest stopped (number + 1) next in
+    let longer : List ℕ → End → World → Ending = λ more end next. goes (spare - (length text + 1)) (rest ++ more) end (number + 1) next in
+    told_same (after_step (said_step (answer text) w) number w go) (goes spare bytes stopped number w)
+    (λ more end. after_step (said_step (answer text) w) number w (longer more end)) (λ more end. goes spare (bytes ++ more) end number w)
+    (goes_at (line text rest) spare bytes stopped number w is)
+    (λ more end. goes_at (line text (rest ++ more)) spare (bytes ++ more) end number w (head_line-more spare bytes more text rest is))
+    (told_step (said_step (answer text) w) number w go longer (on text rest refl))
+told_by long spare bytes number w is on =
+    inr (λ more end. goes_at long spare (bytes ++ more) end number w (head_long-more spare bytes more is) ∙ sym (goes_at long spare bytes stopped number w is))
+told_by past spare bytes number w is on =
+    inr (λ more end. goes_at past spare (bytes ++ more) end number w (head_past-more spare bytes more is) ∙ sym (goes_at past spare bytes stopped number w is))
+told_by (unended text) spare bytes number w is on =
+    inl (ap (λ (e : Ending). e.outcome.status) (goes_at (unended text) spare bytes stopped number w is ∙ waits_for_more text number w))
+
+goes_told : (n spare : ℕ) (bytes : List ℕ) (number : ℕ) (w : World) → length bytes < n
+    → IsTold (goes spare bytes stopped number w) (λ more end. goes spare (bytes ++ more) end number w)
+goes_told zero spare bytes number w few = absurd (omega arith)
+goes_told (suc n) spare bytes number w few =
+    told_by (head_of spare bytes) spare bytes number w refl
+    (λ text rest is next. let size = line_size spare bytes text rest is in goes_told n (spare - (length text + 1)) rest (number + 1) next (omega arith))
+
+transcript_told : (shown : List Reading) (taken : List ℕ) → IsTold (transcript shown taken stopped) (λ more end. transcript shown (taken ++ more) end)
+unfolding transcript
+transcript_told shown taken = goes_told (suc (length taken)) most_of_input taken 1 (start shown) (omega arith)
+
+-- a script that stopped elsewhere than at a failed write comes to what every longer one comes to
+pub transcript_stays : (shown : List Reading) (taken more : List ℕ) (end : End) → (transcript shown taken stopped).outcome.status ≢ statuses.WriteFault
+    → transcript shown (taken ++ more) end ≡ transcript shown taken stopped
+transcript_stays shown taken more end other = elim (transcript_told shown taken) [
+  | inl waits ↦ absurd (other waits)
+  | inr same ↦ same more end
+]
+
+-- ---- what was taken
+
+-- what was taken is a front of all the bytes, and all of them where none is left
+record IsFront (bytes taken : List ℕ) (left : Option (List ℕ)) : Type 0 where
+  pub rest : List ℕ
+  pub parts : bytes ≡ taken ++ rest
+  pub whole : IsAtEnd left → taken ≡ bytes
+
+front_of : (left left' : Option (List ℕ)) (bytes taken : List ℕ) → left ≡ Some bytes → Consumes left left' taken → IsFront bytes taken left'
+front_of None left' bytes taken is consumed = absurd (cc)
+front_of (Some all) None bytes taken is consumed = absurd consumed
+front_of (Some all) (Some rest) bytes taken is consumed =
+    let same : all ≡ bytes = cc in
+    record {
+      rest = rest;
+      parts = sym same ∙ consumed;
+      whole = (λ none. sym (append-nil taken) ∙ ap (λ (zs : List ℕ). taken ++ zs) (sym none) ∙ sym consumed ∙ same);
+    }
+
+-- ---- a descriptor
+
+-- what is said of what was taken is said of all the bytes
+said_of_all : (description : Description) (bytes taken : List ℕ) (left : Option (List ℕ)) (reads reads' : ℕ) (end : End) (outcome : Outcome)
+    → IsFront bytes taken left → Rests reads reads' → HasEnded end left reads reads' → Answers description taken end outcome → Answers description bytes at_end outcome
+said_of_all description bytes taken left reads reads' end outcome front rests ended (shows_fault same fault shown) =
+    let stop = shown_stop_first (taken ++ front.rest) (Fault fault) (shown_stop_stays taken front.rest (Fault fault) (ap stop_at shown)) in
+    ends_in_fault fault (ap first_fault front.parts ∙ stop_at-Fault (first_fault (taken ++ front.rest)) fault stop)
+said_of_all description bytes taken left reads reads' end outcome front rests ended (fails none) = absurd (rests ended)
+said_of_all description bytes taken left reads reads' end outcome front rests ended (ends_in_fault fault first) =
+    ends_in_fault fault (ap first_fault (sym (front.whole ended)) ∙ first)
+said_of_all description bytes taken left reads reads' end outcome front rests ended (is_read blocks told sentence verdict) =
+    is_read blocks told (subst (λ (bs : List ℕ). IsSentence bs blocks) (front.whole ended) sentence) verdict
+
+-- by the first fault of all the bytes, or by their blocks
+data IsSaid (description : Description) (bytes : List ℕ) (outcome : Outcome) : Type 0 where
+  at_fault : (fault : GrammarFault) → first_fault bytes ≡ Some fault → outcome ≡ refusal fault → IsSaid description bytes outcome
+  at_blocks : (blocks : List Block) → IsSentence bytes blocks → IsVerdict description blocks outcome → IsSaid description bytes outcome
+
+said_by : (description : Description) (bytes : List ℕ) (end : End) (outcome : Outcome) → end ≡ at_end → Answers description bytes end outcome → IsSaid description bytes outcome
+said_by description bytes end outcome last (shows_fault same fault shown) =
+    at_fault fault (stop_at-Fault (first_fault bytes) fault (shown_stop_first bytes (Fault fault) (ap stop_at shown))) refl
+said_by description bytes end outcome last (fails none) = absurd (cc)
+said_by description bytes end outcome last (ends_in_fault fault first) = at_fault fault first refl
+said_by description bytes end outcome last (is_read blocks told sentence verdict) = at_blocks blocks sentence verdict
+
+-- one thing is said of blocks
+one_verdict : (description : Description) (blocks : List Block) (one other : Outcome) → IsVerdict description blocks one → IsVerdict description blocks other → one ≡ other
+one_verdict description blocks one other (is_sound f none is) (is_sound g none' is') =
+    ap (sound description blocks) (function_is f blocks is ∙ sym (function_is g blocks is'))
+one_verdict description blocks one other (is_sound f none is) (is_broken fault first) = absurd (let both : None ≡ Some fault = sym none ∙ first in cc)
+one_verdict description blocks one other (is_broken fault first) (is_sound f none is) = absurd (let both : None ≡ Some fault = sym none ∙ first in cc)
+one_verdict description blocks one other (is_broken fault first) (is_broken fault' first') =
+    let both : Some fault ≡ Some fault' = sym first ∙ first' in let same : fault ≡ fault' = cc in ap unsound same
+
+-- one thing is said of bytes
+one_said : (description : Description) (bytes : List ℕ) (one other : Outcome) → AreBytes bytes → IsSaid description bytes one → IsSaid description bytes other → one ≡ other
+one_said description bytes one other are (at_fault fault first is) (at_fault fault' first' is') =
+    let both : Some fault ≡ Some fault' = sym first ∙ first' in let same : fault ≡ fault' = cc in is ∙ ap refusal same ∙ sym is'
+one_said description bytes one other are (at_fault fault first is) (at_blocks blocks sentence verdict) =
+    absurd (let both : None ≡ Some fault = sym (sentence_none bytes blocks are sentence) ∙ first in cc)
+one_said description bytes one other are (at_blocks blocks sentence verdict) (at_fault fault first is) =
+    absurd (let both : None ≡ Some fault = sym (sentence_none bytes blocks are sentence) ∙ first in cc)
+one_said description bytes one other are (at_blocks blocks sentence verdict) (at_blocks blocks' sentence' verdict') =
+    one_verdict description blocks one other verdict
+    (subst (λ (bs : List Block). IsVerdict description bs other) (sentence_unique bytes blocks' blocks sentence' sentence) verdict')
+
+-- what is said of what was taken is what is said of all the bytes
+pub said_once : (description : Description) (bytes taken : List ℕ) (left left' : Option (List ℕ)) (reads reads' : ℕ) (end : End) (outcome all : Outcome)
+    → left ≡ Some bytes → Consumes left left' taken → Rests reads reads' → HasEnded end left' reads reads' → Answers description taken end outcome
+    → AreBytes bytes → Answers description bytes at_end all → outcome ≡ all
+said_once description bytes taken left left' reads reads' end outcome all is consumed rests ended answers are whole =
+    one_said description bytes outcome all are
+    (said_by description bytes at_end outcome refl
+    (said_of_all description bytes taken left' reads reads' end outcome (front_of left left' bytes taken is consumed) rests ended answers))
+    (said_by description bytes at_end all refl whole)
+
+-- ---- a script
+
+-- what the lines that were taken come to is what all lines come to, where no read and no write failed
+pub done_once : (shown : List Reading) (bytes taken : List ℕ) (left left' : Option (List ℕ)) (reads reads' : ℕ) (end : End)
+    → left ≡ Some bytes → Consumes left left' taken → Rests reads reads' → HasEnded end left' reads reads'
+    → (transcript shown taken end).outcome.status ≢ statuses.WriteFault → transcript shown bytes at_end ≡ transcript shown taken end
+done_once shown bytes taken left left' reads reads' at_end is consumed rests ended other =
+    let front = front_of left left' bytes taken is consumed in ap (λ (bs : List ℕ). transcript shown bs at_end) (sym (front.whole ended))
+done_once shown bytes taken left left' reads reads' read_failed is consumed rests ended other = absurd (rests ended)
+done_once shown bytes taken left left' reads reads' stopped is consumed rests ended other =
+    let front = front_of left left' bytes taken is consumed in
+    ap (λ (bs : List ℕ). transcript shown bs at_end) front.parts ∙ transcript_stays shown taken front.rest at_end other

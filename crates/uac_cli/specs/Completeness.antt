@@ -1,0 +1,42 @@
+-- What a call comes to where nothing of the outside fails: what all of its input comes to, however little of that was taken (profile).
+use Rattle.std.specs.Prelude.{◌≡◌, ℕ, ◌⊎◌, true, List, Option, Some}
+use Rattle.std.specs.Io.KnownBytes.{Appends}
+use Rattle.uac_descriptor.specs.Reading.{AreBytes}
+use Rattle.uac_edges.specs.Faults.{Rose}
+use Rattle.uac_gen.specs.Script.{script_of}
+use Rattle.uac_units.specs.Hearing.{Reading}
+use Rattle.uac_words.specs.declared.commands.Command.{Command}
+use Rattle.uac_words.specs.declared.commands.Command.TheVariants as commands
+use Rattle.uac_words.specs.declared.commands.Words.{Words}
+use Rattle.uac_cli.specs.declared.jobs.Description.TheVariants.{Check, Elements, Show}
+use Rattle.uac_cli.specs.declared.status.Status.{Status}
+use Rattle.uac_cli.specs.declared.status.Status.TheVariants as statuses
+use Rattle.uac_cli.specs.Outcome.{Answers, Outcome, at_end}
+use Rattle.uac_cli.specs.Transcript.{transcript}
+use Rattle.uac_cli.specs.Call.{reads_all, settling}
+
+-- no fault shows in the call: the count of faults neither rose nor stands at its type's end
+abbrev pub Rests : ℕ → ℕ → Type 0
+Rests before after = Rose before after → ⊥
+
+-- What a command comes to over an input that is these bytes and no more: `check`, `show` and `elements` say what is said of them where they
+-- end, `run` does their lines to the end, `gen` does those of its number's script, and `settle` takes no input.
+abbrev pub ComesTo : Command → List Reading → List ℕ → Outcome → Type 0
+ComesTo commands.Check shown bytes outcome = AreBytes bytes × Answers Check bytes at_end outcome
+ComesTo commands.Show shown bytes outcome = AreBytes bytes × Answers Show bytes at_end outcome
+ComesTo commands.Elements shown bytes outcome = AreBytes bytes × Answers Elements bytes at_end outcome
+ComesTo commands.Run shown bytes outcome = (transcript shown bytes at_end).outcome ≡ outcome
+ComesTo (commands.Gen number) shown bytes outcome = (transcript shown (script_of number) at_end).outcome ≡ outcome
+ComesTo commands.Settle shown bytes outcome = settling ≡ outcome
+
+-- the source has these bytes and no more, and no read of it failed, where the command reads it
+abbrev pub HasInput : Command → Option (List ℕ) → ℕ → ℕ → List ℕ → Type 0
+HasInput command left reads reads' bytes = reads_all command ≡ true → (left ≡ Some bytes) × Rests reads reads'
+
+-- Where the words ask for a command, no read and no write failed, and the whole input comes to an outcome, the call has that
+-- outcome's status and wrote its whole text; or memory was wanted.
+abbrev pub IsComplete : Option Words → List Reading → Option (List ℕ) → ℕ → ℕ → Option (List ℕ) → Option (List ℕ) → ℕ → ℕ → Status → Type 0
+IsComplete asked shown left reads reads' written written' writes writes' status =
+    (words : Words) (bytes : List ℕ) (outcome : Outcome) → asked ≡ Some words → HasInput words.command left reads reads' bytes
+    → Rests writes writes' → ComesTo words.command shown bytes outcome
+    → ((status ≡ outcome.status) × Appends written written' outcome.text) ⊎ (status ≡ statuses.NoMemory)

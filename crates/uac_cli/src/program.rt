@@ -1,0 +1,50 @@
+// The program over any source and sink: from the arguments of its process to its status.
+ghost use Rattle.std.specs.Prelude.{◌≡◌, true};
+ghost use Rattle.std.specs.Io.KnownBytes.{IsAtEnd};
+ghost use Rattle.uac_edges.specs.Faults.{Rose};
+ghost use Rattle.uac_cli.specs.Boxes.{IsFreshCall, fresh_readings};
+ghost use Rattle.uac_cli.specs.Call.{ask_to_read};
+ghost use Rattle.uac_cli.specs.Completeness.{IsComplete};
+ghost use Rattle.uac_cli.specs.Program.{asked_by};
+
+use crate::arguments::words;
+use crate::boxes::run_in_boxes;
+use crate::lines::NO_MEMORY;
+use crate::status::Status;
+use crate::top::close;
+use std::alloc::Global;
+use std::env::Args;
+use std::io;
+use uac_descriptor::NoMemory;
+use uac_edges::{Sink, Source};
+
+/// Runs the program with the arguments of its process, of which the first is its name.
+pub fn run_program<S: Source, K: Sink>(
+    alloc: Global,
+    args: io::Result<Args>,
+    source: &mut S,
+    sink: &mut K,
+) -> Status
+    // Status and text follow from the words behind the name and the bytes that were taken.
+    ensures call { IsFreshCall (asked_by args) (S.left source.old) (S.left source.new) (S.faults source.old) (S.faults source.new)
+        (K.written sink.old) (K.written sink.new) (K.faults sink.old) (K.faults sink.new) result }
+
+    // Each fault of the outside has its cause in this call.
+    ensures read_fault { result ≡ Status.ReadFault → Rose (S.faults source.old) (S.faults source.new) }
+    ensures write_fault { result ≡ Status.WriteFault → Rose (K.faults sink.old) (K.faults sink.new) }
+
+    // The whole input was read, where the command reads it.
+    ensures ok { result ≡ Status.Ok → ask_to_read (asked_by args) ≡ true → IsAtEnd (S.left source.new) }
+
+    // Where no read and no write failed and there was memory, status and text are what the whole input comes to, to its end.
+    ensures complete { IsComplete (asked_by args) fresh_readings (S.left source.old) (S.faults source.old) (S.faults source.new)
+        (K.written sink.old) (K.written sink.new) (K.faults sink.old) (K.faults sink.new) result }
+{
+    match words(alloc, args) {
+        Ok(words) => match run_in_boxes(alloc, &words, source, sink) {
+            Ok(status) => status,
+            Err(_) => close(sink, NO_MEMORY, Status::NoMemory),
+        },
+        Err(NoMemory) => close(sink, NO_MEMORY, Status::NoMemory),
+    }
+}
