@@ -1,6 +1,7 @@
 -- The alternate settings that can run (profile), and the stream that one runs (USB 2.0, 9.6.6; Audio Class 2.0, 4.9, 4.10; Audio Data
 -- Formats 2.0, 2.3.1).
-use Rattle.std.specs.Prelude.{ℕ, ◌+◌, ◌-◌, ◌*◌, ◌/◌, ◌%◌, ◌^◌, ◌==◌, ◌&&◌, ◌||◌, not, nat_le, Bool, true, false, if◌then◌else◌, Option, Some, None, is_some}
+use Rattle.std.specs.Prelude.{ℕ, ◌+◌, ◌-◌, ◌*◌, ◌/◌, ◌%◌, ◌^◌, ◌==◌, ◌&&◌, ◌||◌, not, nat_le, Bool, true, false, if◌then◌else◌, Option}
+use Rattle.std.specs.Prelude.{Some, None, is_some}
 use Rattle.std.specs.List.{find}
 use Rattle.std.specs.Option.{option_and_then, option_map_or}
 use Rattle.uac_clock.specs.Nominal.{nominal_of}
@@ -88,7 +89,8 @@ fits nominal g f first = nat_le (period_of first * nominal.hi * (g.channels * f.
 -- all that is asked of a setting with these parts
 unfoldable pub can_run : FunctionFields → StreamInterface → Setting → Nominal → General → TypeOne → Endpoint → Bool
 can_run function s setting nominal g f first =
-    is_pcm g && (g.channels == linked_channels function s && (is_format g.channels f.subslot f.bits && (carries_data s.out first && (has_its_feedback s.out first setting.second
+    is_pcm g && (g.channels == linked_channels function s
+    && (is_format g.channels f.subslot f.bits && (carries_data s.out first && (has_its_feedback s.out first setting.second
     && fits nominal g f first))))
 
 -- the microframes between reports by the second endpoint; 0 where there are none

@@ -12,7 +12,8 @@ pub struct Stream {
     pub out: bool,
     /// The frames that the endpoint's packet holds at most.
     pub most: u32,
-    /// The microframes from one feedback report to the next, 1, 2, 4 or 8 and a multiple of the service interval; 0 where the stream comes from the device.
+    /// The microframes from one feedback report to the next, 1, 2, 4 or 8 and a multiple of the service interval; 0 where the stream comes
+    /// from the device.
     pub period: u32,
     /// The service interval: the microframes from one packet to the next, 1, 2, 4 or 8.
     pub service: u32,

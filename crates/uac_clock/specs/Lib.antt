@@ -1,2 +1,3 @@
+-- What the program's theorem says: to be read and believed.
 pub mod Nominal
 pub mod Ticks

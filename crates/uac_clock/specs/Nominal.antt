@@ -1,6 +1,7 @@
 -- profile: the sampling rates, and what follows from one at high speed, which has 8,000 microframes a second.
 -- A number of frames is given in 65,536ths, as a feedback endpoint gives it: USB 2.0, 5.12.4.2.
-use Rattle.std.specs.Prelude.{◌≡◌, ℕ, suc, ◌+◌, ◌-◌, ◌*◌, ◌/◌, ◌<◌, ◌≤◌, ◌==◌, Bool, ℤ, pos, negsuc, if◌then◌else◌, List, [], ◌∷◌, Option, Some, None}
+use Rattle.std.specs.Prelude.{◌≡◌, ℕ, suc, ◌+◌, ◌-◌, ◌*◌, ◌/◌, ◌<◌, ◌≤◌, ◌==◌, Bool, ℤ, pos, negsuc, if◌then◌else◌, List, [], ◌∷◌, Option}
+use Rattle.std.specs.Prelude.{Some, None}
 use Rattle.std.specs.List.{list_any}
 use Rattle.uac_clock.specs.declared.values.Nominal.{Nominal}
 

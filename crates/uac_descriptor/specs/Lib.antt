@@ -1,4 +1,5 @@
 -- What the blocks of a USB Audio Class 2.0 configuration are as bytes, and by which block bytes are read.
+-- What the program's theorem says: to be read and believed.
 pub mod Standard
 pub mod Layout
 pub mod Little
@@ -6,9 +7,10 @@ pub mod Spelling
 pub mod Rows
 pub mod Endpoints
 pub mod Classes
+pub mod Reading
+-- What the laws say besides.
 pub mod Contexts
 pub mod Fields
 pub mod Turns
 pub mod WellFormed
-pub mod Reading
 pub mod Laws

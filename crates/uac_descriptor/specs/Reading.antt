@@ -1,6 +1,7 @@
 -- The block that bytes are read as: the row by context, type and subtype, then the row's length, then its fields
 -- (USB 2.0, 9.6; Audio Class 2.0, 4.7.2, 4.9 and 4.10; Audio Data Formats 2.0, 2.3.1.6).
-use Rattle.std.specs.Prelude.{ℕ, zero, suc, ◌+◌, ◌-◌, ◌/◌, ◌%◌, ◌<◌, Bool, true, false, ◌==◌, nat_le, ◌&&◌, if◌then◌else◌, List, [], ◌∷◌, length, take, drop, slice_index, Option, Some, None}
+use Rattle.std.specs.Prelude.{ℕ, zero, suc, ◌+◌, ◌-◌, ◌/◌, ◌%◌, ◌<◌, Bool, true, false, ◌==◌, nat_le, ◌&&◌, if◌then◌else◌, List, [], ◌∷◌}
+use Rattle.std.specs.Prelude.{length, take, drop, slice_index, Option, Some, None}
 use Rattle.uac_descriptor.specs.Little.{two_at, four_at}
 use Rattle.uac_descriptor.specs.Layout.{SelectorFields, MixerFields}
 use Rattle.uac_descriptor.specs.Rows as rows

@@ -37,4 +37,5 @@ interfaces_in blocks = filter_map interface_of blocks
 -- the first interface of the audio function is its control interface (Audio Class 2.0, 4.7)
 abbrev pub BeginsWithControl : List interface.Interface → Type 0
 BeginsWithControl [] = ⊥
-BeginsWithControl (i ∷ interfaces) = IsTrue (is_control_interface i) ⊎ IsTrue (not (is_streaming_interface i)) × BeginsWithControl interfaces
+BeginsWithControl (i ∷ interfaces) = IsTrue (is_control_interface i) ⊎ IsTrue (not (is_streaming_interface i))
+    × BeginsWithControl interfaces

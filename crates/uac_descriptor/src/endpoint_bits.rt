@@ -25,7 +25,8 @@ impl Flags for EndpointBits {
 
     ghost exact = { ⊤ };
 
-    ghost table = { (codes "ISOCHRONOUS", 1) ∷ (codes "BULK", 2) ∷ (codes "ASYNCHRONOUS", 4) ∷ (codes "ADAPTIVE", 8) ∷ (codes "FEEDBACK", 16) ∷ (codes "IMPLICIT", 32) ∷ [] };
+    ghost table = { (codes "ISOCHRONOUS", 1) ∷ (codes "BULK", 2) ∷ (codes "ASYNCHRONOUS", 4) ∷ (codes "ADAPTIVE", 8) ∷
+        (codes "FEEDBACK", 16) ∷ (codes "IMPLICIT", 32) ∷ [] };
 
     ghost set_of = { λ bits. bits.0 };
 

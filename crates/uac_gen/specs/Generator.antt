@@ -1,5 +1,6 @@
 -- Profile: the script that a number generates, line by line, each without its newline.
-use Rattle.std.specs.Prelude.{ℕ, zero, suc, ◌+◌, ◌-◌, ◌*◌, ◌/◌, ◌%◌, ◌==◌, Bool, if◌then◌else◌, List, [], ◌∷◌, ◌++◌, map, length, take, drop, slice_index, codes, decimal, pos, ◌-ℤ◌}
+use Rattle.std.specs.Prelude.{ℕ, zero, suc, ◌+◌, ◌-◌, ◌*◌, ◌/◌, ◌%◌, ◌==◌, Bool, if◌then◌else◌, List, [], ◌∷◌, ◌++◌, map, length, take}
+use Rattle.std.specs.Prelude.{drop, slice_index, codes, decimal, pos, ◌-ℤ◌}
 use Rattle.std.specs.List.{range_with_len}
 use Rattle.std.specs.Int.{to_le_bytes, w32}
 use Rattle.hex.specs.Hex.{encode_lower}

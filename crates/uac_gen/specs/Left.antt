@@ -3,7 +3,8 @@ use Rattle.std.specs.Prelude.{ℕ, ◌-◌, ◌*◌, List, [], ◌∷◌, ◌++�
 use Rattle.std.specs.List.{range_with_len}
 use Rattle.uac_gen.specs.declared.places.Place.{Place}
 use Rattle.uac_gen.specs.declared.places.Place.TheVariants as place
-use Rattle.uac_gen.specs.Generator.{feed_line, feed_count, behind_descriptor, rate_line, setting_line, tone_line, run_line, unpacked_lines, rest_line, groups}
+use Rattle.uac_gen.specs.Generator.{feed_line, feed_count, behind_descriptor, rate_line, setting_line, tone_line, run_line, unpacked_lines}
+use Rattle.uac_gen.specs.Generator.{rest_line, groups}
 
 -- so many groups from x on, and the report
 abbrev pub from_groups : ℕ → ℕ → List (List ℕ)

@@ -1,5 +1,7 @@
 -- The generator: the descriptor of a generated script, its lines, those that are left, and its bytes.
+-- What the program's theorem says: to be read and believed.
 pub mod Descriptor
 pub mod Generator
-pub mod Left
 pub mod Script
+-- What the contracts below them cite: steps of the code, no part of what is promised.
+pub mod Left

@@ -1,3 +1,4 @@
+-- What the program's theorem says: to be read and believed.
 pub mod Words
 pub mod Frames
 pub mod Packets

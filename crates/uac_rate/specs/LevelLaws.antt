@@ -5,7 +5,8 @@ use Rattle.uac_clock.specs.declared.values.Nominal.{Nominal}
 use Rattle.uac_clock.specs.Nominal.{IsNominal, HasRoom, step_of}
 use Rattle.uac_rate.specs.Packets.{frames_in_packet}
 use Rattle.uac_rate.specs.Steadiness.{is_slight}
-use Rattle.uac_rate.specs.Levels.{HasBand, AreIntervals, Point, Within, stored, owed, Interval, Reported, IsTarget, IsRobust, Mark, mark_of, aged, mark_after, HasDrifted, IsTight, IsJustPrimed, IsPriming, Fills, Moment, IsHeld, FallsDue}
+use Rattle.uac_rate.specs.Levels.{HasBand, AreIntervals, Point, Within, stored, owed, Interval, Reported, IsTarget, IsRobust, Mark, mark_of}
+use Rattle.uac_rate.specs.Levels.{aged, mark_after, HasDrifted, IsTight, IsJustPrimed, IsPriming, Fills, Moment, IsHeld, FallsDue}
 
 -- each of the twelve rates has room, and a band of 65 frames
 abbrev pub RatesHaveBands : Type 0

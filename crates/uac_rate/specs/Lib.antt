@@ -1,5 +1,7 @@
-pub mod LevelLaws
+-- What the program's theorem says: to be read and believed.
 pub mod Levels
 pub mod Packets
 pub mod Reports
 pub mod Steadiness
+-- What the laws say besides.
+pub mod LevelLaws

@@ -1,5 +1,6 @@
 -- profile: clocks that keep within a thousandth, and feedback of which at most three reports are lost in succession.
-use Rattle.std.specs.Prelude.{◌≡◌, ◌↔◌, ℕ, suc, ◌<◌, ◌==◌, ◌&&◌, ◌||◌, not, Bool, true, false, if◌then◌else◌, nat_lt, min, ℤ, pos, negsuc, int_le, List, [], ◌∷◌, ◌++◌, length, get_or}
+use Rattle.std.specs.Prelude.{◌≡◌, ◌↔◌, ℕ, suc, ◌<◌, ◌==◌, ◌&&◌, ◌||◌, not, Bool, true, false, if◌then◌else◌, nat_lt, min, ℤ, pos, negsuc}
+use Rattle.std.specs.Prelude.{int_le, List, [], ◌∷◌, ◌++◌, length, get_or}
 use Rattle.std.specs.List.{list_all}
 
 -- what was given: the deviations, in millionths, the latest first; and by stream a list for each start, the latest first, of whether

@@ -1,3 +1,6 @@
-pub mod Owners
+-- What the program's theorem says: to be read and believed.
 pub mod Requests
+-- What the laws say besides.
 pub mod Elements
+-- What the contracts below them cite: steps of the code, no part of what is promised.
+pub mod Owners

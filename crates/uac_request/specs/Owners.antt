@@ -9,7 +9,8 @@ use Rattle.uac_request.specs.declared.owner.Owner.TheVariants as owner
 use Rattle.uac_request.specs.declared.request.Request.{Request}
 use Rattle.uac_request.specs.declared.request.Request.TheVariants as ask
 use Rattle.uac_request.specs.declared.setup.Setup.{Setup}
-use Rattle.uac_request.specs.Requests.{Held, Owner, by_entity, by_stream, bytes_of, has_range, has_value, high, is_clock_control, is_declared, is_empty, is_in_range, is_writable, key_named, low, sent_value, width_of}
+use Rattle.uac_request.specs.Requests.{Held, Owner, by_entity, by_stream, bytes_of, has_range, has_value, high, is_clock_control}
+use Rattle.uac_request.specs.Requests.{is_declared, is_empty, is_in_range, is_writable, key_named, low, sent_value, width_of}
 
 abbrev pub owned : declared.Owner → Owner
 owned (owner.Entity e) = by_entity e.now

@@ -1,6 +1,8 @@
 -- Requests to controls and interfaces (Audio Class 2.0, 5.2; USB 2.0, 9.4), and what the device answers. The rules Q1 to Q12, by which a
 -- request is stalled, are this profile's; the first that is broken is told.
-use Rattle.std.specs.Prelude.{◌≡◌, ◌<◌, ℕ, ◌+◌, ◌-◌, ◌*◌, ◌/◌, ◌%◌, ◌^◌, ◌==◌, ◌&&◌, ◌||◌, not, nat_le, nat_lt, Bool, true, false, if◌then◌else◌, ℤ, pos, negsuc, List, [], ◌∷◌, ◌++◌, map, flat_map, length, get_or, take, sum, Option, Some, None, is_some, unwrap_or}
+use Rattle.std.specs.Prelude.{◌≡◌, ◌<◌, ℕ, ◌+◌, ◌-◌, ◌*◌, ◌/◌, ◌%◌, ◌^◌, ◌==◌, ◌&&◌, ◌||◌, not, nat_le, nat_lt, Bool, true, false}
+use Rattle.std.specs.Prelude.{if◌then◌else◌, ℤ, pos, negsuc, List, [], ◌∷◌, ◌++◌, map, flat_map, length, get_or, take, sum, Option, Some}
+use Rattle.std.specs.Prelude.{None, is_some, unwrap_or}
 use Rattle.std.specs.List.{find, filter_map, list_any, range_with_len}
 use Rattle.std.specs.Option.{option_and_then, option_map, option_map_or}
 use Rattle.std.specs.Ordering.{int_eq}

@@ -10,7 +10,8 @@ ghost use Rattle.uac_store.specs.Keyed.{value_of, with_value};
 ghost use Rattle.uac_store.specs.Rates.{rate_of};
 ghost use Rattle.uac_store.specs.declared.keys.Key.{Key};
 ghost use Rattle.uac_request.specs.Elements.{get_of, is_present, set_of, signed_at, width_at};
-ghost use Rattle.uac_request.specs.Requests.{AreSettingsOf, AreValidSettings, Held, IsWithin, after_request, held_by, is_done, is_stalled, reply_of, value_bytes, value_from, with_bytes, with_descriptor};
+ghost use Rattle.uac_request.specs.Requests.{AreSettingsOf, AreValidSettings, Held, IsWithin, after_request, held_by, is_done, is_stalled};
+ghost use Rattle.uac_request.specs.Requests.{reply_of, value_bytes, value_from, with_bytes, with_descriptor};
 ghost use Rattle.uac_request.specs.declared.setup.Setup.{Setup};
 
 /// At the start each interface of a function, and no other, has a setting.

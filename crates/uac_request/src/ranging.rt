@@ -20,7 +20,8 @@ use uac_topology::Function;
 #[tactic(auto, using(crate::proofs::Narrow::narrow_range))]
 pub(crate) fn ranges_now(function: &Function, setup: &Setup, owner: Owner<'_>) -> Reply
     requires { spec.has_range (owned owner) (spec.high setup.now.value) ≡ true }
-    ensures { result.items ≡ spec.range_bytes (spec.bytes_of (owned owner.entry) (spec.high setup.now.value)) (unwrap_or (ranges_of function.now.entities (key_named setup.now)) []) }
+    ensures { result.items ≡ spec.range_bytes (spec.bytes_of (owned owner.entry) (spec.high setup.now.value))
+        (unwrap_or (ranges_of function.now.entities (key_named setup.now)) []) }
 {
     let key = key_of(setup);
     let width = width_of(owner, key.selector).unwrap_or(0);

@@ -1,5 +1,6 @@
 // The rules that requests to controls break.
-ghost use Rattle.std.specs.Prelude.{◌≡◌, ◌≤◌, ◌==◌, IfOk, IfErr, IfSome, IsSome, List, nat_le, Some, None, if◌then◌else◌, length, true, nat_lt};
+ghost use Rattle.std.specs.Prelude.{◌≡◌, ◌≤◌, ◌==◌, IfOk, IfErr, IfSome, IsSome, List, nat_le, Some, None, if◌then◌else◌, length, true};
+ghost use Rattle.std.specs.Prelude.{nat_lt};
 ghost use Rattle.std.specs.Int.{w32};
 ghost use Rattle.std.specs.Int.RustNames.{FitsSigned};
 ghost use Rattle.uac_entities.specs.Streams.{named};
@@ -37,7 +38,8 @@ pub(crate) fn get_broken(
     requires number { setup.now.request ≡ (if range then 2 else 1) }
     requires of_interface { spec.has_interface function.now (spec.low setup.now.index) ≡ true }
     requires of_index { owner_of function.now setup.now.index ≡ Some (owned owner) }
-    ensures broken { (settings : List InterfaceSetting) → result ≡ first_broken function.now (held_by store.now settings) setup.now sent.now }
+    ensures broken { (settings : List InterfaceSetting)
+        → result ≡ first_broken function.now (held_by store.now settings) setup.now sent.now }
     ensures ranged { result ≡ None → range ≡ true → spec.has_range (owned owner.entry) (spec.high setup.now.value) ≡ true }
 {
     broken_at(function, store, setup, sent, range, owner)
@@ -78,7 +80,8 @@ fn broken_at(
 // Whether a control has the channel, or the node, that wValue names.
 #[tactic(auto, using(crate::proofs::Owned::entity_named))]
 fn is_in_range(store: &Store, setup: &Setup, owner: Owner<'_>) -> bool
-    ensures { (function : FunctionFields) → IsStoreOf function.entities store.now → owner_of function setup.now.index ≡ Some (owned owner.entry) → result ≡ spec.is_in_range function.entities (owned owner.entry) (spec.low setup.now.value) }
+    ensures { (function : FunctionFields) → IsStoreOf function.entities store.now → owner_of function setup.now.index
+        ≡ Some (owned owner.entry) → result ≡ spec.is_in_range function.entities (owned owner.entry) (spec.low setup.now.value) }
 {
     match owner {
         Owner::Entity(entity) => has_channel(store, entity.kind, key_of(setup)),
@@ -90,7 +93,8 @@ fn is_in_range(store: &Store, setup: &Setup, owner: Owner<'_>) -> bool
 // terminal's connector is on channel 0 alone.
 #[tactic(auto, using(crate::proofs::Owned::of_terminal, crate::proofs::Owned::of_store))]
 fn has_channel(store: &Store, kind: EntityKind, key: Key) -> bool
-    ensures { (entities : List Entity) (e : Entity) → IsStoreOf entities store.now → named entities key.entity ≡ Some e → e.kind ≡ kind → result ≡ nat_lt key.channel (count_of entities e) }
+    ensures { (entities : List Entity) (e : Entity) → IsStoreOf entities store.now → named entities key.entity ≡ Some e → e.kind ≡ kind
+        → result ≡ nat_lt key.channel (count_of entities e) }
 {
     if keeps_values(kind) {
         store.cur(Key { selector: 1, ..key }).is_some()
@@ -141,8 +145,10 @@ fn value_sent(
 ) -> Result<i32, u8>
     requires of_function { IsStoreOf function.now.entities store.now }
     requires of_index { owner_of function.now setup.now.index ≡ Some (owned owner) }
-    ensures broken { IfErr result (λ rule. least (set_rules function.now (held_by store.now settings.now) setup.now sent.now (owned owner.entry)) ≡ Some rule) }
-    ensures met { IfOk result (λ value. least (set_rules function.now (held_by store.now settings.now) setup.now sent.now (owned owner.entry)) ≡ None) }
+    ensures broken { IfErr result
+        (λ rule. least (set_rules function.now (held_by store.now settings.now) setup.now sent.now (owned owner.entry)) ≡ Some rule) }
+    ensures met { IfOk result
+        (λ value. least (set_rules function.now (held_by store.now settings.now) setup.now sent.now (owned owner.entry)) ≡ None) }
     ensures value { IfOk result (λ value. value ≡ sent_value (owned owner.entry) (spec.high setup.now.value) sent.now) }
     ensures kept { IfOk result (λ value. IsSome (value_of store.now (key_named setup.now))) }
     ensures taken { IfOk result (λ value. takes function.now.entities (key_named setup.now) value ≡ true) }
@@ -189,7 +195,8 @@ fn legal_value(
     requires whole { spec.entity_width entity.now.kind key.selector ≡ Some (length sent.now) }
     requires writable { spec.is_writable_on entity.now.kind entity.now key.selector key.channel ≡ true }
     requires within { nat_lt key.channel (count_of function.now.entities entity.now) ≡ true }
-    ensures value { result ≡ (if is_legal function.now.entities store.now key (sent_value (by_entity entity.now) key.selector sent.now) then Some (sent_value (by_entity entity.now) key.selector sent.now) else None) }
+    ensures value { result ≡ (if is_legal function.now.entities store.now key (sent_value (by_entity entity.now) key.selector sent.now)
+        then Some (sent_value (by_entity entity.now) key.selector sent.now) else None) }
     ensures taken { IfSome result (λ value. takes function.now.entities key value ≡ true) }
     ensures kept { IsSome (value_of store.now key) }
 {

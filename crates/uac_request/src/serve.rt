@@ -52,8 +52,10 @@ pub(crate) fn get_range(function: &Function, store: &Store, setup: &Setup, sent:
     requires of_function { IsStoreOf function.now.entities store.now }
     requires asked { setup.now.request_type ≡ 161 }
     requires number { setup.now.request ≡ 2 }
-    ensures told { (settings : List InterfaceSetting) → seen result ≡ reply_of function.now (held_by store.now settings) setup.now sent.now }
-    ensures held { (settings : List InterfaceSetting) → held_by store.now settings ≡ after_request function.now (held_by store.now settings) setup.now sent.now }
+    ensures told { (settings : List InterfaceSetting)
+        → seen result ≡ reply_of function.now (held_by store.now settings) setup.now sent.now }
+    ensures held { (settings : List InterfaceSetting)
+        → held_by store.now settings ≡ after_request function.now (held_by store.now settings) setup.now sent.now }
 {
     let owner = match owner_named(function, setup) {
         Ok(owner) => owner,
@@ -130,7 +132,8 @@ pub(crate) fn get_interface(
     requires asked { setup.now.request_type ≡ 129 }
     requires number { setup.now.request ≡ 10 }
     ensures told { (controls : List (Key × ℤ)) → seen result ≡ reply_of function.now (held_by controls settings.now) setup.now sent.now }
-    ensures held { (controls : List (Key × ℤ)) → held_by controls settings.now ≡ after_request function.now (held_by controls settings.now) setup.now sent.now }
+    ensures held { (controls : List (Key × ℤ))
+        → held_by controls settings.now ≡ after_request function.now (held_by controls settings.now) setup.now sent.now }
 {
     let Some(interface) = interface_named(function, setup.index) else {
         return Answer::Stall(2);

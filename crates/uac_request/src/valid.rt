@@ -17,7 +17,8 @@ pub fn is_valid(function: &Function, store: &Store, stream: &StreamInterface, nu
 }
 
 fn can_run(function: &Function, store: &Store, stream: &StreamInterface, number: u8) -> bool
-    ensures { result ≡ option_map_or (λ rate. is_some (stream_of function.now rate stream.now.number number)) (spec.rate_at function.now store.now stream.now) false }
+    ensures { result ≡ option_map_or (λ rate. is_some (stream_of function.now rate stream.now.number number))
+        (spec.rate_at function.now store.now stream.now) false }
 {
     match rate_at(function, store, stream) {
         Some(rate) => uac_alt::stream(function, rate, stream.number, number).is_some(),

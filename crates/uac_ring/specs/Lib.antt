@@ -1,1 +1,2 @@
+-- What the program's theorem says: to be read and believed.
 pub mod Rings

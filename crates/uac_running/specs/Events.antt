@@ -9,7 +9,8 @@ use Rattle.uac_script.specs.Phrase.{Loss}
 use Rattle.uac_transcript.specs.Transcript.{Said, says_time}
 use Rattle.uac_running.specs.declared.jacks.Jack.{Jack}
 use Rattle.uac_streaming.specs.Telling.{Telling}
-use Rattle.uac_streaming.specs.StreamingWorld.{StreamingWorld, all_reported, all_settled, found_counts, found_lines, in_packets, out_packets}
+use Rattle.uac_streaming.specs.StreamingWorld.{StreamingWorld, all_reported, all_settled, found_counts, found_lines, in_packets}
+use Rattle.uac_streaming.specs.StreamingWorld.{out_packets}
 use Rattle.uac_running.specs.RunningWorld.{RunningWorld, streaming_of, with_streaming}
 use Rattle.uac_running.specs.Lines.{played_lines}
 
@@ -79,7 +80,8 @@ domain_microframe clock r = tick_times (next_ticks clock r.device) clock (record
 -- the same of these domains, one after the other
 unfoldable pub domain_microframes : List ℕ → RunningWorld → Told
 domain_microframes [] r = still r
-domain_microframes (clock ∷ clocks) r = behind (domain_microframe clock r).lines (domain_microframes clocks (domain_microframe clock r).world)
+domain_microframes (clock ∷ clocks) r = behind (domain_microframe clock r).lines
+    (domain_microframes clocks (domain_microframe clock r).world)
 
 -- from detail 2 on the number of a microframe is said
 abbrev pub number_said : ℕ → ℕ → List Said

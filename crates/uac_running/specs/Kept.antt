@@ -71,9 +71,11 @@ pub record HasItsDomains (running : RunningFields) : Type 0 where
   pub counted : map (λ c. c.clock) running.counts ≡ running.device.function.domains
   pub once : IsDistinct nat_eq (map (λ c. c.clock) running.counts)
 
--- what was told was printed: all of it, and what is kept stands for its world, within a microframe or between two; or at an error a front of it
+-- what was told was printed: all of it, and what is kept stands for its world, within a microframe or between two; or at an error a front
+-- of it
 abbrev pub Tells : {E : Type 0} → Told → RunningFields → List Reading → Option (List ℕ) → Option (List ℕ) → Result (Unit {0}) E → Type 0
 Tells told running meters old new result = Prints old new result told.lines × OnOk result (Stands running meters told.world)
 
-abbrev pub TellsBetween : {E : Type 0} → Told → RunningFields → List Reading → Option (List ℕ) → Option (List ℕ) → Result (Unit {0}) E → Type 0
+abbrev pub TellsBetween : {E : Type 0} → Told → RunningFields → List Reading → Option (List ℕ) → Option (List ℕ) → Result (Unit {0}) E
+    → Type 0
 TellsBetween told running meters old new result = Prints old new result told.lines × OnOk result (StandsBetween running meters told.world)

@@ -7,7 +7,8 @@ use Rattle.uac_store.specs.Rates.{rate_of}
 use Rattle.uac_alt.specs.Settings.{setting_of}
 use Rattle.uac_units.specs.Hearing.{held}
 use Rattle.uac_transcript.specs.declared.report.StreamCounts.{StreamCounts}
-use Rattle.uac_transcript.specs.Transcript.{Said, says_ready, says_played, says_passed, says_steady, says_domain, says_out_stream, says_in_stream, says_meter, says_renders}
+use Rattle.uac_transcript.specs.Transcript.{Said, says_ready, says_played, says_passed, says_steady, says_domain, says_out_stream}
+use Rattle.uac_transcript.specs.Transcript.{says_in_stream, says_meter, says_renders}
 use Rattle.uac_device.specs.DeviceWorld.{Domain, DeviceWorld, is_output_jack_of, level_of, target_of}
 use Rattle.uac_running.specs.RunningWorld.{RunningWorld, is_steady}
 

@@ -1,6 +1,7 @@
 -- Control transfers of a running device, what comes back of them, and what they make of the host's view (USB 2.0, 8.5.3 and 9.4; Audio
 -- Class 2.0, 5.2). That a transfer breaks, before or after the device acted, is this project's own.
-use Rattle.std.specs.Prelude.{◌≡◌, ℕ, ◌==◌, ◌&&◌, not, Bool, true, false, if◌then◌else◌, ℤ, pos, List, [], ◌∷◌, drop, take, get_or, Option, None, Some, is_some, unwrap_or, Result, Ok, Err}
+use Rattle.std.specs.Prelude.{◌≡◌, ℕ, ◌==◌, ◌&&◌, not, Bool, true, false, if◌then◌else◌, ℤ, pos, List, [], ◌∷◌, drop, take, get_or, Option}
+use Rattle.std.specs.Prelude.{None, Some, is_some, unwrap_or, Result, Ok, Err}
 use Rattle.std.specs.List.{find}
 use Rattle.std.specs.Str.{bytes_eq}
 use Rattle.uac_store.specs.Keyed.{value_of}
@@ -14,7 +15,8 @@ use Rattle.uac_mixer.specs.declared.element.Element.{Element}
 use Rattle.uac_mixer.specs.declared.link.Broken.{Broken}
 use Rattle.uac_mixer.specs.declared.link.When.{When}
 use Rattle.uac_mixer.specs.declared.link.When.TheVariants as when
-use Rattle.uac_transcript.specs.Transcript.{Outcome, gave, was_done, stalled, broke, Sight, has_value, is_unknown, was_set, was_stalled, was_broken, says_answer, says_view}
+use Rattle.uac_transcript.specs.Transcript.{Outcome, gave, was_done, stalled, broke, Sight, has_value, is_unknown, was_set, was_stalled}
+use Rattle.uac_transcript.specs.Transcript.{was_broken, says_answer, says_view}
 use Rattle.uac_running.specs.RunningWorld.{RunningWorld, streaming_of, with_streaming}
 use Rattle.uac_running.specs.Events as events
 use Rattle.uac_running.specs.Events.{still}
@@ -52,10 +54,12 @@ streams_follow p sent r s =
     then followed p.index (stream_in_setting r.device.function r.device.controls p.index p.value) s
     else s
 
--- the world behind a transfer: the device acted, the host's streams follow it, the view follows what came back, and a pending break is used up
+-- the world behind a transfer: the device acted, the host's streams follow it, the view follows what came back, and a pending break is
+-- used up
 unfoldable pub transferred : Setup → List ℕ → RunningWorld → RunningWorld
 transferred p sent r =
-    record (with_streaming r (streams_follow p sent r (record (streaming_of r) { device = acts r.breaks r.device (controlled p sent r.device) }))) {
+    record (with_streaming r
+    (streams_follow p sent r (record (streaming_of r) { device = acts r.breaks r.device (controlled p sent r.device) }))) {
       view = view_after r.device.function.control_interface p sent (comes_back p sent r) r.view;
       breaks = None;
     }

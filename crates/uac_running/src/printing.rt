@@ -15,7 +15,8 @@ use uac_transcript::write_played;
 
 /// Prints what the output jacks of a domain played in the last tick, in block order.
 pub(crate) fn write_jacks<K: Sink>(sink: &mut K, device: &Device, clock: u8) -> Result<(), Failed>
-    ensures printed { (w : DeviceWorld) → Stands device.now w → Prints (K.written sink.old) (K.written sink.new) result (played_lines clock w) }
+    ensures printed { (w : DeviceWorld) → Stands device.now w
+        → Prints (K.written sink.old) (K.written sink.new) result (played_lines clock w) }
     ensures cause { HasCause (K.faults sink.old) (K.faults sink.new) result }
 {
     let function = device.function();

@@ -1,5 +1,6 @@
 // Control transfers of a running device, and the elements of the host's view.
-ghost use Rattle.std.specs.Prelude.{◌≡◌, ◌&&◌, ◌≤◌, ◌<◌, ◌∷◌, [], ℕ, List, length, slice_get, position, true, false, Some, None, IfOk, IfSome};
+ghost use Rattle.std.specs.Prelude.{◌≡◌, ◌&&◌, ◌≤◌, ◌<◌, ◌∷◌, [], ℕ, List, length, slice_get, position, true, false, Some, None, IfOk};
+ghost use Rattle.std.specs.Prelude.{IfSome};
 ghost use Rattle.std.specs.Option.{option_and_then, option_map, option_map_or};
 ghost use Rattle.uac_store.specs.Controls.{initial_controls};
 ghost use Rattle.uac_store.specs.Keyed.{value_of};
@@ -15,7 +16,8 @@ ghost use Rattle.uac_mixer.specs.ViewWorld.{IsViewOf, known_view};
 ghost use Rattle.uac_transcript.specs.Printing.{Prints};
 ghost use Rattle.uac_transcript.specs.Transcript.{says_answer, says_view};
 ghost use Rattle.uac_running.specs.RunningWorld.{RunningWorld};
-ghost use Rattle.uac_running.specs.Transfers.{comes_back, element_named, outcome_of, set_sight, shown_sight, transfer, transferred, with_break};
+ghost use Rattle.uac_running.specs.Transfers.{comes_back, element_named, outcome_of, set_sight, shown_sight, transfer, transferred};
+ghost use Rattle.uac_running.specs.Transfers.{with_break};
 ghost use Rattle.uac_running.specs.Transfers as spec;
 ghost use Rattle.uac_running.specs.Kept.{Stands, StandsBetween, TellsBetween};
 
@@ -89,7 +91,8 @@ fn break_at(after: bool) -> When
 impl Running {
     /// The next transfer breaks before or after the device acted; a break that was pending is forgotten.
     pub fn set_break(&mut self, after: bool)
-        ensures stands { (meters : List Reading) (r : RunningWorld) → StandsBetween self.old meters r → StandsBetween self.new meters (with_break after r) }
+        ensures stands { (meters : List Reading) (r : RunningWorld) → StandsBetween self.old meters r
+            → StandsBetween self.new meters (with_break after r) }
         ensures function { self.new.device.function ≡ self.old.device.function }
     {
         self.breaks = Some(break_at(after));
@@ -202,7 +205,8 @@ impl Running {
     /// Reads the element at a place from the device, and prints its value.
     pub fn read_element<K: Sink>(&mut self, at: usize, sink: &mut K) -> Result<(), Failed>
         requires { at < length self.old.view.elements }
-        ensures tells { (meters : List Reading) (r : RunningWorld) (x : Element) → StandsBetween self.old meters r → slice_get r.view.elements at ≡ Some x
+        ensures tells { (meters : List Reading) (r : RunningWorld) (x : Element) → StandsBetween self.old meters r
+            → slice_get r.view.elements at ≡ Some x
             → TellsBetween (spec.read_element x r) self.new meters (K.written sink.old) (K.written sink.new) result }
         ensures cause { HasCause (K.faults sink.old) (K.faults sink.new) result }
     {
@@ -216,9 +220,11 @@ impl Running {
     /// The value of the element at a place, as the device tells it.
     fn read(&mut self, at: usize) -> Result<i32, Broken>
         requires { at < length self.old.view.elements }
-        ensures stands { (meters : List Reading) (r : RunningWorld) (x : Element) → Stands self.old meters r → slice_get r.view.elements at ≡ Some x
+        ensures stands { (meters : List Reading) (r : RunningWorld) (x : Element) → Stands self.old meters r
+            → slice_get r.view.elements at ≡ Some x
             → Stands self.new meters (transferred (get_of r.device.function.control_interface x) [] r) }
-        ensures value { (meters : List Reading) (r : RunningWorld) (x : Element) → Stands self.old meters r → slice_get r.view.elements at ≡ Some x
+        ensures value { (meters : List Reading) (r : RunningWorld) (x : Element) → Stands self.old meters r
+            → slice_get r.view.elements at ≡ Some x
             → spec.IsRead x r result }
     {
         controls_are_stored(&self.device);
@@ -236,7 +242,8 @@ impl Running {
     ) -> Result<(), Failed>
         requires at { at < length self.old.view.elements }
         requires fits { (x : Element) → slice_get self.old.view.elements at ≡ Some x → fits_element x.kind value ≡ true }
-        ensures tells { (meters : List Reading) (r : RunningWorld) (x : Element) → StandsBetween self.old meters r → slice_get r.view.elements at ≡ Some x
+        ensures tells { (meters : List Reading) (r : RunningWorld) (x : Element) → StandsBetween self.old meters r
+            → slice_get r.view.elements at ≡ Some x
             → TellsBetween (spec.set_element x value r) self.new meters (K.written sink.old) (K.written sink.new) result }
         ensures cause { HasCause (K.faults sink.old) (K.faults sink.new) result }
     {
@@ -251,9 +258,11 @@ impl Running {
     fn set(&mut self, at: usize, value: i32) -> Result<(), SetFault>
         requires at { at < length self.old.view.elements }
         requires fits { (x : Element) → slice_get self.old.view.elements at ≡ Some x → fits_element x.kind value ≡ true }
-        ensures stands { (meters : List Reading) (r : RunningWorld) (x : Element) → Stands self.old meters r → slice_get r.view.elements at ≡ Some x
+        ensures stands { (meters : List Reading) (r : RunningWorld) (x : Element) → Stands self.old meters r
+            → slice_get r.view.elements at ≡ Some x
             → Stands self.new meters (transferred (set_of r.device.function.control_interface x) (value_bytes (width_of x.kind) value) r) }
-        ensures came { (meters : List Reading) (r : RunningWorld) (x : Element) → Stands self.old meters r → slice_get r.view.elements at ≡ Some x
+        ensures came { (meters : List Reading) (r : RunningWorld) (x : Element) → Stands self.old meters r
+            → slice_get r.view.elements at ≡ Some x
             → came_of_set result ≡ comes_back (set_of r.device.function.control_interface x) (value_bytes (width_of x.kind) value) r }
     {
         controls_are_stored(&self.device);

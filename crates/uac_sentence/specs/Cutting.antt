@@ -1,6 +1,7 @@
 -- How bytes are cut into blocks: USB 2.0, 9.5, each descriptor begins with its length in bytes.
 use Rattle.std.specs.List.{AllByRecursion}
-use Rattle.std.specs.Prelude.{◌++◌, flat_map, ◌≡◌, ◌≤◌, ℕ, zero, suc, Bool, true, false, ◌&&◌, List, [], ◌∷◌, length, take, drop, nat_le, slice_index}
+use Rattle.std.specs.Prelude.{◌++◌, flat_map, ◌≡◌, ◌≤◌, ℕ, zero, suc, Bool, true, false, ◌&&◌, List, [], ◌∷◌, length, take, drop, nat_le}
+use Rattle.std.specs.Prelude.{slice_index}
 
 -- a block: as many bytes as its first byte says, at least 2
 abbrev pub IsPiece : List ℕ → Type 0

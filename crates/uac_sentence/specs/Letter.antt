@@ -2,14 +2,18 @@
 use Rattle.std.specs.Prelude.{ℕ, Bool, true, false, ◌&&◌, ◌||◌, not, ◌==◌, nat_le, if◌then◌else◌, List, length, slice_index}
 pub use Rattle.uac_descriptor.specs.Contexts.{context_after}
 unfoldable pub use Rattle.uac_descriptor.specs.Contexts.{interface_context}
-use Rattle.uac_descriptor.specs.Standard.{DEVICE, CONFIGURATION, INTERFACE, ENDPOINT, INTERFACE_ASSOCIATION, CS_INTERFACE, CS_ENDPOINT, HEADER, EFFECT_UNIT, CLOCK_SOURCE, CLOCK_MULTIPLIER}
+use Rattle.uac_descriptor.specs.Standard.{DEVICE, CONFIGURATION, INTERFACE, ENDPOINT, INTERFACE_ASSOCIATION, CS_INTERFACE, CS_ENDPOINT}
+use Rattle.uac_descriptor.specs.Standard.{HEADER, EFFECT_UNIT, CLOCK_SOURCE, CLOCK_MULTIPLIER}
 use Rattle.uac_descriptor.specs.declared.standard.Interface as interface
 use Rattle.uac_descriptor.specs.declared.block.Block as block
 use Rattle.uac_descriptor.specs.declared.block.Block.TheVariants as variant
 use Rattle.uac_descriptor.specs.Standard.{DEVICE_LENGTH}
 use Rattle.uac_descriptor.specs.Classes.{is_audio_association, is_control_interface, is_streaming_interface}
 use Rattle.uac_sentence.specs.declared.letters.Letter.{Letter}
-use Rattle.uac_sentence.specs.declared.letters.Letter.TheVariants.{Device, Configuration, AudioAssociation, ForeignAssociation, ControlInterface, StreamingInterface, ForeignInterface, Endpoint, Header, Entity, General, TypeOne, Extra, ClassEndpoint, Other, UnknownSubtype, Stray}
+use Rattle.uac_sentence.specs.declared.letters.Letter.TheVariants.{Device, Configuration, AudioAssociation, ForeignAssociation}
+use Rattle.uac_sentence.specs.declared.letters.Letter.TheVariants.{ControlInterface, StreamingInterface, ForeignInterface, Endpoint, Header}
+use Rattle.uac_sentence.specs.declared.letters.Letter.TheVariants.{Entity, General, TypeOne, Extra, ClassEndpoint, Other, UnknownSubtype}
+use Rattle.uac_sentence.specs.declared.letters.Letter.TheVariants.{Stray}
 
 -- bDescriptorType and bDescriptorSubtype of a block that is kept whole
 abbrev pub type_of : List ℕ → ℕ

@@ -2,7 +2,10 @@
 use Rattle.std.specs.Prelude.{Bool, true, false, not, ◌==◌, ℕ}
 use Rattle.uac_sentence.specs.Production.{Production, one, then', either, many, option}
 use Rattle.uac_sentence.specs.declared.letters.Letter.{Letter}
-use Rattle.uac_sentence.specs.declared.letters.Letter.TheVariants.{Device, Configuration, AudioAssociation, ForeignAssociation, ControlInterface, StreamingInterface, ForeignInterface, Endpoint, Header, Entity, General, TypeOne, Extra, ClassEndpoint, Other, UnknownSubtype, Stray}
+use Rattle.uac_sentence.specs.declared.letters.Letter.TheVariants.{Device, Configuration, AudioAssociation, ForeignAssociation}
+use Rattle.uac_sentence.specs.declared.letters.Letter.TheVariants.{ControlInterface, StreamingInterface, ForeignInterface, Endpoint, Header}
+use Rattle.uac_sentence.specs.declared.letters.Letter.TheVariants.{Entity, General, TypeOne, Extra, ClassEndpoint, Other, UnknownSubtype}
+use Rattle.uac_sentence.specs.declared.letters.Letter.TheVariants.{Stray}
 
 -- the place of a letter in the list of letters
 abbrev pub number : Letter → ℕ
@@ -65,9 +68,11 @@ endpoint = then' (a Endpoint) (option (a ClassEndpoint))
 -- one setting of a streaming interface
 abbrev pub stream : Production Letter
 stream =
-    then' (a StreamingInterface) (then' others (option (then' (a General) (then' formats (then' (option (then' endpoint (option endpoint))) others)))))
+    then' (a StreamingInterface)
+    (then' others (option (then' (a General) (then' formats (then' (option (then' endpoint (option endpoint))) others)))))
 
 -- the whole descriptor
 abbrev pub input : Production Letter
 input =
-    then' (option (a Device)) (then' (a Configuration) (then' others (then' (many foreign) (then' (a AudioAssociation) (then' control (many (either foreign stream)))))))
+    then' (option (a Device)) (then' (a Configuration)
+    (then' others (then' (many foreign) (then' (a AudioAssociation) (then' control (many (either foreign stream)))))))

@@ -1,9 +1,13 @@
 -- The order of the blocks as one table: what the blocks so far leave open, and where one more leads.
 use Rattle.std.specs.Prelude.{Bool, true, false, Option, Some, None}
 use Rattle.uac_sentence.specs.declared.letters.Letter.{Letter}
-use Rattle.uac_sentence.specs.declared.letters.Letter.TheVariants.{Device, Configuration, AudioAssociation, ForeignAssociation, ControlInterface, StreamingInterface, ForeignInterface, Endpoint, Header, Entity, General, TypeOne, Extra, ClassEndpoint, Other}
+use Rattle.uac_sentence.specs.declared.letters.Letter.TheVariants.{Device, Configuration, AudioAssociation, ForeignAssociation}
+use Rattle.uac_sentence.specs.declared.letters.Letter.TheVariants.{ControlInterface, StreamingInterface, ForeignInterface, Endpoint, Header}
+use Rattle.uac_sentence.specs.declared.letters.Letter.TheVariants.{Entity, General, TypeOne, Extra, ClassEndpoint, Other}
 use Rattle.uac_sentence.specs.declared.stages.Stage.{Stage}
-use Rattle.uac_sentence.specs.declared.stages.Stage.TheVariants.{Start, Due, Opening, Before, Announced, Headless, Listing, Quiet, Setting, Formats, Formatted, FirstEndpoint, FirstDone, SecondEndpoint, Closing, Behind}
+use Rattle.uac_sentence.specs.declared.stages.Stage.TheVariants.{Start, Due, Opening, Before, Announced, Headless, Listing, Quiet, Setting}
+use Rattle.uac_sentence.specs.declared.stages.Stage.TheVariants.{Formats, Formatted, FirstEndpoint, FirstDone, SecondEndpoint, Closing}
+use Rattle.uac_sentence.specs.declared.stages.Stage.TheVariants.{Behind}
 
 -- behind the control interface's part, another part may begin
 abbrev pub begin_part : Letter → Option Stage

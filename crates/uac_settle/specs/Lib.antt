@@ -1,2 +1,4 @@
-pub mod SettleLaws
+-- What the program's theorem says: to be read and believed.
 pub mod Settling
+-- What the laws say besides.
+pub mod SettleLaws

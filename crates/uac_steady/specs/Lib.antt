@@ -1,2 +1,3 @@
 -- Steady scripts.
+-- What the program's theorem says: to be read and believed.
 pub mod Scripts

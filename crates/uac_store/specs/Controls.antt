@@ -1,7 +1,8 @@
 -- The controls that keep a value, present or absent (Audio Class 2.0, 5.2.5): a clock source's frequency, the selectors
 -- of clocks and signals, a clock multiplier's numerator and denominator, a mixer's nodes, a feature's mute and volume,
 -- and an effect's enable. Each entity stands with the cluster that it puts out.
-use Rattle.std.specs.Prelude.{◌≡◌, ℕ, ◌+◌, ◌-◌, ◌*◌, ◌/◌, ◌%◌, ◌≤◌, Bool, true, false, ◌==◌, ◌&&◌, nat_le, nat_lt, ℤ, pos, negsuc, if◌then◌else◌, List, [], ◌∷◌, map, length, sum, Option, Some, None, is_some, nat_eq}
+use Rattle.std.specs.Prelude.{◌≡◌, ℕ, ◌+◌, ◌-◌, ◌*◌, ◌/◌, ◌%◌, ◌≤◌, Bool, true, false, ◌==◌, ◌&&◌, nat_le, nat_lt, ℤ, pos, negsuc}
+use Rattle.std.specs.Prelude.{if◌then◌else◌, List, [], ◌∷◌, map, length, sum, Option, Some, None, is_some, nat_eq}
 use Rattle.std.specs.List.{flat_map, range_with_len, IsDistinct, All}
 use Rattle.std.specs.Option.{option_and_then, option_map_or}
 use Rattle.uac_clock.specs.Nominal.{is_listed}

@@ -1,5 +1,6 @@
 -- The rate of a clock entity (Audio Class 2.0, 3.13.5 and 4.7.2.1 to 4.7.2.3), found along its clock sources.
-use Rattle.std.specs.Prelude.{◌≡◌, ℕ, ◌-◌, ◌*◌, ◌/◌, ◌%◌, ◌<◌, false, ◌==◌, ◌&&◌, nat_lt, zero, suc, ℤ, pos, if◌then◌else◌, List, length, slice_get, Option, Some, None}
+use Rattle.std.specs.Prelude.{◌≡◌, ℕ, ◌-◌, ◌*◌, ◌/◌, ◌%◌, ◌<◌, false, ◌==◌, ◌&&◌, nat_lt, zero, suc, ℤ, pos, if◌then◌else◌, List, length}
+use Rattle.std.specs.Prelude.{slice_get, Option, Some, None}
 use Rattle.std.specs.Option.{option_and_then}
 use Rattle.uac_clock.specs.Nominal.{is_listed}
 use Rattle.uac_entities.specs.Streams.{named}

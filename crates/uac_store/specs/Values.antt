@@ -1,6 +1,7 @@
 -- The values that controls can take: the ranges that are told of them, and those that leave every clock with a rate (Audio Class 2.0,
 -- 5.2.1 and 5.2.5; profile: the subranges, and that a clock's value may take no clock's rate away).
-use Rattle.std.specs.Prelude.{ℕ, ◌%◌, ◌==◌, ◌&&◌, ◌||◌, not, nat_lt, Bool, false, if◌then◌else◌, ℤ, pos, negsuc, List, [], ◌∷◌, map, length, Option, Some, None, is_some}
+use Rattle.std.specs.Prelude.{ℕ, ◌%◌, ◌==◌, ◌&&◌, ◌||◌, not, nat_lt, Bool, false, if◌then◌else◌, ℤ, pos, negsuc, List, [], ◌∷◌, map, length}
+use Rattle.std.specs.Prelude.{Option, Some, None, is_some}
 use Rattle.std.specs.List.{list_all}
 use Rattle.std.specs.Option.{option_and_then, option_map_or}
 use Rattle.uac_clock.specs.Nominal.{twelve_rates}
@@ -49,7 +50,8 @@ ranges_by kind.Effect pins attributes selector = None
 -- the subranges of the control of this key; none where there is no such control, or it has no ranges
 unfoldable pub ranges_of : List Entity → Key → Option (List Range)
 ranges_of entities k =
-    option_and_then (λ e. if has_on entities k e then ranges_by e.kind (length e.sources) e.attributes k.selector else None) (named entities k.entity)
+    option_and_then (λ e. if has_on entities k e then ranges_by e.kind (length e.sources) e.attributes k.selector
+    else None) (named entities k.entity)
 
 -- ---- values that are legal
 

@@ -12,19 +12,22 @@ ghost use Rattle.uac_store.specs.Rates.{rate_step, rate_within, rate_of, EndsWit
 /// Where ids differ, each control has at the start the one value that its kind gives it, and no other key has one.
 #[tactic(auto, using(crate::proofs::Initial::initial_value))]
 pub fn each_control_has_its_start_value()
-    ensures { (entities : List Entity) (k : Key) → IsDistinct nat_eq (map (λ e. e.id) entities) → value_of (initial_controls entities) k ≡ start_at entities k }
+    ensures { (entities : List Entity) (k : Key) → IsDistinct nat_eq (map (λ e. e.id) entities)
+        → value_of (initial_controls entities) k ≡ start_at entities k }
 {}
 
 /// Steps past the longest walk change no rate.
 #[tactic(auto, using(crate::proofs::Settling::settles))]
 pub fn more_steps_change_no_rate()
-    ensures { (entities : List Entity) (controls : List (Key × ℤ)) (id n more : ℕ) → EndsWithin n entities id → rate_within (n + more) entities controls id ≡ rate_within n entities controls id }
+    ensures { (entities : List Entity) (controls : List (Key × ℤ)) (id n more : ℕ) → EndsWithin n entities id
+        → rate_within (n + more) entities controls id ≡ rate_within n entities controls id }
 {}
 
 /// Where no clock feeds itself, each clock's rate is what it makes of its sources' rates.
 #[tactic(auto, using(crate::proofs::Settling::follows))]
 pub fn each_rate_follows_its_sources()
-    ensures { (entities : List Entity) (controls : List (Key × ℤ)) (id : ℕ) → IsClockTree entities → rate_of entities controls id ≡ rate_step entities controls (rate_of entities controls) id }
+    ensures { (entities : List Entity) (controls : List (Key × ℤ)) (id : ℕ) → IsClockTree entities
+        → rate_of entities controls id ≡ rate_step entities controls (rate_of entities controls) id }
 {}
 
 /// The controls of a sound function have a key each, and none of its clocks feeds itself.

@@ -60,7 +60,8 @@ impl Store {
         requires { IsSome (value_of self.old key) }
         ensures value { self.new ≡ with_value self.old key value }
         ensures others { (k : Key) → value_of self.new k ≡ (if same_key key k then Some value else value_of self.old k) }
-        ensures of_function { (entities : List Entity) → IsStoreOf entities self.old → takes entities key value ≡ true → IsStoreOf entities self.new }
+        ensures of_function { (entities : List Entity) → IsStoreOf entities self.old → takes entities key value ≡ true
+            → IsStoreOf entities self.new }
     {
         self.write(key, value);
     }

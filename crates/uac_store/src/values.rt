@@ -78,7 +78,8 @@ fn has_on(function: &Function, entity: &Entity, key: Key) -> bool
 
 // The subranges of a control that an entity has.
 fn ranges_on(entity: &Entity, selector: u8) -> Option<Ranges>
-    ensures { option_map (λ ranges. ranges.items) result ≡ spec.ranges_by entity.now.kind (length entity.now.sources) entity.now.attributes selector }
+    ensures { option_map (λ ranges. ranges.items) result
+        ≡ spec.ranges_by entity.now.kind (length entity.now.sources) entity.now.attributes selector }
 {
     match entity.kind {
         EntityKind::ClockSource => Some(frequencies(entity.attributes)),

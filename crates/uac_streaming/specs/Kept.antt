@@ -9,8 +9,8 @@ use Rattle.uac_transcript.specs.Printing.{Prints}
 use Rattle.uac_streaming.specs.Telling.{Telling}
 use Rattle.uac_streaming.specs.StreamingWorld.{StreamingWorld, met_in, numbers}
 
--- what is kept beside the device: the host, the interfaces by number, what each one's streams met, in block order, whether all was steady, and
--- the last packet
+-- what is kept beside the device: the host, the interfaces by number, what each one's streams met, in block order, whether all was
+-- steady, and the last packet
 pub record StreamingFields : Type 0 where
   pub host : List Lane
   pub order : List ℕ
@@ -28,5 +28,6 @@ pub record Stands (streaming : StreamingFields) (beside : devices.DeviceFields) 
   pub steady : steadiness.Stands streaming.steady w.given
 
 -- what was told was printed: all of it, and what is kept stands for its world; or at an error a front of it
-abbrev pub Tells : {T E : Type 0} → Telling StreamingWorld → StreamingFields → devices.DeviceFields → Option (List ℕ) → Option (List ℕ) → Result T E → Type 0
+abbrev pub Tells : {T E : Type 0} → Telling StreamingWorld → StreamingFields → devices.DeviceFields → Option (List ℕ) → Option (List ℕ)
+    → Result T E → Type 0
 Tells told streaming device old new result = Prints old new result told.lines × OnOk result (Stands streaming device told.world)

@@ -7,8 +7,8 @@ use Rattle.uac_flow.specs.Streams.{OutStream, out_level}
 use Rattle.uac_device.specs.Kept.{IsInRange}
 use Rattle.uac_device.specs.DeviceWorld.{DeviceWorld}
 
--- a stream to the device between two microframes: as many frames as its domain ticked since it was last due went out of its ring, or that ring
--- holds few; and in a microframe a domain ticks at most 27 times
+-- a stream to the device between two microframes: as many frames as its domain ticked since it was last due went out of its ring, or that
+-- ring holds few; and in a microframe a domain ticks at most 27 times
 pub record HasRoom (o : OutStream) : Type 0 where
   pub serves : IsInterval o.stream.service
   pub taken : o.taken ≤ length o.arrived

@@ -1,7 +1,8 @@
 -- Streams between a host and a device: what packets, feedback reports and the ends of microframes make of both, and what is said of
 -- them. Profile: the order of events, and what is printed. The direction of an interface is that of its data endpoint (USB 2.0, 9.6.6);
 -- feedback is that of 5.12.4.2.
-use Rattle.std.specs.Prelude.{ℕ, ◌+◌, ◌==◌, ◌&&◌, not, nat_le, Bool, true, false, if◌then◌else◌, ℤ, pos, negsuc, List, [], ◌∷◌, ◌++◌, map, filter, position, Option, Some, None, is_some}
+use Rattle.std.specs.Prelude.{ℕ, ◌+◌, ◌==◌, ◌&&◌, not, nat_le, Bool, true, false, if◌then◌else◌, ℤ, pos, negsuc, List, [], ◌∷◌, ◌++◌, map}
+use Rattle.std.specs.Prelude.{filter, position, Option, Some, None, is_some}
 use Rattle.std.specs.List.{list_any, range_with_len}
 use Rattle.std.specs.Option.{option_map_or}
 use Rattle.uac_topology.specs.Function.{FunctionFields}
@@ -11,7 +12,8 @@ use Rattle.uac_flow.specs.Streams.{is_dry, is_full}
 use Rattle.uac_flow.specs.declared.arrival.Arrival.{Arrival}
 use Rattle.uac_flow.specs.declared.arrival.Arrival.TheVariants as arrivals
 use Rattle.uac_units.specs.Hearing.{held}
-use Rattle.uac_device.specs.DeviceWorld.{DeviceWorld, arrival_in, feedback_in, frames_in, fresh, is_due_in, is_on, level_of, packet_in, received, sent, settled, target_of}
+use Rattle.uac_device.specs.DeviceWorld.{DeviceWorld, arrival_in, feedback_in, frames_in, fresh, is_due_in, is_on, level_of, packet_in}
+use Rattle.uac_device.specs.DeviceWorld.{received, sent, settled, target_of}
 use Rattle.uac_host.specs.HostWorld.{HostWorld, fresh_host}
 use Rattle.uac_host.specs.Calls.{after_packet, heard_in, interface_in, packet_of, size_of, with_report, with_stream}
 use Rattle.uac_script.specs.Phrase.{Loss}
@@ -169,7 +171,11 @@ is_out_due w interface = goes_out w.device.function interface && is_due_in w.dev
 unfoldable pub out_turn : ℕ → List Loss → ℕ → StreamingWorld → Telling StreamingWorld
 out_turn detail losses interface w =
     if is_out_due w interface
-    then record { lines = sent_lines detail (loses_out losses interface) interface w; world = packet_sent (loses_out losses interface) interface w }
+    then record {
+      lines = sent_lines detail (loses_out losses interface) interface w;
+      world = packet_sent
+          (loses_out losses interface) interface w;
+    }
     else at_rest w
 
 -- the packets to the device, by interface number
@@ -202,7 +208,11 @@ is_in_due w interface = comes_in w.device.function interface && is_due_in w.devi
 unfoldable pub in_packet_turn : ℕ → List Loss → ℕ → StreamingWorld → Telling StreamingWorld
 in_packet_turn detail losses interface w =
     if is_in_due w interface
-    then record { lines = fetched_lines detail (loses_in losses interface) interface w; world = packet_fetched (loses_in losses interface) interface w }
+    then record {
+      lines = fetched_lines detail (loses_in losses interface) interface w;
+      world = packet_fetched
+          (loses_in losses interface) interface w;
+    }
     else at_rest w
 
 -- the packets from the device, by interface number

@@ -8,7 +8,8 @@ ghost use Rattle.uac_device.specs.Kept as devices;
 ghost use Rattle.uac_device.specs.DeviceWorld.{DeviceWorld, arrival_in, frames_in, fresh, met_of, packet_in, received};
 ghost use Rattle.uac_host.specs.Calls.{AreWhole, IsStreamOf, interface_in, size_of, with_report, with_samples, with_tone};
 ghost use Rattle.uac_transcript.specs.declared.report.StreamCounts as counted;
-ghost use Rattle.uac_streaming.specs.StreamingWorld.{StreamingWorld, followed, found_counts, packet_fetched, packet_sent, packet_to, report_made, streaming_start};
+ghost use Rattle.uac_streaming.specs.StreamingWorld.{StreamingWorld, followed, found_counts, packet_fetched, packet_sent, packet_to};
+ghost use Rattle.uac_streaming.specs.StreamingWorld.{report_made, streaming_start};
 ghost use Rattle.uac_streaming.specs.StreamingWorld as spec;
 ghost use Rattle.uac_streaming.specs.Kept.{Stands};
 

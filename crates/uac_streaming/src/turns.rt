@@ -5,7 +5,8 @@ ghost use Rattle.uac_script.specs.Line.{loss_of};
 ghost use Rattle.uac_device.specs.DeviceWorld.{DeviceWorld, ZerosFitIn, is_due_in, met_of, settled};
 ghost use Rattle.uac_device.specs.Kept as device_kept;
 ghost use Rattle.uac_transcript.specs.Printing.{Prints};
-ghost use Rattle.uac_streaming.specs.StreamingWorld.{StreamingWorld, all_reported, all_settled, found_lines, in_packet_turn, in_packets, out_packets, out_turn, report_turn, settled_turn};
+ghost use Rattle.uac_streaming.specs.StreamingWorld.{StreamingWorld, all_reported, all_settled, found_lines, in_packet_turn, in_packets};
+ghost use Rattle.uac_streaming.specs.StreamingWorld.{out_packets, out_turn, report_turn, settled_turn};
 ghost use Rattle.uac_streaming.specs.StreamingWorld as spec;
 ghost use Rattle.uac_streaming.specs.Kept.{Stands, Tells};
 
@@ -54,7 +55,8 @@ impl Streaming {
         sink: &mut K,
     ) -> Result<(), Failed>
         ensures tells { (w : StreamingWorld) → Stands self.old device.old w
-            → Tells (out_turn detail (map loss_of marks.now) interface w) self.new device.new (K.written sink.old) (K.written sink.new) result }
+            → Tells (out_turn detail (map loss_of marks.now) interface w) self.new device.new (K.written sink.old)
+            (K.written sink.new) result }
         ensures order { self.new.order ≡ self.old.order }
         ensures function { device.new.function ≡ device.old.function }
         ensures cause { HasCause (K.faults sink.old) (K.faults sink.new) result }
@@ -99,7 +101,8 @@ impl Streaming {
         sink: &mut K,
     ) -> Result<(), Failed>
         ensures tells { (w : StreamingWorld) → Stands self.old device.old w
-            → Tells (in_packet_turn detail (map loss_of marks.now) interface w) self.new device.new (K.written sink.old) (K.written sink.new) result }
+            → Tells (in_packet_turn detail (map loss_of marks.now) interface w) self.new device.new (K.written sink.old)
+            (K.written sink.new) result }
         ensures order { self.new.order ≡ self.old.order }
         ensures function { device.new.function ≡ device.old.function }
         ensures cause { HasCause (K.faults sink.old) (K.faults sink.new) result }
@@ -179,7 +182,8 @@ impl Streaming {
         sink: &mut K,
     ) -> Result<(), Failed>
         ensures tells { (w : StreamingWorld) → Stands self.old device.now w
-            → Tells (report_turn detail (map loss_of marks.now) interface w) self.new device.now (K.written sink.old) (K.written sink.new) result }
+            → Tells (report_turn detail (map loss_of marks.now) interface w) self.new device.now (K.written sink.old)
+            (K.written sink.new) result }
         ensures order { self.new.order ≡ self.old.order }
         ensures cause { HasCause (K.faults sink.old) (K.faults sink.new) result }
     {

@@ -27,7 +27,8 @@ impl Model for Function {
 
     ghost view = { λ f. record { entities = f.table; domains = f.domains.items; streams = f.streams.items; control_interface = f.control_interface; total = f.total } };
 
-    ghost invariant = { λ f. IsSoundFunction (record { entities = f.table; domains = f.domains.items; streams = f.streams.items; control_interface = f.control_interface; total = f.total }) };
+    ghost invariant = { λ f. IsSoundFunction
+        (record { entities = f.table; domains = f.domains.items; streams = f.streams.items; control_interface = f.control_interface; total = f.total }) };
 }
 
 impl Function {

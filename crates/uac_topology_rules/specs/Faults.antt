@@ -14,7 +14,8 @@ of_entity rule entities breaks = option_map (λ id. record { rule = rule; id = i
 
 -- a streaming interface breaks a rule
 unfoldable pub of_interface : ℕ → List StreamInterface → (List StreamInterface → ℕ → Bool) → Option TopologyFault
-of_interface rule streams breaks = option_map (λ number. record { rule = rule; id = number; interface = true }) (interface_offender streams (breaks streams))
+of_interface rule streams breaks = option_map (λ number. record { rule = rule; id = number; interface = true })
+    (interface_offender streams (breaks streams))
 
 -- the first of some faults
 abbrev pub least : List (Option TopologyFault) → Option TopologyFault

@@ -1,15 +1,18 @@
 -- The rules of an audio function's topology, each as a test of one entity or one streaming interface.
+-- What the program's theorem says: to be read and believed.
 pub mod Table
-pub mod Places
 pub mod Links
 pub mod Clusters
 pub mod Domains
 pub mod Offenders
 pub mod Rules
 pub mod Faults
+-- What the laws say besides.
+pub mod Cycles
+-- What the contracts below them cite: steps of the code, no part of what is promised.
+pub mod Places
 pub mod RuleNumbers
 pub mod Naming
-pub mod Cycles
 pub mod Walks
 pub mod Behind
 pub mod Signals

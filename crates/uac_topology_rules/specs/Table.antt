@@ -51,5 +51,6 @@ with_clusters entities clusters =
 -- the first n entities have got the cluster at their place
 pub record HasPut (old : List Entity) (clusters : List Cluster) (n : ℕ) (new : List Entity) : Type 0 where
   pub sized : length new ≡ length old
-  pub put : (k : ℕ) → k < n → slice_index_or new k nothing ≡ with_cluster (slice_index_or old k nothing) (slice_index_or clusters k no_cluster)
+  pub put : (k : ℕ) → k < n
+      → slice_index_or new k nothing ≡ with_cluster (slice_index_or old k nothing) (slice_index_or clusters k no_cluster)
   pub left : (k : ℕ) → n ≤ k → slice_index_or new k nothing ≡ slice_index_or old k nothing

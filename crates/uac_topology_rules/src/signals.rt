@@ -143,7 +143,8 @@ fn no_clocks(alloc: Global, count: usize) -> Result<Vec<Behind>, NoMemory>
 // What tells of the clocks behind an entity, from what tells of those behind its sources.
 fn clocks_by(entity: &Entity, sources: &[usize], list: &[Behind]) -> Behind
     requires { (k : ℕ) → k < length sources.now → slice_index sources.now k < length list.now }
-    ensures { (below : ℕ → List ℕ) → ((k : ℕ) → k < length sources.now → Tells (slice_index_or list.now (slice_index sources.now k) clocks.Nothing) (below (slice_index sources.now k)))
+    ensures { (below : ℕ → List ℕ) → ((k : ℕ) → k < length sources.now
+        → Tells (slice_index_or list.now (slice_index sources.now k) clocks.Nothing) (below (slice_index sources.now k)))
         → Tells result (spec.clocks_by entity.now sources.now below) }
 {
     if entity.kind == EntityKind::InputTerminal {

@@ -1,3 +1,4 @@
 -- The lines that a run prints.
+-- What the program's theorem says: to be read and believed.
 pub mod Transcript
 pub mod Printing

@@ -2,7 +2,8 @@
 ghost use Rattle.std.specs.Prelude.{◌≡◌, ◌≤◌, length};
 ghost use Rattle.uac_edges.specs.Faults.{HasCause};
 ghost use Rattle.uac_edges.specs.Writing.{Writes};
-ghost use Rattle.uac_transcript.specs.Transcript.{arrival_name, says_feedback, says_in, says_level, says_out, says_over, says_under, spelled};
+ghost use Rattle.uac_transcript.specs.Transcript.{arrival_name, says_feedback, says_in, says_level, says_out, says_over, says_under};
+ghost use Rattle.uac_transcript.specs.Transcript.{spelled};
 
 use crate::words::{lost_or_ok, number_or_dash};
 use uac_edges::{Failed, Sink, TextLine, give_all};

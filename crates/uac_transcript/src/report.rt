@@ -2,7 +2,8 @@
 ghost use Rattle.std.specs.Prelude.{◌≡◌, ◌≤◌, length};
 ghost use Rattle.uac_edges.specs.Faults.{HasCause};
 ghost use Rattle.uac_edges.specs.Writing.{Writes};
-ghost use Rattle.uac_transcript.specs.Transcript.{meter_name, says_domain, says_in_stream, says_meter, says_out_stream, says_passed, says_renders, says_steady, spelled};
+ghost use Rattle.uac_transcript.specs.Transcript.{meter_name, says_domain, says_in_stream, says_meter, says_out_stream, says_passed};
+ghost use Rattle.uac_transcript.specs.Transcript.{says_renders, says_steady, spelled};
 
 use crate::words::{number_or_dash, yes_or_no};
 use uac_edges::{Failed, Sink, TextLine, give_all};

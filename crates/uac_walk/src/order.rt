@@ -1,5 +1,6 @@
 // The order, found by counting for each node the links that still wait for what they name.
-ghost use Rattle.std.specs.Prelude.{◌≡◌, ◌↔◌, true, ℕ, ◌+◌, ◌-◌, ◌<◌, ◌≤◌, ◌==◌, [], ◌∷◌, ◌++◌, IfOk, OnOk, length, map, slice_index, slice_index_or, slice_set, if◌then◌else◌};
+ghost use Rattle.std.specs.Prelude.{◌≡◌, ◌↔◌, true, ℕ, ◌+◌, ◌-◌, ◌<◌, ◌≤◌, ◌==◌, [], ◌∷◌, ◌++◌, IfOk, OnOk, length, map, slice_index};
+ghost use Rattle.std.specs.Prelude.{slice_index_or, slice_set, if◌then◌else◌};
 ghost use Rattle.uac_walk.specs.Walk.{links, has_walk};
 ghost use Rattle.uac_walk.specs.Order.{IsClosed, IsOrder};
 ghost use Rattle.uac_walk.specs.Cycles.{ComesRound};
@@ -81,7 +82,8 @@ fn counts_of(alloc: Global, graph: &[Links]) -> Result<Vec<usize>, AllocError>
 // The nodes that wait for none, in the order of their indexes.
 fn ready_of(alloc: Global, waiting: &[usize]) -> Result<Vec<usize>, AllocError>
     ensures nodes { IfOk result (λ order. (k : ℕ) → k < length order.items → slice_index order.items k < length waiting.now) }
-    ensures once { IfOk result (λ order. (v : ℕ) → v < length waiting.now → times v order.items ≡ (if slice_index waiting.now v == 0 then 1 else 0)) }
+    ensures once { IfOk result (λ order. (v : ℕ) → v < length waiting.now
+        → times v order.items ≡ (if slice_index waiting.now v == 0 then 1 else 0)) }
     ensures none_wait { IfOk result (λ order. (k : ℕ) → k < length order.items → slice_index waiting.now (slice_index order.items k) ≡ 0) }
 {
     let mut order = Vec::new(alloc);

@@ -1,4 +1,6 @@
+-- What the program's theorem says: to be read and believed.
 pub mod Asked
+pub mod Plain
+-- What the laws say besides.
 pub mod ByClap
 pub mod Lines
-pub mod Plain
