@@ -47,7 +47,7 @@ cells-cons i (suc n) x xs =
     let next : suc i + 1 ≡ suc (i + 1) = omega arith in
     rw next (ap (λ more. slice_index xs i ∷ more) (cells-cons (i + 1) n x xs))
 
--- a list is its elements, one by one, and what is behind them
+-- a list is its elements, one by one, and what is after them
 pub cells-drop : (n : ℕ) (bytes : List ℕ) → n ≤ length bytes → cells 0 n bytes ++ drop n bytes ≡ bytes
 cells-drop zero bytes fits = refl
 cells-drop (suc n) [] fits = absurd (omega (arith, fits))
@@ -168,16 +168,16 @@ four_at_parts bytes are i =
 pub AreBytes-drop : (n : ℕ) (bytes : List ℕ) → AreBytes bytes → AreBytes (drop n bytes)
 AreBytes-drop n bytes are i = rw (get_or-drop n bytes i 0) (are (n + i))
 
--- what a row puts behind the type makes the block, if it is what stands there
+-- what a row puts after the type makes the block, if it is what stands there
 joined : (size kind k : ℕ) (rest content : List ℕ) → size ≡ length rest + 2 → kind ≡ k → content ≡ rest →
     (length content + 2) ∷ k ∷ content ≡ size ∷ kind ∷ rest
 joined size kind k rest content fits same is = rw (is, fits, same) refl
 
--- the cells behind a subtype
+-- the cells after a subtype
 subtyped : (s n : ℕ) (rest : List ℕ) → slice_index rest 0 ≡ s → length rest ≡ suc n → s ∷ cells 1 n rest ≡ rest
 subtyped s n rest same counted = ap (λ x. x ∷ cells 1 n rest) (sym same) ∙ whole_cells (suc n) rest counted
 
--- the number of bytes behind the type, from the length of the whole block
+-- the number of bytes after the type, from the length of the whole block
 behind_type : (n size kind : ℕ) (rest : List ℕ) → (length (size ∷ kind ∷ rest) == n) ≡ true → length rest + 2 ≡ n
 behind_type n size kind rest test =
     let e : length (size ∷ kind ∷ rest) ≡ n = eqb-true (length (size ∷ kind ∷ rest)) n test in omega (arith, e)
@@ -236,13 +236,13 @@ length-words_in : (k : ℕ) (bytes : List ℕ) → length (words_in k bytes) ≡
 length-words_in zero bytes = refl
 length-words_in (suc k) bytes = ap suc (length-words_in k (drop 4 bytes))
 
--- the last byte is what is behind all others
+-- the last byte is what is after all others
 last_cell : (i : ℕ) (bytes : List ℕ) → length bytes ≡ i + 1 → last_of bytes ∷ [] ≡ drop i bytes
 last_cell i bytes counted =
     let at : length bytes - 1 ≡ i = omega (arith, counted) in
     rw (at, drop_more bytes i 0 (omega (arith, counted)), drop_of_length-le bytes {i = i + 1} (omega (arith, counted))) refl
 
--- the content of a row with control words: a bytes behind the type, then k words, then the name
+-- the content of a row with control words: a bytes after the type, then k words, then the name
 words_row_spelt : (a k : ℕ) (size kind : ℕ) (rest : List ℕ) → AreBytes rest → length rest ≡ a + 4 * k + 1 →
     cells 0 a rest ++ (flat_map four (words_in k (drop a rest)) ++ last_of (size ∷ kind ∷ rest) ∷ []) ≡ rest
 words_row_spelt a k size kind rest are counted =

@@ -7,13 +7,13 @@ use Rattle.uac_descriptor.specs.declared.standard.Interface as interface
 use Rattle.uac_descriptor.specs.declared.block.Block as block
 use Rattle.uac_descriptor.specs.declared.block.Block.TheVariants as variant
 
--- what an interface makes the context of the blocks behind it
+-- what an interface makes the context of the blocks after it
 unfoldable pub interface_context : interface.Interface → Context
 interface_context i =
     if is_control_interface i then context.ControlInterface else if is_streaming_interface i then context.StreamingInterface
     else context.ForeignInterface
 
--- the context behind a block: the latest interface decides, and what follows a foreign association counts as
+-- the context after a block: the latest interface decides, and what follows a foreign association counts as
 -- standing in a foreign interface
 abbrev pub context_after : Context → block.Block → Context
 context_after place (variant.Interface i) = interface_context i

@@ -55,11 +55,11 @@ pub record ExtraFields : Type 0 where
   pub subtype : ℕ
   pub rest : List ℕ
 
--- these bytes behind a subtype 2 begin with format type 1
+-- these bytes after a subtype 2 begin with format type 1
 abbrev pub is_type_one : List ℕ → Bool
 is_type_one rest = slice_index rest 0 == FORMAT_TYPE_I
 
--- no other row of a streaming interface reads this subtype with these bytes behind it
+-- no other row of a streaming interface reads this subtype with these bytes after it
 abbrev pub is_extra : ℕ → List ℕ → Bool
 is_extra subtype rest = not (subtype == AS_GENERAL || (subtype == FORMAT_TYPE && is_type_one rest))
 

@@ -79,7 +79,7 @@ streaming_row [] = too_short
 streaming_row (subtype ∷ rest) =
     row_beside subtype ((AS_GENERAL, general) ∷ (FORMAT_TYPE, (if is_type_one rest then type_one else extra)) ∷ []) extra
 
--- the row of a class block behind an endpoint; the first argument is that of a block with no subtype
+-- the row of a class block after an endpoint; the first argument is that of a block with no subtype
 abbrev pub class_endpoint_row : Row → List ℕ → Row
 class_endpoint_row none [] = none
 class_endpoint_row none (subtype ∷ rest) = row_beside subtype ((EP_GENERAL, class_endpoint) ∷ []) foreign

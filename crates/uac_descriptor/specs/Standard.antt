@@ -56,7 +56,7 @@ CLOCK_SELECTOR = 11
 abbrev pub CLOCK_MULTIPLIER : ℕ
 CLOCK_MULTIPLIER = 12
 
--- ---- the subtypes of a streaming interface (Audio Class 2.0, A.10) and behind an endpoint (A.13)
+-- ---- the subtypes of a streaming interface (Audio Class 2.0, A.10) and after an endpoint (A.13)
 
 abbrev pub AS_GENERAL : ℕ
 AS_GENERAL = 1

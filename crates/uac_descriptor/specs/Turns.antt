@@ -20,7 +20,7 @@ abbrev pub Continues : List interface.Interface → interface.Interface → Type
 Continues [] i = ⊥
 Continues (j ∷ earlier) i = IsTrue (is_streaming_interface j) × (i.number ≡ j.number) × (i.setting ≡ j.setting + 1)
 
--- each streaming interface begins or continues, behind earlier interfaces, the latest first
+-- each streaming interface begins or continues, after earlier interfaces, the latest first
 abbrev pub InTurn : List interface.Interface → List interface.Interface → Type 0
 InTurn earlier [] = Unit {0}
 InTurn earlier (i ∷ interfaces) =

@@ -38,7 +38,7 @@ pub const CLOCK_MULTIPLIER: u8 = 0x0C;
 pub const AS_GENERAL: u8 = 0x01;
 
 pub const FORMAT_TYPE: u8 = 0x02;
-/// Audio Class 2.0, A.13: the block behind an endpoint.
+/// Audio Class 2.0, A.13: the block after an endpoint.
 pub const EP_GENERAL: u8 = 0x01;
 /// Audio Data Formats 2.0, A.1.
 pub const FORMAT_TYPE_I: u8 = 0x01;

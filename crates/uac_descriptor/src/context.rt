@@ -16,12 +16,12 @@ pub enum Context {
     ControlInterface,
     /// In a streaming interface of one.
     StreamingInterface,
-    /// In any other interface, or behind the association of another function.
+    /// In any other interface, or after the association of another function.
     ForeignInterface,
 }
 
 impl Context {
-    /// The context behind a block that stands in this one.
+    /// The context after a block that stands in this one.
     pub fn after(self, block: &Block) -> Context
         ensures { result ≡ context_after self block.now }
     {

@@ -9,7 +9,7 @@ pub struct Header {
     pub version: u16,
     /// bCategory
     pub category: u8,
-    /// wTotalLength: the bytes of the header and of all entities behind it.
+    /// wTotalLength: the bytes of the header and of all entities after it.
     pub total: u16,
     /// bmControls
     pub controls: u8,

@@ -1,16 +1,21 @@
 // Want of memory, and the lists of bytes and words.
-ghost use Rattle.std.specs.Prelude.{◌≡◌, ◌++◌, OnOk, OnErr};
+ghost use Rattle.std.specs.Prelude.{◌≡◌, ◌≤◌, ◌++◌, length, IfOk, IsOk, OnOk, OnErr};
 
+use smallvec::SmallVec;
+use std::alloc::Global;
 use std::marker::Model;
 
 /// No memory was found.
 #[derive(Clone, Copy, PartialEq, Eq, Debug)]
 pub struct NoMemory;
 
-/// A list of bytes.
+/// So many bytes lie in the value of their list; more lie on the heap.
+const FEW: usize = 16;
+
+/// A list of bytes. Most blocks have few, so a short one takes no memory.
 #[derive(Drop)]
 pub struct ByteList {
-    items: Vec<u8>,
+    items: SmallVec<u8, FEW>,
 }
 
 impl Model for ByteList {
@@ -26,7 +31,20 @@ impl ByteList {
     pub fn from_vec(items: Vec<u8>) -> ByteList
         ensures { result ≡ items.items }
     {
-        ByteList { items }
+        ByteList {
+            items: SmallVec::from_vec(items),
+        }
+    }
+
+    /// A list of its own of these bytes. Where they are few it takes no memory.
+    pub fn from_slice(alloc: Global, bytes: &[u8]) -> Result<ByteList, NoMemory>
+        ensures copied { IfOk result (λ list. list ≡ bytes.now) }
+        ensures few { length bytes.now ≤ FEW → IsOk result }
+    {
+        let Ok(items) = SmallVec::from_slice(alloc, bytes) else {
+            return Err(NoMemory);
+        };
+        Ok(ByteList { items })
     }
 
     /// The bytes, lent.

@@ -5,7 +5,7 @@ use std::marker::Model;
 /// The configuration descriptor (USB 2.0, 9.6.3).
 #[derive(Drop)]
 pub struct Configuration {
-    /// wTotalLength: the bytes of the configuration and of all blocks behind it.
+    /// wTotalLength: the bytes of the configuration and of all blocks after it.
     pub total: u16,
     /// bNumInterfaces
     pub interfaces: u8,

@@ -50,7 +50,7 @@ impl Model for Extra {
     ghost invariant = { λ e. IsExtra e.subtype e.rest };
 }
 
-/// The class block behind an endpoint of a streaming interface (Audio Class 2.0, 4.10.1.2).
+/// The class block after an endpoint of a streaming interface (Audio Class 2.0, 4.10.1.2).
 #[derive(Drop)]
 pub struct ClassEndpoint {
     /// bmAttributes

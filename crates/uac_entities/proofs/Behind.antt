@@ -1,10 +1,12 @@
--- What stands behind an interface block, from a place on.
+-- What stands after an interface block, from a place on.
 use Rattle.std.proofs.Common.{◌≡◌, ℕ, ◌+◌, ◌-◌, ◌<◌, ◌≤◌, Bool, true, false, cond, List, [], ◌∷◌, ◌++◌, Option, Some, None, suc, zero, length, get_or, drop, refl, sym, ap, ◌∙◌, arith}
 use Rattle.std.specs.Prelude.{slice_get}
 use Rattle.std.specs.List.{filter_map, cons_option, find}
 use Rattle.std.specs.Option.{option_to_list, is_some}
 use Rattle.std.proofs.lemmas.List.{drop_more, drop_all}
 use Rattle.uac_descriptor.specs.declared.block.Block as block
+use Rattle.uac_descriptor.specs.declared.block.Block.TheVariants as row
+use Rattle.uac_descriptor.specs.declared.standard.Interface.{Interface}
 use Rattle.uac_entities.specs.Settings.{ends_setting, own_blocks, own, alternate_at, alternates_of}
 
 own-stop : {X : Type 0} (r : block.Block → Option X) (b : block.Block) (bs : List block.Block) → ends_setting b ≡ true → own r (b ∷ bs) ≡ []
@@ -32,7 +34,7 @@ pub own_at_next : {X : Type 0} (r : block.Block → Option X) (xs : List block.B
 own_at_next r xs j b below is e =
     ap (own r) (drop_more xs j b below) ∙ ap (λ c. own r (c ∷ drop (j + 1) xs)) (sym is) ∙ own-next r b (drop (j + 1) xs) (sym e)
 
--- behind the last block there is nothing
+-- after the last block there is nothing
 pub own_at_end : {X : Type 0} (r : block.Block → Option X) (xs : List block.Block) (j : ℕ) → length xs ≤ j → own r (drop j xs) ≡ []
 own_at_end r xs j past = ap (own r) (drop_all j xs past) ∙ own-nil r
 
@@ -70,6 +72,29 @@ alternates_at xs j b below is =
 pub alternates_end : (xs : List block.Block) (j : ℕ) → length xs ≤ j → alternates_of (drop j xs) ≡ []
 unfolding alternates_of
 alternates_end xs j past = ap alternates_of (drop_all j xs past)
+
+-- no block but an interface begins a setting
+pub no_alternate : (b : block.Block) (behind : List block.Block) → ((i : Interface) → b ≡ row.Interface i → ⊥) → alternate_at b behind ≡ None
+unfolding alternate_at
+no_alternate (row.Interface i) behind other = absurd (other i refl)
+no_alternate (row.Configuration _) behind other = refl
+no_alternate (row.Association _) behind other = refl
+no_alternate (row.Endpoint _) behind other = refl
+no_alternate (row.Header _) behind other = refl
+no_alternate (row.InputTerminal _) behind other = refl
+no_alternate (row.OutputTerminal _) behind other = refl
+no_alternate (row.Mixer _) behind other = refl
+no_alternate (row.Selector _) behind other = refl
+no_alternate (row.Feature _) behind other = refl
+no_alternate (row.Effect _) behind other = refl
+no_alternate (row.ClockSource _) behind other = refl
+no_alternate (row.ClockSelector _) behind other = refl
+no_alternate (row.ClockMultiplier _) behind other = refl
+no_alternate (row.General _) behind other = refl
+no_alternate (row.TypeOne _) behind other = refl
+no_alternate (row.Extra _) behind other = refl
+no_alternate (row.ClassEndpoint _) behind other = refl
+no_alternate (row.Foreign _) behind other = refl
 
 -- the first of what is given, and a later one
 pub get_first : {X : Type 0} (o : Option X) (x : X) (n : ℕ) (rest : List X) → Some x ≡ o → n ≡ 0 → Some x ≡ slice_get (cons_option o rest) n

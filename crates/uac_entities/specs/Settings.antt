@@ -1,4 +1,4 @@
--- The settings of streaming interfaces in turn, each with the blocks behind it (USB 2.0, 9.6.5; Audio Class 2.0, 4.9).
+-- The settings of streaming interfaces in turn, each with the blocks after it (USB 2.0, 9.6.5; Audio Class 2.0, 4.9).
 use Rattle.std.specs.Prelude.{Bool, true, false, cond, List, [], ◌∷◌, Option, Some, None, length, slice_get}
 use Rattle.std.specs.List.{filter_map, cons_option}
 use Rattle.uac_descriptor.specs.Classes.{is_streaming_interface}
@@ -37,7 +37,7 @@ own_blocks (b ∷ blocks) = cond (ends_setting b) [] (b ∷ own_blocks blocks)
 abbrev pub own : {X : Type 0} → (block.Block → Option X) → List block.Block → List X
 own row_of blocks = filter_map row_of (own_blocks blocks)
 
--- a setting, by its interface block and all that stands behind it
+-- a setting, by its interface block and all that stands after it
 abbrev pub alternate_of : Interface → List block.Block → Alternate
 alternate_of i behind =
     record {
@@ -54,7 +54,7 @@ alternate_of i behind =
           };
     }
 
--- the setting of a streaming interface that a block begins, with all that stands behind it
+-- the setting of a streaming interface that a block begins, with all that stands after it
 unfoldable pub alternate_at : block.Block → List block.Block → Option Alternate
 alternate_at (row.Interface i) behind = cond (is_streaming_interface i) (Some (alternate_of i behind)) None
 alternate_at _ behind = None

@@ -1,5 +1,6 @@
 // The settings in turn, each with its own blocks.
 ghost use Rattle.std.specs.Prelude.{◌≡◌, length, slice_get, IfOk};
+ghost use Rattle.uac_descriptor.specs.declared.block.Block.TheVariants as row;
 ghost use Rattle.uac_entities.specs.Settings as spec;
 
 use crate::lists::keep;
@@ -15,7 +16,7 @@ pub struct Alternate {
     pub interface: u8,
     /// bNumEndpoints
     pub declared: u8,
-    /// How many endpoint blocks stand behind it.
+    /// How many endpoint blocks stand after it.
     pub endpoints: usize,
     pub setting: Setting,
 }
@@ -26,26 +27,23 @@ pub fn alternates_of(alloc: Global, blocks: &[Block]) -> Result<Vec<Alternate>, 
 {
     let mut all = Vec::new(alloc);
     for (place, block) in blocks.iter().enumerate() {
-        let alternate = alternate_at(block, &blocks[place + 1..]);
-        keep(&mut all, alternate)?;
+        if let Block::Interface(interface) = block {
+            let alternate = alternate_at(interface, &blocks[place + 1..]);
+            keep(&mut all, alternate)?;
+        }
     }
     Ok(all)
 }
 
-// The setting of a streaming interface that the block begins, with all that stands behind it.
+// The setting that the interface begins if it is a streaming interface, with all that stands after it.
 #[tactic(auto, unfolding(crate::specs::Settings::alternate_at))]
-fn alternate_at(block: &Block, behind: &[Block]) -> Option<Alternate>
-    ensures { result ≡ spec.alternate_at block.now behind.now }
+fn alternate_at(interface: &Interface, behind: &[Block]) -> Option<Alternate>
+    ensures { result ≡ spec.alternate_at (row.Interface interface.now) behind.now }
 {
-    match block {
-        Block::Interface(interface) => {
-            if is_streaming_interface(interface) {
-                Some(alternate_of(interface, behind))
-            } else {
-                None
-            }
-        }
-        _ => None,
+    if is_streaming_interface(interface) {
+        Some(alternate_of(interface, behind))
+    } else {
+        None
     }
 }
 
@@ -96,7 +94,7 @@ fn format_behind(blocks: &[Block]) -> Option<TypeOne>
     None
 }
 
-// The endpoint behind so many others, of the setting.
+// The endpoint after so many others, of the setting.
 fn endpoint_behind(blocks: &[Block], others: usize) -> Option<Endpoint>
     ensures { result ≡ slice_get (spec.own spec.endpoint_of blocks.now) others }
 {

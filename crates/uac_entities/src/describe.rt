@@ -3,11 +3,11 @@ ghost use Rattle.std.specs.Prelude.{◌≡◌, IfOk};
 ghost use Rattle.uac_entities.specs.Entities as spec;
 
 use crate::entity::{Cluster, Entity, EntityKind};
-use crate::lists::{bytes_of, keep, no_bytes, words_of};
+use crate::lists::{keep, no_bytes, words_of};
 use std::alloc::Global;
 use uac_descriptor::{
-    Block, ClockMultiplier, ClockSelector, ClockSource, Effect, Feature, InputTerminal, Mixer,
-    NoMemory, OutputTerminal, Selector,
+    Block, ByteList, ClockMultiplier, ClockSelector, ClockSource, Effect, Feature, InputTerminal,
+    Mixer, NoMemory, OutputTerminal, Selector,
 };
 
 /// No channels.
@@ -69,7 +69,7 @@ fn clock_source(alloc: Global, c: &ClockSource) -> Result<Entity, NoMemory>
 fn clock_selector(alloc: Global, c: &ClockSelector) -> Result<Entity, NoMemory>
     ensures { IfOk result (λ entity. entity ≡ spec.clock_selector c.now) }
 {
-    let sources = bytes_of(alloc, c.sources.as_slice())?;
+    let sources = ByteList::from_slice(alloc, c.sources.as_slice())?;
     let controls = words_of(alloc, &[u32::from(c.controls)])?;
     Ok(Entity {
         id: c.id,
@@ -87,7 +87,7 @@ fn clock_selector(alloc: Global, c: &ClockSelector) -> Result<Entity, NoMemory>
 fn clock_multiplier(alloc: Global, c: &ClockMultiplier) -> Result<Entity, NoMemory>
     ensures { IfOk result (λ entity. entity ≡ spec.clock_multiplier c.now) }
 {
-    let sources = bytes_of(alloc, &[c.source])?;
+    let sources = ByteList::from_slice(alloc, &[c.source])?;
     let controls = words_of(alloc, &[u32::from(c.controls)])?;
     Ok(Entity {
         id: c.id,
@@ -126,7 +126,7 @@ fn input_terminal(alloc: Global, t: &InputTerminal) -> Result<Entity, NoMemory>
 fn output_terminal(alloc: Global, t: &OutputTerminal) -> Result<Entity, NoMemory>
     ensures { IfOk result (λ entity. entity ≡ spec.output_terminal t.now) }
 {
-    let sources = bytes_of(alloc, &[t.source])?;
+    let sources = ByteList::from_slice(alloc, &[t.source])?;
     let controls = words_of(alloc, &[u32::from(t.controls)])?;
     Ok(Entity {
         id: t.id,
@@ -144,9 +144,9 @@ fn output_terminal(alloc: Global, t: &OutputTerminal) -> Result<Entity, NoMemory
 fn mixer(alloc: Global, m: &Mixer) -> Result<Entity, NoMemory>
     ensures { IfOk result (λ entity. entity ≡ spec.mixer m.now) }
 {
-    let sources = bytes_of(alloc, m.sources.as_slice())?;
+    let sources = ByteList::from_slice(alloc, m.sources.as_slice())?;
     let controls = words_of(alloc, &[u32::from(m.controls)])?;
-    let mix_bits = bytes_of(alloc, m.mix_bits.as_slice())?;
+    let mix_bits = ByteList::from_slice(alloc, m.mix_bits.as_slice())?;
     Ok(Entity {
         id: m.id,
         kind: EntityKind::Mixer,
@@ -167,7 +167,7 @@ fn mixer(alloc: Global, m: &Mixer) -> Result<Entity, NoMemory>
 fn selector(alloc: Global, s: &Selector) -> Result<Entity, NoMemory>
     ensures { IfOk result (λ entity. entity ≡ spec.selector s.now) }
 {
-    let sources = bytes_of(alloc, s.sources.as_slice())?;
+    let sources = ByteList::from_slice(alloc, s.sources.as_slice())?;
     let controls = words_of(alloc, &[u32::from(s.controls)])?;
     Ok(Entity {
         id: s.id,
@@ -185,7 +185,7 @@ fn selector(alloc: Global, s: &Selector) -> Result<Entity, NoMemory>
 fn feature(alloc: Global, f: &Feature) -> Result<Entity, NoMemory>
     ensures { IfOk result (λ entity. entity ≡ spec.feature f.now) }
 {
-    let sources = bytes_of(alloc, &[f.source])?;
+    let sources = ByteList::from_slice(alloc, &[f.source])?;
     let controls = words_of(alloc, f.words.as_slice())?;
     Ok(Entity {
         id: f.id,
@@ -203,7 +203,7 @@ fn feature(alloc: Global, f: &Feature) -> Result<Entity, NoMemory>
 fn effect(alloc: Global, e: &Effect) -> Result<Entity, NoMemory>
     ensures { IfOk result (λ entity. entity ≡ spec.effect e.now) }
 {
-    let sources = bytes_of(alloc, &[e.source])?;
+    let sources = ByteList::from_slice(alloc, &[e.source])?;
     let controls = words_of(alloc, e.words.as_slice())?;
     Ok(Entity {
         id: e.id,

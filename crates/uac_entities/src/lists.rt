@@ -12,16 +12,6 @@ pub(crate) fn no_bytes(alloc: Global) -> ByteList
     ByteList::from_vec(Vec::new(alloc))
 }
 
-/// A list of these bytes.
-pub(crate) fn bytes_of(alloc: Global, bytes: &[u8]) -> Result<ByteList, NoMemory>
-    ensures { IfOk result (λ list. list ≡ bytes.now) }
-{
-    match Vec::from_slice(alloc, bytes) {
-        Ok(items) => Ok(ByteList::from_vec(items)),
-        Err(_) => Err(NoMemory),
-    }
-}
-
 /// A list of these words.
 pub(crate) fn words_of(alloc: Global, words: &[u32]) -> Result<WordList, NoMemory>
     ensures { IfOk result (λ list. list ≡ words.now) }
@@ -32,7 +22,7 @@ pub(crate) fn words_of(alloc: Global, words: &[u32]) -> Result<WordList, NoMemor
     }
 }
 
-/// Puts the item behind the others, if there is one.
+/// Puts the item after the others, if there is one.
 pub(crate) fn keep<T: Drop>(items: &mut Vec<T>, item: Option<T>) -> Result<(), NoMemory>
     ensures { OnOk result (items.new.items ≡ items.old.items ++ option_to_list item) }
 {

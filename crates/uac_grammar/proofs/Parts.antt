@@ -5,7 +5,7 @@ use Rattle.byteorder.specs.Endian.{little_number}
 use Rattle.uac_descriptor.specs.Little.{two_at, four_at}
 use Rattle.uac_descriptor.specs.Reading.{words_in}
 
--- a byte behind the first n, found from the front
+-- a byte after the first n, found from the front
 byte_behind : (n : ℕ) (bytes : List ℕ) (i j k : ℕ) → k ≡ n + i + j → get_or (drop n bytes) (i + j) 0 ≡ get_or bytes k 0
 byte_behind n bytes i j k e = get_or-drop n bytes (i + j) 0 ∙ ap (λ (m : ℕ). get_or bytes m 0) (omega (arith, e))
 

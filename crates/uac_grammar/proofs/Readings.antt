@@ -136,7 +136,7 @@ going_stays old new s t place pending bytes going are partial same =
     subst (λ (bs : List Block). IsGoing bs t place bytes) (sym same.blocks)
     (subst (λ (u : State). IsGoing old u place bytes) (sym same.state) (going_partial old s place pending bytes going are partial))
 
--- behind a block that is kept
+-- after a block that is kept
 pub going_more : (old new : List Block) (s t : State) (place : ℕ) (pending bytes : List ℕ) → IsGoing old s place pending → AreBytes bytes
     → Keeps old new s t place bytes → IsGoing new t (place + length bytes) []
 going_more old new s t place pending bytes going are keeps =

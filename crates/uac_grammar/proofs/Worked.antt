@@ -37,7 +37,7 @@ one_byte : shown (1 ∷ []) ≡ None
 unfolding shown
 one_byte = refl
 
--- a length of 1 is shown by the byte behind it
+-- a length of 1 is shown by the byte after it
 length_one : shown (1 ∷ 2 ∷ []) ≡ fault 2 0
 unfolding shown
 length_one = refl

@@ -11,7 +11,7 @@ use Rattle.uac_grammar.specs.declared.fault.ReadStop.TheVariants.{NoMemory}
 use Rattle.uac_grammar.specs.Stop.{shown_stop}
 
 -- the bytes that a reader took, up to its stop where it has one
-pub record Reading : Type 0 where
+pub record ReaderFields : Type 0 where
   pub taken : List ℕ
   pub stop : Option ReadStop
 
@@ -21,7 +21,7 @@ abbrev pub most_taken : ℕ
 most_taken = FURTHEST + 254
 
 -- a reader that may go on: nothing is wrong so far
-pub record IsUnstopped (reading : Reading) : Type 0 where
+pub record IsUnstopped (reading : ReaderFields) : Type 0 where
   pub no_stop : reading.stop ≡ None
   pub nothing_shown : shown_stop reading.taken ≡ None
   pub bounded : length reading.taken ≤ most_taken

@@ -13,7 +13,7 @@ use Rattle.uac_grammar.specs.declared.fault.ReadStop.{ReadStop}
 use Rattle.uac_grammar.specs.declared.fault.ReadStop.TheVariants.{Fault, NoMemory}
 use Rattle.uac_grammar.specs.Reading.{IsPartial}
 
--- behind the blocks that left this state at this place, these bytes show this fault, whatever follows
+-- after the blocks that left this state at this place, these bytes show this fault, whatever follows
 pub record Shows (state : State) (place : ℕ) (bytes : List ℕ) (fault : GrammarFault) : Type 0 where
   pub first : (rest : List ℕ) → faults_from grammar state place (bytes ++ rest) ≡ Some fault
   pub shown : IsShown fault (place + length bytes)
@@ -24,7 +24,7 @@ pub record IsKept (state : State) (place : ℕ) (bytes : List ℕ) (block : Bloc
   pub read : block_of state.context bytes ≡ Some block
   pub unbroken : rule_broken state place (length bytes) block ≡ None
 
--- where these bytes are kept as a block more: the blocks and the state before and behind it
+-- where these bytes are kept as a block more: the blocks and the state before and after it
 pub record Keeps (old new : List Block) (s t : State) (place : ℕ) (bytes : List ℕ) : Type 0 where
   pub block : Block
   pub kept : IsKept s place bytes block
@@ -56,7 +56,7 @@ abbrev pub is_kept : Verdict → Bool
 is_kept Kept = true
 is_kept _ = false
 
--- what is pending behind these bytes
+-- what is pending after these bytes
 abbrev pub left_by : Verdict → List ℕ → List ℕ
 left_by Kept bytes = []
 left_by _ bytes = bytes

@@ -21,7 +21,6 @@ use control::{
     clock_multiplier, clock_selector, clock_source, effect, feature, header, input_terminal, mixer,
     output_terminal, selector,
 };
-use parts::list_of;
 use standard::{association, configuration, endpoint, foreign, interface};
 use std::alloc::Global;
 use streaming::{class_endpoint, extra, general, type_one};
@@ -31,7 +30,7 @@ use uac_descriptor::codes::{
     HEADER, INPUT_TERMINAL, INTERFACE, INTERFACE_ASSOCIATION, MIXER_UNIT, OUTPUT_TERMINAL,
     SELECTOR_UNIT,
 };
-use uac_descriptor::{Block, Context, Foreign, NoMemory};
+use uac_descriptor::{Block, ByteList, Context, Foreign, NoMemory};
 
 /// The block that these bytes are read as in this context, or none where they aren't one block or not of
 /// their row's length.
@@ -75,7 +74,7 @@ pub(crate) fn read_whole(alloc: Global, bytes: &[u8]) -> Result<Block, NoMemory>
     ensures { IfOk result (λ block. (context : Context) → block_of context bytes.now ≡ Some block) }
 {
     Ok(Block::Foreign(Foreign {
-        bytes: list_of(alloc, bytes)?,
+        bytes: ByteList::from_slice(alloc, bytes)?,
     }))
 }
 
@@ -199,7 +198,7 @@ fn streaming_block(alloc: Global, bytes: &[u8]) -> Result<Option<Block>, NoMemor
     }
 }
 
-/// A class block behind an endpoint.
+/// A class block after an endpoint.
 #[tactic(auto, using(crate::proofs::RowsIn::endpoint_too_short, crate::proofs::RowsIn::subtype_and_rest, std::proofs::lemmas::Bool::Decides::nat_tests))]
 fn behind_endpoint(alloc: Global, bytes: &[u8]) -> Result<Option<Block>, NoMemory>
     requires whole { IsWhole bytes.now }

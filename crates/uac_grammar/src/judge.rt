@@ -33,7 +33,7 @@ impl Verdict {
     }
 }
 
-/// Judges the bytes so far of the block that begins at this place, behind the blocks that left this state, and keeps the block.
+/// Judges the bytes so far of the block that begins at this place, after the blocks that left this state, and keeps the block.
 pub(crate) fn judge(
     alloc: Global,
     blocks: &mut Vec<Block>,

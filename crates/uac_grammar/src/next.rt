@@ -22,7 +22,7 @@ pub(crate) struct Next {
     pub verdict: Verdict,
 }
 
-/// Judges the pending bytes of a block and the next ones, which are pending behind it unless they end the block.
+/// Judges the pending bytes of a block and the next ones, which are pending after it unless they end the block.
 pub(crate) fn judge_next(
     alloc: Global,
     blocks: &mut Vec<Block>,

@@ -1,7 +1,7 @@
 ghost use Rattle.std.specs.Prelude.{◌≡◌, ◌≢◌, ◌≤◌, ◌<◌, [], ◌++◌, length, take, IsOk, IfOk, OnOk, IfErr, MatchResult, None};
 ghost use Rattle.uac_sentence.specs.Grammar.{first_fault};
 ghost use Rattle.uac_sentence.specs.Sentence.{IsSentence};
-ghost use Rattle.uac_grammar.specs.Reading.{Reading, IsUnstopped, most_taken};
+ghost use Rattle.uac_grammar.specs.Reading.{ReaderFields, IsUnstopped, most_taken};
 ghost use Rattle.uac_grammar.specs.Stop.{first_stop, shown_stop};
 
 use crate::fault::ReadStop;
@@ -30,9 +30,9 @@ pub struct Reader {
 impl Model for Reader {
     ghost use Rattle.std.specs.Prelude.{◌++◌};
     ghost use Rattle.uac_sentence.specs.Sentence.{spellings};
-    ghost use Rattle.uac_grammar.specs.Reading.{Reading, IsReading};
+    ghost use Rattle.uac_grammar.specs.Reading.{ReaderFields, IsReading};
 
-    ghost Value = { Reading };
+    ghost Value = { ReaderFields };
 
     ghost view = { λ r. record { taken = spellings r.blocks.items ++ r.pending.items; stop = r.stop } };
 

@@ -3,7 +3,7 @@ use Rattle.std.proofs.Common.{◌≡◌, ℕ, zero, suc, ◌≤◌, Bool, true, 
 use Rattle.std.proofs.lemmas.Bool.{and_parts, and_from}
 use Rattle.uac_sentence.specs.Cutting.{Cut, IsCut, IsPiece, begins_whole, with_piece, cut_front, chop_within, chop}
 
--- two ways to go on that agree behind the first block
+-- two ways to go on that agree after the first block
 cut_front_same : (b : Bool) (bytes : List ℕ) (go go' : List ℕ → Cut)
     → (b ≡ true → go (drop (get_or bytes 0 0) bytes) ≡ go' (drop (get_or bytes 0 0) bytes)) → cut_front b bytes go ≡ cut_front b bytes go'
 cut_front_same false bytes go go' same = refl

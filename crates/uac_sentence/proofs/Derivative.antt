@@ -1,4 +1,4 @@
--- What is left of a production behind a letter, and that it allows what the production allows.
+-- What is left of a production after a letter, and that it allows what the production allows.
 use Rattle.std.proofs.Common.{◌≡◌, Bool, true, false, ◌&&◌, ◌||◌, ◌⊎◌, List, [], ◌∷◌, ◌++◌, IsTrue, flat_map, refl, sym, ap, ◌∙◌, subst, inl, inr, append_assoc, ⊎_elim}
 use Rattle.std.proofs.lemmas.Bool.{false≢true, and_parts, and_from, or_cases, or_left, or_right}
 use Rattle.std.specs.List.{AllByRecursion}
@@ -40,7 +40,7 @@ abbrev pub when : {K : Type 0} → Bool → Production K → Production K
 when true a = a
 when false a = nothing
 
--- what is left of the production behind a letter
+-- what is left of the production after a letter
 abbrev pub behind : {K : Type 0} → K → Production K → Production K
 behind k nothing = nothing
 behind k empty = nothing

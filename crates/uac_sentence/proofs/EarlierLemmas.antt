@@ -22,7 +22,7 @@ lead s [] = s
 lead None (k ∷ ks) = None
 lead (Some s) (k ∷ ks) = lead (step s k) ks
 
--- the stage behind the first blocks of a descriptor
+-- the stage after the first blocks of a descriptor
 abbrev pub stage_behind : List Letter → Option Stage
 stage_behind ks = lead (Some Start) ks
 
@@ -39,7 +39,7 @@ lead-push (Some t) (j ∷ ks) s k e = lead-push (step t j) ks s k e
 
 -- ---- the stage
 
--- what a stage says of the letters before it, and what it says behind one more
+-- what a stage says of the letters before it, and what it says after one more
 abbrev told : Option Stage → List Bool
 told None = []
 told (Some t) =

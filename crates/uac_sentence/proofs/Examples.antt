@@ -143,7 +143,7 @@ hid_class = 9 ∷ 33 ∷ 17 ∷ 1 ∷ 0 ∷ 1 ∷ 34 ∷ 25 ∷ 0 ∷ []
 abbrev hid_endpoint : List ℕ
 hid_endpoint = 7 ∷ 5 ∷ 131 ∷ 3 ∷ 4 ∷ 0 ∷ 10 ∷ []
 
--- the headset, a device descriptor in front and an interface for its keys behind
+-- the headset, a device descriptor in front and an interface for its keys after
 abbrev headset : List (List ℕ)
 headset =
     device ∷ configuration ∷ association ∷ control
@@ -162,7 +162,7 @@ no_bytes : verdict ([]) ≡ fault 1 0
 unfolding verdict
 no_bytes = refl
 
--- behind the device descriptor the configuration is missing
+-- after the device descriptor the configuration is missing
 device_alone : verdict (bytes_of (take 1 headset)) ≡ fault 1 18
 unfolding verdict
 device_alone = refl
@@ -224,17 +224,17 @@ second_format : verdict (bytes_of (insert headset 16 format_out)) ≡ fault 6 19
 unfolding verdict
 second_format = refl
 
--- a class block of another subtype behind an endpoint
+-- a class block of another subtype after an endpoint
 class_endpoint_of_other_subtype : verdict (bytes_of (edit 17 2 2 headset)) ≡ fault 6 198
 unfolding verdict
 class_endpoint_of_other_subtype = refl
 
--- setting 2 behind setting 0
+-- setting 2 after setting 0
 setting_skipped : verdict (bytes_of (edit 13 3 2 headset)) ≡ fault 6 160
 unfolding verdict
 setting_skipped = refl
 
--- setting 1 of interface 3 behind setting 0 of interface 1
+-- setting 1 of interface 3 after setting 0 of interface 1
 setting_of_another : verdict (bytes_of (edit 13 2 3 headset)) ≡ fault 6 160
 unfolding verdict
 setting_of_another = refl
@@ -282,7 +282,7 @@ unknown_subtype : verdict (bytes_of (edit 5 2 8 headset)) ≡ fault 8 53
 unfolding verdict
 unknown_subtype = refl
 
--- such a block behind the list
+-- such a block after the list
 unknown_behind_list : verdict (bytes_of (insert (insert headset 12 (3 ∷ 36 ∷ 8 ∷ [])) 12 other)) ≡ fault 6 154
 unfolding verdict
 unknown_behind_list = refl
@@ -302,7 +302,7 @@ association_missing : verdict (bytes_of (with_total 9 0 (take 2 headset))) ≡ f
 unfolding verdict
 association_missing = refl
 
--- the input ends behind the control interface
+-- the input ends after the control interface
 header_missing : verdict (bytes_of (with_total 26 0 (take 4 headset))) ≡ fault 6 44
 unfolding verdict
 header_missing = refl
@@ -317,7 +317,7 @@ list_stops_short : verdict (bytes_of (edit 4 6 108 headset)) ≡ fault 5 151
 unfolding verdict
 list_stops_short = refl
 
--- an audio association behind another interface does not end that, but the control interface may follow
+-- an audio association after another interface does not end that, but the control interface may follow
 association_in_foreign : verdict (bytes_of (with_total 44 1 (take 2 headset ++ drop 25 headset ++ drop 2 headset))) ≡ None
 unfolding verdict
 association_in_foreign = refl

@@ -54,7 +54,7 @@ module _ {S : Type 0} (rules : Rules S) where
         | inr h ↦ absurd (not_one (lone_is_one fault place (sym (ap (λ b. at_place place (cond b (Some 2) (Some 1))) h) ∙ e)))
       ]
 
-  -- a fault among blocks, or in the rest behind them, stays the first where more bytes come
+  -- a fault among blocks, or in the rest after them, stays the first where more bytes come
   shown_over : (fault : GrammarFault) (state : S) (place : ℕ) (pieces : List (List ℕ)) (rest more : List ℕ)
       → AllByRecursion IsPiece pieces → faults_over rules state place pieces rest ≡ Some fault
       → IsShown fault (place + length (flat_map (λ piece. piece) pieces ++ rest))

@@ -73,7 +73,7 @@ old_version =
       breaks = g4 refl (record { next = header 256; rest = []; spelt = refl; stands = record { spelt = refl; stands = refl; complete = tt }; is_so = λ e. absurd (omega (arith, e)) });
     }
 
--- G5: an association behind a configuration whose total is its own 9 bytes
+-- G5: an association after a configuration whose total is its own 9 bytes
 past_the_total : IsFault (9 ∷ 2 ∷ 9 ∷ 0 ∷ 1 ∷ 1 ∷ 0 ∷ 128 ∷ 50 ∷ 8 ∷ 11 ∷ 0 ∷ 1 ∷ 1 ∷ 0 ∷ 32 ∷ 0 ∷ []) 5 9
 unfolding spelling row_in row_of
 past_the_total =
@@ -92,7 +92,7 @@ past_the_total =
       }));
     }
 
--- G6: the input ends behind the control interface, and its header is missing
+-- G6: the input ends after the control interface, and its header is missing
 header_missing : IsFault (9 ∷ 4 ∷ 0 ∷ 0 ∷ 0 ∷ 1 ∷ 1 ∷ 32 ∷ 0 ∷ []) 6 9
 unfolding spelling row_in row_of interface_letter is_control_interface
 header_missing =
@@ -118,7 +118,7 @@ early_stream =
       breaks = g7 refl (inl (record { next = stream; rest = []; spelt = refl; stands = record { spelt = refl; stands = refl; complete = tt }; is_so = refl }));
     }
 
--- G8: behind the header, a class block of subtype 8
+-- G8: after the header, a class block of subtype 8
 unknown_subtype : IsFault (9 ∷ 4 ∷ 0 ∷ 0 ∷ 0 ∷ 1 ∷ 1 ∷ 32 ∷ 0 ∷ 9 ∷ 36 ∷ 1 ∷ 0 ∷ 2 ∷ 4 ∷ 9 ∷ 0 ∷ 0 ∷ 3 ∷ 36 ∷ 8 ∷ []) 8 18
 unfolding spelling row_in row_of interface_context interface_letter is_control_interface whole_letter is_device has_unknown_subtype
 unknown_subtype =

@@ -20,7 +20,7 @@ use Rattle.uac_sentence.specs.Letter.{letter_of, is_listed}
 use Rattle.uac_sentence.specs.Steps.{step, may_end}
 use Rattle.uac_sentence.specs.Values.{HasValues, has_wrong_value}
 use Rattle.uac_sentence.specs.Grammar.{grammar, start, state_after, state_read, rule_read, rule_broken, rule_at_end, first_fault, end_after, ends_before, ends_behind, listing_after, list_end, passes_total, passes_list, ends_list_early, is_out_of_order, is_refused, lacks_association, lists_unknown, comes_again, least, is_due, is_headless}
-use Rattle.uac_sentence.specs.Sentence.{EachIn, Stands, spellings, size}
+use Rattle.uac_sentence.specs.Sentence.{EachIn, SpellsItself, spellings, size}
 use Rattle.uac_sentence.specs.Progress.{state_behind, HasRead}
 use Rattle.uac_sentence.specs.Earlier.{is_same, has, latest_is, is_named, is_second, is_unknown_in_list, stands_without_association}
 use Rattle.uac_sentence.specs.FirstFault.{context_behind, context_of, NextBlock, IsAtConfiguration, HasNoLength, MissesTotal, IsMisplaced, LacksPart, Breaks, g1, g2, g3, g4, g5, g6, g7, g8, g9, IsFault, IsFirstFault}
@@ -218,7 +218,7 @@ module _ (blocks : List block.Block) (s : State) (place : ℕ) (read : HasRead b
       (not_from_false named (named_is (letter_of b) ∙ h.unnamed))
 
   -- a rule of the table that a block breaks is one that the blocks tell
-  module _ (b : block.Block) (rest bytes : List ℕ) (e : bytes ≡ spelling b ++ rest) (stands : Stands (context_of blocks) b) (are : AreBytes (spellings (blocks ++ b ∷ []))) where
+  module _ (b : block.Block) (rest bytes : List ℕ) (e : bytes ≡ spelling b ++ rest) (stands : SpellsItself (context_of blocks) b) (are : AreBytes (spellings (blocks ++ b ∷ []))) where
     next : (IsSo : block.Block → Type 0) → IsSo b → NextBlock blocks bytes IsSo
     next IsSo so = record { next = b; rest = rest; spelt = e; stands = stands; is_so = so }
 
@@ -244,7 +244,7 @@ module _ (blocks : List block.Block) (s : State) (place : ℕ) (read : HasRead b
       → FindsLow s place bytes r
   block_low IsSo bytes r n holds =
       let h = least_holds 0 r (block_table s place n.next) (block_ascends s place n.next) holds in
-      let stands : Stands s.context n.next = subst (λ c. Stands c n.next) (sym context_now) n.stands in
+      let stands : SpellsItself s.context n.next = subst (λ c. SpellsItself c n.next) (sym context_now) n.stands in
       record {
         rule = h.found;
         found =
@@ -467,7 +467,7 @@ fault_over blocks s place read (piece ∷ pieces) rest are (whole, ok) cut fault
               fault_here blocks s place read (piece ++ (flat_map (λ y. y) pieces ++ rest)) fault at
               (block_breaks blocks s place read b (flat_map (λ y. y) pieces ++ rest) (piece ++ (flat_map (λ y. y) pieces ++ rest))
               (ap (λ y. y ++ (flat_map (λ x. x) pieces ++ rest)) spells.spelt)
-              (subst (λ c. Stands c b) (context_now blocks s place read) (subst (Spells s.context b) spells.spelt spells))
+              (subst (λ c. SpellsItself c b) (context_now blocks s place read) (subst (Spells s.context b) spells.spelt spells))
               (subst AreBytes (ap (λ y. spellings blocks ++ y) spells.spelt ∙ sym (spellings-push blocks b))
               (bytes_left (spellings blocks ++ piece) (flat_map (λ y. y) pieces ++ rest)
               (subst AreBytes (sym (append_assoc (spellings blocks) piece (flat_map (λ y. y) pieces ++ rest))) are_here)))
@@ -488,7 +488,7 @@ record FindsEarly (s : State) (place : ℕ) (bytes : List ℕ) (far r : ℕ) : T
   early : (fault.at < far) ⊎ ((fault.at ≡ far) × (fault.rule ≤ r))
 
 found_along : (before : List block.Block) (behind : List ℕ) (blocks : List block.Block) (s : State) (place : ℕ) → HasRead blocks s place
-    → EachIn Stands s.context before → AreBytes (spellings blocks ++ (spellings before ++ behind)) → (r : ℕ) → Breaks r (blocks ++ before) behind
+    → EachIn SpellsItself s.context before → AreBytes (spellings blocks ++ (spellings before ++ behind)) → (r : ℕ) → Breaks r (blocks ++ before) behind
     → FindsEarly s place (spellings before ++ behind) (place + size before) r
 unfolding grammar state_after
 found_along [] behind blocks s place read stand are r breaks =

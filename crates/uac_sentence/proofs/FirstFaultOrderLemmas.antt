@@ -1,4 +1,4 @@
--- The machine takes a block behind others exactly where some blocks behind it make what the order and the turn allow.
+-- The machine takes a block after others exactly where some blocks after it make what the order and the turn allow.
 use Rattle.std.proofs.Common.{◌≡◌, ℕ, ◌+◌, Bool, true, false, ◌⊎◌, not, List, [], ◌∷◌, ◌++◌, IsTrue, map, filter_map, Option, Some, None, is_none, refl, sym, ap, ◌∙◌, subst, append_assoc}
 use Rattle.std.proofs.lemmas.List.{map-append}
 use Rattle.std.proofs.lemmas.Bool.{false≢true, or_parts, or_from, not-false, not_from_true}
@@ -25,7 +25,7 @@ use Rattle.uac_sentence.proofs.EarlierLemmas.{lead, lead-push, lead_none, read_s
 
 -- ---- the order
 
--- what goes on behind items goes on from the stage to which they lead, and the other way round
+-- what goes on after items goes on from the stage to which they lead, and the other way round
 module _ {A : Type 0} (f : A → Letter) where
   pub goes_on : (s t : Stage) (xs ys : List A) → lead (Some s) (map f xs) ≡ Some t → Goes f t ys → Goes f s (xs ++ ys)
   goes_on s t [] ys e h = (let same : s ≡ t = cc in subst (λ u. Goes f u ys) (sym same) h)
@@ -95,7 +95,7 @@ record IsBehind (s : State) (earlier : List interface.Interface) : Type 0 where
   used : IsUsed s.used earlier
   latest : s.latest ≡ latest_of earlier
 
--- the interfaces behind blocks, the latest first
+-- the interfaces after blocks, the latest first
 abbrev earlier_behind : List interface.Interface → List block.Block → List interface.Interface
 earlier_behind earlier [] = earlier
 earlier_behind earlier (variant.Interface i ∷ blocks) = earlier_behind (i ∷ earlier) blocks
@@ -124,7 +124,7 @@ in_turn_both earlier [] ys h g = g
 in_turn_both earlier (variant.Interface i ∷ xs) ys (turn, h) g = (turn, in_turn_both (i ∷ earlier) xs ys h g)
 in_turn_both earlier (x ∷ xs) ys h g = in_turn_both earlier xs ys h g
 
--- a streaming interface begins or continues, behind these interfaces
+-- a streaming interface begins or continues, after these interfaces
 abbrev IsInTurn : List interface.Interface → block.Block → Type 0
 IsInTurn earlier (variant.Interface i) = IsTrue (is_streaming_interface i) → Begins earlier i ⊎ Continues earlier i
 IsInTurn earlier _ = Unit {0}
@@ -162,7 +162,7 @@ turns_along s place [] unbroken = tt
 turns_along s place (b ∷ blocks) (here, unbroken) =
     ((broken_passes s place b here).turn, turns_along (state_after s place b) (place + bytes_in b) blocks unbroken)
 
--- ---- what the sentence allows behind blocks that were read
+-- ---- what the sentence allows after blocks that were read
 
 module _ (blocks : List block.Block) (s : State) (place : ℕ) (b : block.Block) (read : HasRead blocks s place) (are : AreBytes (spellings (blocks ++ b ∷ []))) where
   numbers : HasSmallNumbers blocks × HasSmallNumbers (b ∷ [])

@@ -169,7 +169,7 @@ short_to place n total h = (let e : place + n < place + total = ltb-true (place 
 short_from : (place n total : ℕ) → IsShort n total → ends_behind (Some (place + total)) (place + n) ≡ true
 short_from place n total h = lt-ltb (place + n) (place + total) (omega (arith, h))
 
--- ---- behind blocks that were read
+-- ---- after blocks that were read
 
 module _ (blocks : List block.Block) (s : State) (place : ℕ) (read : HasRead blocks s place) where
   end_now : s.end ≡ end_along None 0 blocks

@@ -16,7 +16,7 @@ use Rattle.uac_sentence.specs.declared.stages.Stage.TheVariants.{Start, Due, Ope
 use Rattle.uac_descriptor.specs.Classes.{is_audio_association, is_control_interface, is_streaming_interface}
 use Rattle.uac_sentence.specs.Letter.{letter_of, whole_letter, interface_letter, interface_context, context_after, is_device, has_unknown_subtype, has_place, type_of, is_listed}
 use Rattle.uac_sentence.specs.Steps.{step}
-use Rattle.uac_sentence.specs.Sentence.{EachIn, Stands, size, is_entity, HasListTotal}
+use Rattle.uac_sentence.specs.Sentence.{EachIn, SpellsItself, size, is_entity, HasListTotal}
 use Rattle.uac_sentence.proofs.OrderLaw.{Goes}
 
 -- the total of the header, where other blocks may be listed too
@@ -184,7 +184,7 @@ header_step s t e = cc
 
 -- the two totals are one, in an allowed order
 same_front : (s : Stage) (place : Context) (b : block.Block) (blocks : List block.Block) → letter_of b ≡ letter.Header
-    → row_in context.ForeignInterface (spelling b) ≢ row b → Stands place b → IsFitting s place → Goes letter_of s (b ∷ blocks)
+    → row_in context.ForeignInterface (spelling b) ≢ row b → SpellsItself place b → IsFitting s place → Goes letter_of s (b ∷ blocks)
     → take_while (λ x. is_listed (letter_of x)) blocks ≡ take_while (λ x. is_entity (letter_of x)) blocks
 unfolding IsFitting
 same_front s place b blocks is other stands fits (t, e, goes) =
@@ -197,7 +197,7 @@ foreign_header : (h : header.Header) → row_in context.ForeignInterface (spelli
 unfolding row_in row_of spelling
 foreign_header h = λ e. cc
 
-entities_only : (s : Stage) (place : Context) (blocks : List block.Block) → EachIn Stands place blocks → IsFitting s place → Goes letter_of s blocks
+entities_only : (s : Stage) (place : Context) (blocks : List block.Block) → EachIn SpellsItself place blocks → IsFitting s place → Goes letter_of s blocks
     → ListedTotal blocks ↔ HasListTotal blocks
 entities_only s place [] stand fits goes = (λ h. h, λ h. h)
 entities_only s place (variant.Header h ∷ blocks) (stands, stand) fits goes =
@@ -208,7 +208,7 @@ entities_only s place (b ∷ blocks) (stands, stand) fits (t, e, goes) =
     entities_only t (context_after place b) blocks stand (fits_on s t place b e fits) goes
 
 -- from the start
-pub listed_entities : (blocks : List block.Block) → EachIn Stands context.DeviceFront blocks → Goes letter_of Start blocks
+pub listed_entities : (blocks : List block.Block) → EachIn SpellsItself context.DeviceFront blocks → Goes letter_of Start blocks
     → ListedTotal blocks ↔ HasListTotal blocks
 unfolding IsFitting
 listed_entities blocks stand goes = entities_only Start context.DeviceFront blocks stand (λ e. absurd (false≢true e)) goes

@@ -9,7 +9,7 @@ use Rattle.uac_sentence.specs.declared.stages.Stage.{Stage}
 use Rattle.uac_sentence.specs.declared.stages.Stage.TheVariants.{Start, Due, Opening, Before, Announced, Headless, Listing, Quiet, Setting, Formats, Formatted, FirstEndpoint, FirstDone, SecondEndpoint, Closing, Behind}
 use Rattle.uac_sentence.proofs.Derivative.{behind, nullable, behind_allows, allows_behind, allows_empty, nullable_from}
 
--- the other parts, behind the control interface's
+-- the other parts, after the control interface's
 abbrev parts : Production Letter
 parts = many (either foreign stream)
 
@@ -43,7 +43,7 @@ abbrev pub left_at : Option Stage → Production Letter
 left_at None = nothing
 left_at (Some s) = left s
 
--- the table says what the productions leave behind each letter
+-- the table says what the productions leave after each letter
 pub left_behind : (s : Stage) (k : Letter) → behind k (left s) ≡ left_at (step s k)
 left_behind Start Device = refl
 left_behind Start k = refl

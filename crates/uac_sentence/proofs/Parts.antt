@@ -221,7 +221,7 @@ pub step_there : {T : Type 0} (o : Option T) → is_none o ≡ false → (t : T)
 step_there None e = absurd (true≢false e)
 step_there (Some t) e = (t, refl)
 
--- the state behind a block has each part's own next value
+-- the state after a block has each part's own next value
 parts_behind : (s : State) (place : ℕ) (b : block.Block) (blocks : List block.Block)
     → Passes s place b → Parts (state_after s place b) (place + bytes_in b) blocks → Parts s place (b ∷ blocks)
 unfolding state_after

@@ -12,7 +12,7 @@ use Rattle.uac_sentence.specs.declared.states.State.{State}
 use Rattle.uac_sentence.specs.Cutting.{IsPiece, begins_whole}
 use Rattle.uac_sentence.specs.Fault.{at_place, faults_from}
 use Rattle.uac_sentence.specs.Grammar.{grammar, start, state_after, state_read, rule_read, rule_broken, rule_at_end, first_fault}
-use Rattle.uac_sentence.specs.Sentence.{EachIn, Stands, spellings, size, IsSentence}
+use Rattle.uac_sentence.specs.Sentence.{EachIn, SpellsItself, spellings, size, IsSentence}
 use Rattle.uac_sentence.specs.Progress.{state_behind, BreakNone, HasRead}
 use Rattle.uac_sentence.proofs.FaultLaw.{faults_from_piece, faults_from_rest}
 use Rattle.uac_sentence.proofs.Parts.{bytes_in, Clear}
@@ -21,8 +21,8 @@ use Rattle.uac_sentence.proofs.SentenceLaw.{piece_of, sentence_of}
 
 -- ---- blocks that break no rule
 
--- what comes behind them is judged in the state that they leave
-behind_blocks : (s : State) (place : ℕ) (blocks : List block.Block) (rest : List ℕ) → EachIn Stands s.context blocks → BreakNone s place blocks
+-- what comes after them is judged in the state that they leave
+behind_blocks : (s : State) (place : ℕ) (blocks : List block.Block) (rest : List ℕ) → EachIn SpellsItself s.context blocks → BreakNone s place blocks
     → faults_from grammar s place (spellings blocks ++ rest) ≡ faults_from grammar (state_behind s place blocks) (place + size blocks) rest
 unfolding grammar state_after
 behind_blocks s place [] rest stand unbroken = ap (λ n. faults_from grammar s n rest) (sym (add-zero place))
@@ -50,8 +50,8 @@ clear_behind s place (b ∷ blocks) (here, unbroken) e = (
 )
 
 -- one block more at the end
-stand_more : (s : State) (place : ℕ) (blocks : List block.Block) (b : block.Block) → EachIn Stands s.context blocks
-    → Stands (state_behind s place blocks).context b → EachIn Stands s.context (blocks ++ b ∷ [])
+stand_more : (s : State) (place : ℕ) (blocks : List block.Block) (b : block.Block) → EachIn SpellsItself s.context blocks
+    → SpellsItself (state_behind s place blocks).context b → EachIn SpellsItself s.context (blocks ++ b ∷ [])
 unfolding state_after
 stand_more s place [] b stand h = (h, tt)
 stand_more s place (a ∷ blocks) b (stands, stand) h =
@@ -93,8 +93,8 @@ unfolding start
 block_read blocks s place piece b h are read e =
     let spells : Spells s.context b piece = Spells-block_of s.context piece b are read in
     let at : place ≡ 0 + size blocks = h.place_is ∙ omega arith in
-    let stands : Stands (state_behind start 0 blocks).context b =
-    subst (λ t. Stands t.context b) h.state_is (subst (Spells s.context b) spells.spelt spells) in
+    let stands : SpellsItself (state_behind start 0 blocks).context b =
+    subst (λ t. SpellsItself t.context b) h.state_is (subst (Spells s.context b) spells.spelt spells) in
     let here : rule_broken (state_behind start 0 blocks) (0 + size blocks) (bytes_in b) b ≡ None =
     subst (λ t. rule_broken t (0 + size blocks) (bytes_in b) b ≡ None) h.state_is
     (subst (λ n. rule_broken s n (bytes_in b) b ≡ None) at (subst (λ y. rule_broken s place (length y) b ≡ None) spells.spelt e)) in (

@@ -21,7 +21,7 @@ use Rattle.uac_sentence.proofs.Parts.{bytes_in, broken_passes}
 use Rattle.uac_sentence.proofs.TotalLaw.{size-cons}
 use Rattle.uac_sentence.proofs.SentenceLaw.{bytes_left, bytes_right}
 
--- before the configuration at most the device descriptor was read; behind it the blocks stay within its total
+-- before the configuration at most the device descriptor was read; after it the blocks stay within its total
 abbrev Reaches : Option ℕ → Stage → ℕ → Type 0
 Reaches None s place = ((s ≡ Start) × (place ≡ 0)) ⊎ ((s ≡ Due) × (place ≡ 18))
 Reaches (Some end) s place = (place ≤ end) × (end ≤ FURTHEST)

@@ -19,7 +19,7 @@ use Rattle.uac_sentence.specs.Fault.{at_place, rest_rule, faults_over, faults_fr
 use Rattle.uac_sentence.specs.Letter.{letter_of, context_after}
 use Rattle.uac_sentence.specs.Grammar.{grammar, start, state_after, state_read, rule_read, rule_broken, rule_at_end, first_fault}
 use Rattle.uac_sentence.specs.Values.{HasValues}
-use Rattle.uac_sentence.specs.Sentence.{EachIn, Stands, spellings, IsSentence}
+use Rattle.uac_sentence.specs.Sentence.{EachIn, SpellsItself, spellings, IsSentence}
 use Rattle.uac_sentence.proofs.CuttingLaw.{chop_is_cut}
 use Rattle.uac_sentence.proofs.FaultLaw.{faults_from_piece, faults_from_rest}
 use Rattle.uac_sentence.proofs.OrderLaw.{goes_allows, allows_goes}
@@ -42,7 +42,7 @@ pub bytes_right : (xs ys : List ℕ) → AreBytes (xs ++ ys) → AreBytes ys
 bytes_right xs ys are i = subst (λ n. n < 256) (get_or-append-add xs ys i 0) (are (length xs + i))
 
 -- a block that may stand somewhere is spelt by a whole piece
-pub piece_of : (place : Context) (b : block.Block) → Stands place b → IsPiece (spelling b)
+pub piece_of : (place : Context) (b : block.Block) → SpellsItself place b → IsPiece (spelling b)
 unfolding is_whole
 piece_of place b stands =
     let (two, fits) = and_parts (leb 2 (length (spelling b))) (eqb (get_or (spelling b) 0 0) (length (spelling b))) (is_whole-spelling b stands.complete) in
@@ -64,7 +64,7 @@ small_numbers (b ∷ blocks) are = small_numbers blocks (bytes_right (spelling b
 record HasBlocks (s : State) (place : ℕ) (pieces : List (List ℕ)) (rest : List ℕ) : Type 0 where
   blocks : List block.Block
   spelt : flat_map (λ piece. piece) pieces ≡ spellings blocks
-  stand : EachIn Stands s.context blocks
+  stand : EachIn SpellsItself s.context blocks
   clear : Clear s place blocks
   nothing_left : rest ≡ []
 
@@ -124,7 +124,7 @@ blocks_from s place (piece ∷ pieces) rest are e =
 
 -- ---- from blocks to no fault
 
-none_from : (s : State) (place : ℕ) (blocks : List block.Block) → EachIn Stands s.context blocks → Clear s place blocks
+none_from : (s : State) (place : ℕ) (blocks : List block.Block) → EachIn SpellsItself s.context blocks → Clear s place blocks
     → faults_from grammar s place (spellings blocks) ≡ None
 unfolding grammar state_after
 none_from s place [] stand clear = faults_from_rest grammar s place [] refl ∙ ap (at_place place) clear
@@ -137,7 +137,7 @@ none_from s place (b ∷ blocks) (stands, stand) (here, clear) =
 
 -- ---- the laws
 
-pub sentence_of : (blocks : List block.Block) → AreBytes (spellings blocks) → EachIn Stands context.DeviceFront blocks → Clear start 0 blocks
+pub sentence_of : (blocks : List block.Block) → AreBytes (spellings blocks) → EachIn SpellsItself context.DeviceFront blocks → Clear start 0 blocks
     → IsSentence (spellings blocks) blocks
 unfolding start
 sentence_of blocks are stand clear =
@@ -181,7 +181,7 @@ sentence_none bytes blocks are sentence =
     ∙ none_from start 0 blocks sentence.stand (clear_of bytes blocks (subst AreBytes sentence.spelt are) sentence)
 
 -- two lists of blocks with the same bytes are the same
-same_blocks : (place : Context) (one other : List block.Block) → EachIn Stands place one → EachIn Stands place other
+same_blocks : (place : Context) (one other : List block.Block) → EachIn SpellsItself place one → EachIn SpellsItself place other
     → spellings one ≡ spellings other → one ≡ other
 same_blocks place [] [] stand stand' e = refl
 same_blocks place [] (b ∷ other) stand (stands, stand') e =
@@ -200,7 +200,7 @@ same_blocks place (a ∷ one) (b ∷ other) (stands, stand) (stands', stand') e 
     sym (drop_at (spelling a) (spellings one) (length (spelling b)) n) ∙ ap (drop (length (spelling b))) e ∙ drop_at (spelling b) (spellings other) (length (spelling b)) refl in
     let same : a ≡ b = some_is a b (sym (block_of-Spells place a (spelling a) stands) ∙ ap (block_of place) front ∙ block_of-Spells place b (spelling b) stands') in
     ap (λ x. x ∷ one) same
-    ∙ ap (λ xs. b ∷ xs) (same_blocks (context_after place b) one other (subst (λ x. EachIn Stands (context_after place x) one) same stand) stand' back)
+    ∙ ap (λ xs. b ∷ xs) (same_blocks (context_after place b) one other (subst (λ x. EachIn SpellsItself (context_after place x) one) same stand) stand' back)
   where
     some_is : (a b : block.Block) → Some a ≡ Some b → a ≡ b
     some_is a b e = cc

@@ -58,7 +58,7 @@ front_listed b blocks h =
 front_unlisted : (b : block.Block) (blocks : List block.Block) → listed b ≡ false → take_while listed (b ∷ blocks) ≡ []
 front_unlisted b blocks h = ap (λ n. take n (b ∷ blocks)) (cond-false (listed b) (1 + prefix_len listed blocks) 0 h)
 
--- behind the list nothing is looked at
+-- after the list nothing is looked at
 closed_run : (place : ℕ) (blocks : List block.Block) → ListRun state.Closed place blocks
 closed_run place [] = refl
 closed_run place (b ∷ blocks) = (refl, and_right (not (listed b)) false refl, closed_run (place + bytes_in b) blocks)

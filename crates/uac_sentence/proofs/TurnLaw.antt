@@ -46,7 +46,7 @@ number_new n (j ∷ earlier) (here, there) =
     ])
     (number_new n earlier there)
 
--- the flags behind one more interface
+-- the flags after one more interface
 pub flags_after : (used : List Bool) (i : interface.Interface) (earlier : List interface.Interface) → i.number < 256 → IsUsed used earlier
     → IsUsed (used_after used (variant.Interface i)) (i ∷ earlier)
 flags_after used i earlier small is =

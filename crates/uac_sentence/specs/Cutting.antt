@@ -7,7 +7,7 @@ use Rattle.std.specs.Prelude.{slice_index}
 abbrev pub IsPiece : List ℕ → Type 0
 IsPiece piece = (2 ≤ slice_index piece 0) × (length piece ≡ slice_index piece 0)
 
--- the blocks that bytes begin with, and the bytes behind them, which begin with no whole block
+-- the blocks that bytes begin with, and the bytes after them, which begin with no whole block
 pub record Cut : Type 0 where
   pub pieces : List (List ℕ)
   pub rest : List ℕ

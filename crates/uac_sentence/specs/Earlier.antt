@@ -19,16 +19,16 @@ latest_is j [] = false
 latest_is j (k ∷ []) = is_same j k
 latest_is j (k ∷ next ∷ ks) = latest_is j (next ∷ ks)
 
--- ---- the rules, of a block of the letter k behind blocks of the letters ks
+-- ---- the rules, of a block of the letter k after blocks of the letters ks
 
 -- G7: a control or streaming interface with no audio association before it, or another block than a control interface
--- right behind the audio association
+-- right after the audio association
 abbrev pub stands_without_association : List Letter → Letter → Bool
 stands_without_association ks k =
     not (has letter.AudioAssociation ks) && (is_same letter.ControlInterface k || is_same letter.StreamingInterface k)
     || latest_is letter.AudioAssociation ks && not (is_same letter.ControlInterface k)
 
--- a header, and behind it blocks of its list alone
+-- a header, and after it blocks of its list alone
 abbrev pub is_header_list : List Letter → Bool
 is_header_list [] = false
 is_header_list (k ∷ ks) = is_same letter.Header k && list_all is_listed ks

@@ -4,7 +4,7 @@ use Rattle.std.specs.Option.{option_or}
 pub use Rattle.uac_sentence.specs.declared.faults.GrammarFault.{GrammarFault}
 use Rattle.uac_sentence.specs.Cutting.{chop}
 
--- rules over blocks: the least one that the block at this place breaks, the state behind it, and the
+-- rules over blocks: the least one that the block at this place breaks, the state after it, and the
 -- rule that is broken where the input ends
 pub record Rules (S : Type 0) : Type 0 where
   pub broken : S → ℕ → List ℕ → Option ℕ
@@ -22,7 +22,7 @@ rest_rule ended [] = ended
 rest_rule ended (byte ∷ []) = Some 1
 rest_rule ended (byte ∷ next ∷ rest) = if nat_lt byte 2 then Some 2 else Some 1
 
--- the first fault of blocks, and of the rest behind them
+-- the first fault of blocks, and of the rest after them
 abbrev pub faults_over : {S : Type 0} → Rules S → S → ℕ → List (List ℕ) → List ℕ → Option GrammarFault
 faults_over rules state place [] rest = at_place place (rest_rule (rules.ended state place) rest)
 faults_over rules state place (piece ∷ pieces) rest =
@@ -30,7 +30,7 @@ faults_over rules state place (piece ∷ pieces) rest =
     (at_place place (rules.broken state place piece))
     (faults_over rules (rules.after state place piece) (place + length piece) pieces rest)
 
--- the first fault of bytes that stand at a place, behind blocks that left this state
+-- the first fault of bytes that stand at a place, after blocks that left this state
 unfoldable pub faults_from : {S : Type 0} → Rules S → S → ℕ → List ℕ → Option GrammarFault
 faults_from rules state place bytes = faults_over rules state place (chop bytes).pieces (chop bytes).rest
 

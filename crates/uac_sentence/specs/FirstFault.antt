@@ -1,5 +1,5 @@
 -- The first fault of a descriptor, told by its blocks: what each of the rules G1 to G9 asks of the blocks in front of a place and of
--- the bytes behind it. USB 2.0, 9.4.3, 9.5, 9.6.3, 9.6.5 and 9.6.6; Audio Class 2.0, 4 and 4.7.2.
+-- the bytes after it. USB 2.0, 9.4.3, 9.5, 9.6.3, 9.6.5 and 9.6.6; Audio Class 2.0, 4 and 4.7.2.
 use Rattle.std.specs.Prelude.{◌≡◌, ℕ, ◌<◌, ◌≤◌, ◌⊎◌, false, List, [], ◌∷◌, ◌++◌, length, map, filter_map, slice_index, IsTrue}
 use Rattle.std.specs.List.{AllByRecursion}
 use Rattle.uac_descriptor.specs.declared.context.Context.{Context}
@@ -15,12 +15,12 @@ use Rattle.uac_sentence.specs.Letter.{letter_of, context_after, is_listed}
 use Rattle.uac_sentence.specs.Order.{input}
 use Rattle.uac_sentence.specs.Production.{Allows}
 use Rattle.uac_sentence.specs.Values.{HasValues}
-use Rattle.uac_sentence.specs.Sentence.{EachIn, Stands, InTurn, interface_of, size, spellings}
+use Rattle.uac_sentence.specs.Sentence.{EachIn, SpellsItself, InTurn, interface_of, size, spellings}
 use Rattle.uac_sentence.specs.Earlier.{has, latest_is, is_named, is_second, is_unknown_in_list, stands_without_association}
 
 -- ---- where a block stands
 
--- the context behind blocks, the first of which stands in this one
+-- the context after blocks, the first of which stands in this one
 abbrev pub context_behind : Context → List block.Block → Context
 context_behind place [] = place
 context_behind place (b ∷ blocks) = context_behind (context_after place b) blocks
@@ -29,12 +29,12 @@ context_behind place (b ∷ blocks) = context_behind (context_after place b) blo
 abbrev pub context_of : List block.Block → Context
 context_of before = context_behind context.DeviceFront before
 
--- the bytes behind these blocks begin with a block that may stand there, and this is so of it
+-- the bytes after these blocks begin with a block that may stand there, and this is so of it
 pub record NextBlock (before : List block.Block) (bytes : List ℕ) (IsSo : block.Block → Type 0) : Type 0 where
   pub next : block.Block
   pub rest : List ℕ
   pub spelt : bytes ≡ spelling next ++ rest
-  pub stands : Stands (context_of before) next
+  pub stands : SpellsItself (context_of before) next
   pub is_so : IsSo next
 
 -- ---- G1, G2, G3: the bytes
@@ -43,7 +43,7 @@ pub record NextBlock (before : List block.Block) (bytes : List ℕ) (IsSo : bloc
 abbrev pub IsCutOff : List ℕ → Type 0
 IsCutOff bytes = (length bytes ≡ 1) ⊎ ((2 ≤ slice_index bytes 0) × (length bytes < slice_index bytes 0))
 
--- the configuration's own place: the first one, or that behind a device descriptor
+-- the configuration's own place: the first one, or that after a device descriptor
 abbrev pub IsAtConfiguration : List block.Block → Type 0
 IsAtConfiguration before = (before ≡ []) ⊎ (map letter_of before ≡ letter.Device ∷ [])
 
@@ -108,7 +108,7 @@ HasWrongTotal before bytes = NextBlock before bytes (MissesTotal before) ⊎ ((b
 
 -- ---- G6 to G9: the order
 
--- some blocks behind these make what the order and the turn of interface numbers and settings allow
+-- some blocks after these make what the order and the turn of interface numbers and settings allow
 pub record MayBegin (blocks : List block.Block) : Type 0 where
   pub more : List block.Block
   pub order : Allows letter_of input (blocks ++ more)
@@ -119,7 +119,7 @@ pub record IsMisplaced (before : List block.Block) (b : block.Block) : Type 0 wh
   pub refused : MayBegin (before ++ b ∷ []) → ⊥
   pub unnamed : is_named (map letter_of before) (letter_of b) ≡ false
 
--- G6: such a block, or the bytes end behind the control interface, with its header still missing
+-- G6: such a block, or the bytes end after the control interface, with its header still missing
 abbrev pub IsOutOfOrder : List block.Block → List ℕ → Type 0
 IsOutOfOrder before bytes =
     NextBlock before bytes (IsMisplaced before) ⊎ ((bytes ≡ []) × IsTrue (latest_is letter.ControlInterface (map letter_of before)))
@@ -129,7 +129,7 @@ abbrev pub LacksPart : List block.Block → Type 0
 LacksPart before =
     (has letter.AudioAssociation (map letter_of before) ≡ false) ⊎ (has letter.ControlInterface (map letter_of before) ≡ false)
 
--- G7: an audio interface before the audio association, or another block than the control interface behind it; or at the end one is missing
+-- G7: an audio interface before the audio association, or another block than the control interface after it; or at the end one is missing
 abbrev pub LacksAssociation : List block.Block → List ℕ → Type 0
 LacksAssociation before bytes =
     NextBlock before bytes (λ b. IsTrue (stands_without_association (map letter_of before) (letter_of b)))
@@ -145,7 +145,7 @@ ComesAgain before bytes = NextBlock before bytes (λ b. IsTrue (is_second (map l
 
 -- ---- the first fault
 
--- the rule that is broken behind these blocks, at these bytes
+-- the rule that is broken after these blocks, at these bytes
 pub data Breaks (rule : ℕ) (before : List block.Block) (bytes : List ℕ) : Type 0 where
   g1 : rule ≡ 1 → EndsTooSoon before bytes → Breaks rule before bytes
   g2 : rule ≡ 2 → HasNoLength bytes → Breaks rule before bytes
@@ -157,16 +157,16 @@ pub data Breaks (rule : ℕ) (before : List block.Block) (bytes : List ℕ) : Ty
   g8 : rule ≡ 8 → HasUnknownSubtype before bytes → Breaks rule before bytes
   g9 : rule ≡ 9 → ComesAgain before bytes → Breaks rule before bytes
 
--- a fault of bytes: blocks stand in front of its place, each in its context, and behind them the rule is broken
+-- a fault of bytes: blocks stand in front of its place, each in its context, and after them the rule is broken
 pub record IsFault (bytes : List ℕ) (rule place : ℕ) : Type 0 where
   pub before : List block.Block
   pub behind : List ℕ
   pub cut : bytes ≡ spellings before ++ behind
-  pub stand : EachIn Stands context.DeviceFront before
+  pub stand : EachIn SpellsItself context.DeviceFront before
   pub at : place ≡ size before
   pub breaks : Breaks rule before behind
 
--- the first one: each other lies behind it, or is of no lesser rule at its place
+-- the first one: each other lies after it, or is of no lesser rule at its place
 pub record IsFirstFault (bytes : List ℕ) (fault : GrammarFault) : Type 0 where
   pub is_fault : IsFault bytes fault.rule fault.at
   pub first : (rule place : ℕ) → IsFault bytes rule place → (fault.at < place) ⊎ ((fault.at ≡ place) × (fault.rule ≤ rule))

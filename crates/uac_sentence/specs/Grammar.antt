@@ -33,7 +33,7 @@ abbrev pub ends_before : Option ℕ → ℕ → Bool
 ends_before (Some end) place = nat_lt end place
 ends_before None place = false
 
--- the total ends behind this place
+-- the total ends after this place
 abbrev pub ends_behind : Option ℕ → ℕ → Bool
 ends_behind (Some end) place = nat_lt place end
 ends_behind None place = false
@@ -80,7 +80,7 @@ abbrev pub stage_after : Option Stage → Stage → Stage
 stage_after None stage = stage
 stage_after (Some next) stage = next
 
--- the state behind a block at this place
+-- the state after a block at this place
 unfoldable pub state_after : State → ℕ → block.Block → State
 state_after s place b =
     record {
@@ -104,7 +104,7 @@ start =
       listing = listing.Awaited;
     }
 
--- G5: the first block that ends past the configuration's total, or in the list past the header's; or a block behind the
+-- G5: the first block that ends past the configuration's total, or in the list past the header's; or a block after the
 -- list, where the header's total ends later
 unfoldable pub passes_total : Option ℕ → ℕ → ℕ → block.Block → Bool
 passes_total end place size b = ends_before (end_after end place b) (place + size)
@@ -144,7 +144,7 @@ is_association _ = false
 abbrev pub is_past_control : Stage → Bool
 is_past_control s = not (is_before_association s) && not (is_announced s)
 
--- G7: a control or streaming interface before the audio association, or another block than a control interface behind it
+-- G7: a control or streaming interface before the audio association, or another block than a control interface after it
 unfoldable pub lacks_association : Stage → Letter → Bool
 lacks_association s k = is_before_association s && is_audio_interface k || is_announced s && not (is_control k)
 

@@ -77,7 +77,7 @@ letter_of (variant.Extra _) = Extra
 letter_of (variant.ClassEndpoint _) = ClassEndpoint
 letter_of (variant.Foreign bytes) = whole_letter bytes
 
--- the list behind the header has entities, and for its total the class blocks of an unknown subtype
+-- the list after the header has entities, and for its total the class blocks of an unknown subtype
 abbrev pub is_listed : Letter → Bool
 is_listed Entity = true
 is_listed UnknownSubtype = true

@@ -5,9 +5,9 @@ use Rattle.uac_descriptor.specs.declared.block.Block as block
 use Rattle.uac_descriptor.specs.Spelling.{spelling}
 use Rattle.uac_sentence.specs.declared.states.State.{State}
 use Rattle.uac_sentence.specs.Grammar.{start, state_after, rule_broken}
-use Rattle.uac_sentence.specs.Sentence.{EachIn, Stands, size}
+use Rattle.uac_sentence.specs.Sentence.{EachIn, SpellsItself, size}
 
--- the state behind blocks that begin at a place
+-- the state after blocks that begin at a place
 abbrev pub state_behind : State → ℕ → List block.Block → State
 state_behind s place [] = s
 state_behind s place (b ∷ blocks) = state_behind (state_after s place b) (place + length (spelling b)) blocks
@@ -20,7 +20,7 @@ BreakNone s place (b ∷ blocks) =
 
 -- the blocks were read from the start, and left this state at this place
 pub record HasRead (blocks : List block.Block) (s : State) (place : ℕ) : Type 0 where
-  pub stand : EachIn Stands context.DeviceFront blocks
+  pub stand : EachIn SpellsItself context.DeviceFront blocks
   pub unbroken : BreakNone start 0 blocks
   pub state_is : s ≡ state_behind start 0 blocks
   pub place_is : place ≡ size blocks

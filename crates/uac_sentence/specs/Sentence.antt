@@ -16,8 +16,8 @@ use Rattle.uac_sentence.specs.Order.{input}
 use Rattle.uac_sentence.specs.Values.{HasValues}
 
 -- the block may stand in this context: there its row reads its bytes
-abbrev pub Stands : Context → block.Block → Type 0
-Stands place b = Spells place b (spelling b)
+abbrev pub SpellsItself : Context → block.Block → Type 0
+SpellsItself place b = Spells place b (spelling b)
 
 -- the bytes of blocks, and how many they are
 abbrev pub spellings : List block.Block → List ℕ
@@ -26,7 +26,7 @@ spellings blocks = flat_map spelling blocks
 abbrev pub size : List block.Block → ℕ
 size blocks = length (spellings blocks)
 
--- the first configuration's total is the number of its bytes and of all bytes behind it
+-- the first configuration's total is the number of its bytes and of all bytes after it
 abbrev pub HasWholeTotal : List block.Block → Type 0
 HasWholeTotal [] = Unit {0}
 HasWholeTotal (variant.Configuration c ∷ blocks) = size (variant.Configuration c ∷ blocks) ≡ c.total
@@ -37,7 +37,7 @@ abbrev pub is_entity : Letter → Bool
 is_entity letter.Entity = true
 is_entity _ = false
 
--- the first header's total is the number of its bytes and of those of the entities behind it
+-- the first header's total is the number of its bytes and of those of the entities after it
 abbrev pub HasListTotal : List block.Block → Type 0
 HasListTotal [] = Unit {0}
 HasListTotal (variant.Header h ∷ blocks) =
@@ -53,7 +53,7 @@ HasSmallNumbers (_ ∷ blocks) = HasSmallNumbers blocks
 -- these blocks are what the bytes say, in the standard's order, with the totals and the values that they must have
 pub record IsSentence (bytes : List ℕ) (blocks : List block.Block) : Type 0 where
   pub spelt : bytes ≡ spellings blocks
-  pub stand : EachIn Stands context.DeviceFront blocks
+  pub stand : EachIn SpellsItself context.DeviceFront blocks
   pub order : Allows letter_of input blocks
   pub in_turn : InTurn [] (filter_map interface_of blocks)
   pub whole_total : HasWholeTotal blocks

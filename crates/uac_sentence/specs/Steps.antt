@@ -9,7 +9,7 @@ use Rattle.uac_sentence.specs.declared.stages.Stage.TheVariants.{Start, Due, Ope
 use Rattle.uac_sentence.specs.declared.stages.Stage.TheVariants.{Formats, Formatted, FirstEndpoint, FirstDone, SecondEndpoint, Closing}
 use Rattle.uac_sentence.specs.declared.stages.Stage.TheVariants.{Behind}
 
--- behind the control interface's part, another part may begin
+-- after the control interface's part, another part may begin
 abbrev pub begin_part : Letter → Option Stage
 begin_part StreamingInterface = Some Setting
 begin_part ForeignAssociation = Some Behind

@@ -1,4 +1,4 @@
--- The values of single fields: Audio Class 2.0, 4.7.2 and the descriptors behind it (bmControls, bcdADC, bNrInPins); and
+-- The values of single fields: Audio Class 2.0, 4.7.2 and the descriptors after it (bmControls, bcdADC, bNrInPins); and
 -- those of formats and endpoints.
 use Rattle.std.specs.Prelude.{◌≡◌, ◌≢◌, ℕ, zero, suc, ◌/◌, ◌%◌, Bool, false, ◌&&◌, ◌||◌, not, ◌==◌, length, IsTrue}
 use Rattle.std.specs.List.{AllByRecursion, list_any}

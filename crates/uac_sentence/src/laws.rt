@@ -42,8 +42,8 @@ pub fn state_judges_what_follows(bytes: &[u8])
         → rule_at_end s place ≡ None → IsSentence bytes.now blocks }
 {}
 
-/// The first fault is what the blocks in front of a place and the bytes behind it say: a rule is broken there, and each other
-/// broken rule is broken behind it, or is no lesser rule at its place. There is none exactly where no rule is broken anywhere.
+/// The first fault is what the blocks in front of a place and the bytes after it say: a rule is broken there, and each other
+/// broken rule is broken after it, or is no lesser rule at its place. There is none exactly where no rule is broken anywhere.
 pub fn first_fault_is_the_least_of_all(bytes: &[u8])
     ensures found { (fault : GrammarFault) → (first_fault bytes.now ≡ Some fault) ↔ IsFirstFault bytes.now fault }
     ensures none { (first_fault bytes.now ≡ None) ↔ ((rule place : ℕ) → IsFault bytes.now rule place → ⊥) }

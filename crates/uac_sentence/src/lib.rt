@@ -9,7 +9,7 @@ mod stages;
 mod values;
 /// What the blocks so far leave to be remembered.
 mod states;
-/// What each part of it becomes behind a block.
+/// What each part of it becomes after a block.
 mod turns;
 /// The rules, each by itself, and the least one that is broken.
 mod rules;

@@ -34,7 +34,7 @@ use crate::values::has_wrong_value;
 use uac_descriptor::Block;
 
 impl State {
-    /// The least rule of G4 to G9 that a block of `size` bytes at `place` breaks, behind the blocks that left this state.
+    /// The least rule of G4 to G9 that a block of `size` bytes at `place` breaks, after the blocks that left this state.
     #[tactic(auto, unfolding(crate::specs::Grammar::rule_broken))]
     pub fn rule_broken(&self, place: u32, size: u8, block: &Block) -> Option<u8>
         requires { place ≤ FURTHEST }
@@ -90,7 +90,7 @@ fn ends_before(end: Option<u32>, place: u32) -> bool
     }
 }
 
-/// A total that is known ends behind this place.
+/// A total that is known ends after this place.
 fn ends_behind(end: Option<u32>, place: u32) -> bool
     ensures { result ≡ ends_behind end place }
 {
@@ -119,7 +119,7 @@ fn passes_total(end: Option<u32>, place: u32, size: u8, block: &Block) -> bool
     ends_before(end_after(end, place, block), place + size as u32)
 }
 
-/// G5: the header, or an entity behind it, ends past the header's total.
+/// G5: the header, or an entity after it, ends past the header's total.
 #[tactic(auto, unfolding(crate::specs::Grammar::passes_list))]
 fn passes_list(listing: Listing, place: u32, size: u8, block: &Block) -> bool
     requires { place ≤ FURTHEST }
@@ -159,7 +159,7 @@ fn is_out_of_order(state: &State, block: &Block) -> bool
             || comes_again(state.stage, letter))
 }
 
-/// G7: the audio association is missing, or the control interface behind it.
+/// G7: the audio association is missing, or the control interface after it.
 #[tactic(auto, unfolding(crate::specs::Grammar::lacks_association))]
 fn lacks_association(stage: Stage, letter: Letter) -> bool
     ensures { result ≡ lacks_association stage letter }

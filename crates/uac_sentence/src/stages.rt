@@ -9,35 +9,35 @@ use crate::letters::Letter;
 pub enum Stage {
     /// Before the first block.
     Start,
-    /// Behind the device descriptor: the configuration is due.
+    /// After the device descriptor: the configuration is due.
     Due,
-    /// Behind the configuration and blocks of other types.
+    /// After the configuration and blocks of other types.
     Opening,
     /// In a foreign part before the audio association.
     Before,
-    /// Behind the audio association: the control interface is due.
+    /// After the audio association: the control interface is due.
     Announced,
-    /// Behind the control interface: its header is due.
+    /// After the control interface: its header is due.
     Headless,
-    /// Behind the header, in the list of entities.
+    /// After the header, in the list of entities.
     Listing,
-    /// Behind the list of entities, in blocks of other types.
+    /// After the list of entities, in blocks of other types.
     Quiet,
-    /// Behind a streaming interface and blocks of other types.
+    /// After a streaming interface and blocks of other types.
     Setting,
-    /// Behind a general block, with no Type I format yet.
+    /// After a general block, with no Type I format yet.
     Formats,
-    /// Behind a Type I format.
+    /// After a Type I format.
     Formatted,
-    /// Behind the first endpoint of a setting.
+    /// After the first endpoint of a setting.
     FirstEndpoint,
-    /// Behind the class block of the first endpoint.
+    /// After the class block of the first endpoint.
     FirstDone,
-    /// Behind the second endpoint of a setting.
+    /// After the second endpoint of a setting.
     SecondEndpoint,
     /// At the end of an interface, in blocks of other types.
     Closing,
-    /// In a foreign part behind the control interface.
+    /// In a foreign part after the control interface.
     Behind,
 }
 
@@ -90,7 +90,7 @@ impl Stage {
     }
 }
 
-/// Behind the control interface's part, another part may begin.
+/// After the control interface's part, another part may begin.
 fn begin_part(letter: Letter) -> Option<Stage>
     ensures { result ≡ begin_part letter }
 {

@@ -4,7 +4,7 @@ use crate::stages::Stage;
 use crate::turns::{end_after, latest_after, listing_after, use_number};
 use uac_descriptor::{Block, Context};
 
-/// The bytes of a device descriptor and of the longest configuration: no block that breaks no rule ends behind this place.
+/// The bytes of a device descriptor and of the longest configuration: no block that breaks no rule ends after this place.
 pub const FURTHEST: u32 = 18 + 65535;
 
 /// A setting of a streaming interface.
@@ -21,7 +21,7 @@ pub enum Listing {
     Awaited,
     /// The header and entities were read; its total ends at this place.
     Open(u32),
-    /// Another block was read behind them.
+    /// Another block was read after them.
     Closed,
 }
 
@@ -60,7 +60,7 @@ impl State {
         }
     }
 
-    /// The state behind a block at this place.
+    /// The state after a block at this place.
     #[tactic(auto, unfolding(crate::specs::Grammar::state_after))]
     pub fn take(&mut self, place: u32, block: &Block)
         requires { place ≤ FURTHEST }

@@ -1,4 +1,4 @@
-// What each part of the state becomes behind a block.
+// What each part of the state becomes after a block.
 ghost use Rattle.std.specs.Prelude.{◌≡◌, ◌≤◌, length};
 ghost use Rattle.uac_sentence.specs.Letter.{is_listed, letter_of};
 ghost use Rattle.uac_sentence.specs.Grammar.{
@@ -38,7 +38,7 @@ pub fn is_listed(letter: Letter) -> bool
     }
 }
 
-/// How far the list of entities has come behind a block.
+/// How far the list of entities has come after a block.
 pub fn listing_after(listing: Listing, place: u32, block: &Block) -> Listing
     requires { place ≤ FURTHEST }
     ensures { result ≡ listing_after listing place block.now }

@@ -8,7 +8,7 @@ use uac_descriptor::fields::{is_isochronous, is_no_format, is_no_high_speed};
 use uac_descriptor::{Block, Context};
 
 /// Whether a field of the block has a value that is not allowed there. Of the controls only those are judged that
-/// are played (Audio Class 2.0, bmControls of 4.7.2 and of the descriptors behind it: bits 10 are not allowed).
+/// are played (Audio Class 2.0, bmControls of 4.7.2 and of the descriptors after it: bits 10 are not allowed).
 #[tactic(auto, unfolding(crate::specs::Values::has_wrong_value))]
 pub fn has_wrong_value(context: Context, block: &Block) -> bool
     ensures { result ≡ has_wrong_value context block.now }

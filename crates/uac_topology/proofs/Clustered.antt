@@ -1,9 +1,18 @@
 -- The entities with the clusters that they put out, place by place.
-use Rattle.std.proofs.Common.{◌≡◌, ℕ, ◌<◌, List, length, get_or, arith}
+use Rattle.std.proofs.Common.{◌≡◌, ◌∙◌, ℕ, ◌+◌, ◌<◌, ◌==◌, not, cond, List, [], ◌∷◌, map, length, get_or, refl, sym, ap, arith}
+use Rattle.std.specs.List.{position_or_len}
+use Rattle.std.proofs.lemmas.List.{length-map, get_or-map, ext_get_or}
 use Rattle.std.proofs.lemmas.List.FromFn.{length-map-range_with_len, get_or-map-range_with_len}
+use Rattle.uac_entities.specs.declared.entity.Cluster.{Cluster}
 use Rattle.uac_entities.specs.declared.entity.Entity.{Entity}
 use Rattle.uac_topology_rules.specs.Clusters.{cluster_of, clustered}
-use Rattle.uac_topology_rules.specs.Table.{at, with_cluster}
+use Rattle.uac_topology_rules.specs.Table.{at, nothing, place_of, with_cluster}
+
+-- the first place of an id, by the ids alone
+place_by_ids : (xs : List Entity) (id : ℕ) → place_of xs id ≡ position_or_len (λ i. i == id) (map (λ e. e.id) xs)
+unfolding place_of
+place_by_ids [] id = refl
+place_by_ids (x ∷ xs) id = ap (λ n. cond (not (x.id == id)) (1 + n) 0) (place_by_ids xs id)
 
 module _ (es : List Entity) where
   pub length-clustered : length (clustered es) ≡ length es
@@ -13,3 +22,20 @@ module _ (es : List Entity) where
   pub clustered-at : (k : ℕ) (d : Entity) → k < length es → get_or (clustered es) k d ≡ with_cluster (at es k) (cluster_of es k)
   unfolding clustered
   clustered-at k d below = get_or-map-range_with_len (λ k. with_cluster (at es k) (cluster_of es k)) 0 (length es) k k d below (omega arith)
+
+  -- what doesn't look at clusters sees the same
+  pub seen_alike : {X : Type 0} (d : X) (g : Entity → X) → ((e : Entity) (c : Cluster) → g (with_cluster e c) ≡ g e) → map g (clustered es) ≡ map g es
+  unfolding at
+  seen_alike d g same =
+      ext_get_or d (map g (clustered es)) (map g es) (length-map (clustered es) g ∙ length-clustered ∙ sym (length-map es g))
+      (λ i within.
+      let below : i < length es = omega (arith, within, length-map (clustered es) g, length-clustered) in
+      let below' : i < length (clustered es) = omega (arith, below, length-clustered) in
+      get_or-map g (clustered es) i nothing d below' ∙ ap g (clustered-at i nothing below) ∙ same (at es i) (cluster_of es i)
+      ∙ sym (get_or-map g es i nothing d below))
+
+  pub same_place : (id : ℕ) → place_of (clustered es) id ≡ place_of es id
+  same_place id =
+      place_by_ids (clustered es) id
+      ∙ ap (position_or_len (λ i. i == id)) (seen_alike 0 (λ e. e.id) (λ e c. refl))
+      ∙ sym (place_by_ids es id)

@@ -6,5 +6,6 @@ pub mod Clustered
 pub mod PinLemmas
 pub mod ChannelLemmas
 pub mod RangeLemmas
+pub mod LinkLemmas
 pub mod NumberLemmas
 pub mod EntityLemmas

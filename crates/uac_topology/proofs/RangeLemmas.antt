@@ -2,10 +2,10 @@
 use Rattle.std.proofs.Common.{◌≡◌, ◌∙◌, sym, ap, subst, refl, arith, ℕ, zero, suc, ◌+◌, ◌<◌, ◌==◌, ◌&&◌, ◌||◌, not, Bool, true, false, cond, if◌then◌else◌, List, [], ◌∷◌, Option, Some, None, length, get_or, slice_get, inl, inr, IsTrue}
 use Rattle.std.specs.List.{All, filter_map, cons_option, list_any}
 use Rattle.std.specs.Option.{option_map_or}
-use Rattle.std.proofs.lemmas.Bool.{cases_Bool, or_parts, cond-true, cond-false}
+use Rattle.std.proofs.lemmas.Bool.{or_parts}
 use Rattle.std.proofs.lemmas.List.Elements.{All-nil, All-cons}
 use Rattle.uac_walk.proofs.Walks.{none_at}
-use Rattle.uac_descriptor.specs.Contexts.{EachIn, context_after, interface_context, is_audio}
+use Rattle.uac_descriptor.specs.Contexts.{EachIn, context_after, interface_context}
 use Rattle.uac_descriptor.specs.Classes.{is_control_interface, is_streaming_interface}
 use Rattle.uac_descriptor.specs.Fields.{is_isochronous, IsFormat, IsHighSpeed}
 use Rattle.uac_descriptor.specs.WellFormed.{IsWellFormed}
@@ -23,7 +23,6 @@ use Rattle.uac_entities.specs.declared.alternate.Alternate.{Alternate}
 use Rattle.uac_entities.specs.declared.entity.Entity.{Entity}
 use Rattle.uac_entities.specs.declared.stream.Setting.{Setting}
 use Rattle.uac_entities.specs.declared.stream.StreamInterface.{StreamInterface}
-use Rattle.uac_topology_rules.specs.Faults.{of_interface}
 use Rattle.uac_topology_rules.specs.Rules as rules
 use Rattle.uac_topology_rules.specs.Rules.{at_stream, breaks_u13, is_wrong}
 use Rattle.uac_topology.specs.Function.{FunctionFields}
@@ -146,7 +145,7 @@ all_ready place (b ∷ blocks) (well, each) =
 
 -- ---- the endpoints that carry data or feedback are isochronous
 
-not_false : (b : Bool) → not b ≡ false → b ≡ true
+pub not_false : (b : Bool) → not b ≡ false → b ≡ true
 not_false true e = refl
 not_false false e = absurd (cc)
 

@@ -23,10 +23,11 @@ pub record KeepsRules (es : List Entity) : Type 0 where
   pub u10 : (k : ℕ) → k < length es → breaks_u10 es k ≡ false
   pub u14 : (k : ℕ) → k < length es → breaks_u14 es k ≡ false
 
--- limits, the last rule, hold where no rule is broken
+-- the rules on streaming interfaces, and the limits, hold where no rule is broken
 limits_hold : (blocks : List block.Block) → IsSound blocks
     → (of_entity 14 (entities_of blocks) breaks_u14 ≡ None) × (of_interface 14 (streams_in blocks) exceeds ≡ None)
     × (of_interface 13 (streams_in blocks) (breaks_u13 (alternates_of blocks)) ≡ None)
+    × (of_interface 12 (streams_in blocks) (breaks_u12 (entities_of blocks)) ≡ None)
 unfolding first_broken broken broken_ends
 limits_hold blocks sound =
     let es = entities_of blocks in
@@ -37,7 +38,7 @@ limits_hold blocks sound =
     let ends = or_none (broken_ends es (alternates_of blocks) ss) _ shapes.1 in
     let u12 = or_none (of_interface 12 ss (breaks_u12 es)) _ ends.0 in
     let u13 = or_none (of_interface 13 ss (breaks_u13 (alternates_of blocks))) _ u12.1 in
-    let u14 = or_none (of_entity 14 es breaks_u14) _ u13.1 in (u14.0, (or_none (of_interface 14 ss exceeds) _ u14.1).0, u13.0)
+    let u14 = or_none (of_entity 14 es breaks_u14) _ u13.1 in (u14.0, (or_none (of_interface 14 ss exceeds) _ u14.1).0, u13.0, u12.0)
 
 pub streams_within : (blocks : List block.Block) → IsSound blocks → of_interface 14 (streams_in blocks) exceeds ≡ None
 streams_within blocks sound = (limits_hold blocks sound).1
@@ -45,6 +46,9 @@ streams_within blocks sound = (limits_hold blocks sound).1
 pub endpoints_within : (blocks : List block.Block) → IsSound blocks
     → of_interface 13 (streams_in blocks) (breaks_u13 (alternates_of blocks)) ≡ None
 endpoints_within blocks sound = (limits_hold blocks sound).2
+
+pub links_within : (blocks : List block.Block) → IsSound blocks → of_interface 12 (streams_in blocks) (breaks_u12 (entities_of blocks)) ≡ None
+links_within blocks sound = (limits_hold blocks sound).3
 
 -- where no fault is found, no streaming interface breaks the rule
 none_before : (rule : ℕ) (ss : List StreamInterface) (breaks : List StreamInterface → ℕ → Bool) → of_interface rule ss breaks ≡ None

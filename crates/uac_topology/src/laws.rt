@@ -1,7 +1,7 @@
 // Laws of sound functions, each the contract of a function that does nothing.
 ghost use Rattle.std.specs.Prelude.{◌≤◌, length};
 ghost use Rattle.uac_topology.specs.Function.{FunctionFields};
-ghost use Rattle.uac_topology.specs.Kept.{AreInRange, AreNumbered, HaveChannels, HavePins};
+ghost use Rattle.uac_topology.specs.Kept.{AreInRange, AreLinks, AreNumbered, HaveChannels, HavePins};
 ghost use Rattle.uac_topology.specs.Topology.{IsSoundFunction, SoundHasNoCycle, CyclesAreRefused};
 
 use crate::function::Function;
@@ -42,6 +42,11 @@ pub fn entities_have_channels()
 /// In each setting of a sound function a Type I format has numbers in range, and the endpoints are of high speed.
 pub fn settings_are_in_range()
     ensures { (function : FunctionFields) → IsSoundFunction function → AreInRange function.streams }
+{}
+
+/// Each setting of a sound function that has a link has one to its interface's terminal, which is a USB streaming terminal.
+pub fn settings_are_linked()
+    ensures { (function : FunctionFields) → IsSoundFunction function → AreLinks function }
 {}
 
 /// The interfaces of a sound function have different numbers, and the settings of each are numbered from 0.

@@ -3,7 +3,7 @@ use Rattle.std.proofs.Common.{◌≡◌, ℕ, ◌+◌, ◌<◌, ◌≤◌, ◌==
 use Rattle.std.specs.List.{list_any, IsDistinct, AllByRecursion}
 use Rattle.std.proofs.lemmas.Bool.{cases_eq, cases_lt, eq-eqb, ne_eqb}
 use Rattle.std.proofs.lemmas.List.Sums.{sum_by-cons, sum_by_push, get_or-le-sum_by}
-use Rattle.uac_walk.specs.Count.{times, seen}
+use Rattle.uac_walk.specs.Count.{times, times_seen}
 
 abbrev pub one : Bool → ℕ
 one b = cond b 1 0
@@ -27,33 +27,33 @@ one_flip a b =
       | inr n ↦ one_other a b n ∙ sym (one_other b a (λ e. n (sym e)))
     ]
 
-pub seen-cons : (ps : List ℕ) (x : ℕ) (xs : List ℕ) → seen ps (x ∷ xs) ≡ times x ps + seen ps xs
-seen-cons ps x xs = sum_by-cons (λ t. times t ps) x xs
+pub times_seen-cons : (ps : List ℕ) (x : ℕ) (xs : List ℕ) → times_seen ps (x ∷ xs) ≡ times x ps + times_seen ps xs
+times_seen-cons ps x xs = sum_by-cons (λ t. times t ps) x xs
 
 -- one more node is seen as often as it is named
-pub seen-push : (ps : List ℕ) (u : ℕ) (xs : List ℕ) → seen (ps ++ u ∷ []) xs ≡ seen ps xs + times u xs
-seen-push ps u [] = refl
-seen-push ps u (x ∷ xs) =
-    omega (arith, seen-cons (ps ++ u ∷ []) x xs, seen-cons ps x xs, times-push x ps u, times-cons u x xs, one_flip u x, seen-push ps u xs)
+pub times_seen-push : (ps : List ℕ) (u : ℕ) (xs : List ℕ) → times_seen (ps ++ u ∷ []) xs ≡ times_seen ps xs + times u xs
+times_seen-push ps u [] = refl
+times_seen-push ps u (x ∷ xs) =
+    omega (arith, times_seen-cons (ps ++ u ∷ []) x xs, times_seen-cons ps x xs, times-push x ps u, times-cons u x xs, one_flip u x, times_seen-push ps u xs)
 
 -- where no node stands twice, at most all are seen
-pub seen-le : (ps xs : List ℕ) → ((q : ℕ) → times q ps ≤ 1) → seen ps xs ≤ length xs
-seen-le ps [] once = omega arith
-seen-le ps (x ∷ xs) once = omega (arith, seen-cons ps x xs, once x, seen-le ps xs once)
+pub times_seen-le : (ps xs : List ℕ) → ((q : ℕ) → times q ps ≤ 1) → times_seen ps xs ≤ length xs
+times_seen-le ps [] once = omega arith
+times_seen-le ps (x ∷ xs) once = omega (arith, times_seen-cons ps x xs, once x, times_seen-le ps xs once)
 
 -- where all are seen, each stands there
-pub seen_all : (ps xs : List ℕ) → ((q : ℕ) → times q ps ≤ 1) → length xs ≤ seen ps xs → (k : ℕ) → k < length xs → 0 < times (get_or xs k 0) ps
+pub seen_all : (ps xs : List ℕ) → ((q : ℕ) → times q ps ≤ 1) → length xs ≤ times_seen ps xs → (k : ℕ) → k < length xs → 0 < times (get_or xs k 0) ps
 seen_all ps [] once all k h = absurd (omega arith)
-seen_all ps (x ∷ xs) once all zero h = omega (arith, seen-cons ps x xs, once x, seen-le ps xs once)
+seen_all ps (x ∷ xs) once all zero h = omega (arith, times_seen-cons ps x xs, once x, times_seen-le ps xs once)
 seen_all ps (x ∷ xs) once all (suc k) h =
-    seen_all ps xs once (omega (arith, seen-cons ps x xs, once x)) k (omega arith)
+    seen_all ps xs once (omega (arith, times_seen-cons ps x xs, once x)) k (omega arith)
 
 -- where not all are seen, one stands not there
-pub seen_short : (ps xs : List ℕ) → seen ps xs < length xs → (k : ℕ) × (k < length xs) × (times (get_or xs k 0) ps ≡ 0)
+pub seen_short : (ps xs : List ℕ) → times_seen ps xs < length xs → (k : ℕ) × (k < length xs) × (times (get_or xs k 0) ps ≡ 0)
 seen_short ps [] h = absurd (omega arith)
 seen_short ps (x ∷ xs) h =
     elim (cases_lt 0 (times x ps)) [
-      | inl some ↦ (let r = seen_short ps xs (omega (arith, seen-cons ps x xs)) in (suc r.0, omega (arith, r.1), r.2))
+      | inl some ↦ (let r = seen_short ps xs (omega (arith, times_seen-cons ps x xs)) in (suc r.0, omega (arith, r.1), r.2))
       | inr none ↦ (0, omega arith, omega arith)
     ]
 

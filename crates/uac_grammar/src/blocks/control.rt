@@ -4,11 +4,11 @@ ghost use Rattle.uac_descriptor.specs.Layout.{IsWhole};
 ghost use Rattle.uac_descriptor.specs.Rows as rows;
 ghost use Rattle.uac_grammar.specs.Row.{read_row};
 
-use super::parts::{four_at, list_of, two_at, words_of};
+use super::parts::{four_at, two_at, words_of};
 use std::alloc::Global;
 use uac_descriptor::{
-    Block, ClockMultiplier, ClockSelector, ClockSource, Effect, Feature, Header, InputTerminal,
-    Mixer, NoMemory, OutputTerminal, Selector,
+    Block, ByteList, ClockMultiplier, ClockSelector, ClockSource, Effect, Feature, Header,
+    InputTerminal, Mixer, NoMemory, OutputTerminal, Selector,
 };
 
 /// The header (Audio Class 2.0, 4.7.2).
@@ -56,7 +56,7 @@ pub(super) fn clock_selector(alloc: Global, bytes: &[u8]) -> Result<Option<Block
     let (sources, behind) = bytes[5..].split_at(bytes[4] as usize);
     Ok(Some(Block::ClockSelector(ClockSelector {
         id: bytes[3],
-        sources: list_of(alloc, sources)?,
+        sources: ByteList::from_slice(alloc, sources)?,
         controls: behind[0],
         name: behind[1],
     })))
@@ -132,11 +132,11 @@ pub(super) fn mixer(alloc: Global, bytes: &[u8]) -> Result<Option<Block>, NoMemo
     let (mix_bits, tail) = behind[6..].split_at(bit_bytes);
     Ok(Some(Block::Mixer(Mixer {
         id: bytes[3],
-        sources: list_of(alloc, sources)?,
+        sources: ByteList::from_slice(alloc, sources)?,
         channels: behind[0],
         locations: four_at(behind, 1),
         names: behind[5],
-        mix_bits: list_of(alloc, mix_bits)?,
+        mix_bits: ByteList::from_slice(alloc, mix_bits)?,
         controls: tail[0],
         name: tail[1],
     })))
@@ -154,7 +154,7 @@ pub(super) fn selector(alloc: Global, bytes: &[u8]) -> Result<Option<Block>, NoM
     let (sources, behind) = bytes[5..].split_at(bytes[4] as usize);
     Ok(Some(Block::Selector(Selector {
         id: bytes[3],
-        sources: list_of(alloc, sources)?,
+        sources: ByteList::from_slice(alloc, sources)?,
         controls: behind[0],
         name: behind[1],
     })))

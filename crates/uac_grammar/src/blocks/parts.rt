@@ -5,7 +5,7 @@ ghost use Rattle.uac_descriptor.specs.Reading.{words_in};
 
 use byteorder::{ByteOrder, LittleEndian};
 use std::alloc::Global;
-use uac_descriptor::{ByteList, NoMemory, WordList};
+use uac_descriptor::{NoMemory, WordList};
 
 /// The field in the two bytes from place `i`.
 #[tactic(auto, using(crate::proofs::Parts::little_two))]
@@ -23,17 +23,6 @@ pub(super) fn four_at(bytes: &[u8], i: usize) -> u32
     ensures { result ≡ four_at bytes.now i }
 {
     LittleEndian::read_u32(&bytes[i..])
-}
-
-/// These bytes as a list of their own.
-pub(super) fn list_of(alloc: Global, bytes: &[u8]) -> Result<ByteList, NoMemory>
-    ensures { IfOk result (λ list. list ≡ bytes.now) }
-{
-    let mut items = Vec::new(alloc);
-    match items.extend_from_slice(bytes) {
-        Ok(()) => Ok(ByteList::from_vec(items)),
-        Err(_) => Err(NoMemory),
-    }
 }
 
 /// The first `count` control words in these bytes.

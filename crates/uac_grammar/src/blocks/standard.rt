@@ -5,9 +5,11 @@ ghost use Rattle.uac_descriptor.specs.Rows as rows;
 ghost use Rattle.uac_descriptor.specs.declared.block.Block.TheVariants as variant;
 ghost use Rattle.uac_grammar.specs.Row.{read_row};
 
-use super::parts::{list_of, two_at};
+use super::parts::two_at;
 use std::alloc::Global;
-use uac_descriptor::{Association, Block, Configuration, Endpoint, Foreign, Interface, NoMemory};
+use uac_descriptor::{
+    Association, Block, ByteList, Configuration, Endpoint, Foreign, Interface, NoMemory,
+};
 
 /// The configuration (USB 2.0, 9.6.3).
 #[tactic(auto, unfolding(uac_descriptor::specs::Reading::has_length, uac_descriptor::specs::Reading::fields))]
@@ -88,6 +90,6 @@ pub(super) fn foreign(alloc: Global, bytes: &[u8]) -> Result<Option<Block>, NoMe
     ensures { IfOk result (λ found. found ≡ read_row rows.foreign bytes.now) }
 {
     Ok(Some(Block::Foreign(Foreign {
-        bytes: list_of(alloc, bytes)?,
+        bytes: ByteList::from_slice(alloc, bytes)?,
     })))
 }

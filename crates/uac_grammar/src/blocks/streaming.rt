@@ -4,9 +4,9 @@ ghost use Rattle.uac_descriptor.specs.Layout.{IsWhole, is_extra};
 ghost use Rattle.uac_descriptor.specs.Rows as rows;
 ghost use Rattle.uac_grammar.specs.Row.{read_row};
 
-use super::parts::{four_at, list_of, two_at};
+use super::parts::{four_at, two_at};
 use std::alloc::Global;
-use uac_descriptor::{Block, ClassEndpoint, Extra, General, NoMemory, TypeOne};
+use uac_descriptor::{Block, ByteList, ClassEndpoint, Extra, General, NoMemory, TypeOne};
 
 /// The general block (Audio Class 2.0, 4.9.2).
 #[tactic(auto, unfolding(uac_descriptor::specs::Reading::has_length, uac_descriptor::specs::Reading::fields))]
@@ -41,7 +41,7 @@ pub(super) fn type_one(bytes: &[u8]) -> Option<Block>
     }))
 }
 
-/// The class block behind an endpoint (Audio Class 2.0, 4.10.1.2).
+/// The class block after an endpoint (Audio Class 2.0, 4.10.1.2).
 #[tactic(auto, unfolding(uac_descriptor::specs::Reading::has_length, uac_descriptor::specs::Reading::fields))]
 pub(super) fn class_endpoint(bytes: &[u8]) -> Option<Block>
     ensures { result ≡ read_row rows.class_endpoint bytes.now }
@@ -69,6 +69,6 @@ pub(super) fn extra(alloc: Global, bytes: &[u8]) -> Result<Option<Block>, NoMemo
     }
     Ok(Some(Block::Extra(Extra {
         subtype: bytes[2],
-        rest: list_of(alloc, &bytes[3..])?,
+        rest: ByteList::from_slice(alloc, &bytes[3..])?,
     })))
 }

@@ -1,0 +1,5 @@
+use Rattle.uac_topology.proofs.LinkLemmas.{are_links}
+use Rattle.uac_topology.proofs.laws.settings_are_linked.Goals as goal
+
+pub returns : goal.returns
+returns c = are_links
