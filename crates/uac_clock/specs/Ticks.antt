@@ -6,5 +6,5 @@ abbrev pub ticks_in : List ℕ → ℕ
 ticks_in steps = sum steps / 65536 - sum (take (length steps - 1) steps) / 65536
 
 -- the phase of a clock after these steps
-abbrev pub Stands : ℕ → List ℕ → Type 0
-Stands phase steps = phase ≡ sum steps % 65536
+abbrev pub IsPhaseAfter : ℕ → List ℕ → Type 0
+IsPhaseAfter phase steps = phase ≡ sum steps % 65536

@@ -19,12 +19,12 @@ impl Model for Phase {
 
 impl Phase {
     ghost use Rattle.std.specs.Prelude.{◌≡◌, ◌+◌, ◌/◌, ◌%◌, ◌++◌, ◌∷◌, [], List, ℕ};
-    ghost use Rattle.uac_clock.specs.Ticks.{Stands, ticks_in};
+    ghost use Rattle.uac_clock.specs.Ticks.{IsPhaseAfter, ticks_in};
 
     /// A clock at a tick.
     pub fn new() -> Phase
         ensures zero { result ≡ 0 }
-        ensures stands { Stands result [] }
+        ensures stands { IsPhaseAfter result [] }
     {
         Phase { remainder: 0 }
     }
@@ -35,8 +35,8 @@ impl Phase {
     pub fn advance(&mut self, a: u32) -> u32
         ensures ticks { result ≡ (self.old + a) / 65536 }
         ensures kept { self.new ≡ (self.old + a) % 65536 }
-        ensures stands { (steps : List ℕ) → Stands self.old steps → Stands self.new (steps ++ a ∷ []) }
-        ensures ticks_in { (steps : List ℕ) → Stands self.old steps → result ≡ ticks_in (steps ++ a ∷ []) }
+        ensures stands { (steps : List ℕ) → IsPhaseAfter self.old steps → IsPhaseAfter self.new (steps ++ a ∷ []) }
+        ensures ticks_in { (steps : List ℕ) → IsPhaseAfter self.old steps → result ≡ ticks_in (steps ++ a ∷ []) }
     {
         let sum = u64::from(self.remainder) + u64::from(a);
         self.remainder = (sum % 65536) as u16;

@@ -1,7 +1,7 @@
 -- How the device keeps a running stream: the frames that came and are not gone lie in a ring, and counts are kept as far as they matter.
 use Rattle.std.specs.Prelude.{◌≡◌, ℕ, zero, suc, ◌+◌, ◌*◌, ◌%◌, ◌≤◌, true, min, ℤ, List, length, Some}
 use Rattle.std.specs.List.{All}
-use Rattle.uac_alt.specs.Streams.{StreamFields, seen}
+use Rattle.uac_alt.specs.Streams.{StreamFields, stream_fields}
 use Rattle.uac_clock.specs.Nominal.{IsNominal}
 use Rattle.uac_rate.specs.Levels.{IsInterval}
 use Rattle.uac_ring.specs.Rings.{Holds, ring_frames}
@@ -28,7 +28,7 @@ AreFrames channels frames = All (λ frame. length frame ≡ channels) frames
 
 -- what is always so of a stream to the device and its ring
 pub record IsOutFlow (ring : List (List ℤ)) (f : OutFlow) : Type 0 where
-  pub runs : CanRun (seen f.stream)
+  pub runs : CanRun (stream_fields f.stream)
   pub out : f.stream.out ≡ true
   pub counted : f.microframes ≤ 8
   pub target : (level : ℕ) → f.target ≡ Some level → level ≤ ring_frames
@@ -36,7 +36,7 @@ pub record IsOutFlow (ring : List (List ℤ)) (f : OutFlow) : Type 0 where
 
 -- they stand for this stream
 pub record KeepsOut (ring : List (List ℤ)) (f : OutFlow) (o : OutStream) : Type 0 where
-  pub stream : seen f.stream ≡ o.stream
+  pub stream : stream_fields f.stream ≡ o.stream
   pub microframes : f.microframes ≡ kept_count o.microframes
   pub held : Holds o.arrived o.taken ring
   pub target : f.target ≡ o.target
@@ -45,13 +45,13 @@ pub record KeepsOut (ring : List (List ℤ)) (f : OutFlow) (o : OutStream) : Typ
 
 -- what is always so of a stream from the device and its ring
 pub record IsInFlow (ring : List (List ℤ)) (f : InFlow) : Type 0 where
-  pub runs : CanRun (seen f.stream)
+  pub runs : CanRun (stream_fields f.stream)
   pub counted : f.microframes ≤ 8
   pub frames : AreFrames f.stream.format.channels ring
 
 -- they stand for this stream
 pub record KeepsIn (ring : List (List ℤ)) (f : InFlow) (i : InStream) : Type 0 where
-  pub stream : seen f.stream ≡ i.stream
+  pub stream : stream_fields f.stream ≡ i.stream
   pub microframes : f.microframes ≡ kept_count i.microframes
   pub held : Holds i.made i.gone ring
 

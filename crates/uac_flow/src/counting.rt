@@ -21,7 +21,7 @@ pub(crate) fn is_due(service: u32, count: u32) -> bool
     (count + 1) % service == 0
 }
 
-/// Whether a report falls due behind so many microframes.
+/// Whether a report falls due after so many microframes.
 pub(crate) fn reports_now(period: u32, count: u32) -> bool
     requires reports { IsInterval period }
     ensures { (n : ℕ) → count ≡ kept_count n → result ≡ (nat_lt 0 n && n % period == 0) }

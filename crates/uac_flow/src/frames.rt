@@ -55,8 +55,9 @@ pub(crate) fn take_frames(ring: &mut Ring, format: &Format, count: u32, packet: 
 {
     packet.clear();
     for _each in 0..count {
-        if let Some(frame) = ring.take() {
-            let _ = format.pack(&frame, packet);
+        if let Some(frame) = ring.front() {
+            let _ = format.pack(frame, packet);
         }
+        ring.drop_front();
     }
 }

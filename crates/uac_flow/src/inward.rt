@@ -1,6 +1,6 @@
 // A running stream from the device.
 ghost use Rattle.std.specs.Prelude.{◌≡◌, ◌≤◌, ℕ, ℤ, List, length};
-ghost use Rattle.uac_alt.specs.Streams.{seen};
+ghost use Rattle.uac_alt.specs.Streams.{stream_fields};
 ghost use Rattle.uac_ring.specs.Rings.{ring_frames};
 ghost use Rattle.uac_flow.specs.Flows.{CanRun, IsInFlow, KeepsIn};
 ghost use Rattle.uac_flow.specs.Streams as spec;
@@ -23,8 +23,8 @@ pub struct InFlow {
 impl InFlow {
     /// A stream at its start; its ring is emptied.
     pub fn start(stream: Stream, ring: &mut Ring) -> InFlow
-        requires { CanRun (seen stream) }
-        ensures stands { KeepsIn ring.new result (started_in (seen stream)) }
+        requires { CanRun (stream_fields stream) }
+        ensures stands { KeepsIn ring.new result (started_in (stream_fields stream)) }
         ensures sound { IsInFlow ring.new result }
     {
         ring.clear();
@@ -68,7 +68,7 @@ impl InFlow {
 
     /// Whether it has a packet in the next microframe.
     pub fn is_due(&self) -> bool
-        requires runs { CanRun (seen self.now.stream) }
+        requires runs { CanRun (stream_fields self.now.stream) }
         requires counted { self.now.microframes ≤ 8 }
         ensures { (ring : List (List ℤ)) (i : InStream) → KeepsIn ring self.now i → result ≡ spec.is_due i.stream i.microframes }
     {

@@ -1,7 +1,7 @@
 // A running stream to the device.
 ghost use Rattle.std.specs.Prelude.{◌≡◌, ℕ, ◌+◌, ◌≤◌, nat_le, ℤ, List, length, Some, None, IfSome, true};
 ghost use Rattle.std.specs.Option.{option_map};
-ghost use Rattle.uac_alt.specs.Streams.{seen};
+ghost use Rattle.uac_alt.specs.Streams.{stream_fields};
 ghost use Rattle.uac_pcm.specs.Packets.{whole_frames};
 ghost use Rattle.uac_ring.specs.Rings.{ring_frames};
 ghost use Rattle.uac_flow.specs.Flows.{CanRun, IsOutFlow, KeepsOut, ZerosFit};
@@ -35,9 +35,9 @@ pub struct OutFlow {
 impl OutFlow {
     /// A stream at its start; its ring is emptied.
     pub fn start(stream: Stream, ring: &mut Ring) -> OutFlow
-        requires runs { CanRun (seen stream) }
+        requires runs { CanRun (stream_fields stream) }
         requires out { stream.out ≡ true }
-        ensures stands { KeepsOut ring.new result (started_out (seen stream)) }
+        ensures stands { KeepsOut ring.new result (started_out (stream_fields stream)) }
         ensures sound { IsOutFlow ring.new result }
     {
         ring.clear();
@@ -107,25 +107,30 @@ impl OutFlow {
         self.ticks = self.ticks.saturating_add(ticks);
     }
 
-    /// The frame that its terminal takes at a tick; None while it is priming, and where its ring is empty, and then it primes again.
-    #[tactic(auto, unfolding(crate::specs::Streams::after_taking))]
-    pub fn play(&mut self, ring: &mut Ring) -> Option<Frame>
-        requires sound { IsOutFlow ring.old self.old }
-        ensures stands { (o : OutStream) → KeepsOut ring.old self.old o → KeepsOut ring.new self.new (after_taking o) }
-        ensures frame { (o : OutStream) → KeepsOut ring.old self.old o → option_map (λ frame. frame.items) result ≡ next_taken o }
-        ensures channels { IfSome result (λ frame. length frame.items ≡ self.old.stream.format.channels) }
-        ensures sound { IsOutFlow ring.new self.new }
-        ensures stream { self.new.stream ≡ self.old.stream }
+    /// The frame that its terminal takes at the next tick, lent; None while it is priming, and where its ring is empty.
+    pub fn next<'a>(&self, ring: &'a Ring) -> Option<&'a Frame>
+        requires sound { IsOutFlow ring.now self.now }
+        ensures frame { (o : OutStream) → KeepsOut ring.now self.now o → option_map (λ frame. frame.now.items) result ≡ next_taken o }
+        ensures channels { IfSome result (λ frame. length frame.now.items ≡ self.now.stream.format.channels) }
     {
         if self.target.is_none() {
             return None;
         }
-        match ring.take() {
-            Some(frame) => Some(frame),
-            None => {
-                self.target = None;
-                None
-            }
+        ring.front()
+    }
+
+    /// Its terminal took that frame: it goes. Where the ring was empty, the stream primes again.
+    #[tactic(auto, unfolding(crate::specs::Streams::after_taking))]
+    pub fn go_on(&mut self, ring: &mut Ring)
+        requires sound { IsOutFlow ring.old self.old }
+        ensures stands { (o : OutStream) → KeepsOut ring.old self.old o → KeepsOut ring.new self.new (after_taking o) }
+        ensures sound { IsOutFlow ring.new self.new }
+        ensures stream { self.new.stream ≡ self.old.stream }
+    {
+        if self.is_dry(ring) {
+            self.target = None;
+        } else if self.target.is_some() {
+            ring.drop_front();
         }
     }
 
@@ -138,7 +143,7 @@ impl OutFlow {
 
     /// Whether it has a packet in the next microframe.
     pub fn is_due(&self) -> bool
-        requires runs { CanRun (seen self.now.stream) }
+        requires runs { CanRun (stream_fields self.now.stream) }
         requires counted { self.now.microframes ≤ 8 }
         ensures { (ring : List (List ℤ)) (o : OutStream) → KeepsOut ring self.now o → result ≡ spec.is_due o.stream o.microframes }
     {
@@ -177,7 +182,7 @@ impl OutFlow {
 
     // A priming stream whose ring has enough frames is primed.
     fn prime(&mut self, level: u32)
-        ensures primed { self.new ≡ record self.old { target = spec.target_after self.old.target level (seen self.old.stream) } }
+        ensures primed { self.new ≡ record self.old { target = spec.target_after self.old.target level (stream_fields self.old.stream) } }
     {
         if self.target.is_none() && level >= priming_level(&self.stream) {
             self.target = Some(level);
@@ -202,7 +207,7 @@ impl OutFlow {
 
 // The level from which on a stream is primed.
 fn priming_level(stream: &Stream) -> u32
-    ensures { result ≡ spec.priming_level (seen stream.now) }
+    ensures { result ≡ spec.priming_level (stream_fields stream.now) }
 {
     if stream.service > 1 { 512 } else { 256 }
 }

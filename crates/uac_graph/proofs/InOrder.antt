@@ -21,7 +21,7 @@ use Rattle.uac_graph.specs.Meaning.{entity, frame_of, meaning, samples_by}
 use Rattle.uac_graph.specs.Needs.{depended}
 use Rattle.uac_graph.specs.Orders.{AreOrders, IsOrder, IsOrderOf, frame_after, holds}
 use Rattle.uac_graph.specs.declared.orders.Order.{Order}
-use Rattle.uac_graph.specs.Wiring.{AreGiven, AreRendered, AreWiresOf, Frames, frame_on, held}
+use Rattle.uac_graph.specs.Wiring.{AreGiven, AreRendered, AreWiresOf, Frames, frame_on, samples_on}
 use Rattle.uac_graph.proofs.Equation.{equation}
 use Rattle.uac_graph.proofs.Lookups.{set_fits}
 use Rattle.uac_graph.proofs.Reaching.{fits_frames, held_pins, length-frame_of}
@@ -32,9 +32,9 @@ use Rattle.uac_graph.proofs.Walking.{either_way, meaning_given, rendered_by, ren
 -- the frames of sources that are rendered are their meanings
 held_sources : (entities : List Entity) (controls : Controls) (ins : ℕ → List ℤ) (done : ℕ → Bool) (sources : List ℕ) (old new : Frames)
     → AreRendered entities controls ins done old new → All (λ s. done s ≡ true) sources
-    → map (held new) sources ≡ map (meaning entities controls ins) sources
+    → map (samples_on new) sources ≡ map (meaning entities controls ins) sources
 held_sources entities controls ins done sources old new rendered each =
-    map_same (held new) (meaning entities controls ins) sources
+    map_same (samples_on new) (meaning entities controls ins) sources
     (λ k below.
     let s = get_or sources k 0 in
     ap (λ o. unwrap_or o []) (rendered.wires s ∙ ap (λ (b : Bool). if b then Some (meaning entities controls ins s) else frame_on old s) (each k 0 below)))
@@ -43,7 +43,7 @@ held_sources entities controls ins done sources old new rendered each =
 frame_meant : (entities : List Entity) (controls : Controls) (ins : ℕ → List ℤ) (done : ℕ → Bool) (place : ℕ) (old new : Frames) → IsSignalGraph entities
     → place < length entities → is_clock (at entities place).kind ≡ false → is_input (at entities place).kind ≡ false
     → AreRendered entities controls ins done old new → All (λ s. done s ≡ true) (signal_sources (at entities place))
-    → frame_of controls (at entities place).id (at entities place).kind (at entities place).cluster.channels (map (held new) (at entities place).sources)
+    → frame_of controls (at entities place).id (at entities place).kind (at entities place).cluster.channels (map (samples_on new) (at entities place).sources)
     ≡ meaning entities controls ins (at entities place).id
 unfolding samples_by
 frame_meant entities controls ins done place old new sound inside signal unit rendered each =
@@ -84,7 +84,7 @@ step_rendered entities controls ins places i old mid new sound order below given
     done = holds entities (take i places)
 
     made : List ℤ
-    made = frame_of controls e.id e.kind e.cluster.channels (map (held mid) e.sources)
+    made = frame_of controls e.id e.kind e.cluster.channels (map (samples_on mid) e.sources)
 
     inside : p < length entities
     inside = order.inside i 0 below
@@ -144,29 +144,29 @@ signal_at entities place sound inside signal = ap (λ (f : Entity). is_clock f.k
 -- what it takes from its sources fits it
 pub fits_at : (entities : List Entity) (frames : Frames) (place : ℕ) (e : Entity) → IsSignalGraph entities → AreWiresOf entities frames → place < length entities
     → is_clock (at entities place).kind ≡ false → e ≡ at entities place → is_input e.kind ≡ false
-    → FitsFrames e.kind e.cluster.channels (map (held frames) e.sources)
+    → FitsFrames e.kind e.cluster.channels (map (samples_on frames) e.sources)
 fits_at entities frames place e sound fitting inside signal here unit =
     let own = entity_itself entities place sound inside ∙ sym here in
-    subst (λ (f : Entity). FitsFrames f.kind f.cluster.channels (map (held frames) f.sources)) own
+    subst (λ (f : Entity). FitsFrames f.kind f.cluster.channels (map (samples_on frames) f.sources)) own
     (fits_frames entities frames (at entities place).id sound fitting (signal_at entities place sound inside signal) (ap (λ (f : Entity). is_input f.kind) own ∙ unit))
 
 -- the frames of its sources in a row have as many channels as its pins
 pins_at : (entities : List Entity) (frames : Frames) (place : ℕ) (e : Entity) → IsSignalGraph entities → AreWiresOf entities frames → place < length entities
     → is_clock (at entities place).kind ≡ false → e ≡ at entities place
-    → sum (pins_of entities (at entities place)) ≡ length (in_a_row (map (held frames) e.sources))
+    → sum (pins_of entities (at entities place)) ≡ length (in_a_row (map (samples_on frames) e.sources))
 pins_at entities frames place e sound fitting inside signal here =
     let own = entity_itself entities place sound inside in
     ap (λ (f : Entity). sum (pins_of entities f)) (sym own)
     ∙ ap sum (sym (held_pins entities frames (at entities place).id sound fitting (signal_at entities place sound inside signal)))
-    ∙ ap (λ (f : Entity). sum (map length (map (held frames) f.sources))) (own ∙ sym here)
-    ∙ sym (length-in_a_row (map (held frames) e.sources))
+    ∙ ap (λ (f : Entity). sum (map length (map (samples_on frames) f.sources))) (own ∙ sym here)
+    ∙ sym (length-in_a_row (map (samples_on frames) e.sources))
 
 -- its job, over them
 pub job_at : (entities : List Entity) (controls : Controls) (frames : Frames) (place : ℕ) (e : Entity) (job : Job) → IsSignalGraph entities → AreWiresOf entities frames
     → place < length entities → is_clock (at entities place).kind ≡ false → e ≡ at entities place
-    → HasJob controls (at entities place) (sum (pins_of entities (at entities place))) job → HasJob controls e (length (in_a_row (map (held frames) e.sources))) job
+    → HasJob controls (at entities place) (sum (pins_of entities (at entities place))) job → HasJob controls e (length (in_a_row (map (samples_on frames) e.sources))) job
 job_at entities controls frames place e job sound fitting inside signal here has =
-    subst (λ (f : Entity). HasJob controls f (length (in_a_row (map (held frames) e.sources))) job) (sym here)
+    subst (λ (f : Entity). HasJob controls f (length (in_a_row (map (samples_on frames) e.sources))) job) (sym here)
     (subst (λ (n : ℕ). HasJob controls (at entities place) n job) (pins_at entities frames place e sound fitting inside signal here) has)
 
 -- its wire has its channels
@@ -180,30 +180,30 @@ wire_at entities frames place e sound fitting inside signal here =
 
 -- the wires once it was rendered
 pub rendered_at : (entities : List Entity) (controls : Controls) (place : ℕ) (e : Entity) (old new : Frames) → e ≡ at entities place → is_input e.kind ≡ false
-    → ((id : ℕ) → frame_on new id ≡ (if eqb e.id id then Some (frame_of controls e.id e.kind e.cluster.channels (map (held old) e.sources)) else frame_on old id))
+    → ((id : ℕ) → frame_on new id ≡ (if eqb e.id id then Some (frame_of controls e.id e.kind e.cluster.channels (map (samples_on old) e.sources)) else frame_on old id))
     → (id : ℕ) → frame_on new id ≡ frame_after entities controls place old id
 unfolding frame_after
 rendered_at entities controls place e old new here unit set id =
     set id
-    ∙ ap (λ (b : Bool). if not b && eqb e.id id then Some (frame_of controls e.id e.kind e.cluster.channels (map (held old) e.sources)) else frame_on old id) (sym unit)
-    ∙ ap (λ (f : Entity). if not (is_input f.kind) && eqb f.id id then Some (frame_of controls f.id f.kind f.cluster.channels (map (held old) f.sources)) else frame_on old id) here
+    ∙ ap (λ (b : Bool). if not b && eqb e.id id then Some (frame_of controls e.id e.kind e.cluster.channels (map (samples_on old) e.sources)) else frame_on old id) (sym unit)
+    ∙ ap (λ (f : Entity). if not (is_input f.kind) && eqb f.id id then Some (frame_of controls f.id f.kind f.cluster.channels (map (samples_on old) f.sources)) else frame_on old id) here
 
 -- an input terminal has its frame
 pub kept_at : (entities : List Entity) (controls : Controls) (place : ℕ) (e : Entity) (frames : Frames) → e ≡ at entities place → is_input e.kind ≡ true
     → (id : ℕ) → frame_on frames id ≡ frame_after entities controls place frames id
 unfolding frame_after
 kept_at entities controls place e frames here input id =
-    ap (λ (b : Bool). if not b && eqb e.id id then Some (frame_of controls e.id e.kind e.cluster.channels (map (held frames) e.sources)) else frame_on frames id) (sym input)
-    ∙ ap (λ (f : Entity). if not (is_input f.kind) && eqb f.id id then Some (frame_of controls f.id f.kind f.cluster.channels (map (held frames) f.sources)) else frame_on frames id) here
+    ap (λ (b : Bool). if not b && eqb e.id id then Some (frame_of controls e.id e.kind e.cluster.channels (map (samples_on frames) e.sources)) else frame_on frames id) (sym input)
+    ∙ ap (λ (f : Entity). if not (is_input f.kind) && eqb f.id id then Some (frame_of controls f.id f.kind f.cluster.channels (map (samples_on frames) f.sources)) else frame_on frames id) here
 
 -- they fit still
 pub fitting_at : (entities : List Entity) (controls : Controls) (e : Entity) (old new : Frames) → AreWiresOf entities old
     → option_map length (frame_on old e.id) ≡ Some e.cluster.channels
-    → ((id : ℕ) → frame_on new id ≡ (if eqb e.id id then Some (frame_of controls e.id e.kind e.cluster.channels (map (held old) e.sources)) else frame_on old id))
+    → ((id : ℕ) → frame_on new id ≡ (if eqb e.id id then Some (frame_of controls e.id e.kind e.cluster.channels (map (samples_on old) e.sources)) else frame_on old id))
     → AreWiresOf entities new
 fitting_at entities controls e old new fitting there set =
-    set_fits entities old new e.id (frame_of controls e.id e.kind e.cluster.channels (map (held old) e.sources))
-    (there ∙ ap Some (sym (length-frame_of controls e.id e.kind e.cluster.channels (map (held old) e.sources)))) set fitting
+    set_fits entities old new e.id (frame_of controls e.id e.kind e.cluster.channels (map (samples_on old) e.sources))
+    (there ∙ ap Some (sym (length-frame_of controls e.id e.kind e.cluster.channels (map (samples_on old) e.sources)))) set fitting
 
 -- the orders that the graph keeps are those of its entities
 pub order_for : (entities table : List Entity) (kept lent : List Order) → table ≡ entities → lent ≡ kept → AreOrders table kept → AreOrders entities lent

@@ -1,11 +1,9 @@
 -- Frames by id, as the wires keep them.
-use Rattle.std.proofs.Common.{◌≡◌, ◌∙◌, sym, refl, ap, subst, arith, ℕ, ◌+◌, ◌<◌, Bor, Bool, true, false, cond, eqb, ltb, ℤ, pos, Option, Some, None, List, length, map, inl, inr, if◌then◌else◌}
-use Rattle.std.specs.Map.{lookup}
-use Rattle.std.specs.Option.{option_map, option_copied, IsSome}
+use Rattle.std.proofs.Common.{◌≡◌, ◌∙◌, sym, refl, ap, arith, ℕ, ◌+◌, ◌<◌, Bool, true, false, eqb, ltb, ℤ, pos, Option, Some, None, List, length, inl, inr, if◌then◌else◌}
+use Rattle.std.specs.Option.{option_map}
 use Rattle.std.proofs.lemmas.Bool.{cases_eq, cases_lt, eqb-true, eq-eqb, ne_eqb, lt-ltb, le-ltb}
 use Rattle.std.proofs.lemmas.List.{length-replicate}
 use Rattle.std.proofs.lemmas.List.Sums.{passes_at_first}
-use Rattle.std.proofs.lemmas.Map.Made.{lookup-map_values}
 use Rattle.uac_entities.specs.declared.entity.Entity.{Entity}
 use Rattle.uac_topology_rules.specs.Links.{is_clock}
 use Rattle.uac_topology_rules.specs.Table.{at, place_of, nothing}
@@ -143,3 +141,23 @@ set_fits entities old new terminal frame same set fitting = record {
         ap (option_map length) (set id ∙ ap (λ (b : Bool). if b then Some frame else frame_on old id) (ne_eqb terminal id other)) ∙ fitting.channels id
   ];
 }
+
+-- a wire that is hushed keeps its channels
+pub hushed_fits : (entities : List Entity) (old new : Frames) (terminal : ℕ)
+    → ((id : ℕ) → frame_on new id
+    ≡ (if eqb terminal id then option_map (λ samples. silence (length samples)) (frame_on old terminal) else frame_on old id))
+    → AreWiresOf entities old → AreWiresOf entities new
+hushed_fits entities old new terminal set fitting = record {
+  channels = λ id. elim (cases_eq terminal id) [
+    | inl here ↦
+        ap (option_map length) (set id ∙ ap (λ (b : Bool). if b then option_map (λ samples. silence (length samples)) (frame_on old terminal) else frame_on old id) (eq-eqb terminal id here))
+        ∙ counted (frame_on old terminal) ∙ fitting.channels terminal ∙ ap (wire_channels entities) here
+    | inr other ↦
+        ap (option_map length) (set id ∙ ap (λ (b : Bool). if b then option_map (λ samples. silence (length samples)) (frame_on old terminal) else frame_on old id) (ne_eqb terminal id other))
+        ∙ fitting.channels id
+  ];
+}
+  where
+    counted : (o : Option (List ℤ)) → option_map length (option_map (λ samples. silence (length samples)) o) ≡ option_map length o
+    counted None = refl
+    counted (Some samples) = ap Some (length-replicate (length samples) (pos 0))

@@ -18,7 +18,7 @@ use Rattle.uac_graph.specs.Fitness.{FitsPins, IsSignalGraph}
 use Rattle.uac_graph.specs.Jobs.{FitsFrames, takes_signal}
 use Rattle.uac_graph.specs.Meaning.{entity, frame_of, sample_of}
 use Rattle.uac_graph.specs.Needs.{reaches}
-use Rattle.uac_graph.specs.Wiring.{AreWiresOf, Frames, frame_on, held}
+use Rattle.uac_graph.specs.Wiring.{AreWiresOf, Frames, frame_on, samples_on}
 use Rattle.uac_topology_rules.proofs.KnownSteps.{map_same}
 use Rattle.uac_graph.proofs.Links.{channels_named, source_ends}
 use Rattle.uac_graph.proofs.Walking.{signal_below, signal_channels, signal_sources_of}
@@ -68,7 +68,7 @@ source_stops entities (suc n) id k signal below ends =
 
 -- a wire's frame has its channels
 held_channels : (entities : List Entity) (frames : Frames) (id : ℕ) → AreWiresOf entities frames → is_clock (entity entities id).kind ≡ false
-    → length (held frames id) ≡ (entity entities id).cluster.channels
+    → length (samples_on frames id) ≡ (entity entities id).cluster.channels
 held_channels entities frames id fitting signal =
     by_wire (frame_on frames id) (entity entities id).cluster.channels (fitting.channels id ∙ signal_channels entities id signal)
   where
@@ -97,12 +97,12 @@ fit_pins entities id sound signal = sound.fits (place_of entities id) (signal_be
 -- the frames of its sources have the channels of its pins
 pub held_pins : (entities : List Entity) (frames : Frames) (id : ℕ) → IsSignalGraph entities → AreWiresOf entities frames
     → is_clock (entity entities id).kind ≡ false
-    → map length (map (held frames) (entity entities id).sources) ≡ pins_of entities (entity entities id)
+    → map length (map (samples_on frames) (entity entities id).sources) ≡ pins_of entities (entity entities id)
 unfolding pins_of
 held_pins entities frames id sound fitting signal =
     let e = entity entities id in
-    map-map length (held frames) e.sources
-    ∙ map_same (λ s. length (held frames s)) (channels_of entities) e.sources
+    map-map length (samples_on frames) e.sources
+    ∙ map_same (λ s. length (samples_on frames s)) (channels_of entities) e.sources
     (λ k below.
     held_channels entities frames (get_or e.sources k 0) fitting (source_signal entities id k sound signal below)
     ∙ sym (channels_named entities (get_or e.sources k 0)))
@@ -110,7 +110,7 @@ held_pins entities frames id sound fitting signal =
 -- what an entity takes from its sources fits it
 pub fits_frames : (entities : List Entity) (frames : Frames) (id : ℕ) → IsSignalGraph entities → AreWiresOf entities frames
     → is_clock (entity entities id).kind ≡ false → is_input (entity entities id).kind ≡ false
-    → FitsFrames (entity entities id).kind (entity entities id).cluster.channels (map (held frames) (entity entities id).sources)
+    → FitsFrames (entity entities id).kind (entity entities id).cluster.channels (map (samples_on frames) (entity entities id).sources)
 fits_frames entities frames id sound fitting signal unit =
     let e = entity entities id in
     record {

@@ -1,5 +1,5 @@
 -- What a unit renders for its job is what its entity's meaning says.
-use Rattle.std.proofs.Common.{◌≡◌, ◌∙◌, sym, ap, subst, arith, ℕ, suc, ◌+◌, ◌*◌, ◌/◌, ◌%◌, ◌<◌, ◌≤◌, Bool, eqb, if◌then◌else◌, ℤ, pos, List, [], ◌∷◌, Some, None, length, get_or, map, sum, ◌+ℤ◌, zero-add}
+use Rattle.std.proofs.Common.{◌≡◌, ◌∙◌, sym, ap, subst, arith, ℕ, suc, ◌+◌, ◌*◌, ◌/◌, ◌%◌, ◌<◌, ◌≤◌, Bool, eqb, if◌then◌else◌, ℤ, pos, List, [], ◌∷◌, Option, Some, None, length, get_or, map, sum, refl, ◌+ℤ◌, zero-add}
 use Rattle.std.specs.List.{fold, range_with_len, All}
 use Rattle.std.proofs.lemmas.List.FromFn.{length-map-range_with_len, get_or-map-range_with_len, get_or-range_with_len, length-range_with_len}
 use Rattle.std.proofs.lemmas.Bool.{eq-eqb, ne_eqb}
@@ -7,6 +7,7 @@ use Rattle.std.proofs.lemmas.Bool.Decides.{nat_tests}
 use Rattle.std.proofs.lemmas.List.{append-nil, ext_get_or, get_or-map, length-map}
 use Rattle.std.proofs.lemmas.List.Sums.{sum_by-cons}
 use Rattle.std.specs.Prelude.{negsuc}
+use Rattle.uac_entities.specs.declared.entity.Entity.{Entity}
 use Rattle.uac_entities.specs.declared.entity.EntityKind.{EntityKind}
 use Rattle.uac_entities.specs.declared.entity.EntityKind.TheVariants as kind
 use Rattle.uac_gain.specs.Gain.{scaled, saturated}
@@ -16,8 +17,9 @@ use Rattle.uac_units.specs.declared.jobs.UnitKind.TheVariants as unit
 use Rattle.uac_units.specs.Rendering.{FitsKind, FitsNumbers, gained, in_a_row, input, pins_sample, rendered}
 use Rattle.uac_units.proofs.Samples.{selector-in_a_row, feature-in_a_row, effect-in_a_row}
 use Rattle.uac_graph.specs.Controls.{Controls, chosen_pin, control_value, feature_gain, node_gain, pin_of}
-use Rattle.uac_graph.specs.Jobs.{FitsFrames, IsJob, gain_at, gain_count, unit_of}
+use Rattle.uac_graph.specs.Jobs.{FitsFrames, HasJob, IsJob, gain_at, gain_count, unit_of}
 use Rattle.uac_graph.specs.Meaning.{frame_of, sample_of}
+use Rattle.uac_graph.specs.Wiring.{Frames, frame_on}
 use Rattle.uac_topology_rules.proofs.KnownSteps.{map_same}
 use Rattle.uac_graph.proofs.Rows.{length-in_a_row}
 
@@ -244,3 +246,30 @@ job_by controls id u channels count pins inputs row job p r is =
 pub no_frame : (controls : Controls) (id : ℕ) (k : EntityKind) (channels : ℕ) (frames : List (List ℤ)) → channels ≡ 0 → [] ≡ frame_of controls id k channels frames
 unfolding frame_of
 no_frame controls id k channels frames none = ap (λ (n : ℕ). map (sample_of controls id k channels frames) (range_with_len 0 n)) (sym none)
+
+-- the unit that renders an entity can take its job over these pins
+pub fits_unit : (controls : Controls) (e : Entity) (u : UnitKind) (frames : List (List ℤ)) (pins : List ℤ) (job : Job) → 1 ≤ e.cluster.channels
+    → Some u ≡ unit_of e.kind → length frames ≡ length e.sources → pins ≡ in_a_row frames → HasJob controls e (length (in_a_row frames)) job
+    → FitsFrames e.kind e.cluster.channels frames → FitsKind u job pins
+fits_unit controls e u frames pins job some is count row has fits =
+    subst (λ (xs : List ℤ). FitsKind u job xs) (sym row)
+    (fits_kind controls e.id e.kind u e.cluster.channels frames job some (sym is)
+    (job_by controls e.id u e.cluster.channels (length e.sources) (length frames) (length (in_a_row frames)) (length (in_a_row frames)) job (sym count) refl (has u (sym is) some))
+    fits)
+
+-- what it makes of them is the entity's frame
+pub rendered_unit : (controls : Controls) (e : Entity) (u : UnitKind) (frames : List (List ℤ)) (pins : List ℤ) (job : Job) → 1 ≤ e.cluster.channels
+    → Some u ≡ unit_of e.kind → length frames ≡ length e.sources → pins ≡ in_a_row frames → HasJob controls e (length (in_a_row frames)) job
+    → FitsFrames e.kind e.cluster.channels frames → rendered u job pins ≡ frame_of controls e.id e.kind e.cluster.channels frames
+rendered_unit controls e u frames pins job some is count row has fits =
+    ap (rendered u job) row
+    ∙ rendered_is controls e.id e.kind u e.cluster.channels frames job (sym is)
+    (job_by controls e.id u e.cluster.channels (length e.sources) (length frames) (length (in_a_row frames)) (length (in_a_row frames)) job (sym count) refl (has u (sym is) some))
+    fits
+
+-- a wire that gets these samples, by other names
+pub wire_by : (frames old : Frames) (own id : ℕ) (new : Option (List ℤ)) (samples given : List ℤ) → frames ≡ old → samples ≡ given
+    → new ≡ (if eqb own id then Some samples else frame_on frames id) → new ≡ (if eqb own id then Some given else frame_on old id)
+wire_by frames old own id new samples given same is e =
+    e ∙ ap (λ (xs : List ℤ). if eqb own id then Some xs else frame_on frames id) is
+    ∙ ap (λ (w : Frames). if eqb own id then Some given else frame_on w id) same

@@ -78,20 +78,18 @@ in_a_row_front f xs n =
     ap (λ ys. in_a_row (map f ys)) (sym (take-append-drop n xs)) ∙ ap in_a_row (map-append f (take n xs) (drop n xs)) ∙ in_a_row-append (map f (take n xs)) (map f (drop n xs)) in
     omega (arith, ap length all, length-append front back)
 
--- one more frame of as many channels as fit: what extends the row by them is the longer row
-pub row_more : (f : ℕ → List ℤ) (xs : List ℕ) (i : ℕ) (row more : List ℤ) (frame : List ℤ) → i < length xs → f (get_or xs i 0) ≡ frame
-    → length (in_a_row (map f xs)) ≤ 256 → row ≡ in_a_row (map f (take i xs))
-    → (length row + length frame ≤ 256 → more ≡ row ++ frame) → more ≡ in_a_row (map f (take (i + 1) xs))
-row_more f xs i row more frame below here small so_far extends =
+-- one more frame has room
+pub row_fits : (f : ℕ → List ℤ) (xs : List ℕ) (i : ℕ) (row frame : List ℤ) → i < length xs → f (get_or xs i 0) ≡ frame
+    → length (in_a_row (map f xs)) ≤ 256 → row ≡ in_a_row (map f (take i xs)) → length row + length frame ≤ 256
+row_fits f xs i row frame below here small so_far =
     let longer = in_a_row_more f xs i 0 below in
-    let fits : length row + length frame ≤ 256 =
-    omega (arith, in_a_row_front f xs (i + 1), ap length longer, length-append (in_a_row (map f (take i xs))) (f (get_or xs i 0)), ap length so_far, ap length here) in
-    extends fits ∙ cc (so_far, here, longer)
+    omega (arith, in_a_row_front f xs (i + 1), ap length longer, length-append (in_a_row (map f (take i xs))) (f (get_or xs i 0)), ap length so_far, ap length here)
 
--- what holds where a call succeeds holds once it does
-pub when_ok : {T E : Type 0} (r : Result T E) (P : Type 0) → IsOk r → OnOk r P → P
-when_ok (Ok x) P ok p = p
-when_ok (Err e) P ok p = absurd (cc)
+-- one more frame: what extends the row by it is the longer row
+pub row_more : (f : ℕ → List ℤ) (xs : List ℕ) (i : ℕ) (row more frame : List ℤ) → i < length xs → f (get_or xs i 0) ≡ frame
+    → row ≡ in_a_row (map f (take i xs)) → more ≡ row ++ frame → more ≡ in_a_row (map f (take (i + 1) xs))
+row_more f xs i row more frame below here so_far extends =
+    let longer = in_a_row_more f xs i 0 below in extends ∙ cc (so_far, here, longer)
 
 -- a frame of no samples
 pub no_samples : (o : Option (List ℤ)) (n : ℕ) → option_map length o ≡ Some n → n ≡ 0 → o ≡ Some []

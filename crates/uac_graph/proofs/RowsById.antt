@@ -1,10 +1,10 @@
 -- Frames in a row, read by id.
-use Rattle.std.proofs.Common.{◌≡◌, ◌∙◌, sym, refl, ap, subst, arith, ℕ, suc, zero, ◌+◌, ◌<◌, Bool, true, false, cond, eqb, if◌then◌else◌, ℤ, List, [], ◌∷◌, Option, Some, None, length, get_or, map, set, replicate, inl, inr}
+use Rattle.std.proofs.Common.{◌≡◌, ◌∙◌, sym, refl, ap, arith, ℕ, suc, zero, ◌+◌, ◌<◌, Bool, cond, eqb, if◌then◌else◌, ℤ, List, [], ◌∷◌, Option, Some, None, length, get_or, map, set, replicate, inl, inr}
 use Rattle.std.specs.Option.{option_map}
-use Rattle.std.proofs.lemmas.Bool.{cases_eq, cases_lt, eq-eqb, ne_eqb}
-use Rattle.std.proofs.lemmas.List.{get_or_default, get_or-set_same, get_or-set_other, length-map, map-set}
+use Rattle.std.proofs.lemmas.Bool.{cases_eq, eq-eqb, ne_eqb}
+use Rattle.std.proofs.lemmas.List.{get_or_default, get_or-set_same, get_or-set_other}
 use Rattle.uac_graph.specs.Rows.{frames_in, numbered}
-use Rattle.uac_graph.specs.Wiring.{Frames, frame_on}
+use Rattle.uac_graph.specs.Wiring.{frame_on}
 
 -- a number before the first place
 numbered_before : (row : List (Option (List ℤ))) (n id : ℕ) → id < n → frame_on (numbered n row) id ≡ None
@@ -39,22 +39,28 @@ module _ {X : Type 0} (read : X → List ℤ) where
   pub frame_seen : (row : List (Option X)) (id : ℕ) → frame_on (frames_in (map (option_map read) row)) id ≡ option_map read (get_or row id None)
   frame_seen row id = frame_at (map (option_map read) row) id ∙ get_or_seen row id
 
+  -- one place written
+  pub place_written : (row new : List (Option X)) (key : ℕ) (place : Option X) → key < length row → new ≡ set row key place
+      → (id : ℕ) → frame_on (frames_in (map (option_map read) new)) id
+      ≡ (if eqb key id then option_map read place else frame_on (frames_in (map (option_map read) row)) id)
+  place_written row new key place below is id =
+      frame_seen new id ∙ ap (λ (r : List (Option X)). option_map read (get_or r id None)) is
+      ∙ elim (cases_eq key id) [
+        | inl same ↦
+            ap (λ (n : ℕ). option_map read (get_or (set row key place) n None)) (sym same)
+            ∙ ap (option_map read) (get_or-set_same row key place None below)
+            ∙ sym (ap (λ (b : Bool). if b then option_map read place else frame_on (frames_in (map (option_map read) row)) id) (eq-eqb key id same))
+        | inr other ↦
+            ap (option_map read) (get_or-set_other row key id place None (λ e. other (sym e)))
+            ∙ sym (frame_seen row id)
+            ∙ sym (ap (λ (b : Bool). if b then option_map read place else frame_on (frames_in (map (option_map read) row)) id) (ne_eqb key id other))
+      ]
+
   -- one frame written
   pub frame_written : (row new : List (Option X)) (key : ℕ) (value : X) → key < length row → new ≡ set row key (Some value)
       → (id : ℕ) → frame_on (frames_in (map (option_map read) new)) id
       ≡ (if eqb key id then Some (read value) else frame_on (frames_in (map (option_map read) row)) id)
-  frame_written row new key value below is id =
-      frame_seen new id ∙ ap (λ (r : List (Option X)). option_map read (get_or r id None)) is
-      ∙ elim (cases_eq key id) [
-        | inl same ↦
-            ap (λ (n : ℕ). option_map read (get_or (set row key (Some value)) n None)) (sym same)
-            ∙ ap (option_map read) (get_or-set_same row key (Some value) None below)
-            ∙ sym (ap (λ (b : Bool). if b then Some (read value) else frame_on (frames_in (map (option_map read) row)) id) (eq-eqb key id same))
-        | inr other ↦
-            ap (option_map read) (get_or-set_other row key id (Some value) None (λ e. other (sym e)))
-            ∙ sym (frame_seen row id)
-            ∙ sym (ap (λ (b : Bool). if b then Some (read value) else frame_on (frames_in (map (option_map read) row)) id) (ne_eqb key id other))
-      ]
+  frame_written row new key value below is id = place_written row new key (Some value) below is id
 
   -- an id at whose place no frame stands has no wire
   pub none_there : (row : List (Option X)) (id count : ℕ) → get_or row id None ≡ None

@@ -15,7 +15,7 @@ use Rattle.uac_topology_rules.specs.Table.{at, place_of}
 use Rattle.uac_graph.specs.Fitness.{IsSignalGraph}
 use Rattle.uac_graph.specs.Meaning.{entity}
 use Rattle.uac_graph.specs.Needs.{is_end, reaches}
-use Rattle.uac_graph.specs.Wiring.{AreGiven, AreWiresOf, Frames, frame_on, held}
+use Rattle.uac_graph.specs.Wiring.{AreGiven, AreWiresOf, Frames, frame_on, samples_on}
 use Rattle.uac_topology_rules.proofs.TableSteps.{at_read}
 use Rattle.uac_graph.proofs.Walking.{signal_channels}
 
@@ -64,7 +64,7 @@ input_signal kind.InputTerminal e = refl
 input_signal _ e = absurd (cc)
 
 -- the input terminals are given what is on their wires
-pub given_held : (entities : List Entity) (frames : Frames) → AreWiresOf entities frames → AreGiven entities (held frames) frames
+pub given_held : (entities : List Entity) (frames : Frames) → AreWiresOf entities frames → AreGiven entities (samples_on frames) frames
 given_held entities frames fitting = record {
   inputs = λ id input.
       there (frame_on frames id) _ (fitting.channels id ∙ signal_channels entities id (input_signal (entity entities id).kind input));

@@ -9,7 +9,7 @@ use Rattle.uac_topology_rules.specs.Table.{at}
 use Rattle.uac_graph.specs.Controls.{Controls}
 use Rattle.uac_graph.specs.Meaning.{frame_of}
 use Rattle.uac_graph.specs.Needs.{depended}
-use Rattle.uac_graph.specs.Wiring.{Frames, frame_on, held}
+use Rattle.uac_graph.specs.Wiring.{Frames, frame_on, samples_on}
 use Rattle.uac_graph.specs.declared.orders.Order.{Order}
 
 -- the entity with an id stands at one of these places
@@ -38,5 +38,5 @@ pub record AreOrders (entities : List Entity) (orders : List Order) : Type 0 whe
 unfoldable pub frame_after : List Entity → Controls → ℕ → Frames → ℕ → Option (List ℤ)
 frame_after entities controls place frames id =
     let e = at entities place in
-    if not (is_input e.kind) && e.id == id then Some (frame_of controls e.id e.kind e.cluster.channels (map (held frames) e.sources))
+    if not (is_input e.kind) && e.id == id then Some (frame_of controls e.id e.kind e.cluster.channels (map (samples_on frames) e.sources))
     else frame_on frames id

@@ -17,8 +17,8 @@ abbrev pub frame_on : Frames → ℕ → Option (List ℤ)
 frame_on frames id = lookup (λ k. id == k) frames
 
 -- the frame, or no samples
-abbrev pub held : Frames → ℕ → List ℤ
-held frames id = unwrap_or (frame_on frames id) []
+abbrev pub samples_on : Frames → ℕ → List ℤ
+samples_on frames id = unwrap_or (frame_on frames id) []
 
 -- there is a wire for each entity that isn't a clock, with a sample for each of its channels
 pub record AreWiresOf (entities : List Entity) (frames : Frames) : Type 0 where

@@ -1,21 +1,21 @@
 // Frames by the ids of their entities.
-ghost use Rattle.std.specs.Prelude.{◌≡◌, ◌==◌, ◌≤◌, ◌<◌, ◌+◌, ◌^◌, ℕ, if◌then◌else◌, Some, None, IfOk, List, length, map, replicate};
+ghost use Rattle.std.specs.Prelude.{◌≡◌, ◌==◌, ◌≤◌, ◌<◌, ◌+◌, ◌^◌, ℕ, if◌then◌else◌, Some, None, IfOk, List, length, map, replicate, pos};
 ghost use Rattle.uac_entities.specs.declared.entity.Entity.{Entity};
 ghost use Rattle.std.specs.Option.{option_map};
-ghost use Rattle.uac_units.specs.Fitting.{IsFitted};
 ghost use Rattle.uac_units.specs.Rendering.{FitsKind, rendered};
 ghost use Rattle.uac_graph.specs.Fitness.{IsSignalGraph};
 ghost use Rattle.uac_graph.specs.Rows.{frames_in};
 ghost use Rattle.uac_graph.specs.Wiring.{AreSilent, AreWiresOf, frame_on};
 
 use crate::frames::silent;
+use arrayvec::ArrayVec;
 use std::alloc::Global;
 use std::marker::Model;
 use uac_descriptor::NoMemory;
 use uac_entities::Entity;
 use uac_pcm::Frame;
 use uac_topology_rules::is_clock;
-use uac_units::{Job, Pins, Rack, Steps, Unit, UnitKind};
+use uac_units::{Job, Pins, Steps, Unit};
 
 /// A frame for each terminal and each unit, at the place that is the entity's id. There is a place for each id.
 #[derive(Drop)]
@@ -57,6 +57,17 @@ impl FrameTable {
         }
     }
 
+    /// Puts silence in the place of the frame that is there, on as many channels.
+    pub(crate) fn silence(&mut self, id: u8)
+        ensures wires { (k : ℕ) → frame_on self.new k
+            ≡ (if id == k then option_map (λ samples. replicate (length samples) (pos 0)) (frame_on self.old id) else frame_on self.old k) }
+        ensures fitting { (entities : List Entity) → AreWiresOf entities self.old → AreWiresOf entities self.new }
+    {
+        if let Some(frame) = &mut self.row[id as usize] {
+            hush(frame);
+        }
+    }
+
     /// The frame of an entity, None exactly where it has none.
     pub(crate) fn get(&self, id: u8) -> Option<&Frame>
         ensures { option_map (λ frame. frame.now.items) result ≡ frame_on self.now id }
@@ -67,26 +78,24 @@ impl FrameTable {
         }
     }
 
-    /// Renders a job over these inputs onto the frame of an entity, once, with the rack's unit of the kind.
+    /// Renders a job over these inputs onto the frame of an entity, once, with this unit.
     pub(crate) fn render(
         &mut self,
         id: u8,
-        rack: &Rack,
-        kind: UnitKind,
+        unit: &dyn Unit,
         job: &Job,
         pins: &Pins,
         steps: &mut Steps,
     )
-        requires rack { IsFitted (λ v x. (⟦<dyn Unit as Unit>⟧ v).kind_of x) rack.now }
-        requires fits { FitsKind kind job.now pins.now.items }
+        requires fits { FitsKind (kind_of unit.now) job.now pins.now.items }
         requires there { option_map length (frame_on self.old id) ≡ Some job.now.outputs }
         requires room { steps.old + 1 < 2 ^ 64 }
-        ensures frames { (k : ℕ)
-            → frame_on self.new k ≡ (if id == k then Some (rendered kind job.now pins.now.items) else frame_on self.old k) }
+        ensures frames { (k : ℕ) → frame_on self.new k
+            ≡ (if id == k then Some (rendered (kind_of unit.now) job.now pins.now.items) else frame_on self.old k) }
         ensures counted { steps.new ≡ steps.old + 1 }
     {
         if let Some(frame) = &mut self.row[id as usize] {
-            rack.unit(kind).render(job, pins, frame, steps);
+            unit.render(job, pins, frame, steps);
         }
     }
 
@@ -102,13 +111,24 @@ impl FrameTable {
     }
 }
 
-// Makes a frame of these samples.
-fn refill(frame: &mut Frame, samples: &[i32])
-    requires { length samples.now ≤ 32 }
-    ensures { frame.new.items ≡ samples.now }
+/// Makes a list of samples these. Where it has as many they are written over them.
+pub(crate) fn refill<const MOST: usize>(list: &mut ArrayVec<i32, MOST>, samples: &[i32])
+    requires { length samples.now ≤ MOST }
+    ensures { list.new.items ≡ samples.now }
 {
-    frame.clear();
-    let _ = frame.try_extend_from_slice(samples);
+    if list.len() == samples.len() {
+        list.as_mut_slice().copy_from_slice(samples);
+    } else {
+        list.clear();
+        let _ = list.try_extend_from_slice(samples);
+    }
+}
+
+// Makes all samples of a frame zero.
+fn hush(frame: &mut Frame)
+    ensures { frame.new.items ≡ replicate (length frame.old.items) (pos 0) }
+{
+    frame.as_mut_slice().fill(0);
 }
 
 // Silence for each of these entities that isn't a clock.

@@ -8,7 +8,7 @@ ghost use Rattle.uac_graph.specs.Controls.{Controls, held_in};
 ghost use Rattle.uac_graph.specs.Jobs.{AreJobs, AreSameBut, HasJob};
 ghost use Rattle.uac_graph.specs.Needs.{depended, needed, unit_count};
 ghost use Rattle.uac_graph.specs.Orders.{frame_after};
-ghost use Rattle.uac_graph.specs.Wiring.{AreRendered, AreWiresOf, frame_on, held};
+ghost use Rattle.uac_graph.specs.Wiring.{AreRendered, AreWiresOf, frame_on, samples_on};
 
 use crate::copies::copies_of;
 use crate::job_table::Jobs;
@@ -64,7 +64,7 @@ impl Graph {
         requires rack { IsFitted (λ v x. (⟦<dyn Unit as Unit>⟧ v).kind_of x) rack.now }
         requires wires { AreWiresOf self.now wires.old }
         requires room { steps.old + length (needed self.now domain) < 2 ^ 64 }
-        ensures rendered { AreRendered self.now (held_in store.now) (held wires.old) (depended self.now domain) wires.old wires.new }
+        ensures rendered { AreRendered self.now (held_in store.now) (samples_on wires.old) (depended self.now domain) wires.old wires.new }
         ensures fitting { AreWiresOf self.now wires.new }
         ensures once { steps.new ≡ steps.old + length (needed self.now domain) }
     {
@@ -127,7 +127,7 @@ impl Graph {
         requires wires { AreWiresOf self.now wires.old }
         requires room { steps.old + length (needed self.now domain) < 2 ^ 64 }
         ensures rendered { (controls : Controls) → AreJobs self.now controls jobs.now
-            → AreRendered self.now controls (held wires.old) (depended self.now domain) wires.old wires.new }
+            → AreRendered self.now controls (samples_on wires.old) (depended self.now domain) wires.old wires.new }
         ensures fitting { AreWiresOf self.now wires.new }
         ensures once { steps.new ≡ steps.old + length (needed self.now domain) }
     {

@@ -1,7 +1,9 @@
 // What a unit is asked to render, and over which inputs.
-ghost use Rattle.std.specs.Prelude.{◌≡◌, ◌≤◌, ◌<◌, ◌*◌, map, length, sum};
+ghost use Rattle.std.specs.Prelude.{◌≡◌, ◌≤◌, ◌<◌, ◌+◌, ◌*◌, ◌++◌, map, take, length, sum};
 ghost use Rattle.std.specs.List.{range_with_len};
 ghost use Rattle.uac_store.specs.Controls.{pins_of};
+ghost use Rattle.std.specs.Option.{option_map};
+ghost use Rattle.uac_units.specs.Fitting.{IsFitted};
 ghost use Rattle.uac_units.specs.Rendering.{in_a_row};
 ghost use Rattle.uac_units.specs.declared.jobs.UnitKind.TheVariants.{Selector};
 ghost use Rattle.uac_graph.specs.Controls.{held_in};
@@ -9,15 +11,15 @@ ghost use Rattle.uac_graph.specs.Jobs as spec;
 ghost use Rattle.uac_graph.specs.Jobs.{HasJob, IsAskable, IsJob};
 ghost use Rattle.uac_graph.specs.Meaning.{entity};
 ghost use Rattle.uac_graph.specs.Needs as needs;
-ghost use Rattle.uac_graph.specs.Wiring.{held};
+ghost use Rattle.uac_graph.specs.Wiring.{samples_on};
 
 use crate::controls::{chosen_pin, feature_gain, node_gain};
-use crate::frame_table::FrameTable;
+use crate::frame_table::{FrameTable, refill};
 use arrayvec::ArrayVec;
 use uac_entities::{Entity, EntityKind};
 use uac_store::Store;
 use uac_topology_rules::EntityTable;
-use uac_units::{Job, Pins, UnitKind};
+use uac_units::{Job, Pins, Rack, Unit, UnitKind};
 
 /// The unit that renders an entity of this kind, None for terminals and clocks.
 pub(crate) fn unit_of(kind: EntityKind) -> Option<UnitKind>
@@ -28,6 +30,24 @@ pub(crate) fn unit_of(kind: EntityKind) -> Option<UnitKind>
         EntityKind::Selector => Some(UnitKind::Selector),
         EntityKind::Feature => Some(UnitKind::Feature),
         EntityKind::Effect => Some(UnitKind::Effect),
+        EntityKind::InputTerminal
+        | EntityKind::OutputTerminal
+        | EntityKind::ClockSource
+        | EntityKind::ClockSelector
+        | EntityKind::ClockMultiplier => None,
+    }
+}
+
+/// The rack's unit that renders an entity of this kind, None for terminals and clocks.
+pub(crate) fn unit_for(rack: &Rack, kind: EntityKind) -> Option<&dyn Unit>
+    requires { IsFitted (λ v x. (⟦<dyn Unit as Unit>⟧ v).kind_of x) rack.now }
+    ensures { option_map (λ unit. kind_of unit.now) result ≡ spec.unit_of kind }
+{
+    match kind {
+        EntityKind::Mixer => Some(rack.unit(UnitKind::Mixer)),
+        EntityKind::Selector => Some(rack.unit(UnitKind::Selector)),
+        EntityKind::Feature => Some(rack.unit(UnitKind::Feature)),
+        EntityKind::Effect => Some(rack.unit(UnitKind::Effect)),
         EntityKind::InputTerminal
         | EntityKind::OutputTerminal
         | EntityKind::ClockSource
@@ -159,15 +179,57 @@ fn pin_at(store: &Store, entity: &Entity, kind: UnitKind) -> u16
     }
 }
 
-/// Makes `pins` the channels of these entities' frames, one after the other.
+/// Makes `pins` the channels of these entities' frames, one after the other. Most have one source.
 pub(crate) fn gather(pins: &mut Pins, frames: &FrameTable, sources: &[u8])
-    requires { length (in_a_row (map (held frames.now) sources.now)) ≤ 256 }
-    ensures { pins.new.items ≡ in_a_row (map (held frames.now) sources.now) }
+    requires { length (in_a_row (map (samples_on frames.now) sources.now)) ≤ 256 }
+    ensures { pins.new.items ≡ in_a_row (map (samples_on frames.now) sources.now) }
 {
-    pins.clear();
+    if sources.len() == 1 {
+        gather_one(pins, frames, sources[0]);
+    } else {
+        gather_all(pins, frames, sources);
+    }
+}
+
+// Makes `pins` the channels of an entity's frame.
+fn gather_one(pins: &mut Pins, frames: &FrameTable, source: u8)
+    requires { length (samples_on frames.now source) ≤ 256 }
+    ensures { pins.new.items ≡ samples_on frames.now source }
+{
+    match frames.get(source) {
+        Some(frame) => refill(pins, frame.as_slice()),
+        None => pins.clear(),
+    }
+}
+
+// Makes `pins` the channels of these entities' frames, one after the other, written over those that are there.
+fn gather_all(pins: &mut Pins, frames: &FrameTable, sources: &[u8])
+    requires { length (in_a_row (map (samples_on frames.now) sources.now)) ≤ 256 }
+    ensures { pins.new.items ≡ in_a_row (map (samples_on frames.now) sources.now) }
+{
+    let mut end = 0;
     for source in sources {
         if let Some(frame) = frames.get(*source) {
-            let _ = pins.try_extend_from_slice(frame.as_slice());
+            end = write(pins, end, frame.as_slice());
         }
     }
+    pins.truncate(end);
+}
+
+// Puts samples behind the first pins, so many, and answers how many these are then. Others that lie there are written over.
+fn write(pins: &mut Pins, from: usize, samples: &[i32]) -> usize
+    requires inside { from ≤ length pins.old.items }
+    requires fits { from + length samples.now ≤ 256 }
+    ensures end { result ≡ from + length samples.now }
+    ensures inside { result ≤ length pins.new.items }
+    ensures front { take result pins.new.items ≡ take from pins.old.items ++ samples.now }
+{
+    let end = from + samples.len();
+    if end <= pins.len() {
+        pins.as_mut_slice()[from..end].copy_from_slice(samples);
+    } else {
+        pins.truncate(from);
+        let _ = pins.try_extend_from_slice(samples);
+    }
+    end
 }

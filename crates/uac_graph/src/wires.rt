@@ -1,5 +1,5 @@
 // The frames on the wires of a signal graph.
-ghost use Rattle.std.specs.Prelude.{◌≡◌, ◌==◌, ◌+◌, ◌<◌, ◌^◌, ℕ, if◌then◌else◌, Some, IfOk, List, length, map};
+ghost use Rattle.std.specs.Prelude.{◌≡◌, ◌==◌, ◌+◌, ◌<◌, ◌^◌, ℕ, if◌then◌else◌, Some, IfOk, List, length, map, replicate, pos};
 ghost use Rattle.uac_entities.specs.declared.entity.Entity.{Entity};
 ghost use Rattle.std.specs.Option.{option_map};
 ghost use Rattle.uac_units.specs.Fitting.{IsFitted};
@@ -8,10 +8,10 @@ ghost use Rattle.uac_graph.specs.Controls.{Controls};
 ghost use Rattle.uac_graph.specs.Jobs.{FitsFrames, HasJob};
 ghost use Rattle.uac_graph.specs.Meaning as spec;
 ghost use Rattle.uac_graph.specs.Needs.{unit_count};
-ghost use Rattle.uac_graph.specs.Wiring.{AreSilent, AreWiresOf, frame_on, held};
+ghost use Rattle.uac_graph.specs.Wiring.{AreSilent, AreWiresOf, frame_on, samples_on};
 
 use crate::frame_table::FrameTable;
-use crate::jobs::{gather, is_unit, unit_of};
+use crate::jobs::{gather, is_unit, unit_for};
 use arrayvec::ArrayVec;
 use std::alloc::Global;
 use std::marker::Model;
@@ -62,6 +62,16 @@ impl Wires {
         self.frames.set(terminal, frame);
     }
 
+    /// Silence on the wire of an input terminal.
+    pub fn silence(&mut self, terminal: u8)
+        ensures wires { (id : ℕ) → frame_on self.new id ≡ (if terminal == id
+            then option_map (λ samples. replicate (length samples) (pos 0)) (frame_on self.old terminal)
+            else frame_on self.old id) }
+        ensures fitting { (entities : List Entity) → AreWiresOf entities self.old → AreWiresOf entities self.new }
+    {
+        self.frames.silence(terminal);
+    }
+
     /// The frame on an entity's wire, None exactly where it has none.
     pub fn get(&self, entity: u8) -> Option<&Frame>
         ensures { option_map (λ frame. frame.now.items) result ≡ frame_on self.now entity }
@@ -73,16 +83,16 @@ impl Wires {
     /// is its job. A unit is rendered once. Only a selector without pins, and what it feeds, has no channels.
     pub(crate) fn render(&mut self, entity: &Entity, job: &Job, rack: &Rack, steps: &mut Steps)
         requires rack { IsFitted (λ v x. (⟦<dyn Unit as Unit>⟧ v).kind_of x) rack.now }
-        requires fits { FitsFrames entity.now.kind entity.now.cluster.channels (map (held self.old) entity.now.sources) }
+        requires fits { FitsFrames entity.now.kind entity.now.cluster.channels (map (samples_on self.old) entity.now.sources) }
         requires there { option_map length (frame_on self.old entity.now.id) ≡ Some entity.now.cluster.channels }
         requires job { (controls : Controls)
-            × HasJob controls entity.now (length (in_a_row (map (held self.old) entity.now.sources))) job.now }
+            × HasJob controls entity.now (length (in_a_row (map (samples_on self.old) entity.now.sources))) job.now }
         requires room { steps.old + unit_count entity.now.kind < 2 ^ 64 }
         ensures frames { (controls : Controls)
-            → HasJob controls entity.now (length (in_a_row (map (held self.old) entity.now.sources))) job.now
+            → HasJob controls entity.now (length (in_a_row (map (samples_on self.old) entity.now.sources))) job.now
             → (id : ℕ) → frame_on self.new id ≡ (if entity.now.id == id
             then Some (spec.frame_of controls entity.now.id entity.now.kind entity.now.cluster.channels
-            (map (held self.old) entity.now.sources))
+            (map (samples_on self.old) entity.now.sources))
             else frame_on self.old id) }
         ensures counted { steps.new ≡ steps.old + unit_count entity.now.kind }
     {
@@ -91,10 +101,8 @@ impl Wires {
             return;
         }
         gather(&mut self.pins, &self.frames, entity.sources.as_slice());
-        match unit_of(entity.kind) {
-            Some(kind) => self
-                .frames
-                .render(entity.id, rack, kind, job, &self.pins, steps),
+        match unit_for(rack, entity.kind) {
+            Some(unit) => self.frames.render(entity.id, unit, job, &self.pins, steps),
             None => self.frames.pass_on(entity.id, &self.pins),
         }
     }

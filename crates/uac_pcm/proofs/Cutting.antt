@@ -1,16 +1,15 @@
 -- A sample that was cut, and its word.
-use Rattle.std.proofs.Common.{◌≡◌, ℕ, zero, suc, ◌+◌, ◌-◌, ◌*◌, ◌^◌, ◌<◌, ◌≤◌, ℤ, pos, negsuc, ◌*ℤ◌, FitsSigned, to_z, of_z, w32, w64, take, List, [], ◌++◌, arith, ap, ◌∙◌, sym, refl}
-use lib.Signed.{mag, shr_z, mag_shr}
+use Rattle.std.proofs.Common.{◌≡◌, ℕ, zero, suc, ◌+◌, ◌-◌, ◌*◌, ◌/◌, ◌^◌, ◌<◌, ◌≤◌, ℤ, pos, negsuc, ◌*ℤ◌, FitsSigned, to_z, of_z, w32, take, List, [], ◌++◌, arith, ap, ◌∙◌, sym, refl}
 use Rattle.std.proofs.lemmas.Int.{to_z-of_z}
 use Rattle.std.proofs.Math.Nat.{mod-eq_of_lt, mod-lt, pow-suc, mul-lt-mul_of_pos_right}
 use Rattle.std.proofs.lemmas.List.{append-nil}
 use Rattle.std.proofs.lemmas.Nat.{pow_pos, pow-add}
-use Rattle.byteorder.specs.Endian.{little_bytes, little_number, low_bytes}
+use Rattle.byteorder.specs.Endian.{little_bytes, little_number}
 use Rattle.byteorder.specs.Numbers.{little_number-reads_back, length-bytes_low_first}
 use Rattle.std.proofs.Math.Seq.{take-append_seam}
 use Rattle.uac_pcm.specs.Words.{floor_of, modulo, wrap, cut, word_of, sample_of_word}
 use Rattle.uac_pcm.proofs.Wrapping.{int_wrap-pos}
-use Rattle.uac_pcm.proofs.Rounding.{fits-rounded, low_bits, finer_multiple, multiple_comes_back}
+use Rattle.uac_pcm.proofs.Rounding.{fits-rounded, top_bits, finer_multiple, multiple_comes_back}
 
 -- powers of two whose exponents add up
 pub pow-mul : (i j k : ℕ) → i + j ≡ k → 2 ^ i * 2 ^ j ≡ 2 ^ k
@@ -68,27 +67,20 @@ sample_of_word-word_of size resolution sample room low high fits =
       read_alone : (n : ℕ) → n < 256 ^ size → little_number size (little_bytes size n) ≡ n
       read_alone n small = ap (little_number size) (sym (append-nil (little_bytes size n))) ∙ little_number-reads_back size n [] small
 
--- a shift down rounds down
-shr_z-floor : (z : ℤ) (unit : ℕ) → shr_z z unit ≡ floor_of z unit
-shr_z-floor (pos a) unit = refl
-shr_z-floor (negsuc a) unit = refl
+-- the first bytes of four
+pub take-four_bytes : (size n : ℕ) (rest : List ℕ) → size ≤ 4 → take size (little_bytes 4 n ++ rest) ≡ little_bytes size n
+take-four_bytes zero n rest few = refl
+take-four_bytes (suc zero) n rest few = refl
+take-four_bytes (suc (suc zero)) n rest few = refl
+take-four_bytes (suc (suc (suc zero))) n rest few = refl
+take-four_bytes (suc (suc (suc (suc zero)))) n rest few = refl
+take-four_bytes (suc (suc (suc (suc (suc k))))) n rest few = absurd (omega arith)
 
--- the lowest bytes of a sample that was shifted down, as 64 bits have them
-pub low_bytes-shifted : (size : ℕ) (t : ℤ) → size ≤ 4 → FitsSigned w32 t
-    → low_bytes w64 size (to_z w64 (of_z w64 (shr_z (to_z w64 (of_z w64 t)) (2 ^ (32 - 8 * size))))) ≡ modulo (floor_of t (2 ^ (32 - 8 * size))) (2 ^ (8 * size))
-low_bytes-shifted size t room fits =
-    let unit : ℕ = 2 ^ (32 - 8 * size) in
-    let small : mag t < 2147483648 = fits.sfits in
-    let wide : FitsSigned w64 t = record { sfits = omega arith } in
-    let lesser : mag (shr_z t unit) ≤ mag t = mag_shr t unit in
-    let shifted : FitsSigned w64 (shr_z t unit) = record { sfits = omega arith } in
-    let whole : 2 ^ (64 - 8 * size) * 2 ^ (8 * size) ≡ 18446744073709551616 = pow-mul (64 - 8 * size) (8 * size) 64 (omega arith) in
-    ap (λ (z : ℤ). low_bytes w64 size (to_z w64 (of_z w64 (shr_z z unit)))) (to_z-of_z w64 t wide)
-    ∙ ap (low_bytes w64 size) (to_z-of_z w64 (shr_z t unit) shifted)
-    ∙ low_bits (shr_z t unit) (2 ^ (8 * size)) (2 ^ (64 - 8 * size)) (pow_pos (8 * size)) whole shifted
-    ∙ ap (λ (z : ℤ). modulo z (2 ^ (8 * size))) (shr_z-floor t unit)
-
--- the bytes in front of others
-pub take-little_bytes : (size n : ℕ) (rest : List ℕ) → take size (little_bytes size n ++ rest) ≡ little_bytes size n
-take-little_bytes size n rest =
-    ap (λ (k : ℕ). take k (little_bytes size n ++ rest)) (sym (length-bytes_low_first 0 size n)) ∙ take-append_seam (little_bytes size n) rest
+-- the uppermost bytes of a sample that was cut make its word
+pub word-top_bytes : (size resolution : ℕ) (sample t : ℤ) → size ≤ 4 → FitsSigned w32 t → t ≡ cut resolution sample
+    → little_bytes size (of_z w32 t / 2 ^ (32 - 8 * size)) ≡ word_of size resolution sample
+unfolding word_of
+word-top_bytes size resolution sample t few fits same =
+    let whole : 2 ^ (8 * size) * 2 ^ (32 - 8 * size) ≡ 4294967296 = pow-mul (8 * size) (32 - 8 * size) 32 (omega arith) in
+    ap (little_bytes size) (top_bits t (2 ^ (32 - 8 * size)) (2 ^ (8 * size)) (pow_pos (32 - 8 * size)) (pow_pos (8 * size)) whole fits)
+    ∙ ap (λ (z : ℤ). little_bytes size (modulo (floor_of z (2 ^ (32 - 8 * size))) (2 ^ (8 * size)))) same

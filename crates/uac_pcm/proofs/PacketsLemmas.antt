@@ -13,7 +13,7 @@ use Rattle.uac_pcm.specs.Frames.{IsFormat, bytes_of_frame, frame_of_bytes}
 use Rattle.uac_pcm.specs.Packets.{IsFrame, packed, unpacked, whole_frames}
 use Rattle.uac_pcm.proofs.Packing.{length-bytes_of_frame, frame_of_bytes-bytes_of_frame}
 
--- the front of two lists in a row, where it has that length, and what is behind it
+-- the front of two lists in a row, where it has that length, and what is after it
 pub take_front : {X : Type 0} (n : ℕ) (xs ys : List X) → length xs ≡ n → take n (xs ++ ys) ≡ xs
 take_front n xs ys long = ap (λ (k : ℕ). take k (xs ++ ys)) (sym long) ∙ take-append_seam xs ys
 

@@ -115,7 +115,7 @@ unpacking_all count size resolution bytes rest samples short u = from u.left u.c
   from zero counted room told = (sym (append-nil samples) ∙ told, omega arith)
   from (suc k) counted room told = absurd (omega (arith, suc-mul k size))
 
--- the bytes of a frame, whatever stands behind them, hold its samples, cut
+-- the bytes of a frame, whatever stands after them, hold its samples, cut
 pub frame_of_bytes-bytes_of_frame : (size resolution : ℕ) (samples : List ℤ) (rest : List ℕ) → size ≤ 4 → 1 ≤ resolution → resolution ≤ 8 * size
     → All (FitsSigned w32) samples
     → frame_of_bytes (length samples) size resolution (bytes_of_frame size resolution samples ++ rest) ≡ map (cut resolution) samples

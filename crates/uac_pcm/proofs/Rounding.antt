@@ -1,5 +1,5 @@
 -- Signed numbers rounded down to a multiple of a unit.
-use Rattle.std.proofs.Common.{◌≡◌, ℕ, zero, suc, ◌+◌, ◌-◌, ◌*◌, ◌/◌, ◌%◌, ◌<◌, ◌≤◌, ℤ, pos, negsuc, ◌*ℤ◌, neg_ℤ, FitsSigned, to_z, of_z, w32, w64, arith, ap, ◌∙◌, sym, refl}
+use Rattle.std.proofs.Common.{◌≡◌, ℕ, zero, suc, ◌+◌, ◌-◌, ◌*◌, ◌/◌, ◌%◌, ◌<◌, ◌≤◌, ℤ, pos, negsuc, ◌*ℤ◌, neg_ℤ, FitsSigned, to_z, of_z, w32, arith, ap, ◌∙◌, sym, refl}
 use Rattle.std.proofs.Math.Nat.{add-mul, div-mul-le_self, div-add-mod', mod-eq_of_lt, mod-lt, mul-le-mul_right, mul_assoc, mul-div_cancel, mul-pos, suc-mul, le-mul_of_pos_right}
 use Rattle.std.proofs.lemmas.Int.{to_z_pos, to_z-of_z}
 use Rattle.std.proofs.lemmas.Nat.{div_below, div-mul-add, mod-mul-add}
@@ -81,23 +81,6 @@ finer_multiple (negsuc a) unit times finer some fine e =
           let quotient : y / finer ≡ k = ap (λ (n : ℕ). n / finer) split ∙ div-mul-add k finer (finer - 1) (omega arith) in
           ap (λ (n : ℕ). neg_ℤ (pos (suc n * finer))) quotient ∙ ap (λ (n : ℕ). neg_ℤ (pos n)) (sym h)
 
--- the lowest bits of a number of 64 bits are what is left of it
-pub low_bits : (z : ℤ) (unit parts : ℕ) → 0 < unit → parts * unit ≡ 18446744073709551616 → FitsSigned w64 z
-    → of_z w64 z % unit ≡ modulo z unit
-low_bits (pos a) unit parts some e fits = refl
-low_bits (negsuc a) unit parts some e fits =
-    let small : a < 9223372036854775808 = fits.sfits in
-    let below : a < parts * unit = omega arith in
-    let quotient : a / unit < parts = div_below a unit parts some below in
-    let rest : a % unit < unit = mod-lt a some in
-    let whole : (parts - suc (a / unit) + suc (a / unit)) * unit ≡ (parts - suc (a / unit)) * unit + suc (a / unit) * unit = add-mul (parts - suc (a / unit)) (suc (a / unit)) unit in
-    let all : parts - suc (a / unit) + suc (a / unit) ≡ parts = omega arith in
-    let total : (parts - suc (a / unit)) * unit + suc (a / unit) * unit ≡ 18446744073709551616 = sym whole ∙ ap (λ (n : ℕ). n * unit) all ∙ e in
-    let next : suc (a / unit) * unit ≡ a / unit * unit + unit = suc-mul (a / unit) unit in
-    let itself : a / unit * unit + a % unit ≡ a = div-add-mod' a unit in
-    let split : 18446744073709551616 - suc a ≡ (parts - suc (a / unit)) * unit + (unit - 1 - a % unit) = omega arith in
-    ap (λ (n : ℕ). n % unit) split ∙ mod-mul-add (parts - suc (a / unit)) unit (unit - 1 - a % unit) (omega arith)
-
 -- a multiple of a unit comes back from its uppermost bits, where the unit and the number of its multiples make 2^32
 pub multiple_comes_back : (t : ℤ) (unit parts : ℕ) → 0 < unit → 0 < parts → parts * unit ≡ 4294967296 → FitsSigned w32 t
     → floor_of t unit *ℤ pos unit ≡ t → to_z w32 (modulo (floor_of t unit) parts * unit) ≡ t
@@ -120,3 +103,23 @@ multiple_comes_back (negsuc a) unit parts some many e fits multiple =
       number_of : (n : ℕ) → neg_ℤ (pos n) ≡ negsuc a → n ≡ suc a
       number_of zero h = cc
       number_of (suc m) h = cc
+
+-- the uppermost bits of a number of 32 bits, where the unit and the number of its multiples make 2^32
+pub top_bits : (t : ℤ) (unit parts : ℕ) → 0 < unit → 0 < parts → parts * unit ≡ 4294967296 → FitsSigned w32 t
+    → of_z w32 t / unit ≡ modulo (floor_of t unit) parts
+top_bits (pos a) unit parts some many e fits =
+    let small : a < 2147483648 = fits.sfits in
+    sym (mod-eq_of_lt (div_below a unit parts some (omega arith)))
+top_bits (negsuc a) unit parts some many e fits =
+    let small : a < 2147483648 = fits.sfits in
+    let quotient : a / unit < parts = div_below a unit parts some (omega arith) in
+    let kept : a / unit % parts ≡ a / unit = mod-eq_of_lt quotient in
+    let rest : a % unit < unit = mod-lt a some in
+    let whole : (parts - suc (a / unit) + suc (a / unit)) * unit ≡ (parts - suc (a / unit)) * unit + suc (a / unit) * unit = add-mul (parts - suc (a / unit)) (suc (a / unit)) unit in
+    let all : parts - suc (a / unit) + suc (a / unit) ≡ parts = omega arith in
+    let total : (parts - suc (a / unit)) * unit + suc (a / unit) * unit ≡ 4294967296 = sym whole ∙ ap (λ (n : ℕ). n * unit) all ∙ e in
+    let next : suc (a / unit) * unit ≡ a / unit * unit + unit = suc-mul (a / unit) unit in
+    let itself : a / unit * unit + a % unit ≡ a = div-add-mod' a unit in
+    let split : 4294967296 - suc a ≡ (parts - suc (a / unit)) * unit + (unit - 1 - a % unit) = omega arith in
+    let remainder : parts - 1 - a / unit % parts ≡ parts - suc (a / unit) = omega arith in
+    ap (λ (n : ℕ). n / unit) split ∙ div-mul-add (parts - suc (a / unit)) unit (unit - 1 - a % unit) (omega arith) ∙ sym remainder

@@ -16,7 +16,7 @@ written_24_of_32 : bytes_of_frame 4 24 (pos 0x12345600 ∷ []) ≡ 0x00 ∷ 0x56
 unfolding cut word_of
 written_24_of_32 = refl
 
--- two frames of two channels at 16 bits, cut, and a byte behind them that makes no frame
+-- two frames of two channels at 16 bits, cut, and a byte after them that makes no frame
 packed_pair : packed 2 16 ((pos 0x12345678 ∷ negsuc 0 ∷ []) ∷ (pos 0x1ffff ∷ pos 0x7fff0000 ∷ []) ∷ [])
     ≡ 0x34 ∷ 0x12 ∷ 0xff ∷ 0xff ∷ 0x01 ∷ 0x00 ∷ 0xff ∷ 0x7f ∷ []
 unfolding cut word_of

@@ -5,7 +5,7 @@ ghost use Rattle.arrayvec.specs.ArrayVec.{array_vec_len};
 ghost use Rattle.uac_pcm.specs.Frames.{IsFormat, bytes_of_frame, frame_of_bytes};
 ghost use Rattle.uac_pcm.specs.Packets.{packed, unpacked, whole_frames};
 
-use crate::words::{sample_of, word};
+use crate::words::{put_word, sample_of};
 use crate::{Frame, Packet};
 
 /// A format of Type I PCM: how many channels, bytes for each sample, and bits of them that are used.
@@ -61,10 +61,10 @@ impl Format {
         if packet.remaining_capacity() < self.frame_bytes() {
             return false;
         }
+        let size = usize::from(self.subslot);
         for sample in frame.as_slice() {
-            let bytes = word(*sample, usize::from(self.subslot), self.bits);
             // There is room for the whole frame, so each word fits.
-            let _ = packet.try_extend_from_slice(bytes.as_slice());
+            put_word(packet, *sample, size, self.bits);
         }
         true
     }
@@ -82,7 +82,7 @@ impl Format {
         }
     }
 
-    /// The number of frames that stand whole in the packet; bytes behind them that make no frame do not count.
+    /// The number of frames that stand whole in the packet; bytes after them that make no frame do not count.
     pub fn frames_in(&self, packet: &Packet) -> u32
         ensures frames { result ≡ whole_frames self.now.channels self.now.subslot packet.now.items }
         ensures bounded { result ≤ 3072 }

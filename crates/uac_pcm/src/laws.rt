@@ -13,7 +13,7 @@ pub fn word_is_read_back()
     ensures once { (resolution : ℕ) (sample : ℤ) → cut resolution (cut resolution sample) ≡ cut resolution sample }
 {}
 
-/// Reading the bytes of a frame, whatever stands behind them, gives its samples, each cut; and there are as many bytes as
+/// Reading the bytes of a frame, whatever stands after them, gives its samples, each cut; and there are as many bytes as
 /// the samples' subslots have.
 pub fn frame_is_read_back()
     ensures read { (count size resolution : ℕ) (samples : List ℤ) (rest : List ℕ)
@@ -23,7 +23,7 @@ pub fn frame_is_read_back()
 {}
 
 /// Frames of a format that are packed one after the other are read back, each sample cut, also where bytes that make no frame stand
-/// behind them; as many are whole. Each has the same number of bytes, its own stand at its number, and two rows are packed row after row.
+/// after them; as many are whole. Each has the same number of bytes, its own stand at its number, and two rows are packed row after row.
 pub fn frames_are_read_back()
     ensures read { (count size resolution : ℕ) (frames : List (List ℤ)) (rest : List ℕ)
         → IsFormat count size resolution → All (IsFrame count) frames → length rest < count * size

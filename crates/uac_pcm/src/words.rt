@@ -1,8 +1,10 @@
 //! The word of one sample, and the sample of one word.
-ghost use Rattle.std.specs.Prelude.{◌≡◌, ◌≤◌, ◌*◌, length};
+ghost use Rattle.std.specs.Prelude.{◌≡◌, ◌≤◌, ◌+◌, ◌*◌, ◌++◌, length};
+ghost use Rattle.arrayvec.specs.ArrayVec.{array_vec_len};
+ghost use Rattle.byteorder.specs.Endian.{little_number};
 ghost use Rattle.uac_pcm.specs.Words.{cut, word_of, sample_of_word};
 
-use arrayvec::ArrayVec;
+use crate::Packet;
 use byteorder::{ByteOrder, LittleEndian};
 
 /// The sample with 0 in its bits below the uppermost `resolution`.
@@ -15,20 +17,20 @@ pub fn cut_to(sample: i32, resolution: u8) -> i32
     (sample >> unused) << unused
 }
 
-/// The bytes of the sample in a subslot of `size` bytes.
-pub fn word(sample: i32, size: usize, resolution: u8) -> ArrayVec<u8, 4>
+/// Appends the bytes of the sample in a subslot of `size` bytes to a packet that has room for them.
+pub fn put_word(packet: &mut Packet, sample: i32, size: usize, resolution: u8)
     requires some { 1 ≤ size }
-    requires room { size ≤ 4 }
+    requires four { size ≤ 4 }
     requires low { 1 ≤ resolution }
     requires high { resolution ≤ 8 * size }
-    ensures { result.items ≡ word_of size resolution sample }
+    requires room { array_vec_len packet.old + size ≤ 3072 }
+    ensures { packet.new.items ≡ packet.old.items ++ word_of size resolution sample }
 {
+    let number = cut_to(sample, resolution).cast_unsigned() >> (32 - 8 * size);
     let mut bytes = [0; 4];
-    let raised = i64::from(cut_to(sample, resolution));
-    LittleEndian::write_int(&mut bytes, raised >> (32 - 8 * size), size);
-    let mut word = ArrayVec::from(bytes);
-    word.truncate(size);
-    word
+    LittleEndian::write_u32(&mut bytes, number);
+    // There is room for all of them.
+    let _ = packet.try_extend_from_slice(&bytes[..size]);
 }
 
 /// The sample that the bytes of one subslot of `size` bytes hold.
@@ -40,6 +42,21 @@ pub fn sample_of(word: &[u8], size: usize, resolution: u8) -> i32
     requires whole { length word.now ≡ size }
     ensures { result ≡ sample_of_word size resolution word.now }
 {
-    let number = LittleEndian::read_uint(word, size) as u32;
+    let number = number_in(word, size);
     cut_to((number << (32 - 8 * size)).cast_signed(), resolution)
+}
+
+// The number in so many bytes. Each size has its own reading, which is one load of the machine.
+fn number_in(word: &[u8], size: usize) -> u32
+    requires some { 1 ≤ size }
+    requires room { size ≤ 4 }
+    requires whole { length word.now ≡ size }
+    ensures { result ≡ little_number size word.now }
+{
+    match size {
+        1 => u32::from(word[0]),
+        2 => u32::from(LittleEndian::read_u16(word)),
+        3 => LittleEndian::read_u24(word),
+        _ => LittleEndian::read_u32(word),
+    }
 }

@@ -4,7 +4,7 @@ use Rattle.std.proofs.lemmas.Bool.{eqb-true, eqb-false, eq-eqb, false≢true}
 use Rattle.std.proofs.lemmas.Grind.{common_steps, get_or-set_at}
 use Rattle.std.proofs.lemmas.List.{get_or-set_other}
 use Rattle.std.specs.List.{list_all, list_any}
-use Rattle.uac_rate.specs.Steadiness.{Given, SteadyFields, Stands, one_more, reported, is_slight, run, has_four_lost, keeps_feedback, eight_streams, is_steady, latest_run, HasFourInARow}
+use Rattle.uac_rate.specs.Steadiness.{Given, SteadyFields, KeepsGiven, one_more, reported, is_slight, run, has_four_lost, keeps_feedback, eight_streams, is_steady, latest_run, HasFourInARow}
 
 here : (p ok a n : Bool) → ((p && ok) && (a && (if n then ok else true))) ≡ ((p && a) && ok)
 here false ok a n = refl
@@ -95,10 +95,10 @@ held_at_four (suc (suc zero)) = refl
 held_at_four (suc (suc (suc zero))) = refl
 held_at_four (suc (suc (suc (suc n)))) = grind (arith, common_steps)
 
-pub report_stands : (kept : SteadyFields) (given : Given) (stream : ℕ) (lost : Bool) (kept_run : ℕ) (holds : Bool) → stream < 8 → Stands kept given
+pub report_stands : (kept : SteadyFields) (given : Given) (stream : ℕ) (lost : Bool) (kept_run : ℕ) (holds : Bool) → stream < 8 → KeepsGiven kept given
     → kept_run ≡ min (latest_run (one_more lost (given.feedback stream))) 4
     → holds ≡ (kept.holds && nat_lt kept_run 4)
-    → Stands (record { holds = holds; runs = slice_set kept.runs stream kept_run }) (reported stream lost given)
+    → KeepsGiven (record { holds = holds; runs = slice_set kept.runs stream kept_run }) (reported stream lost given)
 report_stands kept given stream lost kept_run holds below stood run_is holds_is =
     let r = latest_run (one_more lost (given.feedback stream)) in
     let short : nat_lt kept_run 4 ≡ nat_lt r 4 = ap (λ (n : ℕ). nat_lt n 4) run_is ∙ held_at_four r in

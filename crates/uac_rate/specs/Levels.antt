@@ -187,7 +187,7 @@ pub record Fills (values : Nominal) (service before after : ℕ) : Type 0 where
   pub slight : Within (service * values.e) steps (service * values.f)
   pub level_is : (after ≡ before + (host + service * values.f) / 65536) ⊎ (after ≡ before + (clock + steps) / 65536)
 
--- some moment behind the end of an interval: so many microframes of the next one have passed, or pass now; some of their ticks were played,
+-- some moment after the end of an interval: so many microframes of the next one have passed, or pass now; some of their ticks were played,
 -- and of the interval's packet, or of the zero frames for these ticks, some have come
 pub record Moment (values : Nominal) (service : ℕ) (p : Point) (held : ℕ) : Type 0 where
   pub passed : ℕ

@@ -77,7 +77,7 @@ latest_run [] = 0
 latest_run (latest ∷ earlier) = run latest
 
 -- it is kept of what was given
-pub record Stands (kept : SteadyFields) (given : Given) : Type 0 where
+pub record KeepsGiven (kept : SteadyFields) (given : Given) : Type 0 where
   pub holds : kept.holds ≡ is_steady given
   pub eight : length kept.runs ≡ 8
   pub runs : (stream : ℕ) → stream < 8 → get_or kept.runs stream 0 ≡ min (latest_run (given.feedback stream)) 4

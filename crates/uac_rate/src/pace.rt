@@ -20,13 +20,13 @@ impl Model for Pacer {
 
 impl Pacer {
     ghost use Rattle.std.specs.Prelude.{◌≡◌, ◌+◌, ◌/◌, ◌%◌, ◌++◌, ◌∷◌, [], List, ℕ};
-    ghost use Rattle.uac_clock.specs.Ticks.{Stands};
+    ghost use Rattle.uac_clock.specs.Ticks.{IsPhaseAfter};
     ghost use Rattle.uac_rate.specs.Packets.{frames_in_packet};
 
     /// A pace at a whole frame.
     pub fn new() -> Pacer
         ensures zero { result ≡ 0 }
-        ensures stands { Stands result [] }
+        ensures stands { IsPhaseAfter result [] }
     {
         Pacer {
             phase: Phase::new(),
@@ -40,8 +40,8 @@ impl Pacer {
     pub fn next(&mut self, value: u32) -> u32
         ensures frames { result ≡ (self.old + value) / 65536 }
         ensures kept { self.new ≡ (self.old + value) % 65536 }
-        ensures stands { (values : List ℕ) → Stands self.old values → Stands self.new (values ++ value ∷ []) }
-        ensures in_packet { (values : List ℕ) → Stands self.old values → result ≡ frames_in_packet 1 (values ++ value ∷ []) }
+        ensures stands { (values : List ℕ) → IsPhaseAfter self.old values → IsPhaseAfter self.new (values ++ value ∷ []) }
+        ensures in_packet { (values : List ℕ) → IsPhaseAfter self.old values → result ≡ frames_in_packet 1 (values ++ value ∷ []) }
     {
         self.phase.advance(value)
     }

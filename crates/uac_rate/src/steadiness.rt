@@ -21,11 +21,11 @@ impl Model for Steady {
 
 impl Steady {
     ghost use Rattle.std.specs.Prelude.{◌≡◌, ◌<◌, false};
-    ghost use Rattle.uac_rate.specs.Steadiness.{Stands, Given, nothing_given, deviated, reported, restarted, is_steady};
+    ghost use Rattle.uac_rate.specs.Steadiness.{KeepsGiven, Given, nothing_given, deviated, reported, restarted, is_steady};
 
     /// Nothing was given yet.
     pub fn new() -> Steady
-        ensures stands { Stands result nothing_given }
+        ensures stands { KeepsGiven result nothing_given }
     {
         Steady {
             holds: true,
@@ -35,7 +35,7 @@ impl Steady {
 
     /// A clock is off by so many millionths from now on.
     pub fn deviate(&mut self, ppm: i32)
-        ensures stands { (given : Given) → Stands self.old given → Stands self.new (deviated ppm given) }
+        ensures stands { (given : Given) → KeepsGiven self.old given → KeepsGiven self.new (deviated ppm given) }
         ensures never_again { self.old.holds ≡ false → self.new.holds ≡ false }
     {
         self.holds = self.holds && -1000 <= ppm && ppm <= 1000;
@@ -44,7 +44,7 @@ impl Steady {
     /// A feedback report of this stream came, or was lost.
     pub fn report(&mut self, stream: u8, lost: bool)
         requires { stream < 8 }
-        ensures stands { (given : Given) → Stands self.old given → Stands self.new (reported stream lost given) }
+        ensures stands { (given : Given) → KeepsGiven self.old given → KeepsGiven self.new (reported stream lost given) }
         ensures never_again { self.old.holds ≡ false → self.new.holds ≡ false }
     {
         let run = if lost {
@@ -59,7 +59,7 @@ impl Steady {
     /// This stream starts anew: reports lost before are no part of a run of reports after.
     pub fn restart(&mut self, stream: u8)
         requires { stream < 8 }
-        ensures stands { (given : Given) → Stands self.old given → Stands self.new (restarted stream given) }
+        ensures stands { (given : Given) → KeepsGiven self.old given → KeepsGiven self.new (restarted stream given) }
         ensures never_again { self.old.holds ≡ false → self.new.holds ≡ false }
     {
         self.runs[usize::from(stream)] = 0;
@@ -67,7 +67,7 @@ impl Steady {
 
     /// Whether all that was given is steady. Once it isn't, it never is again.
     pub fn holds(&self) -> bool
-        ensures { (given : Given) → Stands self.now given → result ≡ is_steady given }
+        ensures { (given : Given) → KeepsGiven self.now given → result ≡ is_steady given }
     {
         self.holds
     }

@@ -1,5 +1,5 @@
 -- The oldest frame of a ring is the first that came and is not gone.
-use Rattle.std.proofs.Common.{◌≡◌, ℕ, zero, suc, ◌+◌, ◌≤◌, ℤ, List, [], ◌∷◌, length, drop, map, slice_get, Option, Some, None, OnSome, arith, ap, ◌∙◌, sym}
+use Rattle.std.proofs.Common.{◌≡◌, ℕ, zero, suc, ◌+◌, ◌≤◌, ℤ, List, [], ◌∷◌, length, drop, map, slice_get, Option, Some, None, OnSome, option_copied, Bor, arith, ap, ◌∙◌, sym, refl}
 use Rattle.std.specs.Option.{option_map}
 use Rattle.std.proofs.lemmas.List.{length-drop}
 use Rattle.std.proofs.lemmas.Option.{slice_get_past}
@@ -37,3 +37,8 @@ taken {X = X} v (y ∷ ys) left (Some x) ring came gone seen is_oldest others he
     let others_held : map v left ≡ drop (gone + 1) came =
     ap (λ (xs : List X). map v xs) others ∙ sym there.1 ∙ ap (λ (n : ℕ). drop n came) (sym step) in
     (ap (λ z. Some (v z)) same ∙ sym there.0, (omega arith, others_held))
+
+-- what a lent value shows is what it shows as a value
+pub lent : {X : Type 0} (v : X → List ℤ) (oldest : Option (Bor X)) → option_map (λ x. v x.now) oldest ≡ option_map v (option_copied oldest)
+lent v None = refl
+lent v (Some x) = refl

@@ -1,6 +1,6 @@
 // A bounded queue of frames over a circular buffer.
-ghost use Rattle.std.specs.Prelude.{◌≡◌, ◌↔◌, ◌≤◌, ◌+◌, ℕ, ℤ, List, [], ◌∷◌, ◌++◌, length, drop, slice_get, IsNone, IsErr, IfOk, OnSome};
-ghost use Rattle.std.specs.Prelude.{OnOk, OnErr};
+ghost use Rattle.std.specs.Prelude.{◌≡◌, ◌↔◌, ◌≤◌, ◌<◌, ◌+◌, ℕ, ℤ, List, [], ◌∷◌, ◌++◌, length, drop, slice_get, IsNone, IsErr, IfOk};
+ghost use Rattle.std.specs.Prelude.{OnSome, OnOk, OnErr};
 ghost use Rattle.std.specs.Option.{option_map};
 ghost use Rattle.uac_ring.specs.Rings.{Holds, ring_frames};
 
@@ -71,6 +71,25 @@ impl Ring {
             → (option_map (λ frame. frame.items) result ≡ slice_get came gone) × OnSome result (Holds came (gone + 1) self.new) }
     {
         self.frames.pop_front()
+    }
+
+    /// The oldest frame, lent; None exactly where there is none.
+    pub fn front(&self) -> Option<&Frame>
+        ensures none { IsNone result ↔ (length self.now ≡ 0) }
+        ensures oldest { option_map (λ frame. frame.now.items) result ≡ slice_get self.now 0 }
+        ensures holds { (came : List (List ℤ)) (gone : ℕ) → Holds came gone self.now
+            → option_map (λ frame. frame.now.items) result ≡ slice_get came gone }
+    {
+        self.frames.front()
+    }
+
+    /// Lets the oldest frame go; where there is none, the ring stays empty.
+    pub fn drop_front(&mut self)
+        ensures others { self.new ≡ drop 1 self.old }
+        ensures holds { (came : List (List ℤ)) (gone : ℕ) → Holds came gone self.old → gone < length came
+            → Holds came (gone + 1) self.new }
+    {
+        let _oldest = self.take();
     }
 
     /// The number of frames that the ring holds.

@@ -20,7 +20,7 @@ record Came (values : Nominal) (period microframes : ℕ) (p : Point) : Type 0 w
   age : mark.age ≤ since period p
   time : microframes ≤ 32 + passed + mark.age
 
--- so many microframes behind the start: no report came yet, or one did
+-- so many microframes after the start: no report came yet, or one did
 abbrev Progress : Nominal → ℕ → ℕ → Point → Type 0
 Progress values period microframes p = (microframes ≤ since period p) ⊎ Came values period microframes p
 
@@ -97,7 +97,7 @@ report_goes values service period microframes true p q room intervals r robust (
       time = came.time;
     })
 
--- a robust stream, so far behind its start
+-- a robust stream, so far after its start
 record Goes (values : Nominal) (service period microframes : ℕ) (p : Point) : Type 0 where
   robust : IsRobust values 65 service period p
   progress : Progress values period microframes p

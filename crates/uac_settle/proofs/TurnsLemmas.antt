@@ -37,7 +37,7 @@ came_enough : (lost : Bool) (level sent ticks : ℕ) → ticks ≤ level → tic
 came_enough false level sent ticks h = omega arith
 came_enough true level sent ticks h = omega arith
 
--- the point behind the packet and the ticks of an interval
+-- the point after the packet and the ticks of an interval
 abbrev behind_of : ℕ → Served → Point → Point
 behind_of service served p =
     let ticks = (p.clock + sum served.steps) / 65536 in
@@ -90,7 +90,7 @@ interval_is_there values service period served p room intervals robust at_end gi
       holds_ticks service p.target p.level ((p.clock + sum served.steps) / 65536) intervals.serves robust.target
       (robust_near values 65 service period p intervals.reports robust) (omega arith)
 
--- the point behind a report
+-- the point after a report
 abbrev reported_of : Nominal → Bool → Point → Point
 reported_of values report_lost p =
     record p { value = value_after report_lost values p; waited = 0; lost = lost_after report_lost p.lost }
@@ -176,7 +176,7 @@ turns_stay values service period (served ∷ later) p q facts intervals turns st
     (turn_stays values service period served p turns.0 facts intervals turns.1 stays)
 
 -- one more turn
-turns_and : (values : Nominal) (service period : ℕ) (all : List Served) (served : Served) (p q r : Point) → Turns values service period all p q
+pub turns_and : (values : Nominal) (service period : ℕ) (all : List Served) (served : Served) (p q r : Point) → Turns values service period all p q
     → Turn values service period served q r → Turns values service period (all ++ served ∷ []) p r
 turns_and values service period [] served p q r same turn = (r, subst (λ (x : Point). Turn values service period served x r) (sym same) turn, refl)
 turns_and values service period (first ∷ later) served p q r turns turn =

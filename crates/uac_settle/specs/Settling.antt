@@ -39,7 +39,7 @@ pub record Gap (values : Nominal) (mark : Mark) (p : Point) : Type 0 where
   pub young : mark.age ≤ 32
   pub drift : HasDrifted values mark p
 
--- what may be left of an error behind so many microframes
+-- what may be left of an error after so many microframes
 abbrev pub left_of : ℕ → ℕ → ℕ → ℕ
 left_of pull microframes error = max four_frames (error - microframes * pull)
 
@@ -59,7 +59,7 @@ pub record IsServed (values : Nominal) (service : ℕ) (served : Served) : Type 
   pub whole : length served.steps ≡ service
   pub slight : AllByRecursion (λ step. Within values.e step values.f) served.steps
 
--- the end of an interval, behind the report that fell due there if one did: by the microframes since the last one
+-- the end of an interval, after the report that fell due there if one did: by the microframes since the last one
 pub record IsIntervalEnd (service period : ℕ) (p : Point) : Type 0 where
   pub waited : p.waited < period
   pub whole : p.waited % service ≡ 0
@@ -94,7 +94,7 @@ pub record Stretch (values : Nominal) (service period : ℕ) (all : List Served)
 abbrev pub KeepsPackets : List Served → Type 0
 KeepsPackets all = AllByRecursion (λ served. served.packet_lost ≡ false) all
 
--- whatever stretch it is that loses no packet: at the end of each interval that ends so many microframes or more behind its start, the
+-- whatever stretch it is that loses no packet: at the end of each interval that ends so many microframes or more after its start, the
 -- level is within four frames of its target
 abbrev pub SettlesWithin : Nominal → ℕ → Type 0
 SettlesWithin values microframes =

@@ -4,3 +4,4 @@ pub mod Mixing
 pub mod Samples
 pub mod Tallying
 pub mod Worked
+pub mod Writing

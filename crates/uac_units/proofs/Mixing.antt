@@ -34,6 +34,10 @@ pub sum-bound : (sum sample : ℤ) (at : ℕ) → unsigned_abs sum ≤ 214748364
     → unsigned_abs (sum +ℤ sample) ≤ 2147483648 * (at + 1)
 sum-bound sum sample at small fits = omega (arith, ints)
 
+-- a mixer has no more inputs than gains
+pub few_inputs : (inputs outputs gains : ℕ) → 1 ≤ outputs → gains ≡ inputs * outputs → gains ≤ 256 → inputs ≤ 256
+few_inputs inputs outputs gains some counted few = grind arith
+
 -- ---- in lanes
 
 pub mixed-bound : (job : Job) (pins : List ℤ) (channel n : ℕ) → unsigned_abs (mixed_front job pins channel n) ≤ 2147483648 * n

@@ -11,8 +11,8 @@ pub record Reading : Type 0 where
   pub value : ℕ
 
 -- the value, or the greatest number of 64 bits where it would pass that
-abbrev pub held : ℕ → ℕ
-held value = min value (2 ^ 64 - 1)
+abbrev pub at_most_u64 : ℕ → ℕ
+at_most_u64 value = min value (2 ^ 64 - 1)
 
 -- the greatest absolute sample of a frame
 abbrev pub peak_of : List ℤ → ℕ
@@ -24,9 +24,9 @@ is_clipped sample = int_eq sample (pos 2147483647) || int_eq sample (negsuc 2147
 
 -- the value after a frame, by kind
 abbrev pub heard : MeterKind → ℕ → List ℤ → ℕ
-heard Peak value frame = held (max value (peak_of frame))
-heard Clipped value frame = held (value + count_by is_clipped frame)
-heard Sum value frame = held (value + sum_by unsigned_abs frame)
+heard Peak value frame = at_most_u64 (max value (peak_of frame))
+heard Clipped value frame = at_most_u64 (value + count_by is_clipped frame)
+heard Sum value frame = at_most_u64 (value + sum_by unsigned_abs frame)
 
 -- the reading after a frame
 unfoldable pub after_hearing : List ℤ → Reading → Reading

@@ -1,6 +1,7 @@
 //! The units of a signal graph and the meters that hear its outputs: boxed objects that a caller makes and hands in.
 #![tactic(auto)]
 
+mod channels;
 mod counting;
 mod eights;
 mod hearing;

@@ -5,6 +5,7 @@ ghost use Rattle.uac_units.specs.declared.jobs.UnitKind.TheVariants.{Mixer, Sele
 ghost use Rattle.uac_gain.specs.Gain.{scaled};
 ghost use Rattle.uac_units.specs.Rendering.{FitsKind, gained, input, pins_sample, rendered};
 
+use crate::channels::fit;
 use crate::counting::Steps;
 use crate::jobs::{Job, Pins, UnitKind};
 use crate::rendering::Unit;
@@ -82,70 +83,72 @@ fn render_as(kind: UnitKind, job: &Job, pins: &Pins, out: &mut Frame, steps: &mu
     ensures samples { out.new.items ≡ rendered kind job.now pins.now.items }
     ensures counted { steps.new ≡ steps.old + 1 }
 {
-    render_samples(kind, job, pins, out);
     steps.tick();
+    if out.len() == job.outputs as usize {
+        render_samples(kind, job, pins.as_slice(), out.as_mut_slice());
+    } else {
+        render_anew(kind, job, pins, out);
+    }
 }
 
-/// Makes `out` the samples of a unit of that kind.
-fn render_samples(kind: UnitKind, job: &Job, pins: &Pins, out: &mut Frame)
+/// Makes `out` the samples of a unit of that kind, where it hasn't as many channels.
+#[cold]
+#[inline(never)]
+fn render_anew(kind: UnitKind, job: &Job, pins: &Pins, out: &mut Frame)
     requires { FitsKind kind job.now pins.now.items }
     ensures { out.new.items ≡ rendered kind job.now pins.now.items }
 {
+    fit(out, job.outputs as usize);
+    render_samples(kind, job, pins.as_slice(), out.as_mut_slice());
+}
+
+/// Writes the samples of a unit of that kind over so many others.
+fn render_samples(kind: UnitKind, job: &Job, inputs: &[i32], out: &mut [i32])
+    requires fits { FitsKind kind job.now inputs.now }
+    requires sized { length out.old ≡ job.now.outputs }
+    ensures { out.new ≡ rendered kind job.now inputs.now }
+{
     match kind {
-        UnitKind::Mixer => render_mixer(job, pins, out),
-        UnitKind::Selector => render_selector(job, pins, out),
-        UnitKind::Feature => render_feature(job, pins, out),
-        UnitKind::Effect => render_effect(job, pins, out),
+        UnitKind::Mixer => render_mixer(job, inputs, out),
+        UnitKind::Selector => render_selector(job, inputs, out),
+        UnitKind::Feature => render_feature(job, inputs, out),
+        UnitKind::Effect => out.copy_from_slice(inputs),
     }
 }
 
-/// Makes `out` the samples of a mixer: each output the saturated sum of all inputs, each scaled by the gain of its node.
-fn render_mixer(job: &Job, pins: &Pins, out: &mut Frame)
-    requires { FitsKind Mixer job.now pins.now.items }
-    ensures { out.new.items ≡ rendered Mixer job.now pins.now.items }
+/// Writes the samples of a mixer: each output the saturated sum of all inputs, each scaled by the gain of its node.
+fn render_mixer(job: &Job, inputs: &[i32], out: &mut [i32])
+    requires fits { FitsKind Mixer job.now inputs.now }
+    requires sized { length out.old ≡ job.now.outputs }
+    ensures { out.new ≡ rendered Mixer job.now inputs.now }
 {
-    out.clear();
-    for channel in 0..job.outputs as usize {
-        out.push(mix(job, pins, channel));
+    for channel in 0..out.len() {
+        out[channel] = mix(job, inputs, channel);
     }
 }
 
-/// Makes `out` the samples of a feature: each channel scaled by its own gain and then by the master's.
-fn render_feature(job: &Job, pins: &Pins, out: &mut Frame)
-    requires { FitsKind Feature job.now pins.now.items }
-    ensures { out.new.items ≡ rendered Feature job.now pins.now.items }
+/// Writes the samples of a feature: each channel scaled by its own gain and then by the master's.
+fn render_feature(job: &Job, inputs: &[i32], out: &mut [i32])
+    requires fits { FitsKind Feature job.now inputs.now }
+    requires sized { length out.old ≡ job.now.outputs }
+    ensures { out.new ≡ rendered Feature job.now inputs.now }
 {
-    let inputs = pins.as_slice();
     let gains = job.gains.as_slice();
-    out.clear();
-    for channel in 0..job.outputs as usize {
+    for channel in 0..out.len() {
         let own = scaled_input(inputs, channel, gains[2 * channel]);
-        out.push(scale(own, gains[2 * channel + 1]));
+        out[channel] = scale(own, gains[2 * channel + 1]);
     }
 }
 
-/// Makes `out` the samples of a selector: the channels of its chosen pin.
-fn render_selector(job: &Job, pins: &Pins, out: &mut Frame)
-    requires { FitsKind Selector job.now pins.now.items }
-    ensures { out.new.items ≡ rendered Selector job.now pins.now.items }
+/// Writes the samples of a selector: the channels of its chosen pin.
+fn render_selector(job: &Job, inputs: &[i32], out: &mut [i32])
+    requires fits { FitsKind Selector job.now inputs.now }
+    requires sized { length out.old ≡ job.now.outputs }
+    ensures { out.new ≡ rendered Selector job.now inputs.now }
 {
-    let inputs = pins.as_slice();
-    let from = job.pin as usize * job.outputs as usize;
-    out.clear();
-    for channel in 0..job.outputs as usize {
-        out.push(input_of(inputs, from + channel));
-    }
-}
-
-/// Makes `out` the samples of an effect, which is bypassed: its inputs.
-fn render_effect(job: &Job, pins: &Pins, out: &mut Frame)
-    requires { FitsKind Effect job.now pins.now.items }
-    ensures { out.new.items ≡ rendered Effect job.now pins.now.items }
-{
-    let inputs = pins.as_slice();
-    out.clear();
-    for channel in 0..job.outputs as usize {
-        out.push(input_of(inputs, channel));
+    let from = job.pin as usize * out.len();
+    for channel in 0..out.len() {
+        out[channel] = input_of(inputs, from + channel);
     }
 }
 
@@ -156,7 +159,7 @@ pub(crate) fn sample_of(kind: UnitKind, job: &Job, pins: &Pins, channel: usize) 
     ensures { result ≡ pins_sample kind job.now pins.now.items channel }
 {
     match kind {
-        UnitKind::Mixer => mix(job, pins, channel),
+        UnitKind::Mixer => mix(job, pins.as_slice(), channel),
         UnitKind::Selector => pins[job.pin as usize * job.outputs as usize + channel],
         UnitKind::Feature => {
             let own = gained(job, pins, channel, 2 * channel);
@@ -167,12 +170,11 @@ pub(crate) fn sample_of(kind: UnitKind, job: &Job, pins: &Pins, channel: usize) 
 }
 
 /// The saturated sum of all inputs, each scaled by the gain of its node with this output.
-fn mix(job: &Job, pins: &Pins, channel: usize) -> i32
-    requires fits { FitsKind Mixer job.now pins.now.items }
+fn mix(job: &Job, inputs: &[i32], channel: usize) -> i32
+    requires fits { FitsKind Mixer job.now inputs.now }
     requires inside { channel < job.now.outputs }
-    ensures { result ≡ pins_sample Mixer job.now pins.now.items channel }
+    ensures { result ≡ pins_sample Mixer job.now inputs.now channel }
 {
-    let inputs = pins.as_slice();
     let gains = job.gains.as_slice();
     let outputs = job.outputs as usize;
     let mut sum: i64 = 0;

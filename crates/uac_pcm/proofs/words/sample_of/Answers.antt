@@ -1,20 +1,10 @@
 -- A word has at most four bytes, so its number has at most 32 bits.
-use Rattle.std.proofs.Common.{◌≡◌, ℕ, ◌-◌, ◌*◌, ◌^◌, ◌<◌, ◌≤◌, w32, FitsSigned, arith, rules, get_or, ap, ◌∙◌, sym, pos}
-use Rattle.std.proofs.Math.Nat.{pow-le-pow_right}
+use Rattle.std.proofs.Common.{◌≡◌, ℕ, ◌-◌, ◌*◌, ◌^◌, w32, FitsSigned, rules, ap, ◌∙◌, sym, pos}
 use Rattle.std.proofs.lemmas.Int.{to_z-of_z}
 use Rattle.byteorder.specs.Endian.{little_number}
-use Rattle.byteorder.specs.Numbers.{little_from-lt}
 use Rattle.uac_pcm.specs.Words.{cut, wrap, sample_of_word}
 use Rattle.uac_pcm.proofs.Wrapping.{int_wrap-pos}
 use Rattle.uac_pcm.proofs.words.sample_of.Goals as goal
-
-pub overflow_cast-number : goal.overflow_cast-number
-overflow_cast-number c =
-    let byte : (i : ℕ) → get_or c.args.word.now i 0 < 256 = λ i. (c.type_inv.word i).fits in
-    let below : little_number c.args.size c.args.word.now < 256 ^ c.args.size = little_from-lt 0 c.args.size c.args.word.now byte in
-    let room : 256 ^ c.args.size ≤ 256 ^ 4 = pow-le-pow_right (omega arith) c.requires.room in
-    let e = c.read_uint-number.ensures in
-    record { fits = omega arith }
 
 pub returns : goal.returns
 unfolding sample_of_word
@@ -23,8 +13,8 @@ returns c =
     let raised_fits : FitsSigned w32 c.cast_signed.result = search rules in
     let raised : c.cast_signed.result ≡ wrap (pos (little_number c.args.size c.args.word.now * 2 ^ (32 - 8 * c.args.size))) =
     c.cast_signed.ensures
-    ∙ sym (int_wrap-pos (c.read_uint-number.result * 2 ^ (32 - 8 * c.args.size)))
-    ∙ ap (λ (n : ℕ). wrap (pos (n * 2 ^ (32 - 8 * c.args.size)))) c.read_uint-number.ensures in
+    ∙ sym (int_wrap-pos (c.number_in-number.result * 2 ^ (32 - 8 * c.args.size)))
+    ∙ ap (λ (n : ℕ). wrap (pos (n * 2 ^ (32 - 8 * c.args.size)))) c.number_in-number.ensures in
     to_z-of_z w32 c.cut_to.result cut_fits
     ∙ c.cut_to.ensures
     ∙ ap (cut c.args.resolution) (to_z-of_z w32 c.cast_signed.result raised_fits ∙ raised)

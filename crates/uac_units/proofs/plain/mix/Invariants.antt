@@ -4,4 +4,4 @@ use Rattle.uac_units.proofs.plain.mix.Given as goal
 
 abbrev pub invariant-loop-at : goal.invariant-loop-at
 invariant-loop-at l =
-    (l.sum ≡ mixed_front l.job l.pins.items l.channel l.at) × (unsigned_abs l.sum ≤ 2147483648 * l.at)
+    (l.sum ≡ mixed_front l.job l.inputs l.channel l.at) × (unsigned_abs l.sum ≤ 2147483648 * l.at)

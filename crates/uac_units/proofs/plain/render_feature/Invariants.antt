@@ -1,9 +1,7 @@
-use Rattle.std.proofs.Common.{◌≡◌, map}
-use Rattle.std.specs.List.{range_with_len}
 use Rattle.uac_units.specs.declared.jobs.UnitKind.TheVariants.{Feature}
 use Rattle.uac_units.specs.Rendering.{pins_sample}
+use Rattle.uac_units.proofs.Writing.{AreWritten}
 use Rattle.uac_units.proofs.plain.render_feature.Given as goal
 
 abbrev pub invariant-loop-channel : goal.invariant-loop-channel
-invariant-loop-channel l =
-    l.out.items ≡ map (pins_sample Feature l.job l.pins.items) (range_with_len 0 l.channel)
+invariant-loop-channel l = AreWritten (pins_sample Feature l.job l.inputs) l.job.outputs l.channel l.out

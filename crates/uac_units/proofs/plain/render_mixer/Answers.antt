@@ -1,26 +1,17 @@
-use Rattle.std.proofs.Common.{◌≡◌, ◌∙◌, ap, arith, sym, length, w32, rules, ◌++◌, ◌∷◌, [], map}
-use Rattle.std.specs.List.{range_with_len}
+use Rattle.std.proofs.Common.{◌∙◌, arith, w32}
 use Rattle.std.proofs.lemmas.Int.{to_z-of_z}
-use Rattle.std.proofs.lemmas.List.FromFn.{map-range_with_len_more, length-map-range_with_len}
 use Rattle.uac_units.specs.declared.jobs.UnitKind.TheVariants.{Mixer}
 use Rattle.uac_units.specs.Rendering.{pins_sample, rendered}
+use Rattle.uac_units.proofs.Writing.{all_written, one_more}
 use Rattle.uac_units.proofs.plain.render_mixer.Goals as goal
-
-pub push-requires : goal.push-requires
-push-requires c =
-    let full : length c.loop-channel.out.items ≡ c.loop-channel.channel = ap length c.loop-channel.invariant ∙ length-map-range_with_len (pins_sample Mixer c.args.job.now c.args.pins.now.items) 0 c.loop-channel.channel in
-    search (rules, full)
 
 pub loop-channel-preserved : goal.loop-channel-preserved
 loop-channel-preserved c =
-    let sample = pins_sample Mixer c.args.job.now c.args.pins.now.items in
-    c.push.ensures.items
-    ∙ ap (λ z. c.loop-channel.out.items ++ z ∷ []) (to_z-of_z w32 c.mix.result (record { sfits = c.mix.type_inv }) ∙ c.mix.ensures)
-    ∙ ap (λ front. front ++ sample c.loop-channel.channel ∷ []) c.loop-channel.invariant
-    ∙ sym (map-range_with_len_more sample 0 c.loop-channel.channel c.loop-channel.channel (omega arith))
+    one_more (pins_sample Mixer c.args.job.now c.args.inputs.now) c.args.job.now.outputs c.loop-channel.channel c.loop-channel.out _ (omega arith)
+    c.loop-channel.invariant (to_z-of_z w32 c.mix.result (record { sfits = c.mix.type_inv }) ∙ c.mix.ensures)
 
 pub returns : goal.returns
 unfolding rendered
 returns c =
+    all_written (pins_sample Mixer c.args.job.now c.args.inputs.now) c.args.job.now.outputs c.loop-channel.channel c.loop-channel.out (omega arith)
     c.loop-channel.invariant
-    ∙ ap (λ n. map (pins_sample Mixer c.args.job.now c.args.pins.now.items) (range_with_len 0 n)) (omega arith)

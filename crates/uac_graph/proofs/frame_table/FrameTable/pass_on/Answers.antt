@@ -12,7 +12,7 @@ returns c k =
     elim c.match-index_mut.branch [
       | in-Some w ↦
           ap (λ i. frame_on (the_view i) k) w.self-inside-is
-          ∙ frame_written (λ f. f.items) c.self.inside.row.items _ id w.refill.new.frame (omega (arith, c.self.invariant, c.ranges.id.fits)) refl k
+          ∙ frame_written (λ f. f.items) c.self.inside.row.items _ id w.refill.new.list (omega (arith, c.self.invariant, c.ranges.id.fits)) refl k
           ∙ ap (λ (samples : List ℤ). if eqb id k then Some samples else frame_on (the_view c.self.inside) k) (w.refill.ensures ∙ w.as_slice.ensures.value)
           ∙ ap (λ (frames : Frames). if eqb id k then Some (c.args.samples.now.items) else frame_on frames k) c.self.view_is
       | in_default w ↦

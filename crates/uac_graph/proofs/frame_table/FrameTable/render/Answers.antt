@@ -1,7 +1,5 @@
 use Rattle.std.proofs.Common.{◌≡◌, ◌∙◌, sym, ap, eqb, Some, None, if◌then◌else◌, arith, length, ℤ, List, refl}
 use Rattle.std.specs.Option.{option_map}
-use Rattle.uac_units.specs.Rendering.{rendered}
-use Rattle.uac_units.specs.declared.jobs.UnitKind.{UnitKind}
 use Rattle.uac_graph.specs.Wiring.{Frames, frame_on}
 use Rattle.uac_graph.specs.contracts.frame_table.FrameTable.{the_view}
 use Rattle.uac_graph.proofs.RowsById.{frame_written, none_there, stands_at}
@@ -15,8 +13,8 @@ returns-clause-frames g c k =
       | in-Some w ↦
           ap (λ i. frame_on (the_view i) k) w.self-inside-is
           ∙ frame_written (λ f. f.items) c.self.inside.row.items _ id w.render.new.out (omega (arith, c.self.invariant, c.ranges.id.fits)) refl k
-          ∙ ap (λ (samples : List ℤ). if eqb id k then Some samples else frame_on (the_view c.self.inside) k) (w.render.ensures.0 ∙ ap (λ (kind : UnitKind). rendered kind c.args.job.now c.args.pins.now.items) w.unit.ensures.kind)
-          ∙ ap (λ (frames : Frames). if eqb id k then Some (rendered c.args.kind c.args.job.now c.args.pins.now.items) else frame_on frames k) c.self.view_is
+          ∙ ap (λ (frames : Frames). if eqb id k then Some w.render.new.out.items else frame_on frames k) c.self.view_is
+          ∙ ap (λ (samples : List ℤ). if eqb id k then Some samples else frame_on c.args.self.now k) w.render.ensures.0
       | in_default w ↦
           absurd (
           none_there (λ f. f.items) c.self.inside.row.items id (c.args.job.now.outputs)

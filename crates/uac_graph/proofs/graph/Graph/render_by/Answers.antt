@@ -6,7 +6,7 @@ use Rattle.uac_units.specs.Rendering.{in_a_row}
 use Rattle.uac_graph.specs.Controls.{Controls}
 use Rattle.uac_graph.specs.Fitness.{IsSignalGraph}
 use Rattle.uac_graph.specs.Jobs.{HasJob}
-use Rattle.uac_graph.specs.Wiring.{held}
+use Rattle.uac_graph.specs.Wiring.{samples_on}
 use Rattle.uac_graph.proofs.InOrder.{fits_at, fitting_at, job_at, kept_at, rendered_at, wire_at}
 use Rattle.uac_graph.proofs.graph.Graph.render_by.Goals as goal
 

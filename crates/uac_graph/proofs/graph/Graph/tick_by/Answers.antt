@@ -1,7 +1,7 @@
 use Rattle.std.proofs.Common.{◌+◌, ap, arith, subst, ℕ}
 use Rattle.uac_graph.specs.Jobs.{HasJob}
 use Rattle.uac_graph.specs.Fitness.{IsSignalGraph}
-use Rattle.uac_graph.specs.Wiring.{held}
+use Rattle.uac_graph.specs.Wiring.{samples_on}
 use Rattle.uac_graph.proofs.InOrder.{all_rendered, none_rendered, job_here, order_for, step_rendered}
 use Rattle.uac_graph.proofs.NeedsLemmas.{all_units, units_end, units_next}
 use Rattle.uac_graph.proofs.Ticking.{given_held}
@@ -11,7 +11,7 @@ pub loop-place-init : goal.loop-place-init
 loop-place-init g c =
     let order = c.places_for-place-items.ensures c.args.self.now (order_for c.args.self.now c.self.inside.table c.self.inside.orders.items c.deref.result.now c.self.view_is c.deref.ensures.value c.self.invariant.1) in
     record {
-      rendered = λ controls are. none_rendered c.args.self.now controls (held c.args.wires.now) c.places_for-place-items.result.now c.args.wires.now;
+      rendered = λ controls are. none_rendered c.args.self.now controls (samples_on c.args.wires.now) c.places_for-place-items.result.now c.args.wires.now;
       fitting = c.requires.wires;
       counted =
           ap (λ (n : ℕ). c.args.steps.now + n)
@@ -45,7 +45,7 @@ loop-place-preserved g c =
     let order = c.places_for-place-items.ensures c.args.self.now (order_for c.args.self.now c.self.inside.table c.self.inside.orders.items c.deref.result.now c.self.view_is c.deref.ensures.value c.self.invariant.1) in
     record {
       rendered = λ controls are.
-          step_rendered c.args.self.now controls (held c.args.wires.now) c.places_for-place-items.result.now c.loop-place.place-index
+          step_rendered c.args.self.now controls (samples_on c.args.wires.now) c.places_for-place-items.result.now c.loop-place.place-index
           c.args.wires.now c.loop-place.wires c.render_by.new.wires (subst IsSignalGraph c.self.view_is c.self.invariant.0) order.order c.loop-place-test.true
           (given_held c.args.self.now c.args.wires.now c.requires.wires) (c.loop-place.invariant.rendered controls are)
           (c.render_by.ensures.rendered controls (job_here c.args.self.now controls c.args.jobs.now c.at.result.now c.loop-place.place-index c.places_for-place-items.result.now order.order are c.loop-place-test.true c.at.ensures));
@@ -62,7 +62,7 @@ loop-place-preserved g c =
 pub returns-clause-rendered : goal.returns-clause-rendered
 returns-clause-rendered g c controls are =
     let order = c.places_for-place-items.ensures c.args.self.now (order_for c.args.self.now c.self.inside.table c.self.inside.orders.items c.deref.result.now c.self.view_is c.deref.ensures.value c.self.invariant.1) in
-    all_rendered c.args.self.now controls (held c.args.wires.now) c.args.domain c.loop-place.place-index c.places_for-place-items.result.now
+    all_rendered c.args.self.now controls (samples_on c.args.wires.now) c.args.domain c.loop-place.place-index c.places_for-place-items.result.now
     c.args.wires.now c.loop-place.wires order c.loop-place-test.false (c.loop-place.invariant.rendered controls are)
 
 pub returns-clause-fitting : goal.returns-clause-fitting

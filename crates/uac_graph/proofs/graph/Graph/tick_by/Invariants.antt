@@ -3,7 +3,7 @@ use Rattle.uac_graph.specs.Controls.{Controls}
 use Rattle.uac_graph.specs.Jobs.{AreJobs}
 use Rattle.uac_graph.specs.Needs.{needed}
 use Rattle.uac_graph.specs.Orders.{holds}
-use Rattle.uac_graph.specs.Wiring.{AreRendered, AreWiresOf, held}
+use Rattle.uac_graph.specs.Wiring.{AreRendered, AreWiresOf, samples_on}
 use Rattle.uac_graph.proofs.NeedsLemmas.{units_left}
 use Rattle.uac_graph.proofs.graph.Graph.tick_by.Given as goal
 
@@ -11,7 +11,7 @@ abbrev pub invariant-loop-place : goal.invariant-loop-place
 invariant-loop-place g l = record {
   rendered :
       (controls : Controls) → AreJobs l.self controls l.jobs
-      → AreRendered l.self controls (held l.fn.wires) (holds l.self (take l.place-index l.place-items)) l.fn.wires l.wires;
+      → AreRendered l.self controls (samples_on l.fn.wires) (holds l.self (take l.place-index l.place-items)) l.fn.wires l.wires;
   fitting : AreWiresOf l.self l.wires;
   counted : l.steps + units_left l.self l.place-items l.place-index ≡ l.fn.steps + length (needed l.self l.domain);
 }
