@@ -1,3 +1,5 @@
 -- What the program's theorem says: to be read and believed.
 pub mod Settings
 pub mod Streams
+-- What the contracts below them cite: steps of the code, no part of what is promised.
+pub mod Formed

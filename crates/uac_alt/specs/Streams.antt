@@ -30,8 +30,8 @@ pub record StreamFields : Type 0 where
   pub service : ℕ
 
 -- a stream as the numbers that it holds
-abbrev pub seen : Stream → StreamFields
-seen s =
+abbrev pub stream_fields : Stream → StreamFields
+stream_fields s =
     record {
       channels = s.format.channels;
       subslot = s.format.subslot;
@@ -77,21 +77,15 @@ has_its_feedback true first (Some e) = carries_feedback first e
 has_its_feedback true first None = false
 has_its_feedback false first second = not (is_some second)
 
--- the numbers of a format: 1 to 32 channels, subslots of 1 to 4 bytes, and bits that fit
-abbrev pub is_format : ℕ → ℕ → ℕ → Bool
-is_format channels subslot bits =
-    nat_le 1 channels && (nat_le channels 32 && (nat_le 1 subslot && (nat_le subslot 4 && (nat_le 1 bits && nat_le bits (8 * subslot)))))
-
 -- the most frames of a packet at this rate, those of a whole service interval, fit the endpoint
 abbrev pub fits : Nominal → General → TypeOne → Endpoint → Bool
 fits nominal g f first = nat_le (period_of first * nominal.hi * (g.channels * f.subslot)) (packet_room first)
 
--- all that is asked of a setting with these parts
+-- all that is asked of a setting with these parts; in a sound function its numbers are those of a format (`laws::streams_have_formats`)
 unfoldable pub can_run : FunctionFields → StreamInterface → Setting → Nominal → General → TypeOne → Endpoint → Bool
 can_run function s setting nominal g f first =
     is_pcm g && (g.channels == linked_channels function s
-    && (is_format g.channels f.subslot f.bits && (carries_data s.out first && (has_its_feedback s.out first setting.second
-    && fits nominal g f first))))
+    && (carries_data s.out first && (has_its_feedback s.out first setting.second && fits nominal g f first)))
 
 -- the microframes between reports by the second endpoint; 0 where there are none
 abbrev pub report_period : Bool → Option Endpoint → ℕ

@@ -4,14 +4,15 @@ ghost use Rattle.std.specs.Bool.{OnTrue};
 ghost use Rattle.std.specs.List.{find};
 ghost use Rattle.std.specs.Option.{option_map};
 ghost use Rattle.uac_clock.specs.Nominal.{IsNominal};
-ghost use Rattle.uac_pcm.specs.Frames.{IsFormat};
+ghost use Rattle.uac_alt.specs.Formed.{HasFormat};
 ghost use Rattle.uac_alt.specs.Streams as spec;
-ghost use Rattle.uac_alt.specs.Streams.{seen, stream_of};
+ghost use Rattle.uac_alt.specs.Streams.{stream_fields, stream_of};
 
 use crate::values::Stream;
 use uac_clock::{Nominal, nominal};
 use uac_descriptor::{Endpoint, EndpointBits, General, TypeOne};
 use uac_pcm::Format;
+use uac_topology::laws::functions_are_sound;
 use uac_topology::{Function, Setting, StreamInterface};
 
 /// The stream of an interface in a setting, at a rate in Hz (USB 2.0, 9.6.6; Audio Class 2.0, 4.9; Audio Data Formats
@@ -22,16 +23,17 @@ use uac_topology::{Function, Setting, StreamInterface};
 /// than such a stream needs, or the most frames of a packet, those of a service interval, are too large for its endpoint.
 #[tactic(auto, unfolding(crate::specs::Streams::stream_of))]
 pub fn stream(function: &Function, rate: u32, interface: u8, setting: u8) -> Option<Stream>
-    ensures value { option_map seen result ≡ stream_of function.now rate interface setting }
+    ensures value { option_map stream_fields result ≡ stream_of function.now rate interface setting }
     ensures of_a_rate { IfSome result (λ s. IsNominal s.nominal) }
 {
     if setting == 0 {
         return None;
     }
-    let carrier = function.interface(interface)?;
-    let chosen = setting_at(carrier.settings.as_slice(), setting)?;
+    let streaming = function.interface(interface)?;
+    let chosen = setting_at(streaming.settings.as_slice(), setting)?;
     let nominal = nominal(rate)?;
-    stream_at(function, carrier, chosen, nominal)
+    functions_are_sound(function);
+    stream_at(function, streaming, chosen, nominal)
 }
 
 /// The setting with a number.
@@ -41,32 +43,38 @@ fn setting_at(settings: &[Setting], number: u8) -> Option<&Setting>
     settings.iter().find(|setting| setting.number == number)
 }
 
-/// The stream of a setting at these nominal values; None where a part is missing or it can't run.
+/// The stream of a setting at these nominal values; None where a part is missing or it can't run. The setting is one of the function's, so
+/// its numbers are in range.
 #[tactic(auto, unfolding(crate::specs::Streams::stream_at))]
 fn stream_at(
     function: &Function,
-    carrier: &StreamInterface,
+    streaming: &StreamInterface,
     setting: &Setting,
     nominal: Nominal,
 ) -> Option<Stream>
-    ensures value { option_map seen result ≡ spec.stream_at function.now carrier.now setting.now nominal }
+    requires { HasFormat function.now streaming.now setting.now }
+    ensures value { option_map stream_fields result ≡ spec.stream_at function.now streaming.now setting.now nominal }
     ensures nominal { IfSome result (λ s. s.nominal ≡ nominal) }
 {
     let general = setting.general.as_ref()?;
     let type_one = setting.format.as_ref()?;
     let first = setting.first.as_ref()?;
     if !can_run(
-        function, carrier, setting, &nominal, general, type_one, first,
+        function, streaming, setting, &nominal, general, type_one, first,
     ) {
         return None;
     }
-    let format = Format::new(general.channels, type_one.subslot, type_one.bits)?;
+    let format = Format {
+        channels: general.channels,
+        subslot: type_one.subslot,
+        bits: type_one.bits,
+    };
     Some(Stream {
         format,
         nominal,
-        out: carrier.out,
+        out: streaming.out,
         most: most_frames(&format, first),
-        period: report_period(carrier.out, first, &setting.second),
+        period: report_period(streaming.out, first, &setting.second),
         service: period_of(first),
     })
 }
@@ -75,24 +83,23 @@ fn stream_at(
 #[tactic(auto, unfolding(crate::specs::Streams::can_run))]
 fn can_run(
     function: &Function,
-    carrier: &StreamInterface,
+    streaming: &StreamInterface,
     setting: &Setting,
     nominal: &Nominal,
     general: &General,
     type_one: &TypeOne,
     first: &Endpoint,
 ) -> bool
-    ensures value { result ≡ spec.can_run function.now carrier.now setting.now nominal.now general.now type_one.now first.now }
-    ensures format { OnTrue result (IsFormat general.now.channels type_one.now.subslot type_one.now.bits) }
-    ensures data { OnTrue result (spec.carries_data carrier.now.out first.now ≡ true) }
-    ensures feedback { OnTrue result (spec.has_its_feedback carrier.now.out first.now setting.now.second ≡ true) }
+    ensures value { result ≡ spec.can_run function.now streaming.now setting.now nominal.now general.now type_one.now first.now }
+    ensures channels { OnTrue result (general.now.channels ≡ spec.linked_channels function.now streaming.now) }
+    ensures data { OnTrue result (spec.carries_data streaming.now.out first.now ≡ true) }
+    ensures feedback { OnTrue result (spec.has_its_feedback streaming.now.out first.now setting.now.second ≡ true) }
 {
     is_pcm(general)
-        && (general.channels == linked_channels(function, carrier)
-            && (is_format(general.channels, type_one.subslot, type_one.bits)
-                && (carries_data(carrier.out, first)
-                    && (has_its_feedback(carrier.out, first, &setting.second)
-                        && fits(nominal, general, type_one, first)))))
+        && (general.channels == linked_channels(function, streaming)
+            && (carries_data(streaming.out, first)
+                && (has_its_feedback(streaming.out, first, &setting.second)
+                    && fits(nominal, general, type_one, first))))
 }
 
 /// Whether the format is Type I PCM: format type 1, and bit 0 of bmFormats (Audio Class 2.0, 4.9.2; Audio Data Formats
@@ -105,22 +112,13 @@ fn is_pcm(general: &General) -> bool
 
 /// The channels of the terminal to which an interface links; 0 where there is none.
 #[tactic(auto, unfolding(crate::specs::Streams::linked_channels))]
-fn linked_channels(function: &Function, carrier: &StreamInterface) -> u8
-    ensures { result ≡ spec.linked_channels function.now carrier.now }
+fn linked_channels(function: &Function, streaming: &StreamInterface) -> u8
+    ensures { result ≡ spec.linked_channels function.now streaming.now }
 {
-    match function.entity(carrier.terminal) {
+    match function.entity(streaming.terminal) {
         Some(terminal) => terminal.cluster.channels,
         None => 0,
     }
-}
-
-/// Whether these are the numbers of a format (Audio Data Formats 2.0, 2.3.1.6).
-fn is_format(channels: u8, subslot: u8, bits: u8) -> bool
-    ensures value { result ≡ spec.is_format channels subslot bits }
-    ensures in_range { OnTrue result (IsFormat channels subslot bits) }
-{
-    (1..=32).contains(&channels)
-        && ((1..=4).contains(&subslot) && (1 <= bits && u16::from(bits) <= 8 * u16::from(subslot)))
 }
 
 /// Whether the first endpoint carries the stream: it is asynchronous, has a packet every 1, 2, 4 or 8 microframes, and its

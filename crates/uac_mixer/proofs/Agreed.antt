@@ -1,24 +1,24 @@
 -- What is known of a device stays so.
-use Rattle.std.proofs.Common.{◌≡◌, ◌∙◌, refl, ap, sym, subst, ℕ, ◌+◌, ◌*◌, ◌/◌, ◌%◌, ◌<◌, ◌≤◌, ◌==◌, ◌&&◌, nat_eq, nat_lt, nat_le, Bool, true, false, if◌then◌else◌, ℤ, pos, List, [], ◌∷◌, map, length, take, slice_index_or, Option, Some, None, is_some, unwrap_or, IfSome, IsSome, arith, rules, inl, inr, w32, FitsSigned}
-use Rattle.std.specs.List.{All, IsDistinct}
+use Rattle.std.proofs.Common.{◌≡◌, ◌∙◌, refl, ap, sym, subst, ℕ, ◌==◌, ◌&&◌, Bool, true, false, if◌then◌else◌, ℤ, pos, List, [], length, take, slice_index_or, Option, Some, None, is_some, unwrap_or, IfSome, arith, inl, inr, w32, FitsSigned}
+use Rattle.std.specs.List.{All}
 use Rattle.std.specs.Option.{option_map_or}
 use Rattle.std.proofs.lemmas.Bool.{and_parts, cases_lt, eqb-true, eq-eqb}
 use Rattle.std.proofs.lemmas.List.{take_all, length-take-le}
-use Rattle.std.proofs.lemmas.List.Elements.{All-map, All-weaker}
+use Rattle.std.proofs.lemmas.List.Elements.{All-map}
 use Rattle.uac_entities.specs.Streams.{named}
 use Rattle.uac_entities.specs.declared.entity.Entity.{Entity}
 use Rattle.uac_topology.specs.Function.{FunctionFields}
 use Rattle.uac_topology.specs.Topology.{IsSoundFunction}
 use Rattle.uac_store.specs.declared.keys.Key.{Key}
-use Rattle.uac_store.specs.Controls.{IsKeyed, IsStoreOf, count_of, has_control, has_on, takes, takes_on}
-use Rattle.uac_store.specs.Keyed.{same_key, value_of, with_value}
+use Rattle.uac_store.specs.Controls.{IsKeyed, IsStoreOf, has_control, has_on, takes, takes_on}
+use Rattle.uac_store.specs.Keyed.{same_key, value_of}
 use Rattle.uac_store.proofs.Setting.{changed_alone}
-use Rattle.uac_request.specs.Requests.{Held, Owner, Told, after_request, by_entity, cur_bytes, cur_named, entity_width, first_broken, high, is_done, is_signed, is_stalled, key_named, low, owner_of, reply_of, sent_value, value_bytes, value_from, with_bytes, with_descriptor}
+use Rattle.uac_request.specs.Requests.{Held, Owner, AnswerFields, after_request, by_entity, cur_bytes, cur_named, entity_width, first_broken, high, is_done, is_signed, is_stalled, key_named, low, owner_of, reply_of, sent_value, value_bytes, value_from, with_bytes, with_descriptor}
 use Rattle.uac_request.specs.declared.setup.Setup.{Setup}
 use Rattle.uac_mixer.specs.declared.element.Element.{Element}
 use Rattle.uac_mixer.specs.Elements.{fits_element, is_gain, width_of}
 use Rattle.uac_mixer.specs.Transfers.{after_get, after_set, element_after, gets, is_for, sets, value_after, value_in, view_after}
-use Rattle.uac_mixer.specs.ViewWorld.{IsViewOf, ViewWorld}
+use Rattle.uac_mixer.specs.ViewWorld.{ViewWorld}
 use Rattle.uac_mixer.specs.Agreement.{IsAgreed, KnownValuesStay, StaysAgreed}
 use Rattle.uac_mixer.specs.Readable.{IsReadable}
 use Rattle.uac_mixer.proofs.ByteLemmas.{comes_back, few, whole}
@@ -210,7 +210,7 @@ module _ (f : FunctionFields) (h : Held) (p : Setup) (sent : List ℕ) (x : Elem
       subst (FitsSigned w32) value (narrow x.kind after.value after.fits)
 
   -- a set that isn't done leaves it
-  set_not_done : (t : Told) → (t ≡ is_done → false ≡ true) → reply_of f h p sent ≡ t → value_of (after_request f h p sent).controls x.key ≡ value_of h.controls x.key
+  set_not_done : (t : AnswerFields) → (t ≡ is_done → false ≡ true) → reply_of f h p sent ≡ t → value_of (after_request f h p sent).controls x.key ≡ value_of h.controls x.key
   set_not_done t other told = elim (changes f h p sent store) [
     | inl same ↦ ap (λ (c : List (Key × ℤ)). value_of c x.key) same.controls
     | inr w ↦ (let no : false ≡ true = other (sym told ∙ w.told) in cc)
@@ -225,14 +225,14 @@ module _ (f : FunctionFields) (h : Held) (p : Setup) (sent : List ℕ) (x : Elem
   get_known false bytes asks told short known =
       still_known x.value (value_of h.controls x.key) (value_of (after_request f h p sent).controls x.key) (ap (λ (c : List (Key × ℤ)). value_of c x.key) (get_leaves asks)) known
 
-  set_known : (t : Told) → sets f.control_interface p x ≡ true → reply_of f h p sent ≡ t → IfSome x.value (λ v. value_of h.controls x.key ≡ Some v)
+  set_known : (t : AnswerFields) → sets f.control_interface p x ≡ true → reply_of f h p sent ≡ t → IfSome x.value (λ v. value_of h.controls x.key ≡ Some v)
       → IfSome (after_set x sent (Some t)) (λ v. value_of (after_request f h p sent).controls x.key ≡ Some v)
   set_known (with_bytes bytes) asks told known = still_known x.value _ _ (set_not_done (with_bytes bytes) (λ no. cc) told) known
   set_known (with_descriptor from to) asks told known = still_known x.value _ _ (set_not_done (with_descriptor from to) (λ no. cc) told) known
   set_known is_done asks told known = set_done told asks
   set_known (is_stalled rule) asks told known = still_known x.value _ _ (set_not_done (is_stalled rule) (λ no. cc) told) known
 
-  get_any_known : (t : Told) → gets f.control_interface p x ≡ true → reply_of f h p sent ≡ t → IfSome x.value (λ v. value_of h.controls x.key ≡ Some v)
+  get_any_known : (t : AnswerFields) → gets f.control_interface p x ≡ true → reply_of f h p sent ≡ t → IfSome x.value (λ v. value_of h.controls x.key ≡ Some v)
       → IfSome (after_get x (Some t)) (λ v. value_of (after_request f h p sent).controls x.key ≡ Some v)
   get_any_known (with_bytes bytes) asks told known = get_known (length bytes == width_of x.kind) bytes asks told refl known
   get_any_known (with_descriptor from to) asks told known = still_known x.value _ _ (ap (λ (c : List (Key × ℤ)). value_of c x.key) (get_leaves asks)) known
@@ -266,7 +266,7 @@ module _ (f : FunctionFields) (h : Held) (p : Setup) (sent : List ℕ) (x : Elem
 
 -- ---- the view
 
-mapped : (before after : List (Key × ℤ)) (f : FunctionFields) (p : Setup) (sent : List ℕ) (came : Option Told) (view : ViewWorld)
+mapped : (before after : List (Key × ℤ)) (f : FunctionFields) (p : Setup) (sent : List ℕ) (came : Option AnswerFields) (view : ViewWorld)
     → ((x : Element) → IsElementOf f.entities x → IfSome x.value (λ v. value_of before x.key ≡ Some v) → IfSome (value_after f.control_interface p sent came x) (λ v. value_of after x.key ≡ Some v))
     → All (IsElementOf f.entities) view.elements → IsAgreed before view → IsAgreed after (view_after f.control_interface p sent came view)
 unfolding view_after
@@ -288,8 +288,8 @@ stays_known keys f h p sent view sound store is agreed =
 
 -- ---- values that are read
 
-pub readable : (f : FunctionFields) (h : Held) (p : Setup) (sent : List ℕ) (came : Option Told) (view : ViewWorld) → IsStoreOf f.entities h.controls → All (IsElementOf f.entities) view.elements
-    → ((told : Told) → came ≡ Some told → told ≡ reply_of f h p sent) → All (IsReadable f.control_interface p sent came) view.elements
+pub readable : (f : FunctionFields) (h : Held) (p : Setup) (sent : List ℕ) (came : Option AnswerFields) (view : ViewWorld) → IsStoreOf f.entities h.controls → All (IsElementOf f.entities) view.elements
+    → ((told : AnswerFields) → came ≡ Some told → told ≡ reply_of f h p sent) → All (IsReadable f.control_interface p sent came) view.elements
 readable f h p sent came view store are tells = λ k d within. one (slice_index_or view.elements k d) (are k d within) where
   one : (x : Element) → IsElementOf f.entities x → IsReadable f.control_interface p sent came x
   one x m = record {

@@ -1,5 +1,5 @@
 -- Values come back from their bytes.
-use Rattle.std.proofs.Common.{◌≡◌, ◌∙◌, refl, ap, ℕ, ◌+◌, ◌*◌, ◌/◌, ◌%◌, ◌-◌, ◌^◌, ◌≤◌, ◌<◌, ◌&&◌, nat_lt, nat_le, true, false, if◌then◌else◌, ℤ, pos, negsuc, length, arith, rules}
+use Rattle.std.proofs.Common.{◌≡◌, refl, ap, ℕ, ◌-◌, ◌≤◌, ◌<◌, nat_le, true, false, if◌then◌else◌, ℤ, pos, negsuc, length, arith}
 use Rattle.uac_request.specs.Requests.{value_bytes, value_from, little_bytes, little_number}
 use Rattle.uac_mixer.specs.declared.kinds.ElementKind.{ElementKind}
 use Rattle.uac_mixer.specs.declared.kinds.ElementKind.TheVariants as shown

@@ -1,17 +1,14 @@
 -- The transfers of one element: what comes back of them, and what they leave of the element.
-use Rattle.std.proofs.Common.{◌≡◌, ◌∙◌, refl, ap, sym, subst, ℕ, ◌+◌, ◌*◌, ◌/◌, ◌%◌, ◌<◌, ◌≤◌, ◌⊎◌, ◌==◌, ◌&&◌, ◌||◌, nat_lt, Bool, true, false, not, if◌then◌else◌, ℤ, List, [], ◌∷◌, map, length, take, slice_get, slice_index_or, Option, Some, None, is_some, IfSome, arith, rules, inl, inr}
-use Rattle.std.specs.List.{All}
-use Rattle.std.specs.Option.{option_map, option_map_or}
-use Rattle.std.proofs.lemmas.Bool.{eqb-true, eq-eqb}
+use Rattle.std.proofs.Common.{◌≡◌, ◌∙◌, refl, ap, sym, ℕ, ◌+◌, ◌*◌, ◌/◌, ◌%◌, ◌<◌, ◌⊎◌, ◌==◌, ◌&&◌, ◌||◌, nat_lt, Bool, true, false, not, if◌then◌else◌, ℤ, List, [], ◌∷◌, map, length, take, Option, Some, None, is_some, arith}
+use Rattle.std.specs.Option.{option_map_or}
+use Rattle.std.proofs.lemmas.Bool.{eq-eqb}
 use Rattle.std.proofs.lemmas.List.{take_all}
 use Rattle.uac_entities.specs.Streams.{named}
-use Rattle.uac_entities.specs.declared.entity.Entity.{Entity}
 use Rattle.uac_topology.specs.Function.{FunctionFields}
-use Rattle.uac_store.specs.declared.keys.Key.{Key}
 use Rattle.uac_store.specs.Controls.{IsStoreOf, count_of}
-use Rattle.uac_store.specs.Keyed.{same_key, value_of}
+use Rattle.uac_store.specs.Keyed.{same_key}
 use Rattle.uac_request.specs.Owners.{get_rules}
-use Rattle.uac_request.specs.Requests.{Held, Told, by_entity, cur_named, entity_width, first_broken, has_interface, high, is_declared_on, is_done, is_stalled, key_named, least, low, owner_of, reply_of, value_bytes, with_bytes}
+use Rattle.uac_request.specs.Requests.{Held, by_entity, cur_named, entity_width, first_broken, has_interface, high, is_declared_on, is_done, is_stalled, key_named, least, low, owner_of, reply_of, value_bytes, with_bytes}
 use Rattle.uac_request.specs.declared.setup.Setup.{Setup}
 use Rattle.uac_request.proofs.Asked.{first_cur}
 use Rattle.uac_mixer.specs.declared.element.Element.{Element}
@@ -129,7 +126,7 @@ pub set_told : (f : FunctionFields) (h : Held) (x : Element) (sent : List ℕ)
     → (reply_of f h (set_of f.control_interface x) sent ≡ is_done) ⊎ ((rule : ℕ) × (reply_of f h (set_of f.control_interface x) sent ≡ is_stalled rule))
 set_told f h x sent = set_reply f h (set_of f.control_interface x) sent refl refl
 
--- ---- the element behind it
+-- ---- the element after it
 
 -- a value that came of its GET CUR
 pub value_got : (control : ℕ) (x y : Element) (v : ℤ) → y ≡ x → IsNarrow control x → fits_element x.kind v ≡ true

@@ -1,5 +1,6 @@
 -- The controls that elements stand for, by an entity's kind and the selector.
-use Rattle.std.proofs.Common.{◌≡◌, ◌∙◌, refl, ap, sym, subst, ℕ, ◌%◌, ◌/◌, suc, ◌≤◌, ◌⊎◌, ◌==◌, ◌&&◌, nat_lt, nat_le, Bool, true, false, if◌then◌else◌, ℤ, pos, negsuc, List, Option, Some, None, is_some, arith, rules, inl, inr, [], ◌∷◌, w32, FitsSigned}
+use Rattle.std.proofs.Common.{◌≡◌, ◌∙◌, refl, ap, sym, subst, ℕ, ◌%◌, ◌/◌, suc, ◌≤◌, ◌==◌, ◌&&◌, nat_lt, nat_le, Bool, true, false, if◌then◌else◌, ℤ, pos, negsuc, List, Option, Some, None, is_some, arith, rules, inl, inr, [], ◌∷◌, w32, FitsSigned}
+use Rattle.std.specs.Option.{option_and_then}
 use Rattle.std.proofs.lemmas.Bool.{cases_Bool, eqb-true}
 use Rattle.uac_clock.specs.Nominal.{is_listed}
 use Rattle.uac_gain.specs.Gain.{decibel_gain, gain_of, half_above, half_below, raised_gain}
@@ -7,11 +8,13 @@ use Rattle.uac_entities.specs.declared.entity.Entity.{Entity}
 use Rattle.uac_entities.specs.declared.entity.EntityKind.{EntityKind}
 use Rattle.uac_entities.specs.declared.entity.EntityKind.TheVariants as kind
 use Rattle.uac_store.specs.declared.keys.Key.{Key}
-use Rattle.uac_store.specs.Controls.{choices, is_frequency, is_one_to, is_switch, selectors_of, takes_by}
+use Rattle.uac_store.specs.declared.controls.Control.{Control}
+use Rattle.uac_store.specs.ControlTable.{choices, control_of, is_frequency, is_one_to, is_switch, selectors_of, takes_by}
+use Rattle.uac_store.proofs.Tabled.{one_or_two}
 use Rattle.uac_request.specs.Requests.{entity_bytes, entity_width, is_signed, kept_bytes}
 use Rattle.uac_mixer.specs.declared.kinds.ElementKind.{ElementKind}
 use Rattle.uac_mixer.specs.declared.kinds.ElementKind.TheVariants as shown
-use Rattle.uac_mixer.specs.Elements.{either, fits_element, is_below, is_gain, is_signed_word, kind_at, only, width_of}
+use Rattle.uac_mixer.specs.Elements.{element_of, fits_element, is_below, is_gain, is_signed_word, kind_at, width_of}
 
 -- ---- values that are taken fit
 
@@ -180,35 +183,41 @@ enable = record {
   told = λ e controls key of is. width_told kind.Effect 1 shown.Enable e controls key refl of is;
 }
 
-only_one : (k : EntityKind) (a x : ElementKind) (s : ℕ) → Agrees k 1 a → only a s ≡ Some x → Agrees k s x
-only_one k a x s agrees is = from (s == 1) refl is where
-  from : (b : Bool) → (s == 1) ≡ b → (if b then Some a else None) ≡ Some x → Agrees k s x
-  from true one is =
-      let same : a ≡ x = cc in
-      subst (λ y. Agrees k s y) same (subst (λ n. Agrees k n a) (sym (eqb-true s 1 one)) agrees)
-  from false other is = cc
+-- the only kind that an element is
+the_one : (k : EntityKind) (s : ℕ) (a x : ElementKind) → Agrees k s a → Some a ≡ Some x → Agrees k s x
+the_one k s a x agrees is = (let same : a ≡ x = cc in subst (λ y. Agrees k s y) same agrees)
 
-either_one : (k : EntityKind) (a b x : ElementKind) (s : ℕ) → Agrees k 1 a → Agrees k 2 b → either a b s ≡ Some x → Agrees k s x
-either_one k a b x s first second is = from (s == 1) (s == 2) refl refl is where
-  from : (c d : Bool) → (s == 1) ≡ c → (s == 2) ≡ d → (if c then Some a else if d then Some b else None) ≡ Some x → Agrees k s x
-  from true d one two is =
-      let same : a ≡ x = cc in
-      subst (λ y. Agrees k s y) same (subst (λ n. Agrees k n a) (sym (eqb-true s 1 one)) first)
-  from false true one two is =
-      let same : b ≡ x = cc in
-      subst (λ y. Agrees k s y) same (subst (λ n. Agrees k n b) (sym (eqb-true s 2 two)) second)
-  from false false one two is = cc
+first_agrees : (k : EntityKind) (x : ElementKind) → kind_at k 1 ≡ Some x → Agrees k 1 x
+first_agrees kind.ClockSource x is = the_one kind.ClockSource 1 shown.Rate x rate is
+first_agrees kind.ClockSelector x is = the_one kind.ClockSelector 1 shown.Clock x clock is
+first_agrees kind.ClockMultiplier x is = the_one kind.ClockMultiplier 1 shown.Times x times is
+first_agrees kind.InputTerminal x is = cc
+first_agrees kind.OutputTerminal x is = cc
+first_agrees kind.Mixer x is = the_one kind.Mixer 1 shown.Mix x mix is
+first_agrees kind.Selector x is = the_one kind.Selector 1 shown.Select x select is
+first_agrees kind.Feature x is = the_one kind.Feature 1 shown.Mute x mute is
+first_agrees kind.Effect x is = the_one kind.Effect 1 shown.Enable x enable is
+
+second_agrees : (k : EntityKind) (x : ElementKind) → kind_at k 2 ≡ Some x → Agrees k 2 x
+second_agrees kind.ClockSource x is = cc
+second_agrees kind.ClockSelector x is = cc
+second_agrees kind.ClockMultiplier x is = the_one kind.ClockMultiplier 2 shown.Over x over is
+second_agrees kind.InputTerminal x is = cc
+second_agrees kind.OutputTerminal x is = cc
+second_agrees kind.Mixer x is = cc
+second_agrees kind.Selector x is = cc
+second_agrees kind.Feature x is = the_one kind.Feature 2 shown.Volume x volume is
+second_agrees kind.Effect x is = cc
+
+shown_some : (o : Option Control) (x : ElementKind) → option_and_then element_of o ≡ Some x → is_some o ≡ true
+shown_some None x is = cc
+shown_some (Some c) x is = refl
 
 pub agrees : (k : EntityKind) (s : ℕ) (x : ElementKind) → kind_at k s ≡ Some x → Agrees k s x
-agrees kind.ClockSource s x is = only_one kind.ClockSource shown.Rate x s rate is
-agrees kind.ClockSelector s x is = only_one kind.ClockSelector shown.Clock x s clock is
-agrees kind.ClockMultiplier s x is = either_one kind.ClockMultiplier shown.Times shown.Over x s times over is
-agrees kind.InputTerminal s x is = cc
-agrees kind.OutputTerminal s x is = cc
-agrees kind.Mixer s x is = only_one kind.Mixer shown.Mix x s mix is
-agrees kind.Selector s x is = only_one kind.Selector shown.Select x s select is
-agrees kind.Feature s x is = either_one kind.Feature shown.Mute shown.Volume x s mute volume is
-agrees kind.Effect s x is = only_one kind.Effect shown.Enable x s enable is
+agrees k s x is = elim (one_or_two k s (shown_some (control_of k s) x is)) [
+  | inl one ↦ subst (λ n. kind_at k n ≡ Some x → Agrees k n x) (sym one) (first_agrees k x) is
+  | inr two ↦ subst (λ n. kind_at k n ≡ Some x → Agrees k n x) (sym two) (second_agrees k x) is
+]
 
 -- a value that fits is one of 32 bits
 pub narrow : (x : ElementKind) (v : ℤ) → fits_element x v ≡ true → FitsSigned w32 v

@@ -1,12 +1,13 @@
 -- The elements of a view are declared controls of its entities.
-use Rattle.std.proofs.Common.{◌≡◌, ◌∙◌, refl, ap, sym, subst, ℕ, ◌+◌, ◌<◌, ◌≤◌, ◌==◌, nat_eq, nat_lt, Bool, true, false, if◌then◌else◌, zero, suc, List, [], ◌∷◌, ◌++◌, map, length, get_or, sum, Option, Some, None, add-one, append_assoc, arith}
+use Rattle.std.proofs.Common.{◌≡◌, ◌∙◌, refl, ap, sym, subst, ℕ, ◌+◌, ◌<◌, ◌==◌, nat_eq, nat_lt, Bool, true, false, if◌then◌else◌, zero, suc, List, [], ◌∷◌, ◌++◌, map, length, get_or, sum, Option, Some, None, add-one, append_assoc, arith}
 use Rattle.std.specs.List.{All, AllByRecursion, IsDistinct, cons_option, filter_map, flat_map, range_with_len}
 use Rattle.std.specs.Option.{option_and_then}
 use Rattle.std.proofs.lemmas.Bool.{eqb-true, eqb-false, eq-eqb}
 use Rattle.std.proofs.lemmas.List.Elements.{All-from_recursion, filter_map-append}
 use Rattle.uac_entities.specs.Streams.{named}
 use Rattle.uac_entities.specs.declared.entity.Entity.{Entity}
-use Rattle.uac_store.specs.Controls.{IsKeyed, IsSmall, count_of, pins_of, selectors_of}
+use Rattle.uac_store.specs.ControlTable.{IsSmall, selectors_of}
+use Rattle.uac_store.specs.Controls.{IsKeyed, count_of, pins_of}
 use Rattle.uac_store.specs.Keyed.{key_of}
 use Rattle.uac_request.specs.Requests.{is_declared_on, is_writable_on}
 use Rattle.uac_mixer.specs.declared.kinds.ElementKind.{ElementKind}
@@ -58,7 +59,7 @@ unmapped P f (x ∷ xs) all = (all.0, unmapped P f xs all.1)
 
 -- ---- each entity is the one with its id
 
--- none behind an entity has its id
+-- none after an entity has its id
 none_behind : (x e : Entity) (ys : List Entity) → AllByRecursion (λ y. nat_eq x.id y ≡ false) (map (λ e. e.id) ys) → x.id ≡ e.id → named ys e.id ≡ Some e → false ≡ true
 unfolding named
 none_behind x e [] all same found = cc

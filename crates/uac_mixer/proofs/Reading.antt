@@ -1,5 +1,5 @@
 -- Reading each element of a view in turn.
-use Rattle.std.proofs.Common.{◌≡◌, ◌∙◌, refl, ap, sym, subst, ℕ, ◌+◌, ◌<◌, ◌≤◌, ◌⊎◌, ◌==◌, Bool, true, false, if◌then◌else◌, ℤ, List, [], ◌∷◌, ◌++◌, map, length, take, zero, suc, slice_get, slice_index_or, get_or, Option, Some, None, IfSome, IsSome, Result, Ok, Err, is_ok, OnOk, OnErr, inl, inr, arith}
+use Rattle.std.proofs.Common.{◌≡◌, ◌∙◌, refl, ap, sym, subst, ℕ, ◌+◌, ◌<◌, ◌≤◌, ◌==◌, Bool, true, false, if◌then◌else◌, ℤ, List, [], ◌∷◌, ◌++◌, map, length, take, zero, suc, slice_get, slice_index_or, Option, Some, None, IfSome, IsSome, inl, inr, arith}
 use Rattle.std.specs.List.{All, AllByRecursion}
 use Rattle.std.specs.Option.{option_map}
 use Rattle.std.proofs.lemmas.Bool.{cases_lt}
@@ -10,15 +10,14 @@ use Rattle.uac_entities.specs.declared.entity.Entity.{Entity}
 use Rattle.uac_topology.specs.Function.{FunctionFields}
 use Rattle.uac_store.specs.declared.keys.Key.{Key}
 use Rattle.uac_store.specs.Keyed.{value_of}
-use Rattle.uac_request.specs.Requests.{Told, is_done, is_stalled, value_bytes, with_bytes, with_descriptor}
+use Rattle.uac_request.specs.Requests.{AnswerFields, is_done, is_stalled, value_bytes, with_bytes, with_descriptor}
 use Rattle.uac_device.specs.Kept.{DeviceFields, IsControlled}
 use Rattle.uac_mixer.specs.declared.element.Element.{Element}
-use Rattle.uac_mixer.specs.declared.link.Broken.{Broken}
 use Rattle.uac_mixer.specs.declared.link.When.{When}
 use Rattle.uac_mixer.specs.declared.link.When.TheVariants as when
 use Rattle.uac_mixer.specs.Elements.{listed, unread, width_of}
 use Rattle.uac_mixer.specs.Links.{AreAsked, BreaksAs, IsAsBefore, IsTransferred, LinkFields}
-use Rattle.uac_mixer.specs.Transfers.{after_get, after_set, came_of_get, element_after, get_of, gets, sets, value_after, value_in, view_after}
+use Rattle.uac_mixer.specs.Transfers.{after_get, after_set, element_after, get_of, gets, value_after, value_in, view_after}
 use Rattle.uac_mixer.specs.ViewWorld.{IsViewOf, ViewWorld, known_view, read_from}
 use Rattle.uac_mixer.specs.Agreement.{IsAgreed, IsMade, IsReading}
 use Rattle.uac_mixer.proofs.Calls.{no_set}
@@ -36,7 +35,7 @@ pub record HaveRead (at : ℕ) (now : ViewWorld) (old new : LinkFields) : Type 0
 
 -- ---- the chain of gets
 
-one_more : (control : ℕ) (xs : List Element) (x : Element) (told : Told) (a b c : DeviceFields) → AreAsked control xs a b → IsControlled (get_of control x) [] told b c → AreAsked control (xs ++ x ∷ []) a c
+one_more : (control : ℕ) (xs : List Element) (x : Element) (told : AnswerFields) (a b c : DeviceFields) → AreAsked control xs a b → IsControlled (get_of control x) [] told b c → AreAsked control (xs ++ x ∷ []) a c
 one_more control [] x told a b c is acted = (c, told, subst (λ (d : DeviceFields). IsControlled (get_of control x) [] told d c) is acted, refl)
 one_more control (y ∷ ys) x told a b c is acted = (is.0, is.1, is.2, one_more control ys x told is.0 b c is.3 acted)
 
@@ -49,7 +48,7 @@ listed_at entities view at x is there =
 
 -- ---- what is known
 
-got_some : (y : Element) (t : Told) → IsSome y.value → IsSome (after_get y (Some t))
+got_some : (y : Element) (t : AnswerFields) → IsSome y.value → IsSome (after_get y (Some t))
 got_some y (with_bytes bytes) known = from (length bytes == width_of y.kind) where
   from : (b : Bool) → IsSome (if b then Some (value_in y bytes) else y.value)
   from true = refl
@@ -58,7 +57,7 @@ got_some y (with_descriptor a b) known = known
 got_some y is_done known = known
 got_some y (is_stalled rule) known = known
 
-still_some : (control : ℕ) (x y : Element) (t : Told) → IsSome y.value → IsSome (value_after control (get_of control x) [] (Some t) y)
+still_some : (control : ℕ) (x y : Element) (t : AnswerFields) → IsSome y.value → IsSome (value_after control (get_of control x) [] (Some t) y)
 unfolding value_after
 still_some control x y t known =
     subst (λ (b : Bool). IsSome (if b then after_set y [] (Some t) else if gets control (get_of control x) y then after_get y (Some t) else y.value)) (sym (no_set control x y)) (from (gets control (get_of control x) y))
@@ -67,7 +66,7 @@ still_some control x y t known =
     from true = got_some y t known
     from false = known
 
-known_before : (control : ℕ) (x : Element) (t : Told) (view : ViewWorld) (k : ℕ) (z : Element) → ((y : Element) → slice_get view.elements k ≡ Some y → IsSome y.value)
+known_before : (control : ℕ) (x : Element) (t : AnswerFields) (view : ViewWorld) (k : ℕ) (z : Element) → ((y : Element) → slice_get view.elements k ≡ Some y → IsSome y.value)
     → slice_get (view_after control (get_of control x) [] (Some t) view).elements k ≡ Some z → IsSome z.value
 unfolding view_after
 known_before control x t view k z known is = from (slice_get view.elements k) refl (sym (slice_get-map (element_after control (get_of control x) [] (Some t)) view.elements k) ∙ is) where
@@ -81,7 +80,7 @@ same_controls : (a b c : DeviceFields) → IsAsBefore a b → IsAsBefore b c →
 same_controls a b c is more = record { function = more.function ∙ is.function; controls = more.controls ∙ is.controls; settings = more.settings ∙ is.settings }
 
 -- a told fault of none, after one more transfer
-none_told : (control : ℕ) (x : Element) (came : Option Told) (old new : LinkFields) → IsTransferred (get_of control x) [] came old new → old.fault ≡ Some None → new.fault ≡ Some None
+none_told : (control : ℕ) (x : Element) (came : Option AnswerFields) (old new : LinkFields) → IsTransferred (get_of control x) [] came old new → old.fault ≡ Some None → new.fault ≡ Some None
 none_told control x came old new transfer none = (transfer.told None none).over
 
 -- ---- one element more
@@ -91,7 +90,7 @@ pub read_more : (at : ℕ) (x : Element) (v : ℤ) (now after : ViewWorld) (old 
     → option_map (λ (y : Element). y.value) (slice_get after.elements at) ≡ Some (Some v) → IsAsBefore between.device new.device → HaveRead (at + 1) after old new
 read_more at x v now after old between new so there made kept still =
     let control : ℕ = old.device.function.control_interface in
-    let told : Told = with_bytes (value_bytes (width_of x.kind) v) in
+    let told : AnswerFields = with_bytes (value_bytes (width_of x.kind) v) in
     let same : between.device.function ≡ old.device.function = so.before.function in
     let own : IsMade (get_of control x) [] (Some told) now after between new = subst (λ (f : FunctionFields). IsMade (get_of f.control_interface x) [] (Some told) now after between new) same made in
     let function : new.device.function ≡ old.device.function = made.function ∙ same in

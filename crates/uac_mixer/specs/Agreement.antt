@@ -6,7 +6,7 @@ use Rattle.uac_store.specs.Controls.{IsStoreOf, initial_controls}
 use Rattle.uac_store.specs.Keyed.{value_of}
 use Rattle.uac_topology.specs.Function.{FunctionFields}
 use Rattle.uac_topology.specs.Topology.{IsSoundFunction}
-use Rattle.uac_request.specs.Requests.{Held, Told, after_request, reply_of}
+use Rattle.uac_request.specs.Requests.{Held, AnswerFields, after_request, reply_of}
 use Rattle.uac_request.specs.declared.setup.Setup.{Setup}
 use Rattle.uac_mixer.specs.declared.element.Element.{Element}
 use Rattle.uac_mixer.specs.Elements.{listed}
@@ -45,7 +45,7 @@ KnownValuesStay = (function : FunctionFields) (held : Held) (p : Setup) (sent : 
 -- ---- what a view's calls do
 
 -- one transfer through a link, by what came back, and what it made of the view of the link's function
-pub record IsMade (p : Setup) (sent : List ℕ) (came : Option Told) (before after : ViewWorld) (old new : LinkFields) : Type 0 where
+pub record IsMade (p : Setup) (sent : List ℕ) (came : Option AnswerFields) (before after : ViewWorld) (old new : LinkFields) : Type 0 where
   pub transfer : IsTransferred p sent came old new
   pub view : after ≡ view_after old.device.function.control_interface p sent came before
   pub function : new.device.function ≡ old.device.function

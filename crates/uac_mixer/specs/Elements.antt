@@ -1,37 +1,50 @@
 -- The elements of a function: the controls that a host's mixer shows. They are the declared controls that keep a value (Audio Class 2.0,
 -- 5.2.5), in block order, then by selector, then by channel; each node of a mixer is one (profile).
-use Rattle.std.specs.Prelude.{ℕ, ◌==◌, nat_lt, Bool, true, false, if◌then◌else◌, ℤ, pos, negsuc, List, ◌++◌, codes, decimal}
+use Rattle.std.specs.Prelude.{ℕ, nat_lt, Bool, false, if◌then◌else◌, ℤ, pos, negsuc, List, ◌++◌, codes, decimal}
 use Rattle.std.specs.Prelude.{Option, Some, None}
 use Rattle.std.specs.List.{filter_map, flat_map, range_with_len}
 use Rattle.std.specs.Option.{option_and_then}
 use Rattle.uac_entities.specs.declared.entity.Entity.{Entity}
 use Rattle.uac_entities.specs.declared.entity.EntityKind.{EntityKind}
-use Rattle.uac_entities.specs.declared.entity.EntityKind.TheVariants as kind
-use Rattle.uac_store.specs.Controls.{count_of, selectors_of}
+use Rattle.uac_store.specs.declared.controls.Control.{Control}
+use Rattle.uac_store.specs.declared.controls.Control.TheVariants as control
+use Rattle.uac_store.specs.ControlTable.{control_of, facts_of, selectors_of}
+use Rattle.uac_store.specs.Controls.{count_of}
 use Rattle.uac_store.specs.Keyed.{key_of}
 use Rattle.uac_request.specs.Requests.{is_declared_on, is_writable_on}
 use Rattle.uac_mixer.specs.declared.kinds.ElementKind.{ElementKind}
 use Rattle.uac_mixer.specs.declared.kinds.ElementKind.TheVariants as shown
 use Rattle.uac_mixer.specs.declared.element.Element.{Element}
 
--- one control that keeps a value, or two, by their selectors
-abbrev pub only : ElementKind → ℕ → Option ElementKind
-only kind selector = if selector == 1 then Some kind else None
+-- the element that a control is; none where it keeps no value
+abbrev pub element_of : Control → Option ElementKind
+element_of control.SamplingFrequency = Some shown.Rate
+element_of control.ClockValid = None
+element_of control.ClockSelector = Some shown.Clock
+element_of control.Numerator = Some shown.Times
+element_of control.Denominator = Some shown.Over
+element_of control.Connector = None
+element_of control.MixerNode = Some shown.Mix
+element_of control.Selector = Some shown.Select
+element_of control.Mute = Some shown.Mute
+element_of control.Volume = Some shown.Volume
+element_of control.Enable = Some shown.Enable
 
-abbrev pub either : ElementKind → ElementKind → ℕ → Option ElementKind
-either first second selector = if selector == 1 then Some first else if selector == 2 then Some second else None
+-- the control that an element is
+abbrev pub control_shown : ElementKind → Control
+control_shown shown.Rate = control.SamplingFrequency
+control_shown shown.Clock = control.ClockSelector
+control_shown shown.Times = control.Numerator
+control_shown shown.Over = control.Denominator
+control_shown shown.Mix = control.MixerNode
+control_shown shown.Select = control.Selector
+control_shown shown.Mute = control.Mute
+control_shown shown.Volume = control.Volume
+control_shown shown.Enable = control.Enable
 
 -- the kind of an entity's control that keeps a value; none where no control with this selector keeps one
 abbrev pub kind_at : EntityKind → ℕ → Option ElementKind
-kind_at kind.ClockSource selector = only shown.Rate selector
-kind_at kind.ClockSelector selector = only shown.Clock selector
-kind_at kind.ClockMultiplier selector = either shown.Times shown.Over selector
-kind_at kind.InputTerminal selector = None
-kind_at kind.OutputTerminal selector = None
-kind_at kind.Mixer selector = only shown.Mix selector
-kind_at kind.Selector selector = only shown.Select selector
-kind_at kind.Feature selector = either shown.Mute shown.Volume selector
-kind_at kind.Effect selector = only shown.Enable selector
+kind_at k selector = option_and_then element_of (control_of k selector)
 
 -- an entity's control as an element that isn't read yet, where it is declared
 abbrev pub element_on : Entity → ℕ → ℕ → Option Element
@@ -79,29 +92,13 @@ name_of x = word_of x.kind ++ codes "." ++ decimal x.key.entity ++ codes "." ++ 
 
 -- ---- values
 
--- the bytes of an element's control (5.2.5.1 to 5.2.5.8)
+-- the bytes of an element's control
 abbrev pub width_of : ElementKind → ℕ
-width_of shown.Rate = 4
-width_of shown.Clock = 1
-width_of shown.Times = 2
-width_of shown.Over = 2
-width_of shown.Mix = 2
-width_of shown.Select = 1
-width_of shown.Mute = 1
-width_of shown.Volume = 2
-width_of shown.Enable = 1
+width_of x = (facts_of (control_shown x)).width
 
 -- gains are signed
 abbrev pub is_gain : ElementKind → Bool
-is_gain shown.Rate = false
-is_gain shown.Clock = false
-is_gain shown.Times = false
-is_gain shown.Over = false
-is_gain shown.Mix = true
-is_gain shown.Select = false
-is_gain shown.Mute = false
-is_gain shown.Volume = true
-is_gain shown.Enable = false
+is_gain x = (facts_of (control_shown x)).signed
 
 -- a number that isn't negative and below this
 abbrev pub is_below : ℕ → ℤ → Bool

@@ -1,13 +1,13 @@
 // Answers that are kept.
 ghost use Rattle.std.specs.Prelude.{◌≡◌};
-ghost use Rattle.uac_request.specs.Requests.{seen};
+ghost use Rattle.uac_request.specs.Requests.{answer_fields};
 
 use arrayvec::ArrayVec;
 use uac_request::{Answer, Reply};
 
 /// The same answer once more.
 pub(crate) fn copy_of(answer: &Answer) -> Answer
-    ensures { seen result ≡ seen answer.now }
+    ensures { answer_fields result ≡ answer_fields answer.now }
 {
     match answer {
         Answer::Bytes(reply) => Answer::Bytes(copied(reply)),

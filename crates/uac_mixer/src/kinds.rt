@@ -3,6 +3,7 @@ ghost use Rattle.std.specs.Prelude.{◌≡◌, ◌≤◌, length};
 ghost use Rattle.uac_mixer.specs.Elements as spec;
 
 use uac_entities::EntityKind;
+use uac_store::controls::{Control, control_of, facts_of};
 
 /// What an element controls (Audio Class 2.0, 5.2.5).
 #[derive(Clone, Copy, PartialEq, Eq, Debug)]
@@ -46,32 +47,37 @@ impl ElementKind {
         }
     }
 
+    /// The control that it is.
+    pub fn control(self) -> Control
+        ensures { result ≡ spec.control_shown self }
+    {
+        match self {
+            ElementKind::Rate => Control::SamplingFrequency,
+            ElementKind::Clock => Control::ClockSelector,
+            ElementKind::Times => Control::Numerator,
+            ElementKind::Over => Control::Denominator,
+            ElementKind::Mix => Control::MixerNode,
+            ElementKind::Select => Control::Selector,
+            ElementKind::Mute => Control::Mute,
+            ElementKind::Volume => Control::Volume,
+            ElementKind::Enable => Control::Enable,
+        }
+    }
+
     /// The bytes of the control (Audio Class 2.0, 5.2.5.1 to 5.2.5.8).
+    #[tactic(auto, using(crate::proofs::ByteLemmas::few))]
     pub fn width(self) -> u8
         ensures value { result ≡ spec.width_of self }
         ensures few { result ≤ 4 }
     {
-        match self {
-            ElementKind::Rate => 4,
-            ElementKind::Times | ElementKind::Over | ElementKind::Mix | ElementKind::Volume => 2,
-            ElementKind::Clock | ElementKind::Select | ElementKind::Mute | ElementKind::Enable => 1,
-        }
+        facts_of(self.control()).width
     }
 
     /// Whether its values are gains, which are signed.
     pub fn is_gain(self) -> bool
         ensures { result ≡ spec.is_gain self }
     {
-        match self {
-            ElementKind::Mix | ElementKind::Volume => true,
-            ElementKind::Rate
-            | ElementKind::Clock
-            | ElementKind::Times
-            | ElementKind::Over
-            | ElementKind::Select
-            | ElementKind::Mute
-            | ElementKind::Enable => false,
-        }
+        facts_of(self.control()).signed
     }
 
     /// Whether a value fits the bytes of the control.
@@ -92,16 +98,26 @@ impl ElementKind {
 pub(crate) fn kind_at(entity: EntityKind, selector: u8) -> Option<ElementKind>
     ensures { result ≡ spec.kind_at entity selector }
 {
-    match (entity, selector) {
-        (EntityKind::ClockSource, 1) => Some(ElementKind::Rate),
-        (EntityKind::ClockSelector, 1) => Some(ElementKind::Clock),
-        (EntityKind::ClockMultiplier, 1) => Some(ElementKind::Times),
-        (EntityKind::ClockMultiplier, 2) => Some(ElementKind::Over),
-        (EntityKind::Mixer, 1) => Some(ElementKind::Mix),
-        (EntityKind::Selector, 1) => Some(ElementKind::Select),
-        (EntityKind::Feature, 1) => Some(ElementKind::Mute),
-        (EntityKind::Feature, 2) => Some(ElementKind::Volume),
-        (EntityKind::Effect, 1) => Some(ElementKind::Enable),
-        _ => None,
+    match control_of(entity, selector) {
+        Some(control) => element_of(control),
+        None => None,
+    }
+}
+
+// The element that a control is, None where it keeps no value.
+fn element_of(control: Control) -> Option<ElementKind>
+    ensures { result ≡ spec.element_of control }
+{
+    match control {
+        Control::SamplingFrequency => Some(ElementKind::Rate),
+        Control::ClockSelector => Some(ElementKind::Clock),
+        Control::Numerator => Some(ElementKind::Times),
+        Control::Denominator => Some(ElementKind::Over),
+        Control::MixerNode => Some(ElementKind::Mix),
+        Control::Selector => Some(ElementKind::Select),
+        Control::Mute => Some(ElementKind::Mute),
+        Control::Volume => Some(ElementKind::Volume),
+        Control::Enable => Some(ElementKind::Enable),
+        Control::ClockValid | Control::Connector => None,
     }
 }

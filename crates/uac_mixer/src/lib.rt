@@ -3,10 +3,6 @@
 
 /// Answers that are kept.
 mod answers;
-/// Values as bytes.
-mod bytes;
-/// The controls that descriptors declare.
-mod declared;
 /// An element and its name.
 mod element;
 /// Why reading a view, or setting an element, failed.

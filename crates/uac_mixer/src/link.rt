@@ -38,7 +38,7 @@ pub trait Link {
 
     /// One transfer. `Broken` comes only where the count of breaks rose, and then the device and the last answer are those
     /// before the transfer, or those that the device's answer leaves. Else the device answered this, and the last answer is
-    /// this one. Where the fault is told, the transfer breaks exactly by that, and behind it the fault told is none.
+    /// this one. Where the fault is told, the transfer breaks exactly by that, and after it the fault told is none.
     fn control(&mut self, setup: &Setup, sent: &[u8]) -> Result<Answer, Broken>
         ensures place { place self.new ≡ place self.old }
         ensures transfer { IsTransferred setup.now sent.now (came_of result) (state self.old) (state self.new) };
@@ -56,7 +56,7 @@ pub struct DeviceLink<'a> {
 impl<'a> DeviceLink<'a> {
     ghost use Rattle.std.specs.Prelude.{◌≡◌, None, Some};
     ghost use Rattle.std.specs.Option.{option_map};
-    ghost use Rattle.uac_request.specs.Requests.{seen};
+    ghost use Rattle.uac_request.specs.Requests.{answer_fields};
     ghost use Rattle.uac_device.specs.Kept.{IsControlled};
 
     /// A link to a device. It tells `fault` and has no last answer.
@@ -76,7 +76,7 @@ impl<'a> DeviceLink<'a> {
 
     /// The last answer; None exactly where no transfer through this link reached the device.
     pub fn last(&self) -> Option<&Answer>
-        ensures { option_map (λ answer. seen answer.now) result ≡ option_map seen self.now.last }
+        ensures { option_map (λ answer. answer_fields answer.now) result ≡ option_map answer_fields self.now.last }
     {
         self.last.as_ref()
     }
@@ -84,8 +84,8 @@ impl<'a> DeviceLink<'a> {
     // The device acts.
     fn act(&mut self, setup: &Setup, sent: &[u8]) -> Answer
         ensures same_reference { self.new.device.ghost_name ≡ self.old.device.ghost_name }
-        ensures device { IsControlled setup.now sent.now (seen result) self.old.device.now self.new.device.now }
-        ensures last { option_map seen self.new.last ≡ Some (seen result) }
+        ensures device { IsControlled setup.now sent.now (answer_fields result) self.old.device.now self.new.device.now }
+        ensures last { option_map answer_fields self.new.last ≡ Some (answer_fields result) }
         ensures fault { self.new.fault ≡ self.old.fault }
     {
         let answer = self.device.control(setup, sent);
@@ -97,12 +97,12 @@ impl<'a> DeviceLink<'a> {
 impl<'a> Link for DeviceLink<'a> {
     ghost use Rattle.std.specs.Prelude.{◌≡◌, Some, is_some, if◌then◌else◌};
     ghost use Rattle.std.specs.Option.{option_map};
-    ghost use Rattle.uac_request.specs.Requests.{seen};
+    ghost use Rattle.uac_request.specs.Requests.{answer_fields};
 
     // Its count of breaks is 0 while its one break lies ahead.
     ghost state = { λ l. record {
       device = l.device.now;
-      last = option_map seen l.last;
+      last = option_map answer_fields l.last;
       breaks = if is_some l.fault then 0 else 1;
       fault = Some l.fault;
     } };

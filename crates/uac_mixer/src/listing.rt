@@ -1,18 +1,20 @@
 // The elements of a function.
 ghost use Rattle.std.specs.Prelude.{◌≡◌, ◌≤◌, ◌++◌, [], IfOk, OnOk, sum};
 ghost use Rattle.std.specs.List.{cons_option};
+ghost use Rattle.uac_store.specs.ControlTable.{IsSmall};
 ghost use Rattle.uac_store.specs.Controls as store;
 ghost use Rattle.uac_mixer.specs.Elements as spec;
 
-use crate::declared::{count_of, is_declared, is_writable};
 use crate::element::Element;
 use crate::kinds::kind_at;
 use std::alloc::Global;
 use uac_descriptor::NoMemory;
+use uac_request::declared::{is_declared_on, is_writable_on};
 use uac_store::Key;
+use uac_store::controls::{count_of, selectors_of};
 use uac_store::laws::sound_functions_have_keys_and_rates;
 use uac_topology::laws::functions_are_sound;
-use uac_topology::{Entity, EntityKind, Function};
+use uac_topology::{Entity, Function};
 
 /// The elements of a function, none of them read yet.
 #[tactic(auto, unfolding(crate::specs::Elements::listed))]
@@ -35,7 +37,7 @@ fn add_entity(
     entity: &Entity,
     elements: &mut Vec<Element>,
 ) -> Result<(), NoMemory>
-    requires { store.IsSmall entity.now.kind (sum (store.pins_of function.now.entities entity.now)) entity.now.cluster.channels }
+    requires { IsSmall entity.now.kind (sum (store.pins_of function.now.entities entity.now)) entity.now.cluster.channels }
     ensures { OnOk result (elements.new.items ≡ elements.old.items ++ spec.entity_elements function.now.entities entity.now) }
 {
     for below in 0..selectors_of(entity.kind) {
@@ -52,7 +54,7 @@ fn add_control(
     selector: u8,
     elements: &mut Vec<Element>,
 ) -> Result<(), NoMemory>
-    requires small { store.IsSmall entity.now.kind (sum (store.pins_of function.now.entities entity.now)) entity.now.cluster.channels }
+    requires small { IsSmall entity.now.kind (sum (store.pins_of function.now.entities entity.now)) entity.now.cluster.channels }
     requires low { selector ≤ 2 }
     ensures { OnOk result (elements.new.items ≡ elements.old.items ++ spec.control_elements function.now.entities entity.now selector) }
 {
@@ -86,7 +88,7 @@ fn element_on(entity: &Entity, selector: u8, channel: u8) -> Option<Element>
     ensures { result ≡ spec.element_on entity.now selector channel }
 {
     let kind = kind_at(entity.kind, selector)?;
-    if !is_declared(entity, selector, channel) {
+    if !is_declared_on(entity, selector, channel) {
         return None;
     }
     Some(Element {
@@ -96,23 +98,7 @@ fn element_on(entity: &Entity, selector: u8, channel: u8) -> Option<Element>
             channel,
         },
         kind,
-        writable: is_writable(entity, selector, channel),
+        writable: is_writable_on(entity, selector, channel),
         value: None,
     })
-}
-
-// How many controls of an entity keep a value.
-fn selectors_of(kind: EntityKind) -> u8
-    ensures value { result ≡ store.selectors_of kind }
-    ensures few { result ≤ 2 }
-{
-    match kind {
-        EntityKind::InputTerminal | EntityKind::OutputTerminal => 0,
-        EntityKind::ClockMultiplier | EntityKind::Feature => 2,
-        EntityKind::ClockSource
-        | EntityKind::ClockSelector
-        | EntityKind::Mixer
-        | EntityKind::Selector
-        | EntityKind::Effect => 1,
-    }
 }

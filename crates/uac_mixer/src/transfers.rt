@@ -1,20 +1,18 @@
 // The transfers of an element, and what any transfer makes of an element.
-ghost use Rattle.std.specs.Prelude.{◌≡◌, ◌≤◌, ◌+◌, ◌*◌, ℕ, List, length, map, Some};
+ghost use Rattle.std.specs.Prelude.{◌≡◌, ◌≤◌, ℕ, List, length, map, Some};
 ghost use Rattle.std.specs.List.{All};
 ghost use Rattle.std.specs.Int.{w32};
 ghost use Rattle.std.specs.Int.RustNames.{FitsSigned};
-ghost use Rattle.uac_request.specs.Requests as request;
 ghost use Rattle.uac_request.specs.Requests.{is_done, with_bytes};
 ghost use Rattle.uac_mixer.specs.Transfers as spec;
 ghost use Rattle.uac_mixer.specs.Transfers.{came_of};
 ghost use Rattle.uac_mixer.specs.Elements.{width_of};
 ghost use Rattle.uac_mixer.specs.Readable.{IsReadable};
 
-use crate::bytes::value_from;
 use crate::element::Element;
 use crate::link::Broken;
-use uac_request::{Answer, Setup};
-use uac_store::Key;
+use uac_request::bytes::value_from;
+use uac_request::{Answer, Setup, key_named, low_byte, word};
 
 /// bmRequestType of a request to a control, from the host (Audio Class 2.0, 5.2.1).
 pub(crate) const SET: u8 = 0x21;
@@ -32,17 +30,10 @@ pub(crate) fn setup_of(request_type: u8, control: u8, element: Element) -> Setup
     Setup {
         request_type,
         request: CUR,
-        value: word(element.key.selector, element.key.channel),
-        index: word(element.key.entity, control),
+        value: word(element.key.channel, element.key.selector),
+        index: word(control, element.key.entity),
         length: u16::from(element.kind.width()),
     }
-}
-
-// The number of two bytes.
-fn word(high: u8, low: u8) -> u16
-    ensures { result ≡ 256 * high + low }
-{
-    256 * u16::from(high) + u16::from(low)
 }
 
 /// What a transfer, of which this came back, makes of each element.
@@ -104,29 +95,6 @@ fn is_for(request_type: u8, control: u8, setup: &Setup, element: &Element) -> bo
         && setup.request == CUR
         && low_byte(setup.index) == control
         && element.key == key_named(setup)
-}
-
-// The key that wValue and wIndex name (Audio Class 2.0, 5.2.2).
-fn key_named(setup: &Setup) -> Key
-    ensures { result ≡ request.key_named setup.now }
-{
-    Key {
-        entity: high_byte(setup.index),
-        selector: high_byte(setup.value),
-        channel: low_byte(setup.value),
-    }
-}
-
-fn high_byte(number: u16) -> u8
-    ensures { result ≡ request.high number }
-{
-    (number / 256) as u8
-}
-
-fn low_byte(number: u16) -> u8
-    ensures { result ≡ request.low number }
-{
-    (number % 256) as u8
 }
 
 // A set that is done gives its value, and one that broke leaves it unknown.

@@ -4,7 +4,7 @@ ghost use Rattle.std.specs.Prelude.{Ok, Err, None, Some, IsSome, Option};
 ghost use Rattle.std.specs.List.{All};
 ghost use Rattle.std.specs.Option.{option_map};
 ghost use Rattle.std.specs.Str.{bytes_eq};
-ghost use Rattle.uac_request.specs.Requests.{is_done, is_stalled, seen, value_bytes};
+ghost use Rattle.uac_request.specs.Requests.{is_done, is_stalled, answer_fields, value_bytes};
 ghost use Rattle.uac_store.specs.Keyed.{value_of};
 ghost use Rattle.uac_mixer.specs.declared.element.Element.{Element};
 ghost use Rattle.uac_mixer.specs.declared.faults.SetFault.TheVariants as refusals;
@@ -17,7 +17,6 @@ ghost use Rattle.uac_mixer.specs.Readable.{IsReadable};
 ghost use Rattle.uac_mixer.specs.Transfers.{came_of, came_of_get, came_of_set, get_of, set_of, view_after};
 ghost use Rattle.uac_mixer.specs.ViewWorld.{IsViewOf, known_view};
 
-use crate::bytes::value_bytes;
 use crate::element::Element;
 use crate::faults::{SetFault, ViewFault};
 use crate::link::{Broken, Link};
@@ -25,6 +24,7 @@ use crate::listing;
 use crate::transfers::{GET, SET, follow_all, setup_of};
 use std::alloc::Global;
 use std::marker::Model;
+use uac_request::bytes::value_bytes;
 use uac_request::{Answer, Setup};
 use uac_store::laws::sound_functions_have_keys_and_rates;
 use uac_topology::laws::functions_are_sound;
@@ -193,8 +193,8 @@ impl View {
 
 // What an answer to a SET CUR says: it is done, or a stall.
 fn set_outcome(answer: Answer) -> Result<(), SetFault>
-    ensures done { seen answer ≡ is_done → came_of_set result ≡ Some is_done }
-    ensures stalled { (rule : ℕ) → seen answer ≡ is_stalled rule → came_of_set result ≡ Some (is_stalled rule) }
+    ensures done { answer_fields answer ≡ is_done → came_of_set result ≡ Some is_done }
+    ensures stalled { (rule : ℕ) → answer_fields answer ≡ is_stalled rule → came_of_set result ≡ Some (is_stalled rule) }
 {
     match answer {
         Answer::Stall(rule) => Err(SetFault::Stalled(rule)),

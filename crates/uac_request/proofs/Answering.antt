@@ -14,7 +14,8 @@ use Rattle.uac_topology.specs.Function.{FunctionFields}
 use Rattle.uac_topology.specs.Topology.{IsSoundFunction}
 use Rattle.uac_topology.proofs.ChannelLemmas.{have_channels}
 use Rattle.uac_store.specs.declared.keys.Key.{Key}
-use Rattle.uac_store.specs.Controls.{count_by, count_of, has_control, has_on, IsSmall, IsStoreOf, nodes_of, pins_of, selectors_of, takes, takes_by, takes_on}
+use Rattle.uac_store.specs.ControlTable.{IsSmall, count_by, selectors_of, takes_by}
+use Rattle.uac_store.specs.Controls.{count_of, has_control, has_on, IsStoreOf, nodes_of, pins_of, takes, takes_on}
 use Rattle.uac_store.specs.Keyed.{value_of}
 use Rattle.uac_store.proofs.Small.{small_named}
 use Rattle.uac_store.proofs.Soundness.{keyed}

@@ -1,12 +1,13 @@
 -- Values that come back from their bytes.
-use Rattle.std.proofs.Common.{◌≡◌, sym, ap, subst, ℕ, ◌-◌, ◌*◌, ◌/◌, ◌%◌, ◌^◌, ◌==◌, ◌<◌, ◌≤◌, nat_lt, nat_le, Bool, true, false, ℤ, pos, negsuc, ◌⊎◌, inl, inr, length, unwrap_or, refl, is_some, arith}
+use Rattle.std.proofs.Common.{◌≡◌, ap, ℕ, ◌-◌, ◌*◌, ◌/◌, ◌%◌, ◌^◌, ◌==◌, ◌<◌, ◌≤◌, nat_lt, nat_le, Bool, true, false, ℤ, pos, negsuc, ◌⊎◌, inl, inr, length, unwrap_or, refl, is_some, arith}
 use Rattle.std.proofs.lemmas.Bool.{cases_Bool}
 use Rattle.std.proofs.lemmas.List.FromFn.{length-map-range_with_len}
 use Rattle.uac_clock.specs.Nominal.{is_listed}
 use Rattle.uac_entities.specs.declared.entity.EntityKind.{EntityKind}
 use Rattle.uac_entities.specs.declared.entity.EntityKind.TheVariants as kind
 use Rattle.uac_gain.specs.Gain.{gain_of}
-use Rattle.uac_store.specs.Controls.{choices, is_frequency, is_one_to, is_switch, selectors_of, takes_by}
+use Rattle.uac_store.specs.ControlTable.{choices, is_frequency, is_one_to, is_switch, selectors_of, takes_by}
+use Rattle.uac_store.proofs.Tabled.{at_each}
 use Rattle.uac_request.specs.Requests.{complement, entity_width, is_signed, IsWithin, little_bytes, little_number, value_bytes, value_from}
 
 -- ---- numbers
@@ -152,26 +153,6 @@ second_width kind.Mixer low = cc
 second_width kind.Selector low = cc
 second_width kind.Feature low = inr (inl refl)
 second_width kind.Effect low = cc
-
-pub few_selectors : (k : EntityKind) → selectors_of k ≤ 2
-few_selectors kind.ClockSource = omega arith
-few_selectors kind.ClockSelector = omega arith
-few_selectors kind.ClockMultiplier = omega arith
-few_selectors kind.InputTerminal = omega arith
-few_selectors kind.OutputTerminal = omega arith
-few_selectors kind.Mixer = omega arith
-few_selectors kind.Selector = omega arith
-few_selectors kind.Feature = omega arith
-few_selectors kind.Effect = omega arith
-
--- a property of the selectors of a kind, by its two
-pub at_each : (k : EntityKind) (P : ℕ → Type 0) (selector : ℕ) → nat_lt 0 selector ≡ true → nat_le selector (selectors_of k) ≡ true → (nat_le 1 (selectors_of k) ≡ true → P 1) → (nat_le 2 (selectors_of k) ≡ true → P 2) → P selector
-at_each k P selector some low one two =
-    let few : selectors_of k ≤ 2 = few_selectors k in
-    elim (cases_Bool (selector == 1)) [
-      | inl is_one ↦ (let is : 1 ≡ selector = grind arith in let there : nat_le 1 (selectors_of k) ≡ true = rw (sym is) at low in subst P is (one there))
-      | inr more ↦ (let is : 2 ≡ selector = grind arith in let there : nat_le 2 (selectors_of k) ≡ true = rw (sym is) at low in subst P is (two there))
-    ]
 
 pub taken_within : (k : EntityKind) (pins attributes selector : ℕ) (v : ℤ) → nat_lt 0 selector ≡ true → nat_le selector (selectors_of k) ≡ true → takes_by k pins attributes selector v ≡ true → IsWithin (is_signed k selector) (unwrap_or (entity_width k selector) 0) v
 taken_within k pins attributes selector v some low =

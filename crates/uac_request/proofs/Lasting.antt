@@ -1,13 +1,11 @@
 -- What every request leaves: the store and the settings of the function, settings that are valid, and rates while a stream runs.
-use Rattle.std.proofs.Common.{◌≡◌, ◌∙◌, sym, ap, subst, refl, ℕ, ◌-◌, ◌≤◌, ◌==◌, ◌||◌, not, nat_le, Bool, true, false, List, [], ◌∷◌, get_or, length, map, take, unwrap_or, Option, Some, None, IsSome, is_some, ℤ, inl, inr, if◌then◌else◌, eqb-true, eq-eqb, arith}
+use Rattle.std.proofs.Common.{◌≡◌, ◌∙◌, sym, ap, subst, refl, ℕ, ◌≤◌, ◌==◌, ◌||◌, ◌⊎◌, not, nat_le, Bool, true, false, List, [], ◌∷◌, map, take, unwrap_or, Option, Some, None, IsSome, is_some, ℤ, inl, inr, if◌then◌else◌, eqb-true, eq-eqb, arith}
 use Rattle.std.specs.List.{list_any}
-use Rattle.std.specs.Option.{option_map_or}
-use Rattle.std.proofs.lemmas.Bool.{and_parts, cases_Bool, cases_eq, cases_lt}
-use Rattle.std.proofs.lemmas.List.{get_or_past}
+use Rattle.std.specs.Option.{option_map, option_map_or}
+use Rattle.std.proofs.lemmas.Bool.{and_parts, cases_Bool, cases_eq}
 use Rattle.uac_entities.specs.Streams.{named}
 use Rattle.uac_entities.specs.declared.entity.Entity.{Entity}
 use Rattle.uac_entities.specs.declared.entity.EntityKind.{EntityKind}
-use Rattle.uac_entities.specs.declared.entity.EntityKind.TheVariants as kind
 use Rattle.uac_entities.specs.declared.stream.Setting.{Setting}
 use Rattle.uac_entities.specs.declared.stream.StreamInterface.{StreamInterface}
 use Rattle.uac_topology_rules.specs.Links.{is_clock}
@@ -21,8 +19,12 @@ use Rattle.uac_store.proofs.Setting.{kept_by_set}
 use Rattle.uac_alt.specs.Settings.{in_first, initial_settings, is_running, setting_of, with_setting}
 use Rattle.uac_alt.specs.declared.settings.InterfaceSetting.{InterfaceSetting}
 use Rattle.uac_alt.proofs.Changed.{setting_of_changed}
+use Rattle.uac_store.specs.declared.controls.Control.{Control}
+use Rattle.uac_store.specs.declared.controls.Facts.{Facts}
+use Rattle.uac_store.specs.ControlTable.{control_of, facts_of}
+use Rattle.uac_store.proofs.Tabled.{one_or_two}
 use Rattle.uac_request.specs.declared.setup.Setup.{Setup}
-use Rattle.uac_request.specs.Requests.{after_request, answered, AreSettingsOf, AreValidSettings, by_entity, by_stream, can_hold, controls_set, cur_named, entity_width, first_broken, gets_cur, gets_descriptor, gets_interface, gets_range, has_interface, has_setting, has_value, Held, held_by, high, is_done, is_request, is_stalled, is_to_control, is_valid, key_named, left_by, low, Owner, owner_of, ranges_named, reply_of, sent_value, sets_cur, sets_interface, stream_in, Told, widths_of, with_bytes, with_descriptor}
+use Rattle.uac_request.specs.Requests.{after_request, answered, AreSettingsOf, AreValidSettings, by_entity, by_stream, can_hold, controls_set, cur_named, entity_width, first_broken, gets_cur, gets_descriptor, gets_interface, gets_range, has_interface, has_setting, has_value, Held, held_by, high, is_done, is_request, is_stalled, is_to_control, is_valid, key_named, left_by, low, Owner, owner_of, ranges_named, reply_of, sent_value, sets_cur, sets_interface, stream_in, AnswerFields, with_bytes, with_descriptor}
 use Rattle.uac_request.proofs.Asked.{first_set_interface, no_interface, no_owner}
 use Rattle.uac_request.proofs.Owned.{entity_named}
 use Rattle.uac_request.proofs.Sent.{is_held}
@@ -55,32 +57,23 @@ module _ (function : FunctionFields) (held : Held) (p : Setup) (sent : List ℕ)
 
 -- ---- a control that is set
 
-few_widths : (k : EntityKind) → length (widths_of k) ≤ 2
-few_widths kind.ClockSource = omega arith
-few_widths kind.ClockSelector = omega arith
-few_widths kind.ClockMultiplier = omega arith
-few_widths kind.InputTerminal = omega arith
-few_widths kind.OutputTerminal = omega arith
-few_widths kind.Mixer = omega arith
-few_widths kind.Selector = omega arith
-few_widths kind.Feature = omega arith
-few_widths kind.Effect = omega arith
+-- a control that has bytes has selector 1 or 2
+wide_at : (k : EntityKind) (selector : ℕ) → is_some (entity_width k selector) ≡ true → (selector ≡ 1) ⊎ (selector ≡ 2)
+wide_at k selector wide = one_or_two k selector (from (control_of k selector) wide) where
+  from : (o : Option Control) → is_some (option_map (λ (f : Facts). f.width) (option_map facts_of o)) ≡ true → is_some o ≡ true
+  from None is = cc
+  from (Some c) is = refl
 
 selector_some : (k : EntityKind) (selector : ℕ) → is_some (entity_width k selector) ≡ true → 1 ≤ selector
-selector_some k selector wide = elim (cases_Bool (selector == 0)) [
-  | inl is_zero ↦ (let no : false ≡ true = rw is_zero at wide in cc)
-  | inr above ↦ grind arith
+selector_some k selector wide = elim (wide_at k selector wide) [
+  | inl one ↦ omega (arith, one)
+  | inr two ↦ omega (arith, two)
 ]
 
 selector_low : (k : EntityKind) (selector : ℕ) → is_some (entity_width k selector) ≡ true → selector ≤ 2
-selector_low k selector wide = elim (cases_lt 2 selector) [
-  | inl past ↦ (
-      let above : (selector == 0) ≡ false = grind arith in
-      let few : length (widths_of k) ≤ 2 = few_widths k in
-      let none : get_or (widths_of k) (selector - 1) None ≡ None = get_or_past (widths_of k) (selector - 1) None (omega arith) in
-      let no : false ≡ true = rw (above, none) at wide in
-      cc)
-  | inr within ↦ within
+selector_low k selector wide = elim (wide_at k selector wide) [
+  | inl one ↦ omega (arith, one)
+  | inr two ↦ omega (arith, two)
 ]
 
 some_of : {A : Type 0} (o : Option A) → is_some o ≡ true → (a : A) × (o ≡ Some a)
@@ -265,7 +258,7 @@ valid_at_start function controls interface setting is = rw (starts_at_rest (func
 -- ---- stalls and descriptors
 
 -- what holds of every answer that is no stall
-each_answer : (T : Told → Type 0) (function : FunctionFields) (held : Held) (p : Setup) → ((bytes : List ℕ) → T (with_bytes bytes)) → T (with_descriptor 0 (if nat_le p.length function.total then p.length else function.total)) → T is_done → T (answered function held p)
+each_answer : (T : AnswerFields → Type 0) (function : FunctionFields) (held : Held) (p : Setup) → ((bytes : List ℕ) → T (with_bytes bytes)) → T (with_descriptor 0 (if nat_le p.length function.total then p.length else function.total)) → T is_done → T (answered function held p)
 unfolding answered
 each_answer T function held p bytes descriptor done = from (gets_cur p) (gets_range p) (gets_descriptor p) (gets_interface p) where
   from : (a b c d : Bool) → T (

@@ -11,7 +11,7 @@ use Rattle.uac_request.specs.Requests.{little_number}
 pub next_rest : (n k r : ℕ) → r ≡ n / 256 ^ k → r / 256 ≡ n / 256 ^ (k + 1)
 next_rest n k r is = ap (λ x. x / 256) is ∙ (div-div-eq-div-mul n (256 ^ k) 256 ∙ ap (λ x. n / x) (sym (pow-add 256 k 1)))
 
--- one more byte behind those that were added
+-- one more byte after those that were added
 pub next_byte : (n k r : ℕ) (old items new : List ℕ) → items ≡ old ++ map (λ i. n / 256 ^ i % 256) (range_with_len 0 k) → r ≡ n / 256 ^ k → new ≡ items ++ r % 256 ∷ [] → new ≡ old ++ map (λ i. n / 256 ^ i % 256) (range_with_len 0 (k + 1))
 next_byte n k r old items new upto rest pushed =
     pushed ∙ (ap (λ xs. xs ++ r % 256 ∷ []) upto ∙ (ap (λ b. (old ++ map (λ i. n / 256 ^ i % 256) (range_with_len 0 k)) ++ b % 256 ∷ []) rest

@@ -1,7 +1,8 @@
 -- The widths of controls that have ranges.
-use Rattle.std.proofs.Common.{◌≡◌, ℕ, ◌≤◌, ◌⊎◌, true, unwrap_or, inl, inr, rules, arith}
+use Rattle.std.proofs.Common.{◌≡◌, ℕ, ◌≤◌, true, unwrap_or, inl, inr, arith}
 use Rattle.uac_entities.specs.declared.entity.EntityKind.{EntityKind}
 use Rattle.uac_entities.specs.declared.entity.EntityKind.TheVariants as kind
+use Rattle.uac_store.proofs.Tabled.{one_or_two, some_so}
 use Rattle.uac_request.specs.Requests.{Owner, by_entity, by_stream, entity_range, entity_width, has_range, width_of}
 
 first_narrow : (k : EntityKind) → unwrap_or (entity_width k 1) 0 ≤ 4
@@ -26,19 +27,8 @@ second_narrow kind.Selector ranged = omega arith
 second_narrow kind.Feature ranged = omega arith
 second_narrow kind.Effect ranged = omega arith
 
-one_or_two : (k : EntityKind) (selector : ℕ) → entity_range k selector ≡ true → (selector ≡ 1) ⊎ (selector ≡ 2)
-one_or_two kind.ClockSource selector ranged = inl (grind arith)
-one_or_two kind.ClockSelector selector ranged = inl (grind arith)
-one_or_two kind.ClockMultiplier selector ranged = search rules
-one_or_two kind.InputTerminal selector ranged = cc
-one_or_two kind.OutputTerminal selector ranged = cc
-one_or_two kind.Mixer selector ranged = inl (grind arith)
-one_or_two kind.Selector selector ranged = inl (grind arith)
-one_or_two kind.Feature selector ranged = inr (grind arith)
-one_or_two kind.Effect selector ranged = cc
-
 narrow_entity : (k : EntityKind) (selector : ℕ) → entity_range k selector ≡ true → unwrap_or (entity_width k selector) 0 ≤ 4
-narrow_entity k selector ranged = elim (one_or_two k selector ranged) [
+narrow_entity k selector ranged = elim (one_or_two k selector (some_so (λ f. f.ranged) k selector ranged)) [
   | inl one ↦ rw one (first_narrow k)
   | inr two ↦ (let second : entity_range k 2 ≡ true = rw two at ranged in rw two (second_narrow k second))
 ]

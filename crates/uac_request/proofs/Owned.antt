@@ -9,7 +9,8 @@ use Rattle.uac_entities.specs.declared.entity.EntityKind.TheVariants as kind
 use Rattle.uac_entities.specs.declared.stream.StreamInterface.{StreamInterface}
 use Rattle.uac_topology.specs.Function.{FunctionFields}
 use Rattle.uac_store.specs.declared.keys.Key.{Key}
-use Rattle.uac_store.specs.Controls.{IsStoreOf, count_by, count_of, nodes_of, has_control, has_on, selectors_of}
+use Rattle.uac_store.specs.ControlTable.{count_by, selectors_of}
+use Rattle.uac_store.specs.Controls.{IsStoreOf, count_of, nodes_of, has_control, has_on}
 use Rattle.uac_store.specs.Keyed.{key_of, value_of}
 use Rattle.uac_request.specs.Requests.{by_entity, by_stream, high, low, owner_of, stream_in}
 

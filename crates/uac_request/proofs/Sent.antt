@@ -6,7 +6,8 @@ use Rattle.uac_entities.specs.declared.entity.Entity.{Entity}
 use Rattle.uac_entities.specs.declared.entity.EntityKind.{EntityKind}
 use Rattle.uac_entities.specs.declared.entity.EntityKind.TheVariants as kind
 use Rattle.uac_store.specs.declared.keys.Key.{Key}
-use Rattle.uac_store.specs.Controls.{IsStoreOf, count_of, has_control, has_on, is_frequency, selectors_of, takes, takes_by, takes_on}
+use Rattle.uac_store.specs.ControlTable.{is_frequency, selectors_of, takes_by}
+use Rattle.uac_store.specs.Controls.{IsStoreOf, count_of, has_control, has_on, takes, takes_on}
 use Rattle.uac_store.specs.Values.{is_legal}
 use Rattle.uac_clock.specs.Nominal.{is_listed}
 use Rattle.uac_store.specs.Keyed.{value_of}
@@ -69,17 +70,24 @@ frequency_fits attributes (pos n) taken = elim (cases_Bool (nat_lt (attributes %
   | inr listed ↦ (let is : is_listed n ≡ true = rw listed at taken in let few : n ≤ 192000 = grind arith in search rules)
 ]
 
+-- what a clock source takes is a frequency
+frequency_taken : (pins attributes selector : ℕ) (v : ℤ) → 1 ≤ selector → selector ≤ 2 → takes_by kind.ClockSource pins attributes selector v ≡ true → is_frequency attributes v ≡ true
+frequency_taken pins attributes selector v some low taken = elim (cases_lt selector 2) [
+  | inl below ↦ (let is : 1 ≡ selector = omega arith in subst (λ n. takes_by kind.ClockSource pins attributes n v ≡ true → is_frequency attributes v ≡ true) is (λ t. t) taken)
+  | inr above ↦ (let is : 2 ≡ selector = omega arith in subst (λ n. takes_by kind.ClockSource pins attributes n v ≡ true → is_frequency attributes v ≡ true) is (λ t. absurd (let no : false ≡ true = t in cc)) taken)
+]
+
 -- a value that is taken is one of 32 bits, where two bytes hold only such
-taken_fits : (k : EntityKind) (pins attributes selector w : ℕ) (v : ℤ) → IsNarrow k w → (w ≤ 2 → FitsSigned w32 v) → takes_by k pins attributes selector v ≡ true → FitsSigned w32 v
-taken_fits kind.ClockSource pins attributes selector w v narrow short taken = frequency_fits attributes v taken
-taken_fits kind.ClockSelector pins attributes selector w v narrow short taken = short narrow
-taken_fits kind.ClockMultiplier pins attributes selector w v narrow short taken = short narrow
-taken_fits kind.InputTerminal pins attributes selector w v narrow short taken = short narrow
-taken_fits kind.OutputTerminal pins attributes selector w v narrow short taken = short narrow
-taken_fits kind.Mixer pins attributes selector w v narrow short taken = short narrow
-taken_fits kind.Selector pins attributes selector w v narrow short taken = short narrow
-taken_fits kind.Feature pins attributes selector w v narrow short taken = short narrow
-taken_fits kind.Effect pins attributes selector w v narrow short taken = short narrow
+taken_fits : (k : EntityKind) (pins attributes selector w : ℕ) (v : ℤ) → 1 ≤ selector → selector ≤ 2 → IsNarrow k w → (w ≤ 2 → FitsSigned w32 v) → takes_by k pins attributes selector v ≡ true → FitsSigned w32 v
+taken_fits kind.ClockSource pins attributes selector w v some low narrow short taken = frequency_fits attributes v (frequency_taken pins attributes selector v some low taken)
+taken_fits kind.ClockSelector pins attributes selector w v some low narrow short taken = short narrow
+taken_fits kind.ClockMultiplier pins attributes selector w v some low narrow short taken = short narrow
+taken_fits kind.InputTerminal pins attributes selector w v some low narrow short taken = short narrow
+taken_fits kind.OutputTerminal pins attributes selector w v some low narrow short taken = short narrow
+taken_fits kind.Mixer pins attributes selector w v some low narrow short taken = short narrow
+taken_fits kind.Selector pins attributes selector w v some low narrow short taken = short narrow
+taken_fits kind.Feature pins attributes selector w v some low narrow short taken = short narrow
+taken_fits kind.Effect pins attributes selector w v some low narrow short taken = short narrow
 
 -- a legal value is one of 32 bits
 pub legal_fits : (entities : List Entity) (controls : List (Key × ℤ)) (e : Entity) (k : Key) (w : ℕ) (v : ℤ) → named entities k.entity ≡ Some e → 1 ≤ k.selector → k.selector ≤ 2 → entity_width e.kind k.selector ≡ Some w → is_writable_on e.kind e k.selector k.channel ≡ true → (w ≤ 2 → FitsSigned w32 v) → is_legal entities controls k v ≡ true → FitsSigned w32 v
@@ -87,7 +95,7 @@ unfolding is_legal takes takes_on
 legal_fits entities controls e k w v is some low wide can short legal =
     let kept = kept_at e.kind e k.selector k.channel w some low wide can in
     elim (cases_Bool (takes_by e.kind (length e.sources) e.attributes k.selector v)) [
-      | inl taken ↦ taken_fits e.kind (length e.sources) e.attributes k.selector w v kept.2 short taken
+      | inl taken ↦ taken_fits e.kind (length e.sources) e.attributes k.selector w v some low kept.2 short taken
       | inr not_taken ↦ (let no : false ≡ true = rw (is, not_taken) at legal in cc)
     ]
 

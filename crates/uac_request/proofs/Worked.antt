@@ -16,7 +16,7 @@ use Rattle.uac_store.specs.Rates.{rate_of, rate_step, rate_within, source_rate}
 use Rattle.uac_store.specs.Values.{are_clocked, is_legal, ranges_of}
 use Rattle.uac_alt.specs.Settings.{initial_settings, setting_of, with_setting}
 use Rattle.uac_alt.specs.Streams.{can_run, linked_channels, stream_at, stream_of}
-use Rattle.uac_request.specs.Requests.{Held, Told, with_bytes, with_descriptor, is_done, is_stalled, after_request, answered, breaks_q1, breaks_q2, breaks_q3, breaks_q4, breaks_q5, breaks_q6, breaks_q7, breaks_q8, breaks_q9, breaks_q10, breaks_q11, breaks_q12, cur_bytes, entity_width, first_broken, has_setting, is_signed, is_valid, least, left_by, little_bytes, little_number, node_bit, owner_of, range_bytes, reply_of, setup_of, valid_bytes, value_bytes, value_from}
+use Rattle.uac_request.specs.Requests.{Held, AnswerFields, with_bytes, with_descriptor, is_done, is_stalled, after_request, answered, breaks_q1, breaks_q2, breaks_q3, breaks_q4, breaks_q5, breaks_q6, breaks_q7, breaks_q8, breaks_q9, breaks_q10, breaks_q11, breaks_q12, cur_bytes, entity_width, first_broken, has_setting, is_signed, is_valid, least, left_by, little_bytes, little_number, node_bit, owner_of, range_bytes, reply_of, setup_of, valid_bytes, value_bytes, value_from}
 
 abbrev with : ℕ → EntityKind → ℕ → List ℕ → ℕ → ℕ → ℕ → List ℕ → Entity
 with id k type sources clock channels locations controls =
@@ -72,7 +72,7 @@ headset size =
 at_start : Held
 at_start = record { controls = initial_controls entities; settings = initial_settings (headset 150) }
 
-first : List ℕ → List ℕ → Told
+first : List ℕ → List ℕ → AnswerFields
 first bytes sent = reply_of (headset 150) at_start (setup_of bytes) sent
 
 -- the first three rules

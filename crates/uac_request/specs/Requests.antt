@@ -16,6 +16,9 @@ use Rattle.uac_topology_rules.specs.Links.{is_clock}
 use Rattle.uac_topology.specs.Function.{FunctionFields}
 use Rattle.uac_store.specs.declared.keys.Key.{Key}
 use Rattle.uac_store.specs.declared.keys.Range.{Range}
+use Rattle.uac_store.specs.declared.controls.Spread.{Spread}
+use Rattle.uac_store.specs.declared.controls.Spread.TheVariants as spread
+use Rattle.uac_store.specs.ControlTable.{at_selector, facts_at, is_settable, spread_of}
 use Rattle.uac_store.specs.Controls.{count_of}
 use Rattle.uac_store.specs.Keyed.{key_of, value_of, with_value}
 use Rattle.uac_store.specs.Rates.{rate_of}
@@ -102,24 +105,9 @@ owner_of function index =
     else if high index == 0 then option_map by_stream (stream_in function (low index))
     else None
 
--- the bytes of the controls of a kind, by selector, from 1 on; none where it has no such control
-abbrev pub widths_of : EntityKind → List (Option ℕ)
-widths_of kind.ClockSource = Some 4 ∷ Some 1 ∷ []
-widths_of kind.ClockSelector = Some 1 ∷ []
-widths_of kind.ClockMultiplier = Some 2 ∷ Some 2 ∷ []
-widths_of kind.InputTerminal = None ∷ Some 6 ∷ []
-widths_of kind.OutputTerminal = None ∷ Some 6 ∷ []
-widths_of kind.Mixer = Some 2 ∷ []
-widths_of kind.Selector = Some 1 ∷ []
-widths_of kind.Feature = Some 1 ∷ Some 2 ∷ []
-widths_of kind.Effect = Some 1 ∷ []
-
 -- the bytes of the control with a selector; none where there is none
-abbrev pub at_selector : List (Option ℕ) → ℕ → Option ℕ
-at_selector widths selector = if selector == 0 then None else get_or widths (selector - 1) None
-
 abbrev pub entity_width : EntityKind → ℕ → Option ℕ
-entity_width k selector = at_selector (widths_of k) selector
+entity_width k selector = option_map (λ f. f.width) (facts_at k selector)
 
 -- an interface with more than eight settings has a second byte of them
 abbrev pub map_bytes : StreamInterface → ℕ
@@ -133,17 +121,9 @@ abbrev pub width_of : Owner → ℕ → Option ℕ
 width_of (by_entity e) selector = entity_width e.kind selector
 width_of (by_stream s) selector = stream_width s selector
 
--- the controls that answer RANGE (5.2.1): frequencies, selectors, numerators and denominators, nodes and volumes
+-- the control with a selector answers RANGE (5.2.1)
 abbrev pub entity_range : EntityKind → ℕ → Bool
-entity_range kind.ClockSource selector = selector == 1
-entity_range kind.ClockSelector selector = selector == 1
-entity_range kind.ClockMultiplier selector = selector == 1 || selector == 2
-entity_range kind.InputTerminal selector = false
-entity_range kind.OutputTerminal selector = false
-entity_range kind.Mixer selector = selector == 1
-entity_range kind.Selector selector = selector == 1
-entity_range kind.Feature selector = selector == 2
-entity_range kind.Effect selector = false
+entity_range k selector = option_map_or (λ f. f.ranged) (facts_at k selector) false
 
 abbrev pub has_range : Owner → ℕ → Bool
 has_range (by_entity e) selector = entity_range e.kind selector
@@ -151,20 +131,14 @@ has_range (by_stream s) selector = false
 
 -- which control word holds a channel's control: a feature and an effect have one for each channel, the master's first
 -- (4.7.2.8, 4.7.2.10)
-abbrev pub word_of : EntityKind → ℕ → ℕ
-word_of kind.ClockSource channel = 0
-word_of kind.ClockSelector channel = 0
-word_of kind.ClockMultiplier channel = 0
-word_of kind.InputTerminal channel = 0
-word_of kind.OutputTerminal channel = 0
-word_of kind.Mixer channel = 0
-word_of kind.Selector channel = 0
-word_of kind.Feature channel = channel
-word_of kind.Effect channel = channel
+abbrev pub word_of : Spread → ℕ → ℕ
+word_of spread.Whole channel = 0
+word_of spread.Channels channel = channel
+word_of spread.Nodes channel = 0
 
 -- the place of a control's two bits in its word: by selector, but for a terminal's connector, which stands second (4.7.2)
 abbrev pub entity_bits : Entity → ℕ → ℕ → ℕ
-entity_bits e selector channel = get_or e.controls (word_of e.kind channel) 0 / 4 ^ (selector - 1) % 4
+entity_bits e selector channel = get_or e.controls (word_of (spread_of e.kind) channel) 0 / 4 ^ (selector - 1) % 4
 
 -- the presence of an interface's controls is told by its first general block; without one both are absent
 abbrev pub stream_bits : StreamInterface → ℕ → ℕ
@@ -184,33 +158,28 @@ abbrev pub is_in_range : List Entity → Owner → ℕ → Bool
 is_in_range entities owner channel = nat_lt channel (owner_count entities owner)
 
 -- the control is declared: its bits aren't 00, and every node of a mixer is
+abbrev pub is_declared_by : Spread → Entity → ℕ → ℕ → Bool
+is_declared_by spread.Whole e selector channel = not (entity_bits e selector channel == 0)
+is_declared_by spread.Channels e selector channel = not (entity_bits e selector channel == 0)
+is_declared_by spread.Nodes e selector channel = true
+
 abbrev pub is_declared_on : EntityKind → Entity → ℕ → ℕ → Bool
-is_declared_on kind.ClockSource e selector channel = not (entity_bits e selector channel == 0)
-is_declared_on kind.ClockSelector e selector channel = not (entity_bits e selector channel == 0)
-is_declared_on kind.ClockMultiplier e selector channel = not (entity_bits e selector channel == 0)
-is_declared_on kind.InputTerminal e selector channel = not (entity_bits e selector channel == 0)
-is_declared_on kind.OutputTerminal e selector channel = not (entity_bits e selector channel == 0)
-is_declared_on kind.Mixer e selector channel = true
-is_declared_on kind.Selector e selector channel = not (entity_bits e selector channel == 0)
-is_declared_on kind.Feature e selector channel = not (entity_bits e selector channel == 0)
-is_declared_on kind.Effect e selector channel = not (entity_bits e selector channel == 0)
+is_declared_on k e selector channel = is_declared_by (spread_of k) e selector channel
 
 abbrev pub is_declared : Owner → ℕ → ℕ → Bool
 is_declared (by_entity e) selector channel = is_declared_on e.kind e selector channel
 is_declared (by_stream s) selector channel = not (stream_bits s selector == 0)
 
--- a host may set the control: its bits are 11, or a node's bit is 1. The validity of a clock and the controls of terminals and
--- interfaces can only be read, whatever their bits say
+-- the descriptor lets a host set it: its bits are 11, or a node's bit is 1
+abbrev pub is_opened_by : Spread → Entity → ℕ → ℕ → Bool
+is_opened_by spread.Whole e selector channel = entity_bits e selector channel == 3
+is_opened_by spread.Channels e selector channel = entity_bits e selector channel == 3
+is_opened_by spread.Nodes e selector channel = node_bit e.mix_bits channel == 1
+
+-- a host may set the control: it is one that a host may ever set, and the descriptor lets it. The validity of a clock and the controls of
+-- terminals and interfaces can only be read, whatever their bits say
 abbrev pub is_writable_on : EntityKind → Entity → ℕ → ℕ → Bool
-is_writable_on kind.ClockSource e selector channel = selector == 1 && entity_bits e selector channel == 3
-is_writable_on kind.ClockSelector e selector channel = entity_bits e selector channel == 3
-is_writable_on kind.ClockMultiplier e selector channel = entity_bits e selector channel == 3
-is_writable_on kind.InputTerminal e selector channel = false
-is_writable_on kind.OutputTerminal e selector channel = false
-is_writable_on kind.Mixer e selector channel = node_bit e.mix_bits channel == 1
-is_writable_on kind.Selector e selector channel = entity_bits e selector channel == 3
-is_writable_on kind.Feature e selector channel = entity_bits e selector channel == 3
-is_writable_on kind.Effect e selector channel = entity_bits e selector channel == 3
+is_writable_on k e selector channel = is_settable k selector && is_opened_by (spread_of k) e selector channel
 
 abbrev pub is_writable : Owner → ℕ → ℕ → Bool
 is_writable (by_entity e) selector channel = is_writable_on e.kind e selector channel
@@ -242,17 +211,9 @@ IsWithin true width (negsuc n) = 2 * n < 256 ^ width
 IsWithin false width (pos n) = n < 256 ^ width
 IsWithin false width (negsuc n) = ⊥
 
--- a volume and a node are signed
+-- its values are signed, as a volume and a node are
 abbrev pub is_signed : EntityKind → ℕ → Bool
-is_signed kind.ClockSource selector = false
-is_signed kind.ClockSelector selector = false
-is_signed kind.ClockMultiplier selector = false
-is_signed kind.InputTerminal selector = false
-is_signed kind.OutputTerminal selector = false
-is_signed kind.Mixer selector = true
-is_signed kind.Selector selector = false
-is_signed kind.Feature selector = selector == 2
-is_signed kind.Effect selector = false
+is_signed k selector = option_map_or (λ f. f.signed) (facts_at k selector) false
 
 -- the value that bytes are
 unfoldable pub value_from : Bool → List ℕ → ℤ
@@ -405,18 +366,18 @@ first_broken function held p sent =
 -- ---- the answer
 
 -- bytes, a piece of the configuration, that it is done, or the rule by which it is stalled
-pub data Told : Type 0 where
-  with_bytes : List ℕ → Told
-  with_descriptor : ℕ → ℕ → Told
-  is_done : Told
-  is_stalled : ℕ → Told
+pub data AnswerFields : Type 0 where
+  with_bytes : List ℕ → AnswerFields
+  with_descriptor : ℕ → ℕ → AnswerFields
+  is_done : AnswerFields
+  is_stalled : ℕ → AnswerFields
 
 -- an answer as what it tells
-abbrev pub seen : Answer → Told
-seen (told.Bytes reply) = with_bytes reply.items
-seen (told.Descriptor from to) = with_descriptor from to
-seen told.Done = is_done
-seen (told.Stall rule) = is_stalled rule
+abbrev pub answer_fields : Answer → AnswerFields
+answer_fields (told.Bytes reply) = with_bytes reply.items
+answer_fields (told.Descriptor from to) = with_descriptor from to
+answer_fields told.Done = is_done
+answer_fields (told.Stall rule) = is_stalled rule
 
 abbrev pub one_byte : ℕ → List ℕ
 one_byte byte = byte ∷ []
@@ -480,7 +441,7 @@ ranges_named function p =
 
 -- what a request that breaks no rule is answered: a control's value or its ranges, and an interface's setting, cut at wLength; the
 -- configuration up to wLength; or that it is done
-unfoldable pub answered : FunctionFields → Held → Setup → Told
+unfoldable pub answered : FunctionFields → Held → Setup → AnswerFields
 answered function held p =
     if gets_cur p then with_bytes (take p.length (cur_named function held p))
     else if gets_range p then with_bytes (take p.length (ranges_named function p))
@@ -501,10 +462,10 @@ left_by function held p sent =
     else held
 
 -- the answer to a request: the rule that it breaks first, where it breaks one
-unfoldable pub reply_of : FunctionFields → Held → Setup → List ℕ → Told
+unfoldable pub reply_of : FunctionFields → Held → Setup → List ℕ → AnswerFields
 reply_of function held p sent = option_map_or is_stalled (first_broken function held p sent) (answered function held p)
 
--- what the device keeps behind it: a stalled request changes nothing
+-- what the device keeps after it: a stalled request changes nothing
 unfoldable pub after_request : FunctionFields → Held → Setup → List ℕ → Held
 after_request function held p sent = if is_some (first_broken function held p sent) then held else left_by function held p sent
 

@@ -1,4 +1,4 @@
-// Values as bytes.
+//! Values as the bytes of controls (Audio Class 2.0, 5.2.3.1 to 5.2.3.3).
 ghost use Rattle.std.specs.Prelude.{◌≡◌, ◌≤◌, ◌<◌, ◌+◌, ◌-◌, ◌^◌, ◌++◌, get_or, length};
 ghost use Rattle.std.specs.Int.{w32};
 ghost use Rattle.std.specs.Int.RustNames.{FitsSigned};
@@ -7,30 +7,67 @@ ghost use Rattle.uac_request.specs.Requests as spec;
 ghost use Rattle.uac_request.specs.Requests.{little_bytes, value_bytes};
 
 use crate::told::Reply;
+use arrayvec::ArrayVec;
 
-/// Adds so many bytes of a number to a reply, the lowest first.
-#[tactic(auto, unfolding(crate::specs::Requests::little_bytes))]
-pub(crate) fn push_number(reply: &mut Reply, width: usize, number: u64)
-    requires room { array_vec_len reply.old + width ≤ 146 }
-    ensures bytes { reply.new.items ≡ reply.old.items ++ little_bytes width number }
-    ensures len { array_vec_len reply.new ≡ array_vec_len reply.old + width }
+/// The bytes of a control's value, at most six.
+pub type ControlBytes = ArrayVec<u8, 6>;
+
+/// A value in so many bytes, the lowest first, in two's complement where it is negative.
+#[tactic(auto, unfolding(crate::specs::Requests::value_bytes))]
+pub fn value_bytes(width: u8, value: i32) -> ControlBytes
+    requires { width ≤ 6 }
+    ensures bytes { result.items ≡ value_bytes width value }
+    ensures len { array_vec_len result ≡ width }
 {
-    let mut rest = number;
-    for _place in 0..width {
-        reply.push((rest % 256) as u8);
-        rest /= 256;
-    }
+    number_bytes(width, complement(width, value))
 }
 
-/// Adds a value in so many bytes to a reply, in two's complement where it is negative.
-#[tactic(auto, unfolding(crate::specs::Requests::value_bytes))]
+// So many bytes of a number, the lowest first.
+#[tactic(auto, unfolding(crate::specs::Requests::little_bytes))]
+fn number_bytes(width: u8, number: u64) -> ControlBytes
+    requires { width ≤ 6 }
+    ensures bytes { result.items ≡ little_bytes width number }
+    ensures len { array_vec_len result ≡ width }
+{
+    let mut bytes = ArrayVec::new();
+    let mut rest = number;
+    for _place in 0..width {
+        bytes.push((rest % 256) as u8);
+        rest /= 256;
+    }
+    bytes
+}
+
+/// Adds a value in so many bytes to a reply.
 pub(crate) fn push_value(reply: &mut Reply, width: u8, value: i32)
     requires narrow { width ≤ 6 }
     requires room { array_vec_len reply.old + width ≤ 146 }
     ensures bytes { reply.new.items ≡ reply.old.items ++ value_bytes width value }
     ensures len { array_vec_len reply.new ≡ array_vec_len reply.old + width }
 {
-    push_number(reply, usize::from(width), complement(width, value));
+    push_all(reply, &value_bytes(width, value));
+}
+
+/// Adds so many bytes of a number to a reply, the lowest first.
+pub(crate) fn push_number(reply: &mut Reply, width: u8, number: u64)
+    requires narrow { width ≤ 6 }
+    requires room { array_vec_len reply.old + width ≤ 146 }
+    ensures bytes { reply.new.items ≡ reply.old.items ++ little_bytes width number }
+    ensures len { array_vec_len reply.new ≡ array_vec_len reply.old + width }
+{
+    push_all(reply, &number_bytes(width, number));
+}
+
+// Adds bytes, for which there is room, to a reply.
+fn push_all(reply: &mut Reply, bytes: &ControlBytes)
+    requires { array_vec_len reply.old + array_vec_len bytes.now ≤ 146 }
+    ensures bytes { reply.new.items ≡ reply.old.items ++ bytes.now.items }
+    ensures len { array_vec_len reply.new ≡ array_vec_len reply.old + array_vec_len bytes.now }
+{
+    match reply.try_extend_from_slice(bytes.as_slice()) {
+        Ok(()) => {}
+        Err(_) => unreachable!(),
+    }
 }
 
 // The number that a value is in so many bytes.
@@ -65,7 +102,7 @@ fn numbers(width: u8) -> u64
 
 /// The value that at most four bytes are, the lowest first; a signed one in two's complement.
 #[tactic(auto, unfolding(crate::specs::Requests::value_from))]
-pub(crate) fn value_from(signed: bool, bytes: &[u8]) -> i64
+pub fn value_from(signed: bool, bytes: &[u8]) -> i64
     requires { length bytes.now ≤ 4 }
     ensures value { result ≡ spec.value_from signed bytes.now }
     ensures short { length bytes.now ≤ 2 → FitsSigned w32 result }

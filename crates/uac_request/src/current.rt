@@ -2,29 +2,18 @@
 ghost use Rattle.std.specs.Prelude.{◌≡◌, ◌≤◌, IfSome};
 ghost use Rattle.uac_request.specs.Owners.{owned};
 ghost use Rattle.uac_request.specs.Requests as spec;
-ghost use Rattle.uac_request.specs.Requests.{held_by, key_named};
+ghost use Rattle.uac_request.specs.Requests.{held_by};
 
 use crate::bytes::{push_number, push_value};
 use crate::controls::{entity_width, map_bytes};
 use crate::owner::Owner;
-use crate::setup::{Setup, high_byte, low_byte};
+use crate::setup::{Setup, high_byte, key_named};
 use crate::told::Reply;
 use crate::valid::valid_map;
 use arrayvec::ArrayVec;
 use uac_alt::Settings;
 use uac_store::{Key, Store};
 use uac_topology::{Entity, EntityKind, Function, StreamInterface};
-
-/// The key of the control that wValue and wIndex name (Audio Class 2.0, 5.2.2).
-pub(crate) fn key_of(setup: &Setup) -> Key
-    ensures { result ≡ key_named setup.now }
-{
-    Key {
-        entity: high_byte(setup.index),
-        selector: high_byte(setup.value),
-        channel: low_byte(setup.value),
-    }
-}
 
 /// The bytes of a control's value now, whole.
 #[tactic(auto, unfolding(crate::specs::Requests::cur_bytes))]
@@ -38,7 +27,7 @@ pub(crate) fn cur_bytes(
     ensures { result.items ≡ spec.cur_bytes function.now (held_by store.now settings.now) setup.now (owned owner.entry) }
 {
     match owner {
-        Owner::Entity(entity) => entity_bytes(entity, store, key_of(setup)),
+        Owner::Entity(entity) => entity_bytes(entity, store, key_named(setup)),
         Owner::Stream(stream) => {
             stream_bytes(function, store, settings, stream, high_byte(setup.value))
         }
@@ -106,11 +95,8 @@ fn valid_bytes(function: &Function, store: &Store, stream: &StreamInterface) -> 
     ensures { result.items ≡ spec.valid_bytes function.now store.now stream.now }
 {
     let mut reply = one_byte(map_bytes(stream));
-    push_number(
-        &mut reply,
-        usize::from(map_bytes(stream)),
-        valid_map(function, store, stream),
-    );
+    let width = map_bytes(stream);
+    push_number(&mut reply, width, valid_map(function, store, stream));
     reply
 }
 

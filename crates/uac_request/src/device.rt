@@ -1,7 +1,7 @@
 // What a device answers.
 ghost use Rattle.std.specs.Prelude.{◌≡◌};
 ghost use Rattle.uac_store.specs.Controls.{IsStoreOf};
-ghost use Rattle.uac_request.specs.Requests.{AreSettingsOf, after_request, held_by, reply_of, seen};
+ghost use Rattle.uac_request.specs.Requests.{AreSettingsOf, after_request, held_by, reply_of, answer_fields};
 
 use crate::request::{Request, request_of};
 use crate::serve::{get_cur, get_descriptor, get_interface, get_range, set_cur, set_interface};
@@ -11,7 +11,7 @@ use uac_alt::Settings;
 use uac_store::Store;
 use uac_topology::Function;
 
-/// What a device answers to a control request, and what it keeps behind it (Audio Class 2.0, 5.2; USB 2.0, 9.4). `sent`
+/// What a device answers to a control request, and what it keeps after it (Audio Class 2.0, 5.2; USB 2.0, 9.4). `sent`
 /// are the bytes that came with it. It takes no memory.
 ///
 /// A stall carries the first of the rules Q1 to Q12 that the request breaks, and changes nothing.
@@ -25,7 +25,7 @@ pub fn answer(
 ) -> Answer
     requires of_function { IsStoreOf function.now.entities store.old }
     requires settings { AreSettingsOf function.now settings.old }
-    ensures answer { seen result ≡ reply_of function.now (held_by store.old settings.old) setup.now sent.now }
+    ensures answer { answer_fields result ≡ reply_of function.now (held_by store.old settings.old) setup.now sent.now }
     ensures held { held_by store.new settings.new ≡ after_request function.now (held_by store.old settings.old) setup.now sent.now }
     ensures of_function { IsStoreOf function.now.entities store.new }
     ensures still { AreSettingsOf function.now settings.new }

@@ -2,11 +2,13 @@
 #![tactic(auto)]
 
 /// Values as bytes.
-mod bytes;
-/// The controls that descriptors declare.
+pub mod bytes;
+/// The controls of entities and of streaming interfaces.
 mod controls;
 /// A control's value now.
 mod current;
+/// The controls that an entity's descriptor declares.
+pub mod declared;
 /// What a device answers.
 mod device;
 pub mod laws;
@@ -30,6 +32,6 @@ mod told;
 mod valid;
 
 pub use device::answer;
-pub use setup::Setup;
+pub use setup::{Setup, key_named, low_byte, word};
 pub use told::{Answer, Reply};
 pub use valid::is_valid;

@@ -8,9 +8,8 @@ ghost use Rattle.uac_request.specs.Requests.{key_named};
 
 use crate::bytes::{push_number, push_value};
 use crate::controls::width_of;
-use crate::current::key_of;
 use crate::owner::Owner;
-use crate::setup::Setup;
+use crate::setup::{Setup, key_named};
 use crate::told::Reply;
 use arrayvec::ArrayVec;
 use uac_store::{Range, ranges};
@@ -23,7 +22,7 @@ pub(crate) fn ranges_now(function: &Function, setup: &Setup, owner: Owner<'_>) -
     ensures { result.items ≡ spec.range_bytes (spec.bytes_of (owned owner.entry) (spec.high setup.now.value))
         (unwrap_or (ranges_of function.now.entities (key_named setup.now)) []) }
 {
-    let key = key_of(setup);
+    let key = key_named(setup);
     let width = width_of(owner, key.selector).unwrap_or(0);
     match ranges(function, key) {
         Some(ranges) => range_bytes(width, ranges.as_slice()),

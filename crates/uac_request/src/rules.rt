@@ -7,7 +7,7 @@ ghost use Rattle.uac_entities.specs.Streams.{named};
 ghost use Rattle.uac_entities.specs.declared.entity.Entity.{Entity};
 ghost use Rattle.uac_topology.specs.Function.{FunctionFields};
 ghost use Rattle.uac_alt.specs.declared.settings.InterfaceSetting.{InterfaceSetting};
-ghost use Rattle.uac_store.specs.Controls.{IsStoreOf, count_of, selectors_of, takes};
+ghost use Rattle.uac_store.specs.Controls.{IsStoreOf, count_of, takes};
 ghost use Rattle.uac_store.specs.Keyed.{value_of};
 ghost use Rattle.uac_store.specs.Values.{is_legal};
 ghost use Rattle.uac_request.specs.Owners.{get_rules, owned, set_rules};
@@ -16,10 +16,10 @@ ghost use Rattle.uac_request.specs.Requests.{by_entity, first_broken, held_by, k
 
 use crate::bytes::value_from;
 use crate::controls::{has_range, is_declared, width_of, written};
-use crate::current::key_of;
 use crate::owner::Owner;
-use crate::setup::{Setup, high_byte, low_byte};
+use crate::setup::{Setup, key_named, low_byte};
 use uac_alt::Settings;
+use uac_store::controls::{facts_at, selectors_of};
 use uac_store::{Key, Store};
 use uac_topology::{Entity, EntityKind, Function};
 use uac_topology_rules::is_clock;
@@ -60,7 +60,7 @@ fn broken_at(
     ensures broken { result ≡ least (get_rules function.now setup.now sent.now (owned owner.entry) range) }
     ensures ranged { result ≡ None → range ≡ true → spec.has_range (owned owner.entry) (spec.high setup.now.value) ≡ true }
 {
-    let key = key_of(setup);
+    let key = key_named(setup);
     if width_of(owner, key.selector).is_none() || (range && !has_range(owner, key.selector)) {
         return Some(4);
     }
@@ -84,7 +84,7 @@ fn is_in_range(store: &Store, setup: &Setup, owner: Owner<'_>) -> bool
         ≡ Some (owned owner.entry) → result ≡ spec.is_in_range function.entities (owned owner.entry) (spec.low setup.now.value) }
 {
     match owner {
-        Owner::Entity(entity) => has_channel(store, entity.kind, key_of(setup)),
+        Owner::Entity(entity) => has_channel(store, entity.kind, key_named(setup)),
         Owner::Stream(_) => low_byte(setup.value) == 0,
     }
 }
@@ -96,18 +96,11 @@ fn has_channel(store: &Store, kind: EntityKind, key: Key) -> bool
     ensures { (entities : List Entity) (e : Entity) → IsStoreOf entities store.now → named entities key.entity ≡ Some e → e.kind ≡ kind
         → result ≡ nat_lt key.channel (count_of entities e) }
 {
-    if keeps_values(kind) {
+    if selectors_of(kind) >= 1 {
         store.cur(Key { selector: 1, ..key }).is_some()
     } else {
         key.channel == 0
     }
-}
-
-// Whether the first control of a kind keeps a value.
-fn keeps_values(kind: EntityKind) -> bool
-    ensures { result ≡ nat_le 1 (selectors_of kind) }
-{
-    !matches!(kind, EntityKind::InputTerminal | EntityKind::OutputTerminal)
 }
 
 /// The value that a request to set a control's value sends, or the first rule that it breaks.
@@ -153,7 +146,7 @@ fn value_sent(
     ensures kept { IfOk result (λ value. IsSome (value_of store.now (key_named setup.now))) }
     ensures taken { IfOk result (λ value. takes function.now.entities (key_named setup.now) value ≡ true) }
 {
-    let key = key_of(setup);
+    let key = key_named(setup);
     let Some(width) = width_of(owner, key.selector) else {
         return Err(4);
     };
@@ -219,19 +212,12 @@ fn narrowed(value: i64) -> Option<i32>
     i32::try_from(value).ok()
 }
 
-// A volume and a node are signed.
+// Whether a control's values are signed.
 fn is_signed(kind: EntityKind, selector: u8) -> bool
     ensures { result ≡ spec.is_signed kind selector }
 {
-    match kind {
-        EntityKind::Mixer => true,
-        EntityKind::Feature => selector == 2,
-        EntityKind::ClockSource
-        | EntityKind::ClockSelector
-        | EntityKind::ClockMultiplier
-        | EntityKind::InputTerminal
-        | EntityKind::OutputTerminal
-        | EntityKind::Selector
-        | EntityKind::Effect => false,
+    match facts_at(kind, selector) {
+        Some(facts) => facts.signed,
+        None => false,
     }
 }

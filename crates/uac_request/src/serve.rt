@@ -5,13 +5,13 @@ ghost use Rattle.uac_store.specs.Controls.{IsStoreOf};
 ghost use Rattle.uac_store.specs.declared.keys.Key.{Key};
 ghost use Rattle.uac_request.specs.Owners.{owned};
 ghost use Rattle.uac_request.specs.Requests as spec;
-ghost use Rattle.uac_request.specs.Requests.{AreSettingsOf, Held, after_request, first_broken, held_by, is_to_control, low, reply_of, seen};
+ghost use Rattle.uac_request.specs.Requests.{AreSettingsOf, Held, after_request, first_broken, held_by, is_to_control, low, reply_of, answer_fields};
 
-use crate::current::{cur_bytes, key_of, one_byte};
+use crate::current::{cur_bytes, one_byte};
 use crate::owner::{Owner, has_interface, interface_named, owner_of, setting_named};
 use crate::ranging::ranges_now;
 use crate::rules::{get_broken, value_to_set};
-use crate::setup::{Setup, low_byte};
+use crate::setup::{Setup, key_named, low_byte};
 use crate::told::{Answer, Reply};
 use crate::valid::is_valid;
 use uac_alt::Settings;
@@ -30,7 +30,7 @@ pub(crate) fn get_cur(
     requires of_function { IsStoreOf function.now.entities store.now }
     requires asked { setup.now.request_type ≡ 161 }
     requires number { setup.now.request ≡ 1 }
-    ensures told { seen result ≡ reply_of function.now (held_by store.now settings.now) setup.now sent.now }
+    ensures told { answer_fields result ≡ reply_of function.now (held_by store.now settings.now) setup.now sent.now }
     ensures held { held_by store.now settings.now ≡ after_request function.now (held_by store.now settings.now) setup.now sent.now }
 {
     let owner = match owner_named(function, setup) {
@@ -53,7 +53,7 @@ pub(crate) fn get_range(function: &Function, store: &Store, setup: &Setup, sent:
     requires asked { setup.now.request_type ≡ 161 }
     requires number { setup.now.request ≡ 2 }
     ensures told { (settings : List InterfaceSetting)
-        → seen result ≡ reply_of function.now (held_by store.now settings) setup.now sent.now }
+        → answer_fields result ≡ reply_of function.now (held_by store.now settings) setup.now sent.now }
     ensures held { (settings : List InterfaceSetting)
         → held_by store.now settings ≡ after_request function.now (held_by store.now settings) setup.now sent.now }
 {
@@ -67,7 +67,7 @@ pub(crate) fn get_range(function: &Function, store: &Store, setup: &Setup, sent:
     }
 }
 
-/// What a request to set a control's value is told, and the controls behind it (Audio Class 2.0, 5.2.2).
+/// What a request to set a control's value is told, and the controls after it (Audio Class 2.0, 5.2.2).
 #[tactic(auto, unfolding(crate::specs::Requests::reply_of, crate::specs::Requests::after_request), using(crate::proofs::Asked::answered_set, crate::proofs::Asked::left_set))]
 pub(crate) fn set_cur(
     function: &Function,
@@ -79,7 +79,7 @@ pub(crate) fn set_cur(
     requires of_function { IsStoreOf function.now.entities store.old }
     requires asked { setup.now.request_type ≡ 33 }
     requires number { setup.now.request ≡ 1 }
-    ensures told { seen result ≡ reply_of function.now (held_by store.old settings.now) setup.now sent.now }
+    ensures told { answer_fields result ≡ reply_of function.now (held_by store.old settings.now) setup.now sent.now }
     ensures held { held_by store.new settings.now ≡ after_request function.now (held_by store.old settings.now) setup.now sent.now }
     ensures of_function { IsStoreOf function.now.entities store.new }
 {
@@ -89,7 +89,7 @@ pub(crate) fn set_cur(
     };
     match value_to_set(function, store, settings, setup, sent, owner) {
         Ok(value) => {
-            store.set(key_of(setup), value);
+            store.set(key_named(setup), value);
             Answer::Done
         }
         Err(rule) => Answer::Stall(rule),
@@ -101,7 +101,7 @@ pub(crate) fn set_cur(
 pub(crate) fn get_descriptor(function: &Function, setup: &Setup, sent: &[u8]) -> Answer
     requires asked { setup.now.request_type ≡ 128 }
     requires number { setup.now.request ≡ 6 }
-    ensures told { (held : Held) → seen result ≡ reply_of function.now held setup.now sent.now }
+    ensures told { (held : Held) → answer_fields result ≡ reply_of function.now held setup.now sent.now }
     ensures held { (held : Held) → held ≡ after_request function.now held setup.now sent.now }
 {
     if setup.value != 0x0200 {
@@ -131,7 +131,7 @@ pub(crate) fn get_interface(
 ) -> Answer
     requires asked { setup.now.request_type ≡ 129 }
     requires number { setup.now.request ≡ 10 }
-    ensures told { (controls : List (Key × ℤ)) → seen result ≡ reply_of function.now (held_by controls settings.now) setup.now sent.now }
+    ensures told { (controls : List (Key × ℤ)) → answer_fields result ≡ reply_of function.now (held_by controls settings.now) setup.now sent.now }
     ensures held { (controls : List (Key × ℤ))
         → held_by controls settings.now ≡ after_request function.now (held_by controls settings.now) setup.now sent.now }
 {
@@ -145,7 +145,7 @@ pub(crate) fn get_interface(
     Answer::Bytes(cut(one_byte(setting), setup.length))
 }
 
-/// What a request to set an interface's setting is told, and the settings behind it (USB 2.0, 9.4.10).
+/// What a request to set an interface's setting is told, and the settings after it (USB 2.0, 9.4.10).
 #[tactic(auto, unfolding(crate::specs::Requests::reply_of, crate::specs::Requests::after_request, crate::specs::Requests::least), using(crate::proofs::Asked::first_set_interface, crate::proofs::Asked::answered_set_interface, crate::proofs::Asked::left_set_interface))]
 pub(crate) fn set_interface(
     function: &Function,
@@ -157,7 +157,7 @@ pub(crate) fn set_interface(
     requires settings { AreSettingsOf function.now settings.old }
     requires asked { setup.now.request_type ≡ 1 }
     requires number { setup.now.request ≡ 11 }
-    ensures told { seen result ≡ reply_of function.now (held_by store.now settings.old) setup.now sent.now }
+    ensures told { answer_fields result ≡ reply_of function.now (held_by store.now settings.old) setup.now sent.now }
     ensures held { held_by store.now settings.new ≡ after_request function.now (held_by store.now settings.old) setup.now sent.now }
     ensures of_function { AreSettingsOf function.now settings.new }
 {

@@ -1,6 +1,9 @@
 // The setup packet of a control transfer.
 ghost use Rattle.std.specs.Prelude.{◌≡◌, ◌+◌, ◌*◌};
+ghost use Rattle.uac_request.specs.Requests as spec;
 ghost use Rattle.uac_request.specs.Requests.{high, low, setup_of};
+
+use uac_store::Key;
 
 /// The setup packet of a control transfer (USB 2.0, 9.3).
 #[derive(Clone, Copy, PartialEq, Eq, Debug)]
@@ -32,8 +35,8 @@ impl Setup {
     }
 }
 
-// The number of two bytes.
-fn word(low: u8, high: u8) -> u16
+/// The number of two bytes.
+pub fn word(low: u8, high: u8) -> u16
     ensures { result ≡ low + 256 * high }
 {
     u16::from(low) + 256 * u16::from(high)
@@ -47,8 +50,19 @@ pub(crate) fn high_byte(number: u16) -> u8
 }
 
 /// The low byte of a number: a control's channel in wValue, the interface in wIndex (Audio Class 2.0, 5.2.2).
-pub(crate) fn low_byte(number: u16) -> u8
+pub fn low_byte(number: u16) -> u8
     ensures { result ≡ low number }
 {
     (number % 256) as u8
+}
+
+/// The key of the control that wValue and wIndex name (Audio Class 2.0, 5.2.2).
+pub fn key_named(setup: &Setup) -> Key
+    ensures { result ≡ spec.key_named setup.now }
+{
+    Key {
+        entity: high_byte(setup.index),
+        selector: high_byte(setup.value),
+        channel: low_byte(setup.value),
+    }
 }

@@ -1,8 +1,8 @@
 -- The controls at the start are exactly those that the entities have, each with a value that it takes.
-use Rattle.std.proofs.Common.{◌≡◌, ℕ, suc, ◌/◌, ◌%◌, ◌==◌, ◌&&◌, ◌≤◌, nat_lt, nat_le, nat_eq, ℤ, pos, negsuc, List, [], ◌∷◌, map, length, Option, None, Some, is_some, if◌then◌else◌, Bool, true, false, refl, ap, sym, subst, ◌∙◌, arith}
+use Rattle.std.proofs.Common.{◌≡◌, ℕ, suc, ◌/◌, ◌%◌, ◌==◌, ◌&&◌, ◌≤◌, nat_lt, nat_le, nat_eq, ℤ, pos, negsuc, List, [], ◌∷◌, map, length, Option, None, Some, is_some, if◌then◌else◌, Bool, true, false, refl, ap, sym, subst, ◌∙◌, arith, rules}
 use Rattle.std.specs.Option.{option_or, option_and_then, option_map_or}
 use Rattle.std.specs.List.{flat_map, All, AllByRecursion, IsDistinct}
-use Rattle.std.proofs.lemmas.Bool.{eqb-true, eqb-false, ltb-true, ltb-false, le-leb, leb-true, leb-false}
+use Rattle.std.proofs.lemmas.Bool.{and_parts, eqb-true, eqb-false, ltb-true, ltb-false, le-leb, leb-true, leb-false}
 use Rattle.uac_clock.specs.Nominal.{is_listed}
 use Rattle.uac_gain.specs.Gain.{gain_of}
 use Rattle.uac_entities.specs.Streams.{named}
@@ -13,7 +13,9 @@ use Rattle.uac_topology_rules.proofs.Sound.{option_or-none}
 use Rattle.uac_topology.specs.Kept.{has_pins, HavePins}
 use Rattle.uac_store.specs.declared.keys.Key.{Key}
 use Rattle.uac_store.specs.Keyed.{value_of}
-use Rattle.uac_store.specs.Controls.{choices, start_of, start_at, start_by, count_of, selectors_of, pins_of, node_start, channel_within, controls_of, initial_controls, has_on, has_control, takes, takes_on, takes_by, is_one_to, is_switch, IsStoreOf}
+use Rattle.uac_store.specs.ControlTable.{choices, is_one_to, selectors_of, start_by, takes_by}
+use Rattle.uac_store.specs.Controls.{start_of, start_at, count_of, pins_of, node_start, channel_within, controls_of, initial_controls, has_on, has_control, takes, takes_on, IsStoreOf}
+use Rattle.uac_store.proofs.Tabled.{at_each}
 use Rattle.uac_store.proofs.Keeping.{value_of-append, controls_miss_channel, controls_miss_entity, selectors_miss, selectors_have, entities_miss}
 
 -- what one entity gives a key
@@ -90,17 +92,6 @@ named_has P (x ∷ xs) id e each is = from (x.id == id) is (λ h. named_has P xs
   from true here rest = let i : x ≡ e = cc in subst P i (each 0 x (omega arith))
   from false other rest = rest other
 
--- a terminal has no selector
-no_selector : (selector : ℕ) (has : Bool) → (nat_lt 0 selector && nat_le selector 0 && has) ≡ true → ⊥
-no_selector selector has there = from (nat_lt 0 selector) (nat_le selector 0) refl refl there where
-  from : (low high : Bool) → nat_lt 0 selector ≡ low → nat_le selector 0 ≡ high → (low && high && has) ≡ true → ⊥
-  from true true l h there =
-      let lo = ltb-true 0 selector l in
-      let hi = leb-true selector 0 h in
-      omega (arith, lo, hi)
-  from true false l h there = cc
-  from false high l h there = cc
-
 -- the first pin is there
 first_pin : (pins : ℕ) → 1 ≤ pins → is_one_to (choices pins) (pos 1) ≡ true
 first_pin pins some = from (nat_lt pins 256) where
@@ -108,30 +99,48 @@ first_pin pins some = from (nat_lt pins 256) where
   from true = le-leb 1 pins some
   from false = refl
 
--- what an entity's control has at the start is a value that it takes
-start_taken : (k : EntityKind) (pins : List ℕ) (outputs sources attributes selector channel : ℕ) (has : Bool)
-    → (has_pins k ≡ true → 1 ≤ sources) → (nat_lt 0 selector && nat_le selector (selectors_of k) && has) ≡ true
-    → takes_by k sources attributes selector (start_by k (node_start pins outputs channel)) ≡ true
+-- what an entity's control has at the start is a value that it takes: its first control, its second, and either
+start_first : (k : EntityKind) (pins : List ℕ) (outputs sources attributes channel : ℕ) → (has_pins k ≡ true → 1 ≤ sources) → nat_le 1 (selectors_of k) ≡ true
+    → takes_by k sources attributes 1 (start_by k (node_start pins outputs channel)) ≡ true
 unfolding node_start
-start_taken kind.ClockSource pins outputs sources attributes selector channel has pin there = from (nat_lt (attributes % 4) 2) where
+start_first kind.ClockSource pins outputs sources attributes channel pin there = from (nat_lt (attributes % 4) 2) where
   from : (b : Bool) → (if b then 48000 == 48000 else is_listed 48000) ≡ true
   from true = refl
   from false = refl
-start_taken kind.ClockSelector pins outputs sources attributes selector channel has pin there = first_pin sources (pin refl)
-start_taken kind.ClockMultiplier pins outputs sources attributes selector channel has pin there = refl
-start_taken kind.InputTerminal pins outputs sources attributes selector channel has pin there = absurd (no_selector selector has there)
-start_taken kind.OutputTerminal pins outputs sources attributes selector channel has pin there = absurd (no_selector selector has there)
-start_taken kind.Mixer pins outputs sources attributes selector channel has pin there =
+start_first kind.ClockSelector pins outputs sources attributes channel pin there = first_pin sources (pin refl)
+start_first kind.ClockMultiplier pins outputs sources attributes channel pin there = refl
+start_first kind.InputTerminal pins outputs sources attributes channel pin there = cc
+start_first kind.OutputTerminal pins outputs sources attributes channel pin there = cc
+start_first kind.Mixer pins outputs sources attributes channel pin there =
     from (channel_within pins (channel / outputs) == channel % outputs) where
       from : (b : Bool) → is_some (gain_of (if b then pos 0 else negsuc 32767)) ≡ true
       from true = refl
       from false = refl
-start_taken kind.Selector pins outputs sources attributes selector channel has pin there = first_pin sources (pin refl)
-start_taken kind.Feature pins outputs sources attributes selector channel has pin there = from (selector == 1) where
-  from : (b : Bool) → (if b then is_switch (pos 0) else is_some (gain_of (pos 0))) ≡ true
-  from true = refl
-  from false = refl
-start_taken kind.Effect pins outputs sources attributes selector channel has pin there = refl
+start_first kind.Selector pins outputs sources attributes channel pin there = first_pin sources (pin refl)
+start_first kind.Feature pins outputs sources attributes channel pin there = refl
+start_first kind.Effect pins outputs sources attributes channel pin there = refl
+
+start_second : (k : EntityKind) (pins : List ℕ) (outputs sources attributes channel : ℕ) → nat_le 2 (selectors_of k) ≡ true
+    → takes_by k sources attributes 2 (start_by k (node_start pins outputs channel)) ≡ true
+unfolding node_start
+start_second kind.ClockSource pins outputs sources attributes channel there = cc
+start_second kind.ClockSelector pins outputs sources attributes channel there = cc
+start_second kind.ClockMultiplier pins outputs sources attributes channel there = refl
+start_second kind.InputTerminal pins outputs sources attributes channel there = cc
+start_second kind.OutputTerminal pins outputs sources attributes channel there = cc
+start_second kind.Mixer pins outputs sources attributes channel there = cc
+start_second kind.Selector pins outputs sources attributes channel there = cc
+start_second kind.Feature pins outputs sources attributes channel there = refl
+start_second kind.Effect pins outputs sources attributes channel there = cc
+
+start_taken : (k : EntityKind) (pins : List ℕ) (outputs sources attributes selector channel : ℕ) (has : Bool)
+    → (has_pins k ≡ true → 1 ≤ sources) → (nat_lt 0 selector && nat_le selector (selectors_of k) && has) ≡ true
+    → takes_by k sources attributes selector (start_by k (node_start pins outputs channel)) ≡ true
+start_taken k pins outputs sources attributes selector channel has pin there =
+    let some : nat_lt 0 selector ≡ true = search (rules, there, and_parts) in
+    let low : nat_le selector (selectors_of k) ≡ true = search (rules, there, and_parts) in
+    at_each k (λ s. takes_by k sources attributes s (start_by k (node_start pins outputs channel)) ≡ true) selector some low
+    (start_first k pins outputs sources attributes channel pin) (start_second k pins outputs sources attributes channel)
 
 -- the controls at the start are those of the entities
 pub initial_is_store : (all : List Entity) → IsDistinct nat_eq (map (λ e. e.id) all) → HavePins all → IsStoreOf all (initial_controls all)

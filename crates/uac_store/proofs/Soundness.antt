@@ -1,10 +1,9 @@
 -- A sound function has a key for each control, and no clock that feeds itself.
-use Rattle.std.proofs.Common.{◌≡◌, ℕ, ◌+◌, ◌*◌, ◌<◌, ◌≤◌, zero, suc, ◌==◌, not, nat_lt, nat_eq, List, [], ◌∷◌, map, length, take, sum, get_or, slice_get, Option, Some, cond, if◌then◌else◌, false, refl, ap, sym, subst, ◌∙◌, arith, ◌⊎◌, inl, inr}
+use Rattle.std.proofs.Common.{◌≡◌, ℕ, ◌*◌, ◌<◌, ◌≤◌, zero, suc, ◌==◌, nat_lt, nat_eq, List, [], ◌∷◌, map, length, take, sum, get_or, slice_get, Option, Some, if◌then◌else◌, false, refl, ap, sym, subst, ◌∙◌, arith, ◌⊎◌, inl, inr}
 use Rattle.std.specs.Option.{option_map_or}
-use Rattle.std.specs.List.{position_or_len, IsDistinct}
+use Rattle.std.specs.List.{IsDistinct}
 use Rattle.std.proofs.lemmas.Bool.{or_parts, cases_lt, ltb-false}
-use Rattle.std.proofs.lemmas.List.{length-map, length-take-le, get_or-map, get_or-take, get_or_past, ext_get_or}
-use Rattle.std.proofs.lemmas.List.FromFn.{length-map-range_with_len, get_or-map-range_with_len}
+use Rattle.std.proofs.lemmas.List.{length-map, length-take-le, get_or-map, get_or-take, get_or_past}
 use Rattle.std.proofs.lemmas.List.Folds.{find_at}
 use Rattle.std.proofs.lemmas.Map.Keys.{IsDistinct-from_apart}
 use Rattle.std.proofs.lemmas.Option.{slice_get-get_or, slice_get_past}
@@ -15,23 +14,19 @@ use Rattle.uac_entities.specs.declared.entity.Cluster.{Cluster}
 use Rattle.uac_entities.specs.declared.entity.Entity.{Entity}
 use Rattle.uac_entities.specs.declared.entity.EntityKind.{EntityKind}
 use Rattle.uac_entities.specs.declared.entity.EntityKind.TheVariants as kind
-use Rattle.uac_topology_rules.specs.Table.{at, nothing, place_of, with_cluster}
+use Rattle.uac_topology_rules.specs.Table.{at, nothing, place_of}
 use Rattle.uac_topology_rules.specs.Links.{is_clock, signal_sources, clock_sources, signal_links, clock_links}
 use Rattle.uac_topology_rules.specs.Clusters.{takes_over, cluster_step, cluster_within, cluster_of, clustered, pins, inputs}
 use Rattle.uac_topology_rules.specs.Rules.{breaks_u2, breaks_u7, breaks_u14, too_large}
 use Rattle.uac_topology_rules.proofs.Sound.{signal_links-at}
 use Rattle.uac_topology.specs.Function.{FunctionFields}
 use Rattle.uac_topology.specs.Topology.{IsSoundFunction}
-use Rattle.uac_store.specs.Controls.{channels_of, pins_of, IsSmall, IsKeyed}
+use Rattle.uac_store.specs.ControlTable.{IsSmall}
+use Rattle.uac_store.specs.Controls.{channels_of, pins_of, IsKeyed}
 use Rattle.uac_store.specs.Rates.{IsClockTree}
+use Rattle.uac_topology.proofs.Clustered.{clustered-at, length-clustered, same_place, seen_alike}
 use Rattle.uac_topology.proofs.SoundRules.{KeepsRules, rules_hold}
 use Rattle.uac_store.proofs.Settling.{none_passes}
-
--- the first place of an id, by the ids alone
-place_by_ids : (xs : List Entity) (id : ℕ) → place_of xs id ≡ position_or_len (λ i. i == id) (map (λ e. e.id) xs)
-unfolding place_of
-place_by_ids [] id = refl
-place_by_ids (x ∷ xs) id = ap (λ n. cond (not (x.id == id)) (1 + n) 0) (place_by_ids xs id)
 
 no_cluster_past : (n : ℕ) (es : List Entity) (p : ℕ) → length es ≤ p → cluster_within n es p ≡ no_cluster
 unfolding cluster_within cluster_step at
@@ -41,44 +36,19 @@ no_cluster_past (suc n) es p past =
     (get_or_past es p nothing past)
 
 module _ (es : List Entity) where
-  pub length-clustered : length (clustered es) ≡ length es
-  unfolding clustered
-  length-clustered = length-map-range_with_len (λ k. with_cluster (at es k) (cluster_of es k)) 0 (length es)
-
-  pub clustered-at : (k : ℕ) (d : Entity) → k < length es → get_or (clustered es) k d ≡ with_cluster (at es k) (cluster_of es k)
-  unfolding clustered
-  clustered-at k d below = get_or-map-range_with_len (λ k. with_cluster (at es k) (cluster_of es k)) 0 (length es) k k d below (omega arith)
-
-  -- what doesn't look at clusters sees the same
-  pub seen_alike : {X : Type 0} (d : X) (g : Entity → X) → ((e : Entity) (c : Cluster) → g (with_cluster e c) ≡ g e) → map g (clustered es) ≡ map g es
-  unfolding at
-  seen_alike d g same =
-      ext_get_or d (map g (clustered es)) (map g es) (length-map (clustered es) g ∙ length-clustered ∙ sym (length-map es g))
-      (λ i within.
-      let below : i < length es = omega (arith, within, length-map (clustered es) g, length-clustered) in
-      let below' : i < length (clustered es) = omega (arith, below, length-clustered) in
-      get_or-map g (clustered es) i nothing d below' ∙ ap g (clustered-at i nothing below) ∙ same (at es i) (cluster_of es i)
-      ∙ sym (get_or-map g es i nothing d below))
-
-  pub same_place : (id : ℕ) → place_of (clustered es) id ≡ place_of es id
-  same_place id =
-      place_by_ids (clustered es) id
-      ∙ ap (position_or_len (λ i. i == id)) (seen_alike 0 (λ e. e.id) (λ e c. refl))
-      ∙ sym (place_by_ids es id)
-
   -- the channels of an entity are those of its place
   same_channels : (id : ℕ) → channels_of (clustered es) id ≡ (cluster_of es (place_of es id)).channels
   unfolding channels_of named place_of cluster_of
-  same_channels id = ap channels (find_at (λ (e : Entity). e.id == id) (clustered es) ∙ ap (slice_get (clustered es)) (same_place id)) ∙ from (cases_lt (place_of es id) (length es)) where
+  same_channels id = ap channels (find_at (λ (e : Entity). e.id == id) (clustered es) ∙ ap (slice_get (clustered es)) (same_place es id)) ∙ from (cases_lt (place_of es id) (length es)) where
     channels : Option Entity → ℕ
     channels o = option_map_or (λ e. e.cluster.channels) o 0
 
     from : (place_of es id < length es) ⊎ (length es ≤ place_of es id) → channels (slice_get (clustered es) (place_of es id)) ≡ (cluster_of es (place_of es id)).channels
     from (inl below) =
-        ap channels (slice_get-get_or (clustered es) (place_of es id) nothing (omega (arith, below, length-clustered)))
-        ∙ ap (λ (e : Entity). e.cluster.channels) (clustered-at (place_of es id) nothing below)
+        ap channels (slice_get-get_or (clustered es) (place_of es id) nothing (omega (arith, below, length-clustered es)))
+        ∙ ap (λ (e : Entity). e.cluster.channels) (clustered-at es (place_of es id) nothing below)
     from (inr past) =
-        ap channels (slice_get_past (clustered es) (place_of es id) (omega (arith, past, length-clustered)))
+        ap channels (slice_get_past (clustered es) (place_of es id) (omega (arith, past, length-clustered es)))
         ∙ sym (ap (λ (c : Cluster). c.channels) (no_cluster_past (length es) es (place_of es id) past))
 
   pub same_pins : (ids : List ℕ) → map (λ p. (cluster_of es p).channels) (map (place_of es) ids) ≡ map (channels_of (clustered es)) ids
@@ -123,24 +93,24 @@ module _ (es : List Entity) where
     keyed_entities : IsKeyed (clustered es)
     unfolding pins_of
     keyed_entities = record {
-      apart = subst (IsDistinct nat_eq) (sym (seen_alike 0 (λ e. e.id) (λ e c. refl))) ids_apart;
+      apart = subst (IsDistinct nat_eq) (sym (seen_alike es 0 (λ e. e.id) (λ e c. refl))) ids_apart;
       small = λ k d within.
-          let below : k < length es = omega (arith, within, length-clustered) in
-          subst (λ (e : Entity). IsSmall e.kind (sum (pins_of (clustered es) e)) e.cluster.channels) (sym (clustered-at k d below))
+          let below : k < length es = omega (arith, within, length-clustered es) in
+          subst (λ (e : Entity). IsSmall e.kind (sum (pins_of (clustered es) e)) e.cluster.channels) (sym (clustered-at es k d below))
           (small_at k below (at es k).kind refl);
     }
 
     same_links : clock_links (clustered es) ≡ clock_links es
     unfolding clock_sources
     same_links =
-        (λ j. map (λ e. map (λ id. same_place id j) (clock_sources e)) (clustered es))
-        ∙ seen_alike [] (λ e. map (place_of es) (clock_sources e)) (λ e c. refl)
+        (λ j. map (λ e. map (λ id. same_place es id j) (clock_sources e)) (clustered es))
+        ∙ seen_alike es [] (λ e. map (place_of es) (clock_sources e)) (λ e c. refl)
 
     clocks_end : IsClockTree (clustered es)
     unfolding breaks_u7
     clocks_end place within =
-        let below : place < length es = omega (arith, within, length-clustered) in
-        (λ j. has_walk (same_links j) (length-clustered j) place) ∙ h.u7 place below
+        let below : place < length es = omega (arith, within, length-clustered es) in
+        (λ j. has_walk (same_links j) (length-clustered es j) place) ∙ h.u7 place below
 
 pub keyed : (function : FunctionFields) → IsSoundFunction function → IsKeyed function.entities
 keyed function sound = subst IsKeyed (sym sound.2.entities) (keyed_entities (entities_of sound.0) (rules_hold sound.0 sound.1))

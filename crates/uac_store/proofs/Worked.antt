@@ -1,16 +1,51 @@
 -- Worked values of the definitions, on the entities of a headset with a mixer, and on a tree of clocks.
-use Rattle.std.proofs.Common.{◌≡◌, ℤ, pos, negsuc, List, [], ◌∷◌, true, false, Option, Some, None, refl}
+use Rattle.std.proofs.Common.{◌≡◌, ℕ, nat_le, is_some, ℤ, pos, negsuc, List, [], ◌∷◌, true, false, Option, Some, None, refl}
 use Rattle.uac_entities.specs.Entities as entity
 use Rattle.uac_entities.specs.Streams.{named}
 use Rattle.uac_entities.specs.declared.entity.Cluster.{Cluster}
 use Rattle.uac_entities.specs.declared.entity.Entity.{Entity}
+use Rattle.uac_entities.specs.declared.entity.EntityKind.{EntityKind}
+use Rattle.uac_entities.specs.declared.entity.EntityKind.TheVariants as kind
 use Rattle.uac_topology_rules.specs.Table.{with_cluster}
+use Rattle.uac_store.specs.declared.controls.Control.{Control}
+use Rattle.uac_store.specs.declared.controls.Control.TheVariants as control
 use Rattle.uac_store.specs.declared.keys.Key.{Key}
 use Rattle.uac_store.specs.declared.keys.Range.{Range}
+use Rattle.uac_store.specs.ControlTable.{facts_of, keeps_value, ranges_as, selectors_of}
 use Rattle.uac_store.specs.Keyed.{key_of, value_of, with_value}
 use Rattle.uac_store.specs.Controls.{channels_of, pins_of, count_of, node_start, start_of, first_channels, channels_at, controls_of, initial_controls, has_on, has_control, takes_on, takes}
 use Rattle.uac_store.specs.Rates.{source_rate, chosen_source, multiplier_rate, rate_step, rate_within, rate_of}
 use Rattle.uac_store.specs.Values.{ranges_of, are_clocked, is_legal}
+
+-- ---- the table
+
+-- a control answers RANGE exactly where it has subranges
+ranged_where_ranges : (c : Control) (pins attributes : ℕ) → (facts_of c).ranged ≡ is_some (ranges_as c pins attributes)
+ranged_where_ranges control.SamplingFrequency pins attributes = refl
+ranged_where_ranges control.ClockValid pins attributes = refl
+ranged_where_ranges control.ClockSelector pins attributes = refl
+ranged_where_ranges control.Numerator pins attributes = refl
+ranged_where_ranges control.Denominator pins attributes = refl
+ranged_where_ranges control.Connector pins attributes = refl
+ranged_where_ranges control.MixerNode pins attributes = refl
+ranged_where_ranges control.Selector pins attributes = refl
+ranged_where_ranges control.Mute pins attributes = refl
+ranged_where_ranges control.Volume pins attributes = refl
+ranged_where_ranges control.Enable pins attributes = refl
+
+-- the controls that keep a value have the selectors 1 to the count of them
+kept_from_one : (k : EntityKind) → (keeps_value k 1 ≡ nat_le 1 (selectors_of k)) × (keeps_value k 2 ≡ nat_le 2 (selectors_of k))
+kept_from_one kind.ClockSource = (refl, refl)
+kept_from_one kind.ClockSelector = (refl, refl)
+kept_from_one kind.ClockMultiplier = (refl, refl)
+kept_from_one kind.InputTerminal = (refl, refl)
+kept_from_one kind.OutputTerminal = (refl, refl)
+kept_from_one kind.Mixer = (refl, refl)
+kept_from_one kind.Selector = (refl, refl)
+kept_from_one kind.Feature = (refl, refl)
+kept_from_one kind.Effect = (refl, refl)
+
+-- ---- a headset
 
 abbrev stereo : Cluster
 stereo = record { channels = 2; locations = 3; names = 0 }

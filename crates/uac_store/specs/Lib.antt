@@ -1,5 +1,6 @@
 -- What the program's theorem says: to be read and believed.
 pub mod Keyed
+pub mod ControlTable
 pub mod Controls
 pub mod Rates
 pub mod Values

@@ -1,51 +1,21 @@
 -- The values that controls can take: the ranges that are told of them, and those that leave every clock with a rate (Audio Class 2.0,
 -- 5.2.1 and 5.2.5; profile: the subranges, and that a clock's value may take no clock's rate away).
-use Rattle.std.specs.Prelude.{ℕ, ◌%◌, ◌==◌, ◌&&◌, ◌||◌, not, nat_lt, Bool, false, if◌then◌else◌, ℤ, pos, negsuc, List, [], ◌∷◌, map, length}
+use Rattle.std.specs.Prelude.{◌&&◌, ◌||◌, not, Bool, false, if◌then◌else◌, ℤ, List, length}
 use Rattle.std.specs.Prelude.{Option, Some, None, is_some}
 use Rattle.std.specs.List.{list_all}
 use Rattle.std.specs.Option.{option_and_then, option_map_or}
-use Rattle.uac_clock.specs.Nominal.{twelve_rates}
 use Rattle.uac_entities.specs.Streams.{named}
 use Rattle.uac_entities.specs.declared.entity.Entity.{Entity}
-use Rattle.uac_entities.specs.declared.entity.EntityKind.{EntityKind}
-use Rattle.uac_entities.specs.declared.entity.EntityKind.TheVariants as kind
 use Rattle.uac_topology_rules.specs.Links.{is_clock}
 use Rattle.uac_store.specs.declared.keys.Key.{Key}
 use Rattle.uac_store.specs.declared.keys.Range.{Range}
 use Rattle.uac_store.specs.declared.values.Change.{Change}
 use Rattle.uac_store.specs.Keyed.{with_value}
-use Rattle.uac_store.specs.Controls.{choices, has_on, takes}
+use Rattle.uac_store.specs.ControlTable.{ranges_by}
+use Rattle.uac_store.specs.Controls.{has_on, takes}
 use Rattle.uac_store.specs.Rates.{rate_of}
 
 -- ---- ranges
-
--- one subrange
-abbrev pub one_range : ℤ → ℤ → ℤ → Option (List Range)
-one_range min max res = Some (record { min = min; max = max; res = res } ∷ [])
-
--- one frequency by itself
-abbrev pub alone : ℕ → Range
-alone hertz = record { min = pos hertz; max = pos hertz; res = pos 0 }
-
--- the frequencies of a clock source by its attributes: 48000 Hz where it is external or fixed, else each of the twelve rates
-abbrev pub frequencies : ℕ → List ℕ
-frequencies attributes = if nat_lt (attributes % 4) 2 then 48000 ∷ [] else twelve_rates
-
--- the volumes but for silence, in 1/256 decibel: whole decibels from -96 to -33, and halves from -32 to 12
-abbrev pub volumes : List Range
-volumes = record { min = negsuc 24575; max = negsuc 8447; res = pos 256 } ∷ record { min = negsuc 8191; max = pos 3072; res = pos 128 } ∷ []
-
--- the subranges of an entity's control, in the control's own units; mutes and enables have none
-abbrev pub ranges_by : EntityKind → ℕ → ℕ → ℕ → Option (List Range)
-ranges_by kind.ClockSource pins attributes selector = Some (map alone (frequencies attributes))
-ranges_by kind.ClockSelector pins attributes selector = one_range (pos 1) (pos (choices pins)) (pos 1)
-ranges_by kind.ClockMultiplier pins attributes selector = one_range (pos 1) (pos 8) (pos 1)
-ranges_by kind.InputTerminal pins attributes selector = None
-ranges_by kind.OutputTerminal pins attributes selector = None
-ranges_by kind.Mixer pins attributes selector = Some volumes
-ranges_by kind.Selector pins attributes selector = one_range (pos 1) (pos (choices pins)) (pos 1)
-ranges_by kind.Feature pins attributes selector = if selector == 2 then Some volumes else None
-ranges_by kind.Effect pins attributes selector = None
 
 -- the subranges of the control of this key; none where there is no such control, or it has no ranges
 unfoldable pub ranges_of : List Entity → Key → Option (List Range)

@@ -1,6 +1,8 @@
 //! The values of an audio function's controls, and the rates of its clocks that follow from them.
 #![tactic(auto)]
 
+/// The controls in one table.
+pub mod controls;
 /// Keys, and the ranges that a control's values lie in.
 mod keys;
 pub mod laws;

@@ -1,9 +1,12 @@
 // The values at the start.
-ghost use Rattle.std.specs.Prelude.{◌≡◌, ℕ, ◌+◌, ◌*◌, ◌<◌, ◌≤◌, ◌++◌, None, IfOk, OnOk, sum};
+ghost use Rattle.std.specs.Prelude.{◌≡◌, ℕ, ◌*◌, ◌<◌, ◌++◌, None, IfOk, OnOk, sum};
 ghost use Rattle.uac_store.specs.Keyed.{key_of, value_of};
+ghost use Rattle.uac_store.specs.ControlTable as table;
 ghost use Rattle.uac_store.specs.Controls as spec;
-ghost use Rattle.uac_store.specs.Controls.{IsKeyed, IsSmall, initial_controls, controls_of, channels_at};
+ghost use Rattle.uac_store.specs.ControlTable.{IsSmall};
+ghost use Rattle.uac_store.specs.Controls.{IsKeyed, initial_controls, controls_of, channels_at};
 
+use crate::controls::{channels_of, count_of, selectors_of};
 use crate::keys::Key;
 use indexmap::IndexMap;
 use std::alloc::Global;
@@ -73,58 +76,9 @@ fn add_channels(
     Ok(())
 }
 
-// How many controls of an entity keep a value.
-pub(crate) fn selectors_of(kind: EntityKind) -> u8
-    ensures value { result ≡ spec.selectors_of kind }
-    ensures few { result ≤ 2 }
-{
-    match kind {
-        EntityKind::InputTerminal | EntityKind::OutputTerminal => 0,
-        EntityKind::ClockMultiplier | EntityKind::Feature => 2,
-        EntityKind::ClockSource
-        | EntityKind::ClockSelector
-        | EntityKind::Mixer
-        | EntityKind::Selector
-        | EntityKind::Effect => 1,
-    }
-}
-
-// How many of each control an entity has.
-#[tactic(auto, unfolding(crate::specs::Controls::count_of))]
-pub(crate) fn count_of(function: &Function, entity: &Entity) -> usize
-    requires { IsSmall entity.now.kind (sum (spec.pins_of function.now.entities entity.now)) entity.now.cluster.channels }
-    ensures few { result ≤ 256 }
-    ensures value { result ≡ spec.count_of function.now.entities entity.now }
-{
-    let channels = entity.cluster.channels as usize;
-    match entity.kind {
-        EntityKind::Mixer => inputs_of(function, entity) * channels,
-        EntityKind::Feature | EntityKind::Effect => channels + 1,
-        EntityKind::ClockSource
-        | EntityKind::ClockSelector
-        | EntityKind::ClockMultiplier
-        | EntityKind::InputTerminal
-        | EntityKind::OutputTerminal
-        | EntityKind::Selector => 1,
-    }
-}
-
-// The channels of all its pins. It takes no memory.
-#[tactic(auto, unfolding(crate::specs::Controls::pins_of))]
-fn inputs_of(function: &Function, entity: &Entity) -> usize
-    requires { sum (spec.pins_of function.now.entities entity.now) ≤ 256 }
-    ensures { result ≡ sum (spec.pins_of function.now.entities entity.now) }
-{
-    let mut inputs = 0;
-    for id in entity.sources.as_slice() {
-        inputs += channels_of(function, *id) as usize;
-    }
-    inputs
-}
-
 fn start_of(entity: &Entity, pins: &[u8], channel: usize) -> i32
-    requires { channel < spec.count_by entity.now.kind (sum pins.now * entity.now.cluster.channels) entity.now.cluster.channels }
-    ensures { result ≡ spec.start_by entity.now.kind (spec.node_start pins.now entity.now.cluster.channels channel) }
+    requires { channel < table.count_by entity.now.kind (sum pins.now * entity.now.cluster.channels) entity.now.cluster.channels }
+    ensures { result ≡ table.start_by entity.now.kind (spec.node_start pins.now entity.now.cluster.channels channel) }
 {
     match entity.kind {
         EntityKind::ClockSource => 48000,
@@ -177,14 +131,4 @@ fn pins_of(alloc: Global, function: &Function, entity: &Entity) -> Result<Vec<u8
         }
     }
     Ok(pins)
-}
-
-#[tactic(auto, unfolding(crate::specs::Controls::channels_of))]
-fn channels_of(function: &Function, id: u8) -> u8
-    ensures { result ≡ spec.channels_of function.now.entities id }
-{
-    match function.entity(id) {
-        Some(entity) => entity.cluster.channels,
-        None => 0,
-    }
 }

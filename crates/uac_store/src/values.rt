@@ -3,21 +3,22 @@ ghost use Rattle.std.specs.Prelude.{◌≡◌, ◌%◌, ◌<◌, ◌≤◌, ◌^
 ghost use Rattle.std.specs.List.{All};
 ghost use Rattle.std.specs.Option.{option_map};
 ghost use Rattle.uac_gain.specs.Gain.{gain_of};
+ghost use Rattle.uac_store.specs.ControlTable as table;
 ghost use Rattle.uac_store.specs.Controls as controls;
-ghost use Rattle.uac_store.specs.Controls.{IsSmall};
+ghost use Rattle.uac_store.specs.ControlTable.{IsSmall};
 ghost use Rattle.uac_store.specs.Keyed.{value_of, with_value};
 ghost use Rattle.uac_store.specs.Rates.{rate_of};
 ghost use Rattle.uac_store.specs.Values as spec;
 
+use crate::controls::{Control, control_of, count_of, selectors_of};
 use crate::keys::{Key, Range, Ranges};
 use crate::rates::rate_within;
-use crate::start::{count_of, selectors_of};
 use crate::store::Store;
 use arrayvec::ArrayVec;
 use uac_clock::RATES;
 use uac_gain::gain;
 use uac_topology::laws::functions_are_sound;
-use uac_topology::{Entity, EntityKind, Function};
+use uac_topology::{Entity, Function};
 use uac_topology_rules::is_clock;
 
 /// The volumes that come by whole decibels, in 1/256 decibel: -96 to -33 decibels (profile).
@@ -79,26 +80,22 @@ fn has_on(function: &Function, entity: &Entity, key: Key) -> bool
 // The subranges of a control that an entity has.
 fn ranges_on(entity: &Entity, selector: u8) -> Option<Ranges>
     ensures { option_map (λ ranges. ranges.items) result
-        ≡ spec.ranges_by entity.now.kind (length entity.now.sources) entity.now.attributes selector }
+        ≡ table.ranges_by entity.now.kind (length entity.now.sources) entity.now.attributes selector }
 {
-    match entity.kind {
-        EntityKind::ClockSource => Some(frequencies(entity.attributes)),
-        EntityKind::ClockSelector | EntityKind::Selector => {
+    match control_of(entity.kind, selector)? {
+        Control::SamplingFrequency => Some(frequencies(entity.attributes)),
+        Control::ClockSelector | Control::Selector => {
             Some(one_range(1, i32::from(choices(entity.sources.as_slice())), 1))
         }
-        EntityKind::ClockMultiplier => Some(one_range(1, i32::from(MOST_TIMES), 1)),
-        EntityKind::Mixer => Some(volumes()),
-        EntityKind::Feature if selector == 2 => Some(volumes()),
-        EntityKind::Feature
-        | EntityKind::Effect
-        | EntityKind::InputTerminal
-        | EntityKind::OutputTerminal => None,
+        Control::Numerator | Control::Denominator => Some(one_range(1, i32::from(MOST_TIMES), 1)),
+        Control::MixerNode | Control::Volume => Some(volumes()),
+        Control::Mute | Control::Enable | Control::ClockValid | Control::Connector => None,
     }
 }
 
 // The last pin, counted from 1, that a control of one byte can choose.
 fn choices(sources: &[u8]) -> u8
-    ensures { result ≡ controls.choices (length sources.now) }
+    ensures { result ≡ table.choices (length sources.now) }
 {
     match u8::try_from(sources.len()) {
         Ok(pins) => pins,
@@ -108,7 +105,7 @@ fn choices(sources: &[u8]) -> u8
 
 // The volumes but for silence, in 1/256 decibel.
 fn volumes() -> Ranges
-    ensures { result.items ≡ spec.volumes }
+    ensures { result.items ≡ table.volumes }
 {
     let mut ranges = ArrayVec::new();
     ranges.push(WHOLE_DECIBELS);
@@ -117,7 +114,7 @@ fn volumes() -> Ranges
 }
 
 fn one_range(min: i32, max: i32, res: i32) -> Ranges
-    ensures { Some result.items ≡ spec.one_range min max res }
+    ensures { Some result.items ≡ table.one_range min max res }
 {
     let mut ranges = ArrayVec::new();
     ranges.push(Range { min, max, res });
@@ -126,7 +123,7 @@ fn one_range(min: i32, max: i32, res: i32) -> Ranges
 
 // The frequencies of a clock source, each a subrange by itself.
 fn frequencies(attributes: u8) -> Ranges
-    ensures { result.items ≡ map spec.alone (spec.frequencies attributes) }
+    ensures { result.items ≡ map table.alone (table.frequencies attributes) }
 {
     if is_fixed(attributes) {
         each_alone(&[FIXED])
@@ -146,7 +143,7 @@ fn is_fixed(attributes: u8) -> bool
 fn each_alone(rates: &[u32]) -> Ranges
     requires few { length rates.now ≤ 12 }
     requires held { All (λ rate. rate < 2 ^ 31) rates.now }
-    ensures { result.items ≡ map spec.alone rates.now }
+    ensures { result.items ≡ map table.alone rates.now }
 {
     let mut ranges = ArrayVec::new();
     for rate in rates {
@@ -176,26 +173,34 @@ pub(crate) fn is_legal(function: &Function, store: &Store, change: Change) -> bo
     }
 }
 
-// Whether an entity's control takes a value, by the entity's kind (profile).
+// Whether an entity's control takes a value (profile).
 #[tactic(auto, unfolding(crate::specs::Controls::takes_on))]
 fn takes(entity: &Entity, selector: u8, value: i32) -> bool
     ensures { result ≡ controls.takes_on selector value entity.now }
 {
-    match entity.kind {
-        EntityKind::ClockSource => is_frequency(entity.attributes, value),
-        EntityKind::ClockSelector | EntityKind::Selector => {
+    match control_of(entity.kind, selector) {
+        Some(control) => takes_as(control, entity, value),
+        None => false,
+    }
+}
+
+fn takes_as(control: Control, entity: &Entity, value: i32) -> bool
+    ensures { result ≡ table.takes_as control (length entity.now.sources) entity.now.attributes value }
+{
+    match control {
+        Control::SamplingFrequency => is_frequency(entity.attributes, value),
+        Control::ClockSelector | Control::Selector => {
             is_one_to(choices(entity.sources.as_slice()), value)
         }
-        EntityKind::ClockMultiplier => is_one_to(MOST_TIMES, value),
-        EntityKind::Feature if selector == 1 => is_switch(value),
-        EntityKind::Feature | EntityKind::Mixer => is_volume(value),
-        EntityKind::Effect => is_switch(value),
-        EntityKind::InputTerminal | EntityKind::OutputTerminal => false,
+        Control::Numerator | Control::Denominator => is_one_to(MOST_TIMES, value),
+        Control::MixerNode | Control::Volume => is_volume(value),
+        Control::Mute | Control::Enable => is_switch(value),
+        Control::ClockValid | Control::Connector => false,
     }
 }
 
 fn is_frequency(attributes: u8, value: i32) -> bool
-    ensures { result ≡ controls.is_frequency attributes value }
+    ensures { result ≡ table.is_frequency attributes value }
 {
     match u32::try_from(value) {
         Ok(hertz) if is_fixed(attributes) => hertz == FIXED,
@@ -205,13 +210,13 @@ fn is_frequency(attributes: u8, value: i32) -> bool
 }
 
 fn is_one_to(most: u8, value: i32) -> bool
-    ensures { result ≡ controls.is_one_to most value }
+    ensures { result ≡ table.is_one_to most value }
 {
     value >= 1 && value <= i32::from(most)
 }
 
 fn is_switch(value: i32) -> bool
-    ensures { result ≡ controls.is_switch value }
+    ensures { result ≡ table.is_switch value }
 {
     value == 0 || value == 1
 }

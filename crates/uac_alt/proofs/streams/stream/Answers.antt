@@ -1,9 +1,14 @@
 -- The stream is that of what was found.
 use Rattle.std.proofs.Common.{refl}
-use Rattle.uac_alt.proofs.Found.{stream_of_found}
+use Rattle.uac_alt.proofs.Found.{format_found, stream_of_found}
 use Rattle.uac_alt.proofs.streams.stream.Goals as goal
+
+pub stream_at-requires : goal.stream_at-requires
+stream_at-requires c =
+    format_found c.args.function.now c.args.interface c.args.setting c.functions_are_sound.ensures
+    refl c.in_ok-streaming.ensures c.as_slice.ensures c.in_ok-chosen.ensures
 
 pub returns-clause-value : goal.returns-clause-value
 returns-clause-value c =
     stream_of_found c.args.function.now c.args.rate c.args.interface c.args.setting
-    c.if-setting-eq0.false refl c.in_ok-carrier.ensures c.as_slice.ensures c.in_ok-chosen.ensures c.in_ok-nominal.ensures c.stream_at.ensures.value
+    c.if-setting-eq0.false refl c.in_ok-streaming.ensures c.as_slice.ensures c.in_ok-chosen.ensures c.in_ok-nominal.ensures c.stream_at.ensures.value

@@ -1,6 +1,6 @@
 use Rattle.std.proofs.Common.{arith}
 use Rattle.uac_store.proofs.Starting.{inputs_within}
-use Rattle.uac_store.proofs.start.inputs_of.Goals as goal
+use Rattle.uac_store.proofs.controls.inputs_of.Goals as goal
 
 pub overflow_add-inputs : goal.overflow_add-inputs
 overflow_add-inputs c =

@@ -1,7 +1,7 @@
 -- One more byte.
 use Rattle.std.proofs.Common.{rules, []}
 use Rattle.uac_request.proofs.Little.{next_byte, next_rest}
-use Rattle.uac_mixer.proofs.bytes.number_bytes.Goals as goal
+use Rattle.uac_request.proofs.bytes.number_bytes.Goals as goal
 
 pub loop-place-preserved : goal.loop-place-preserved
 loop-place-preserved c = record {

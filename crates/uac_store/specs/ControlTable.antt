@@ -1,0 +1,187 @@
+-- The controls of an audio function's entities in one table: which control a selector names, and what is so of it (Audio Class 2.0, A.17
+-- and 5.2.5). Every other word on a kind's controls is read from here.
+use Rattle.std.specs.Prelude.{ℕ, ◌+◌, ◌-◌, ◌*◌, ◌%◌, ◌≤◌, ◌==◌, ◌&&◌, nat_le, nat_lt, Bool, true, false, if◌then◌else◌, ℤ, pos, negsuc}
+use Rattle.std.specs.Prelude.{List, [], ◌∷◌, map, get_or, Option, Some, None, is_some}
+use Rattle.std.specs.Option.{option_map, option_map_or, option_and_then}
+use Rattle.uac_clock.specs.Nominal.{is_listed, twelve_rates}
+use Rattle.uac_gain.specs.Gain.{gain_of}
+use Rattle.uac_entities.specs.declared.entity.EntityKind.{EntityKind}
+use Rattle.uac_entities.specs.declared.entity.EntityKind.TheVariants as kind
+use Rattle.uac_store.specs.declared.controls.Control.{Control}
+use Rattle.uac_store.specs.declared.controls.Control.TheVariants as control
+use Rattle.uac_store.specs.declared.controls.Facts.{Facts}
+use Rattle.uac_store.specs.declared.controls.Spread.{Spread}
+use Rattle.uac_store.specs.declared.controls.Spread.TheVariants as spread
+use Rattle.uac_store.specs.declared.keys.Range.{Range}
+
+-- ---- the table
+
+-- the controls of a kind with selector 1 and with selector 2 (A.17.1 to A.17.8); none where this profile has none
+abbrev pub controls_by : EntityKind → List (Option Control)
+controls_by kind.ClockSource = Some control.SamplingFrequency ∷ Some control.ClockValid ∷ []
+controls_by kind.ClockSelector = Some control.ClockSelector ∷ None ∷ []
+controls_by kind.ClockMultiplier = Some control.Numerator ∷ Some control.Denominator ∷ []
+controls_by kind.InputTerminal = None ∷ Some control.Connector ∷ []
+controls_by kind.OutputTerminal = None ∷ Some control.Connector ∷ []
+controls_by kind.Mixer = Some control.MixerNode ∷ None ∷ []
+controls_by kind.Selector = Some control.Selector ∷ None ∷ []
+controls_by kind.Feature = Some control.Mute ∷ Some control.Volume ∷ []
+controls_by kind.Effect = Some control.Enable ∷ None ∷ []
+
+-- what stands at a selector, from 1 on; none where nothing does
+abbrev pub at_selector : {A : Type 0} → List (Option A) → ℕ → Option A
+at_selector row selector = if selector == 0 then None else get_or row (selector - 1) None
+
+-- the control that a selector names
+abbrev pub control_of : EntityKind → ℕ → Option Control
+control_of k selector = at_selector (controls_by k) selector
+
+-- of each control the bytes of its value (5.2.5.1 to 5.2.5.8; profile: those of pins, numerators, denominators and connectors) and whether
+-- that is signed; whether a value is kept, or told by the descriptor; whether it answers RANGE (5.2.1); and whether a host may ever set it
+abbrev pub facts_of : Control → Facts
+facts_of control.SamplingFrequency = record { width = 4; signed = false; kept = true; ranged = true; settable = true }
+facts_of control.ClockValid = record { width = 1; signed = false; kept = false; ranged = false; settable = false }
+facts_of control.ClockSelector = record { width = 1; signed = false; kept = true; ranged = true; settable = true }
+facts_of control.Numerator = record { width = 2; signed = false; kept = true; ranged = true; settable = true }
+facts_of control.Denominator = record { width = 2; signed = false; kept = true; ranged = true; settable = true }
+facts_of control.Connector = record { width = 6; signed = false; kept = false; ranged = false; settable = false }
+facts_of control.MixerNode = record { width = 2; signed = true; kept = true; ranged = true; settable = true }
+facts_of control.Selector = record { width = 1; signed = false; kept = true; ranged = true; settable = true }
+facts_of control.Mute = record { width = 1; signed = false; kept = true; ranged = false; settable = true }
+facts_of control.Volume = record { width = 2; signed = true; kept = true; ranged = true; settable = true }
+facts_of control.Enable = record { width = 1; signed = false; kept = true; ranged = false; settable = true }
+
+-- what the controls of a kind are on: the entity as a whole, the master and each channel (4.7.2.8, 4.7.2.10), or each node of a mixer
+abbrev pub spread_of : EntityKind → Spread
+spread_of kind.ClockSource = spread.Whole
+spread_of kind.ClockSelector = spread.Whole
+spread_of kind.ClockMultiplier = spread.Whole
+spread_of kind.InputTerminal = spread.Whole
+spread_of kind.OutputTerminal = spread.Whole
+spread_of kind.Mixer = spread.Nodes
+spread_of kind.Selector = spread.Whole
+spread_of kind.Feature = spread.Channels
+spread_of kind.Effect = spread.Channels
+
+-- ---- what is so of a kind's control
+
+-- what is so of the control that a selector names
+abbrev pub facts_at : EntityKind → ℕ → Option Facts
+facts_at k selector = option_map facts_of (control_of k selector)
+
+-- there is one, and it keeps a value
+abbrev pub keeps_value : EntityKind → ℕ → Bool
+keeps_value k selector = option_map_or (λ f. f.kept) (facts_at k selector) false
+
+-- there is one, and a host may ever set it
+abbrev pub is_settable : EntityKind → ℕ → Bool
+is_settable k selector = option_map_or (λ f. f.settable) (facts_at k selector) false
+
+-- how many controls of an entity keep a value: their selectors are 1 to this
+abbrev pub selectors_of : EntityKind → ℕ
+selectors_of k = if keeps_value k 2 then 2 else if keeps_value k 1 then 1 else 0
+
+-- ---- how many there are of each
+
+abbrev pub count_on : Spread → ℕ → ℕ → ℕ
+count_on spread.Whole nodes channels = 1
+count_on spread.Channels nodes channels = channels + 1
+count_on spread.Nodes nodes channels = nodes
+
+-- the nodes of a mixer; the master, channel 0, and the channels of a feature or an effect; else channel 0 alone
+abbrev pub count_by : EntityKind → ℕ → ℕ → ℕ
+count_by k nodes channels = count_on (spread_of k) nodes channels
+
+abbrev pub IsSmallOn : Spread → ℕ → ℕ → Type 0
+IsSmallOn spread.Whole inputs outputs = Unit {0}
+IsSmallOn spread.Channels inputs outputs = Unit {0}
+IsSmallOn spread.Nodes inputs outputs = (inputs ≤ 256) × (inputs * outputs ≤ 256)
+
+-- profile: a mixer has at most 256 input channels and at most 256 nodes
+abbrev pub IsSmall : EntityKind → ℕ → ℕ → Type 0
+IsSmall k inputs outputs = IsSmallOn (spread_of k) inputs outputs
+
+-- ---- their values
+
+-- profile: at the start mute and volume are 0, selectors 1, a frequency 48000, numerator and denominator 1, enable 0, a node as given
+abbrev pub start_by : EntityKind → ℤ → ℤ
+start_by kind.ClockSource node = pos 48000
+start_by kind.ClockSelector node = pos 1
+start_by kind.ClockMultiplier node = pos 1
+start_by kind.InputTerminal node = pos 0
+start_by kind.OutputTerminal node = pos 0
+start_by kind.Mixer node = node
+start_by kind.Selector node = pos 1
+start_by kind.Feature node = pos 0
+start_by kind.Effect node = pos 0
+
+-- the pins that a control of one byte can choose
+abbrev pub choices : ℕ → ℕ
+choices pins = if nat_lt pins 256 then pins else 255
+
+-- a whole number from 1 to this
+abbrev pub is_one_to : ℕ → ℤ → Bool
+is_one_to most (pos n) = nat_lt 0 n && nat_le n most
+is_one_to most _ = false
+
+abbrev pub is_switch : ℤ → Bool
+is_switch (pos n) = nat_lt n 2
+is_switch _ = false
+
+-- profile: a clock source of fixed or external frequency has 48000 Hz alone, another each of the twelve rates
+-- (attributes: 4.7.2.1)
+abbrev pub is_frequency : ℕ → ℤ → Bool
+is_frequency attributes (pos n) = if nat_lt (attributes % 4) 2 then n == 48000 else is_listed n
+is_frequency attributes _ = false
+
+-- the values that a control takes, of an entity with so many pins and these attributes
+abbrev pub takes_as : Control → ℕ → ℕ → ℤ → Bool
+takes_as control.SamplingFrequency pins attributes v = is_frequency attributes v
+takes_as control.ClockValid pins attributes v = false
+takes_as control.ClockSelector pins attributes v = is_one_to (choices pins) v
+takes_as control.Numerator pins attributes v = is_one_to 8 v
+takes_as control.Denominator pins attributes v = is_one_to 8 v
+takes_as control.Connector pins attributes v = false
+takes_as control.MixerNode pins attributes v = is_some (gain_of v)
+takes_as control.Selector pins attributes v = is_one_to (choices pins) v
+takes_as control.Mute pins attributes v = is_switch v
+takes_as control.Volume pins attributes v = is_some (gain_of v)
+takes_as control.Enable pins attributes v = is_switch v
+
+-- a value of the control with a selector is one that it can take
+abbrev pub takes_by : EntityKind → ℕ → ℕ → ℕ → ℤ → Bool
+takes_by k pins attributes selector v = option_map_or (λ c. takes_as c pins attributes v) (control_of k selector) false
+
+-- one subrange
+abbrev pub one_range : ℤ → ℤ → ℤ → Option (List Range)
+one_range min max res = Some (record { min = min; max = max; res = res } ∷ [])
+
+-- one frequency by itself
+abbrev pub alone : ℕ → Range
+alone hertz = record { min = pos hertz; max = pos hertz; res = pos 0 }
+
+-- the frequencies of a clock source by its attributes: 48000 Hz where it is external or fixed, else each of the twelve rates
+abbrev pub frequencies : ℕ → List ℕ
+frequencies attributes = if nat_lt (attributes % 4) 2 then 48000 ∷ [] else twelve_rates
+
+-- the volumes but for silence, in 1/256 decibel: whole decibels from -96 to -33, and halves from -32 to 12
+abbrev pub volumes : List Range
+volumes = record { min = negsuc 24575; max = negsuc 8447; res = pos 256 } ∷ record { min = negsuc 8191; max = pos 3072; res = pos 128 } ∷ []
+
+-- the subranges of a control, in its own units
+abbrev pub ranges_as : Control → ℕ → ℕ → Option (List Range)
+ranges_as control.SamplingFrequency pins attributes = Some (map alone (frequencies attributes))
+ranges_as control.ClockValid pins attributes = None
+ranges_as control.ClockSelector pins attributes = one_range (pos 1) (pos (choices pins)) (pos 1)
+ranges_as control.Numerator pins attributes = one_range (pos 1) (pos 8) (pos 1)
+ranges_as control.Denominator pins attributes = one_range (pos 1) (pos 8) (pos 1)
+ranges_as control.Connector pins attributes = None
+ranges_as control.MixerNode pins attributes = Some volumes
+ranges_as control.Selector pins attributes = one_range (pos 1) (pos (choices pins)) (pos 1)
+ranges_as control.Mute pins attributes = None
+ranges_as control.Volume pins attributes = Some volumes
+ranges_as control.Enable pins attributes = None
+
+-- those of the control with a selector; none where there is no such control, or it has none
+abbrev pub ranges_by : EntityKind → ℕ → ℕ → ℕ → Option (List Range)
+ranges_by k pins attributes selector = option_and_then (λ c. ranges_as c pins attributes) (control_of k selector)

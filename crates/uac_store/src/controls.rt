@@ -1,0 +1,237 @@
+//! The controls of entities in one table: which control a selector names, and what is so of it (Audio Class 2.0, A.17 and 5.2.5).
+ghost use Rattle.std.specs.Prelude.{◌≡◌, ◌≤◌, IfSome, sum};
+ghost use Rattle.uac_store.specs.Controls as spec;
+ghost use Rattle.uac_store.specs.ControlTable as table;
+ghost use Rattle.uac_store.specs.ControlTable.{IsSmall};
+
+use uac_topology::{Entity, EntityKind, Function};
+
+/// A control of an entity (Audio Class 2.0, 5.2.5).
+#[derive(Clone, Copy, PartialEq, Eq, Debug)]
+pub enum Control {
+    /// A clock source's frequency (5.2.5.1.1).
+    SamplingFrequency,
+    /// Whether a clock source is valid (5.2.5.1.2).
+    ClockValid,
+    /// The pin that a clock selector takes (5.2.5.2.1).
+    ClockSelector,
+    /// A clock multiplier's numerator (5.2.5.3.1).
+    Numerator,
+    /// A clock multiplier's denominator (5.2.5.3.2).
+    Denominator,
+    /// A terminal's connector (5.2.5.4.2).
+    Connector,
+    /// A mixer's node (5.2.5.5.1).
+    MixerNode,
+    /// The pin that a selector takes (5.2.5.6.1).
+    Selector,
+    /// A feature's mute (5.2.5.7.1).
+    Mute,
+    /// A feature's volume (5.2.5.7.2).
+    Volume,
+    /// An effect's enable (5.2.5.8).
+    Enable,
+}
+
+/// What is so of a control.
+#[derive(Clone, Copy, PartialEq, Eq, Debug)]
+pub struct Facts {
+    /// The bytes of its value.
+    pub width: u8,
+    /// Whether its value is signed.
+    pub signed: bool,
+    /// Whether a value is kept, or told by the descriptor.
+    pub kept: bool,
+    /// Whether it answers RANGE (5.2.1).
+    pub ranged: bool,
+    /// Whether a host may ever set it.
+    pub settable: bool,
+}
+
+/// A control that a host sets within ranges, of one byte.
+const RANGED: Facts = Facts {
+    width: 1,
+    signed: false,
+    kept: true,
+    ranged: true,
+    settable: true,
+};
+
+/// A control that a host switches on and off.
+const SWITCH: Facts = Facts {
+    width: 1,
+    signed: false,
+    kept: true,
+    ranged: false,
+    settable: true,
+};
+
+/// A control that the descriptor tells, of one byte.
+const TOLD: Facts = Facts {
+    width: 1,
+    signed: false,
+    kept: false,
+    ranged: false,
+    settable: false,
+};
+
+/// What the controls of a kind are on.
+#[derive(Clone, Copy, PartialEq, Eq, Debug)]
+pub enum Spread {
+    /// The entity as a whole.
+    Whole,
+    /// The master and each channel (4.7.2.8, 4.7.2.10).
+    Channels,
+    /// Each node of a mixer.
+    Nodes,
+}
+
+/// What is so of a control.
+pub fn facts_of(control: Control) -> Facts
+    ensures value { result ≡ table.facts_of control }
+    ensures few { result.width ≤ 6 }
+{
+    match control {
+        Control::SamplingFrequency => Facts { width: 4, ..RANGED },
+        Control::ClockSelector | Control::Selector => RANGED,
+        Control::Numerator | Control::Denominator => Facts { width: 2, ..RANGED },
+        Control::MixerNode | Control::Volume => Facts {
+            width: 2,
+            signed: true,
+            ..RANGED
+        },
+        Control::Mute | Control::Enable => SWITCH,
+        Control::ClockValid => TOLD,
+        Control::Connector => Facts { width: 6, ..TOLD },
+    }
+}
+
+// The controls of a kind with selector 1 and with selector 2 (A.17.1 to A.17.8).
+fn controls_by(kind: EntityKind) -> [Option<Control>; 2]
+    ensures { result ≡ table.controls_by kind }
+{
+    match kind {
+        EntityKind::ClockSource => [Some(Control::SamplingFrequency), Some(Control::ClockValid)],
+        EntityKind::ClockSelector => [Some(Control::ClockSelector), None],
+        EntityKind::ClockMultiplier => [Some(Control::Numerator), Some(Control::Denominator)],
+        EntityKind::InputTerminal | EntityKind::OutputTerminal => [None, Some(Control::Connector)],
+        EntityKind::Mixer => [Some(Control::MixerNode), None],
+        EntityKind::Selector => [Some(Control::Selector), None],
+        EntityKind::Feature => [Some(Control::Mute), Some(Control::Volume)],
+        EntityKind::Effect => [Some(Control::Enable), None],
+    }
+}
+
+/// The control that a selector names, None where there is none.
+pub fn control_of(kind: EntityKind, selector: u8) -> Option<Control>
+    ensures value { result ≡ table.control_of kind selector }
+    ensures some { IfSome result (λ control. 1 ≤ selector) }
+    ensures low { IfSome result (λ control. selector ≤ 2) }
+{
+    let controls = controls_by(kind);
+    match selector {
+        1 => controls[0],
+        2 => controls[1],
+        _ => None,
+    }
+}
+
+/// What is so of the control that a selector names, None where there is none.
+pub fn facts_at(kind: EntityKind, selector: u8) -> Option<Facts>
+    ensures value { result ≡ table.facts_at kind selector }
+    ensures few { IfSome result (λ facts. facts.width ≤ 6) }
+    ensures some { IfSome result (λ facts. 1 ≤ selector) }
+    ensures low { IfSome result (λ facts. selector ≤ 2) }
+{
+    let control = control_of(kind, selector)?;
+    Some(facts_of(control))
+}
+
+/// Whether a selector names a control that keeps a value.
+pub fn keeps_value(kind: EntityKind, selector: u8) -> bool
+    ensures { result ≡ table.keeps_value kind selector }
+{
+    match facts_at(kind, selector) {
+        Some(facts) => facts.kept,
+        None => false,
+    }
+}
+
+/// Whether a selector names a control that a host may ever set.
+pub fn is_settable(kind: EntityKind, selector: u8) -> bool
+    ensures { result ≡ table.is_settable kind selector }
+{
+    match facts_at(kind, selector) {
+        Some(facts) => facts.settable,
+        None => false,
+    }
+}
+
+/// How many controls of an entity keep a value: their selectors are 1 to this.
+pub fn selectors_of(kind: EntityKind) -> u8
+    ensures value { result ≡ table.selectors_of kind }
+    ensures few { result ≤ 2 }
+{
+    if keeps_value(kind, 2) {
+        2
+    } else if keeps_value(kind, 1) {
+        1
+    } else {
+        0
+    }
+}
+
+/// What the controls of a kind are on.
+pub fn spread_of(kind: EntityKind) -> Spread
+    ensures { result ≡ table.spread_of kind }
+{
+    match kind {
+        EntityKind::Mixer => Spread::Nodes,
+        EntityKind::Feature | EntityKind::Effect => Spread::Channels,
+        EntityKind::ClockSource
+        | EntityKind::ClockSelector
+        | EntityKind::ClockMultiplier
+        | EntityKind::InputTerminal
+        | EntityKind::OutputTerminal
+        | EntityKind::Selector => Spread::Whole,
+    }
+}
+
+/// How many of each control an entity has: a mixer's nodes, the master and the channels of a feature or an effect, else one.
+#[tactic(auto, unfolding(crate::specs::Controls::count_of))]
+pub fn count_of(function: &Function, entity: &Entity) -> usize
+    requires { IsSmall entity.now.kind (sum (spec.pins_of function.now.entities entity.now)) entity.now.cluster.channels }
+    ensures few { result ≤ 256 }
+    ensures value { result ≡ spec.count_of function.now.entities entity.now }
+{
+    let channels = usize::from(entity.cluster.channels);
+    match spread_of(entity.kind) {
+        Spread::Nodes => inputs_of(function, entity) * channels,
+        Spread::Channels => channels + 1,
+        Spread::Whole => 1,
+    }
+}
+
+// The channels of all its pins. It takes no memory.
+#[tactic(auto, unfolding(crate::specs::Controls::pins_of))]
+fn inputs_of(function: &Function, entity: &Entity) -> usize
+    requires { sum (spec.pins_of function.now.entities entity.now) ≤ 256 }
+    ensures { result ≡ sum (spec.pins_of function.now.entities entity.now) }
+{
+    let mut inputs = 0;
+    for id in entity.sources.as_slice() {
+        inputs += usize::from(channels_of(function, *id));
+    }
+    inputs
+}
+
+/// The channels of the entity with an id, 0 where there is none.
+#[tactic(auto, unfolding(crate::specs::Controls::channels_of))]
+pub(crate) fn channels_of(function: &Function, id: u8) -> u8
+    ensures { result ≡ spec.channels_of function.now.entities id }
+{
+    match function.entity(id) {
+        Some(entity) => entity.cluster.channels,
+        None => 0,
+    }
+}
