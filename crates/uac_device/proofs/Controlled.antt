@@ -7,10 +7,10 @@ use Rattle.uac_entities.specs.declared.stream.StreamInterface.{StreamInterface}
 use Rattle.uac_topology.specs.Function.{FunctionFields}
 use Rattle.uac_topology.specs.Topology.{IsSoundFunction}
 use Rattle.uac_store.specs.declared.keys.Key.{Key}
-use Rattle.uac_alt.specs.Streams.{StreamFields, seen, stream_of}
+use Rattle.uac_alt.specs.Streams.{StreamFields, stream_fields, stream_of}
 use Rattle.uac_alt.specs.declared.settings.InterfaceSetting.{InterfaceSetting}
 use Rattle.uac_alt.specs.declared.values.Stream.{Stream}
-use Rattle.uac_request.specs.Requests.{Held, Told, after_request, held_by, rate_at, reply_of}
+use Rattle.uac_request.specs.Requests.{Held, AnswerFields, after_request, held_by, rate_at, reply_of}
 use Rattle.uac_request.specs.declared.setup.Setup.{Setup}
 use Rattle.uac_flow.specs.Streams.{InStream, OutStream}
 use Rattle.uac_device.specs.declared.lane.Lane.{Lane}
@@ -52,10 +52,10 @@ find_port entities interface (s ∷ ss) = by (s.number == interface) (find_port 
 
 -- it fits its interface
 pub begun_fits : (device : DeviceFields) (begun : Option Stream) (interface setting : ℕ) → IsSoundFunction device.function → IsDevice device
-    → option_map seen begun ≡ stream_in_setting device.function device.controls interface setting → FitsAt device.lanes interface begun
+    → option_map stream_fields begun ≡ stream_in_setting device.function device.controls interface setting → FitsAt device.lanes interface begun
 begun_fits device None interface setting sound is asked = tt
 begun_fits device (Some s) interface setting sound is asked =
-    let fits = asked_fits device.function sound device.controls interface setting (seen s) (sym asked) in
+    let fits = asked_fits device.function sound device.controls interface setting (stream_fields s) (sym asked) in
     let port = port_of device.function.entities fits.carrier in
     let there : find (λ p. p.interface == interface) (ports device.lanes) ≡ Some port =
     ap (find (λ (p : Port). p.interface == interface)) is.ports
@@ -65,8 +65,8 @@ begun_fits device (Some s) interface setting sound is asked =
 
 -- ---- the request
 
--- what is held behind it, and what is told, of the world
-module _ (device : DeviceFields) (controls : List (Key × ℤ)) (settings : List InterfaceSetting) (p : Setup) (bytes : List ℕ) (told : Told)
+-- what is held after it, and what is told, of the world
+module _ (device : DeviceFields) (controls : List (Key × ℤ)) (settings : List InterfaceSetting) (p : Setup) (bytes : List ℕ) (told : AnswerFields)
     (answer : told ≡ reply_of device.function (held_by device.controls device.settings) p bytes)
     (held : held_by controls settings ≡ after_request device.function (held_by device.controls device.settings) p bytes) where
   held_in : (w : DeviceWorld) → Stands device w → held_by controls settings ≡ after_request w.function (held_by w.controls w.settings) p bytes
@@ -105,7 +105,7 @@ module _ (device : DeviceFields) (controls : List (Key × ℤ)) (settings : List
 
   tested : (w : DeviceWorld) → Stands device w → (b : Bool) → (sets_interface p && tells_done told) ≡ b
       → (sets_interface p && tells_done (reply_of w.function (held_by w.controls w.settings) p bytes)) ≡ b
-  tested w stands b test = sym (ap (λ (t : Told). sets_interface p && tells_done t) (told_in w stands)) ∙ test
+  tested w stands b test = sym (ap (λ (t : AnswerFields). sets_interface p && tells_done t) (told_in w stands)) ∙ test
 
   -- no setting was set
   stands_else : (sets_interface p && tells_done told) ≡ false → (w : DeviceWorld) → Stands device w

@@ -79,7 +79,7 @@ left_by_request function held after p bytes is = subst (λ (h : Held). IsLeftBy 
     by false false true e = record { same = λ _. refl; others = λ k selector channel other. refl }
     by false false false e = record { same = λ _. refl; others = λ k selector channel other. refl }
 
--- what follows from controls, behind a request that was answered
+-- what follows from controls, after a request that was answered
 pub follows : (function : FunctionFields) (before after : List (Key × ℤ)) (settings later : List InterfaceSetting) (p : Setup) (bytes : List ℕ) (old new : Derived)
     → held_by after later ≡ after_request function (held_by before settings) p bytes → IsDerived function before old
     → ((was : List (Key × ℤ)) → IsDerived function was old → IsLeftBy p was after → IsDerived function after new) → IsDerived function after new

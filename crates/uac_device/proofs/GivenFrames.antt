@@ -1,7 +1,7 @@
 -- What a tick gives the input terminals, interface by interface.
-use Rattle.std.proofs.Common.{◌≡◌, ◌≢◌, ◌∙◌, sym, refl, ap, subst, arith, ℕ, zero, suc, ◌+◌, ◌<◌, ◌≤◌, ◌==◌, Bool, true, false, if◌then◌else◌, not, nat_eq, ℤ, List, [], ◌∷◌, ◌++◌, Option, Some, None, length, get_or, map, position, slice_get, take, unwrap_or, eq-eqb}
+use Rattle.std.proofs.Common.{◌≡◌, ◌≢◌, ◌∙◌, sym, refl, ap, subst, arith, ℕ, zero, suc, ◌+◌, ◌<◌, ◌≤◌, ◌==◌, Bool, true, false, if◌then◌else◌, not, nat_eq, ℤ, pos, List, [], ◌∷◌, ◌++◌, Option, Some, None, length, get_or, map, position, replicate, slice_get, take, unwrap_or, eq-eqb}
 use Rattle.std.specs.List.{IsDistinct, find, fold, position_or_len}
-use Rattle.std.specs.Option.{option_and_then}
+use Rattle.std.specs.Option.{option_and_then, option_map}
 use Rattle.std.proofs.lemmas.Bool.{and_from, and_parts, eqb-true}
 use Rattle.std.proofs.lemmas.List.{get_or-map, length-map, take_all, take_more, map-append}
 use Rattle.std.proofs.lemmas.List.Folds.{find_at}
@@ -270,3 +270,11 @@ given_input w domain id before linked input some held unlinked = by_streamed (is
     by_streamed : (b : Bool) → is_streamed domain (entity_in w id) ≡ b → given ≡ Some (if b then streamed w id else w.given id)
     by_streamed true bus = by_place bus (position (λ s. s.terminal == id) streams) refl
     by_streamed false other = given_nothing w domain id before linked other ∙ held
+
+-- a wire that is hushed has silence on its channels
+pub hushed : (frame : Option (List ℤ)) (channels : ℕ) → option_map length frame ≡ Some channels
+    → option_map (λ samples. replicate (length samples) (pos 0)) frame ≡ Some (silence channels)
+hushed None channels fits = cc
+hushed (Some samples) channels fits =
+    let as_many : length samples ≡ channels = cc in
+    ap (λ (n : ℕ). Some (silence n)) as_many

@@ -18,7 +18,7 @@ use Rattle.uac_topology.specs.Function.{FunctionFields}
 use Rattle.uac_topology.specs.Kept.{AreNumbered}
 use Rattle.uac_graph.specs.Meaning.{entity}
 use Rattle.uac_topology_rules.proofs.Found.{position_is, position_none}
-use Rattle.uac_alt.specs.Streams.{seen}
+use Rattle.uac_alt.specs.Streams.{stream_fields}
 use Rattle.uac_alt.specs.declared.values.Stream.{Stream}
 use Rattle.uac_flow.specs.Streams.{InStream, OutStream}
 use Rattle.uac_device.specs.declared.lane.Port.{Port}
@@ -244,16 +244,16 @@ port_missing lanes interface is =
 
 -- a stream that is given fits the port with a number
 abbrev pub FitsAt : List Lane → ℕ → Option Stream → Type 0
-FitsAt lanes interface begun = IfSome begun (λ s. (port : Port) × (find (λ p. p.interface == interface) (ports lanes) ≡ Some port) × FitsPort port (seen s))
+FitsAt lanes interface begun = IfSome begun (λ s. (port : Port) × (find (λ p. p.interface == interface) (ports lanes) ≡ Some port) × FitsPort port (stream_fields s))
 
 pub fits_lane : (now inside : List Lane) (interface place : ℕ) (l : Lane) (begun : Option Stream) → inside ≡ now → Some place ≡ lane_at inside interface → l ≡ get_or inside place l
-    → FitsAt now interface begun → IfSome begun (λ s. FitsPort l.port (seen s))
+    → FitsAt now interface begun → IfSome begun (λ s. FitsPort l.port (stream_fields s))
 fits_lane now inside interface place l begun same is read fits =
     along begun (subst (λ (ls : List Lane). FitsAt ls interface begun) (sym same) fits)
   where
-    along : (o : Option Stream) → FitsAt inside interface o → IfSome o (λ s. FitsPort l.port (seen s))
+    along : (o : Option Stream) → FitsAt inside interface o → IfSome o (λ s. FitsPort l.port (stream_fields s))
     along None f = tt
-    along (Some s) f = subst (λ (p : Port). FitsPort p (seen s)) (port_found inside interface place l f.0 is read f.1) f.2
+    along (Some s) f = subst (λ (p : Port). FitsPort p (stream_fields s)) (port_found inside interface place l f.0 is read f.1) f.2
 
 pub begins_nowhere : (now inside : List Lane) (interface : ℕ) (begun : Option Stream) → inside ≡ now → None ≡ lane_at inside interface → FitsAt now interface begun → begun ≡ None
 begins_nowhere now inside interface begun same is fits = along begun (subst (λ (ls : List Lane). FitsAt ls interface begun) (sym same) fits)

@@ -20,19 +20,19 @@ use Rattle.uac_entities.specs.declared.entity.EntityKind.{EntityKind}
 use Rattle.uac_entities.specs.declared.entity.EntityKind.TheVariants as kind
 use Rattle.uac_entities.specs.declared.stream.StreamInterface.{StreamInterface}
 use Rattle.uac_topology_rules.specs.Clusters.{cluster_of, clustered, is_input}
-use Rattle.uac_topology_rules.specs.Faults.{broken, broken_ends, broken_names, broken_shapes, broken_walks, of_interface}
+use Rattle.uac_topology_rules.specs.Faults.{broken, broken_names}
 use Rattle.uac_topology_rules.specs.Links.{is_terminal}
-use Rattle.uac_topology_rules.specs.Rules.{at_stream, breaks_u1, breaks_u12, is_output, is_usb, is_usb_terminal}
-use Rattle.uac_topology_rules.specs.Table.{at, found, nothing, place_of, with_cluster}
+use Rattle.uac_topology_rules.specs.Rules.{breaks_u1, is_output, is_usb, is_usb_terminal}
+use Rattle.uac_topology_rules.specs.Table.{at, nothing, place_of, with_cluster}
 use Rattle.uac_topology_rules.proofs.FirstPlace.{breaks_none}
 use Rattle.uac_topology_rules.proofs.Found.{position-below}
 use Rattle.uac_topology_rules.proofs.Sound.{has_names, or_none}
-use Rattle.uac_topology_rules.proofs.TableSteps.{found_is}
 use Rattle.uac_topology.specs.Function.{FunctionFields}
 use Rattle.uac_topology.specs.Topology.{first_broken, IsSound, IsSoundFunction, streams_in}
-use Rattle.uac_topology.proofs.RangeLemmas.{All-filter_map}
-use Rattle.uac_topology.proofs.SoundRules.{no_interface}
-use Rattle.uac_store.proofs.Soundness.{clustered-at, length-clustered, same_place}
+use Rattle.uac_topology.proofs.Clustered.{clustered-at, length-clustered, same_place}
+use Rattle.uac_topology.proofs.LinkLemmas.{right_at, usb_there}
+use Rattle.uac_topology.proofs.RangeLemmas.{All-filter_map, not_false}
+use Rattle.uac_topology.proofs.SoundRules.{links_within}
 use Rattle.uac_graph.specs.Meaning.{entity}
 use Rattle.uac_device.specs.DeviceWorld.{is_jack}
 use Rattle.uac_device.specs.Linked.{AreLinked}
@@ -44,17 +44,6 @@ unfolding first_broken broken
 ids_above blocks sound =
     let es = entities_of blocks in
     breaks_none 1 es breaks_u1 (has_names es (or_none (broken_names es) _ sound).0).u1
-
-links_hold : (blocks : List block.Block) → IsSound blocks → of_interface 12 (streams_in blocks) (breaks_u12 (entities_of blocks)) ≡ None
-unfolding first_broken broken broken_ends
-links_hold blocks sound =
-    let es = entities_of blocks in
-    let ss = streams_in blocks in
-    let names = or_none (broken_names es) _ sound in
-    let walks = or_none (broken_walks es) _ names.1 in
-    let shapes = or_none (broken_shapes es) _ walks.1 in
-    let ends = or_none (broken_ends es (alternates_of blocks) ss) _ shapes.1 in
-    (or_none (of_interface 12 ss (breaks_u12 es)) _ ends.0).0
 
 -- ---- streaming interfaces as the blocks have them
 
@@ -76,10 +65,6 @@ each_made es all =
 
 -- ---- where they link
 
-not_false : (b : Bool) → not b ≡ false → b ≡ true
-not_false true e = refl
-not_false false e = absurd (cc)
-
 other_end : (k : EntityKind) → is_terminal k ≡ true → is_input k ≡ false → is_output k ≡ true
 other_end kind.OutputTerminal t i = refl
 other_end kind.InputTerminal t i = absurd (cc)
@@ -94,16 +79,6 @@ other_end kind.Effect t i = absurd (cc)
 -- the link of an interface is to a terminal of the bus, or it has none
 abbrev Links : List Entity → ℕ → Type 0
 Links es id = (id ≡ 0) ⊎ ((place_of es id < length es) × (is_usb_terminal (at es (place_of es id)) ≡ true))
-
-usb_there : (es : List Entity) (id : ℕ) → is_usb es id ≡ true → (place_of es id < length es) × (is_usb_terminal (at es (place_of es id)) ≡ true)
-unfolding is_usb
-usb_there es id usb = by (found es id) refl usb
-  where
-    by : (o : Option ℕ) → found es id ≡ o → option_map_or (λ place. is_usb_terminal (at es place)) o false ≡ true
-        → (place_of es id < length es) × (is_usb_terminal (at es (place_of es id)) ≡ true)
-    by None e usb = absurd (cc)
-    by (Some p) e usb =
-        let is = found_is es id p (sym e) in (omega (arith, is.0, is.1), ap (λ (q : ℕ). is_usb_terminal (at es q)) is.1 ∙ usb)
 
 links_to : (es : List Entity) (s : StreamInterface) → IsMade es s → list_any (λ l. not (is_usb es l && l == s.terminal)) (links_of s.settings) ≡ false
     → Links es s.terminal
@@ -190,22 +165,6 @@ first_at ss place terminal d below has none =
     (λ _. eq-eqb (get_or ss place d).terminal terminal has) in
     position-below p ss (omega (arith, first, below)) ∙ ap (λ (k : ℕ). Some k) first
 
--- what the rule on links says of an interface
-record IsRight (es : List Entity) (ss : List StreamInterface) (place : ℕ) (s : StreamInterface) : Type 0 where
-  links : list_any (λ l. not (is_usb es l && l == s.terminal)) (links_of s.settings) ≡ false
-  alone : (not (s.terminal == 0) && list_any (λ d. d.terminal == s.terminal) (take place ss)) ≡ false
-
-right_at : (es : List Entity) (ss : List StreamInterface) → of_interface 12 ss (breaks_u12 es) ≡ None → (k : ℕ) (d : StreamInterface) → k < length ss
-    → IsRight es ss k (get_or ss k d)
-unfolding breaks_u12 at_stream
-right_at es ss none k d below =
-    let both = or_parts _ _ (
-    ap (λ o. option_map_or (λ (s : StreamInterface).
-    list_any (λ l. not (is_usb es l && l == s.terminal)) (links_of s.settings)
-    || (not (s.terminal == 0) && list_any (λ d. d.terminal == s.terminal) (take k ss))) o false) (sym (slice_get-get_or ss k d below))
-    ∙ no_interface 12 ss (breaks_u12 es) none k below) in
-    record { links = both.0; alone = both.1 }
-
 -- ---- a function of such entities and interfaces
 
 pub linked : (function : FunctionFields) → IsSoundFunction function → AreLinked function
@@ -215,7 +174,7 @@ linked function sound =
     let ss = streams_in blocks in
     let above = ids_above blocks sound.1 in
     let is = each_made es (alternates_of blocks) in
-    let right = right_at es ss (links_hold blocks sound.1) in
+    let right = right_at es ss (links_within blocks sound.1) in
     let whole : AreLinked (record function { entities = clustered es; streams = ss }) =
     record {
       inputs = λ k d below. input es above (get_or ss k d) (is k d below) (links_to es (get_or ss k d) (is k d below) (right k d below).links);

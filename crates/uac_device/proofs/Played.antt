@@ -20,7 +20,7 @@ use Rattle.uac_graph.specs.Controls.{Controls, held_in}
 use Rattle.uac_graph.specs.Fitness.{IsSignalGraph}
 use Rattle.uac_graph.specs.Meaning.{entity, frame_of, meaning, samples, samples_by}
 use Rattle.uac_graph.specs.Needs.{depended, is_end, needed}
-use Rattle.uac_graph.specs.Wiring.{AreGiven, AreRendered, AreSilent, Frames, frame_on, held, silence}
+use Rattle.uac_graph.specs.Wiring.{AreGiven, AreRendered, AreSilent, Frames, frame_on, samples_on, silence}
 use Rattle.uac_graph.proofs.Equation.{samples_by-same}
 use Rattle.uac_graph.proofs.Links.{entity_past, place_or_none}
 use Rattle.uac_graph.proofs.Ticking.{input_signal, output_signal}
@@ -185,12 +185,12 @@ unfolding meaning
 meaning_same entities controls ins others same id = samples_given entities controls ins others same (length entities) id
 
 rendered_given : (entities : List Entity) (controls : Controls) (ins : ℕ → List ℤ) (done : ℕ → Bool) (old new : Frames) → AreGiven entities ins old
-    → AreRendered entities controls (held old) done old new → AreRendered entities controls ins done old new
+    → AreRendered entities controls (samples_on old) done old new → AreRendered entities controls ins done old new
 rendered_given entities controls ins done old new given rendered = record {
   wires = λ id.
       rendered.wires id
       ∙ ap (λ frame. if done id then Some frame else frame_on old id)
-      (meaning_same entities controls (held old) ins (λ id input. ap (λ o. unwrap_or o []) (given.inputs id input)) id);
+      (meaning_same entities controls (samples_on old) ins (λ id input. ap (λ o. unwrap_or o []) (given.inputs id input)) id);
 }
 
 -- what a tick makes of the wires, in the world's own words: of what the input terminals are given, and of what was on the others
@@ -204,7 +204,7 @@ pub record Rendered (device : DeviceFields) (mid wires : Frames) (domain : ℕ) 
   pub ends :
       (id : ℕ) → is_output (entity device.function.entities id).kind ≡ true
       → depended device.function.entities domain id ≡ is_end domain (entity device.function.entities id)
-  pub rendered : AreRendered device.function.entities (held_in device.controls) (held mid) (depended device.function.entities domain) mid wires
+  pub rendered : AreRendered device.function.entities (held_in device.controls) (samples_on mid) (depended device.function.entities domain) mid wires
 
 module _ (device : DeviceFields) (mid wires : Frames) (domain : ℕ) (w : DeviceWorld) (rendered : Rendered device mid wires domain) (given : Mid mid domain w)
     (same : device.function ≡ w.function) (controlled : device.controls ≡ w.controls) where
@@ -228,8 +228,8 @@ module _ (device : DeviceFields) (mid wires : Frames) (domain : ℕ) (w : Device
   rendered_here : AreRendered w.function.entities (held_in w.controls) (input_of domain w) (depended w.function.entities domain) mid wires
   rendered_here =
       rendered_given w.function.entities (held_in w.controls) (input_of domain w) (depended w.function.entities domain) mid wires are_given
-      (subst (λ (f : FunctionFields). AreRendered f.entities (held_in w.controls) (held mid) (depended f.entities domain) mid wires) same
-      (subst (λ (cs : List (Key × ℤ)). AreRendered device.function.entities (held_in cs) (held mid) (depended device.function.entities domain) mid wires)
+      (subst (λ (f : FunctionFields). AreRendered f.entities (held_in w.controls) (samples_on mid) (depended f.entities domain) mid wires) same
+      (subst (λ (cs : List (Key × ℤ)). AreRendered device.function.entities (held_in cs) (samples_on mid) (depended device.function.entities domain) mid wires)
       controlled rendered.rendered))
 
   pub inputs_after : (id : ℕ) → is_input (entity_in w id).kind ≡ true → frame_on wires id ≡ Some (input_of domain w id)

@@ -121,14 +121,6 @@ ports_wired_out device wires linked fitting is =
     let output = linked.outputs k d below other some in
     fitting.channels t ∙ signal_channels device.function.entities t (output_signal (entity device.function.entities t).kind output)))
 
--- the channels of one that goes to the device
-pub ports_few : (device : DeviceFields) → AreLinked device.function
-    → ((id : ℕ) → is_input (entity device.function.entities id).kind ≡ true → (entity device.function.entities id).cluster.channels ≤ 32) → IsDevice device
-    → All (λ p. p.out ≡ true → p.channels ≤ 32) (ports device.lanes)
-ports_few device linked few is =
-    all_ports (λ p. p.out ≡ true → p.channels ≤ 32) device is
-    (λ k d below out. few (get_or device.function.streams k d).terminal (linked.inputs k d below out).0)
-
 -- what the output terminals of the bus played is on their wires
 pub ports_played : (device : DeviceFields) (wires : Frames) (w : DeviceWorld) (played : ℕ → List ℤ) → AreNumbered device.function → AreLinked device.function
     → IsDevice device → device.function ≡ w.function

@@ -5,7 +5,7 @@ use Rattle.std.specs.Option.{option_map}
 use Rattle.std.proofs.lemmas.Bool.{cases_eq}
 use Rattle.std.proofs.lemmas.List.{drop_all, drop_more, get_or_default, get_or-map, get_or-set_other, get_or-set_same, length-map, length-set}
 use Rattle.std.proofs.lemmas.Nat.{pow-add}
-use Rattle.uac_graph.specs.Wiring.{Frames, frame_on, held}
+use Rattle.uac_graph.specs.Wiring.{Frames, frame_on, samples_on}
 use Rattle.uac_flow.specs.Streams.{InStream, OutStream, after_putting, after_taking, after_ticks}
 use Rattle.uac_device.specs.declared.lane.Flow.{Flow}
 use Rattle.uac_device.specs.declared.lane.Flow.TheVariants as flow
@@ -175,30 +175,30 @@ taken_keeps domain now old at turned past sound on outs ins all keeps =
 -- the frame on a terminal's wire is the one that it played
 put_same : (domain : ℕ) (wires : Frames) (on : Bool) (frame : List ℤ) (l : Lane) (out : Option OutStream) (in_ : Option InStream) → IsLane l → KeepsLane l out in_
     → on ≡ (l.port.clock == domain) → (l.port.out ≡ false → 1 ≤ l.port.channels → frame_on wires l.port.terminal ≡ Some frame)
-    → option_map (λ i. if on then after_putting frame i else i) in_ ≡ put_on domain (held wires l.port.terminal) l.port in_
+    → option_map (λ i. if on then after_putting frame i else i) in_ ≡ put_on domain (samples_on wires l.port.terminal) l.port in_
 put_same domain wires on frame l out in_ sound keeps same there = along l.flow sound keeps
   where
-    nothing : in_ ≡ None → option_map (λ i. if on then after_putting frame i else i) in_ ≡ put_on domain (held wires l.port.terminal) l.port in_
+    nothing : in_ ≡ None → option_map (λ i. if on then after_putting frame i else i) in_ ≡ put_on domain (samples_on wires l.port.terminal) l.port in_
     nothing none =
         ap (option_map (λ (i : InStream). if on then after_putting frame i else i)) none
-        ∙ sym (ap (put_on domain (held wires l.port.terminal) l.port) none)
+        ∙ sym (ap (put_on domain (samples_on wires l.port.terminal) l.port) none)
 
     along : (f : Flow) → IsFlow l.port l.ring f → KeepsFlow l.ring f out in_
-        → option_map (λ i. if on then after_putting frame i else i) in_ ≡ put_on domain (held wires l.port.terminal) l.port in_
+        → option_map (λ i. if on then after_putting frame i else i) in_ ≡ put_on domain (samples_on wires l.port.terminal) l.port in_
     along flow.Idle right kept = nothing kept.1
     along (flow.Out f) right kept = nothing kept.2
     along (flow.In f) right kept =
-        let on_wire : held wires l.port.terminal ≡ frame = ap (λ (o : Option (List ℤ)). unwrap_or o []) (there right.1 right.3) in
+        let on_wire : samples_on wires l.port.terminal ≡ frame = ap (λ (o : Option (List ℤ)). unwrap_or o []) (there right.1 right.3) in
         changed_as on (l.port.clock == domain) (after_putting frame) in_ same
         ∙ ap (λ (x : List ℤ). put_on domain x l.port in_) (sym on_wire)
 
 pub put_keeps : (domain : ℕ) (wires : Frames) (now old : List Lane) (at : ℕ)
-    → IsTurnedTo (λ p out. out) (λ p in_. put_on domain (held wires p.terminal) p in_) now old at → length now ≤ at → All IsLane old
+    → IsTurnedTo (λ p out. out) (λ p in_. put_on domain (samples_on wires p.terminal) p in_) now old at → length now ≤ at → All IsLane old
     → (on : ℕ → Bool) (played : ℕ → List ℤ) (outs : ℕ → Option OutStream) (ins : ℕ → Option InStream) → All (λ p. on p.interface ≡ (p.clock == domain)) (ports old)
     → All (λ p. p.out ≡ false → 1 ≤ p.channels → frame_on wires p.terminal ≡ Some (played p.interface)) (ports old) → KeepsStreams old outs ins
     → KeepsStreams now outs (changed_where on (λ interface. after_putting (played interface)) ins)
 put_keeps domain wires now old at turned past sound on played outs ins all there keeps =
-    keeps_turned (λ p out. out) (λ p in_. put_on domain (held wires p.terminal) p in_) now old at outs outs ins
+    keeps_turned (λ p out. out) (λ p in_. put_on domain (samples_on wires p.terminal) p in_) now old at outs outs ins
     (changed_where on (λ interface. after_putting (played interface)) ins) turned past sound keeps
     (λ l k below is right kept. (
       refl,

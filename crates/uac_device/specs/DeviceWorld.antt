@@ -23,7 +23,7 @@ use Rattle.uac_units.specs.Hearing.{Reading, after_hearing}
 use Rattle.uac_alt.specs.declared.settings.InterfaceSetting.{InterfaceSetting}
 use Rattle.uac_alt.specs.Settings.{initial_settings}
 use Rattle.uac_alt.specs.Streams.{StreamFields, stream_of}
-use Rattle.uac_request.specs.Requests.{Told, after_request, held_by, is_done, is_stalled, rate_at, reply_of, with_bytes, with_descriptor}
+use Rattle.uac_request.specs.Requests.{AnswerFields, after_request, held_by, is_done, is_stalled, rate_at, reply_of, with_bytes, with_descriptor}
 use Rattle.uac_request.specs.declared.setup.Setup.{Setup}
 use Rattle.uac_flow.specs.Streams.{InStream, OutStream, after_packet, after_putting, after_sending, after_taking, after_ticks, arrival_of}
 use Rattle.uac_flow.specs.Streams.{feedback_of, in_level, is_dry, is_due, is_full, next_taken, out_level, sent_frames, sent_packet}
@@ -280,7 +280,7 @@ feedback_in w interface = option_and_then feedback_of (w.outs interface)
 abbrev pub sets_interface : Setup → Bool
 sets_interface p = p.request_type == 1 && p.request == 11
 
-abbrev pub tells_done : Told → Bool
+abbrev pub tells_done : AnswerFields → Bool
 tells_done (with_bytes bytes) = false
 tells_done (with_descriptor from to) = false
 tells_done is_done = true

@@ -6,7 +6,7 @@ use Rattle.uac_topology_rules.specs.Rules.{is_output}
 use Rattle.uac_topology.specs.Function.{FunctionFields}
 use Rattle.uac_store.specs.declared.keys.Key.{Key}
 use Rattle.uac_store.specs.Controls.{IsStoreOf}
-use Rattle.uac_request.specs.Requests.{AreSettingsOf, Told, after_request, held_by, reply_of}
+use Rattle.uac_request.specs.Requests.{AreSettingsOf, AnswerFields, after_request, held_by, reply_of}
 use Rattle.uac_request.specs.declared.setup.Setup.{Setup}
 use Rattle.uac_alt.specs.declared.settings.InterfaceSetting.{InterfaceSetting}
 use Rattle.uac_graph.specs.Wiring.{Frames, AreWiresOf, frame_on, silence}
@@ -58,7 +58,7 @@ pub record IsDevice (device : DeviceFields) : Type 0 where
   pub ports : ports device.lanes ≡ map (port_of device.function.entities) device.function.streams
 
 -- what a control request makes of a device, and what it is told
-pub record IsControlled (p : Setup) (bytes : List ℕ) (told : Told) (old new : DeviceFields) : Type 0 where
+pub record IsControlled (p : Setup) (bytes : List ℕ) (told : AnswerFields) (old new : DeviceFields) : Type 0 where
   pub answer : told ≡ reply_of old.function (held_by old.controls old.settings) p bytes
   pub held : held_by new.controls new.settings ≡ after_request old.function (held_by old.controls old.settings) p bytes
   pub function : new.function ≡ old.function

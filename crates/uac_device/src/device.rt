@@ -3,6 +3,7 @@ ghost use Rattle.std.specs.Prelude.{◌≡◌, ◌≤◌, ◌<◌, ◌+◌, ◌^
 ghost use Rattle.std.specs.Option.{option_map};
 ghost use Rattle.uac_graph.specs.Meaning.{entity};
 ghost use Rattle.uac_graph.specs.Needs.{needed};
+ghost use Rattle.uac_graph.specs.Wiring.{silence};
 ghost use Rattle.uac_units.specs.Fitting.{IsFitted};
 ghost use Rattle.uac_units.specs.Panel.{readings};
 ghost use Rattle.uac_device.specs.DeviceWorld.{DeviceWorld, ZerosFitIn, advanced, after_frames, arrival_in, deviated, feedback_in};
@@ -10,7 +11,7 @@ ghost use Rattle.uac_device.specs.DeviceWorld.{frames_in, fresh, heard_of, is_du
 ghost use Rattle.uac_device.specs.DeviceWorld.{next_ticks, packet_in, played_at, received, renders_of, sent, set_jack, settled, target_of};
 ghost use Rattle.uac_device.specs.DeviceWorld.{ticked};
 ghost use Rattle.uac_device.specs.Kept.{IsControlled, Stands};
-ghost use Rattle.uac_request.specs.Requests.{seen};
+ghost use Rattle.uac_request.specs.Requests.{answer_fields};
 
 use crate::clocks::{Clock, advance, deviate, resting_clocks};
 use crate::derived::Derived;
@@ -185,7 +186,7 @@ impl Device {
     /// Answers a control request (Audio Class 2.0, 5.2; USB 2.0, 9.4). `sent` are the bytes that came with it. A stall changes
     /// nothing. An interface whose setting was set starts its stream anew, or stops it.
     pub fn control(&mut self, setup: &Setup, sent: &[u8]) -> Answer
-        ensures { IsControlled setup.now sent.now (seen result) self.old self.new }
+        ensures { IsControlled setup.now sent.now (answer_fields result) self.old self.new }
     {
         functions_are_sound(&self.function);
         let begun = stream_asked(&self.function, &self.store, setup.index, setup.value);
@@ -238,6 +239,16 @@ impl Device {
         ensures function { self.new.function ≡ self.old.function }
     {
         self.wires.set(terminal, frame);
+    }
+
+    /// Has an input jack give silence at the next tick.
+    pub fn hush(&mut self, terminal: u8)
+        requires { is_input_jack (entity self.old.function.entities terminal) ≡ true }
+        ensures stands { (w : DeviceWorld) → Stands self.old w
+            → Stands self.new (set_jack terminal (silence (entity self.old.function.entities terminal).cluster.channels) w) }
+        ensures function { self.new.function ≡ self.old.function }
+    {
+        self.wires.silence(terminal);
     }
 
     /// One tick of a domain: its terminals of the bus take the next frame of their streams, or silence; its output terminals play the

@@ -1,8 +1,8 @@
 // What the device keeps of a streaming interface.
 ghost use Rattle.std.specs.Prelude.{◌≡◌, ◌≤◌, ℕ, Option, Some, [], true, if◌then◌else◌, length, replicate, pos, IfOk, IfSome};
 ghost use Rattle.std.specs.Option.{option_and_then, option_map, option_map_or};
-ghost use Rattle.uac_alt.specs.Streams.{seen};
-ghost use Rattle.uac_graph.specs.Wiring.{frame_on, held};
+ghost use Rattle.uac_alt.specs.Streams.{stream_fields};
+ghost use Rattle.uac_graph.specs.Wiring.{frame_on, samples_on};
 ghost use Rattle.uac_flow.specs.Flows.{CanRun, ZerosFit};
 ghost use Rattle.uac_flow.specs.Streams.{InStream, OutStream, after_packet, after_sending, after_taking, arrival_of, feedback_of};
 ghost use Rattle.uac_flow.specs.Streams.{next_taken, sent_frames, sent_packet, settled_in, settled_out};
@@ -11,7 +11,6 @@ ghost use Rattle.uac_device.specs.DeviceWorld.{either_due, in_from, level_in, ou
 ghost use Rattle.uac_device.specs.Lanes.{FitsPort, IsFlow, IsLane, KeepsFlow, KeepsLane, Turns, WiredIn, WiredOut, counted_on, found_dry};
 ghost use Rattle.uac_device.specs.Lanes.{found_full, frame_given, gives_to, idle_lane, put_on, taken_on};
 
-use arrayvec::ArrayVec;
 use std::alloc::Global;
 use uac_alt::Stream;
 use uac_descriptor::NoMemory;
@@ -107,9 +106,9 @@ impl Lane {
 
     /// Its stream starts anew, or it runs none from now on.
     pub(crate) fn restart(&mut self, begun: Option<Stream>)
-        requires fits { IfSome begun (λ s. FitsPort self.old.port (seen s)) }
-        ensures turns { Turns (λ out. option_and_then out_from (option_map seen begun))
-            (λ in_. option_and_then in_from (option_map seen begun)) self.old self.new }
+        requires fits { IfSome begun (λ s. FitsPort self.old.port (stream_fields s)) }
+        ensures turns { Turns (λ out. option_and_then out_from (option_map stream_fields begun))
+            (λ in_. option_and_then in_from (option_map stream_fields begun)) self.old self.new }
         ensures sound { IsLane self.new }
     {
         self.flow = match begun {
@@ -183,10 +182,10 @@ impl Lane {
 
     /// A tick of a domain: a terminal of the bus in the domain takes the next frame of its stream, or silence where there is none, and
     /// puts it on its wire.
+    #[tactic(auto, using(crate::proofs::GivenFrames::hushed))]
     pub(crate) fn give(&mut self, domain: u8, wires: &mut Wires)
         requires sound { IsLane self.old }
         requires wired { WiredIn wires.old self.old.port }
-        requires few { self.old.port.out ≡ true → self.old.port.channels ≤ 32 }
         ensures turns { Turns (taken_on domain self.old.port) (λ in_. in_) self.old self.new }
         ensures frame { (out : Option OutStream) (in_ : Option InStream) → KeepsLane self.old out in_
             → (id : ℕ) → frame_on wires.new id
@@ -198,23 +197,34 @@ impl Lane {
             return;
         }
         match self.next_frame() {
-            Some(frame) => wires.set(self.port.terminal, &frame),
-            None => wires.set(self.port.terminal, &silent(self.port.channels)),
+            Some(frame) => wires.set(self.port.terminal, frame),
+            None => wires.silence(self.port.terminal),
+        }
+        self.go_on();
+    }
+
+    // The next frame of the stream to the device, lent, where it is primed and its ring has one.
+    fn next_frame(&self) -> Option<&Frame>
+        requires { IsLane self.now }
+        ensures frame { (out : Option OutStream) (in_ : Option InStream) → KeepsLane self.now out in_
+            → option_map (λ frame. frame.now.items) result ≡ option_and_then next_taken out }
+        ensures channels { IfSome result (λ frame. length frame.now.items ≡ self.now.port.channels) }
+    {
+        match &self.flow {
+            Flow::Out(flow) => flow.next(&self.ring),
+            Flow::Idle | Flow::In(_) => None,
         }
     }
 
-    // The next frame of the stream to the device, where it is primed and its ring has one.
-    fn next_frame(&mut self) -> Option<Frame>
+    // That frame was taken.
+    fn go_on(&mut self)
         requires { IsLane self.old }
         ensures turns { Turns (option_map after_taking) (λ in_. in_) self.old self.new }
-        ensures frame { (out : Option OutStream) (in_ : Option InStream) → KeepsLane self.old out in_
-            → option_map (λ frame. frame.items) result ≡ option_and_then next_taken out }
-        ensures channels { IfSome result (λ frame. length frame.items ≡ self.old.port.channels) }
         ensures sound { IsLane self.new }
     {
         match &mut self.flow {
-            Flow::Out(flow) => flow.play(&mut self.ring),
-            Flow::Idle | Flow::In(_) => None,
+            Flow::Out(flow) => flow.go_on(&mut self.ring),
+            Flow::Idle | Flow::In(_) => {}
         }
     }
 
@@ -222,7 +232,7 @@ impl Lane {
     pub(crate) fn put(&mut self, domain: u8, wires: &Wires)
         requires sound { IsLane self.old }
         requires wired { WiredOut wires.now self.old.port }
-        ensures turns { Turns (λ out. out) (put_on domain (held wires.now self.old.port.terminal) self.old.port) self.old self.new }
+        ensures turns { Turns (λ out. out) (put_on domain (samples_on wires.now self.old.port.terminal) self.old.port) self.old self.new }
         ensures sound { IsLane self.new }
     {
         if self.port.clock != domain {
@@ -264,25 +274,13 @@ impl Lane {
 
 // A stream at its start; its ring is emptied.
 fn start(stream: Stream, ring: &mut Ring) -> Flow
-    requires { CanRun (seen stream) }
-    ensures stands { KeepsFlow ring.new result (out_from (seen stream)) (in_from (seen stream)) }
-    ensures sound { (port : Port) → FitsPort port (seen stream) → IsFlow port ring.new result }
+    requires { CanRun (stream_fields stream) }
+    ensures stands { KeepsFlow ring.new result (out_from (stream_fields stream)) (in_from (stream_fields stream)) }
+    ensures sound { (port : Port) → FitsPort port (stream_fields stream) → IsFlow port ring.new result }
 {
     if stream.out {
         Flow::Out(OutFlow::start(stream, ring))
     } else {
         Flow::In(InFlow::start(stream, ring))
     }
-}
-
-// A frame of zeros.
-fn silent(channels: u8) -> Frame
-    requires { channels ≤ 32 }
-    ensures { result.items ≡ replicate channels (pos 0) }
-{
-    let mut frame: Frame = ArrayVec::new();
-    for _each in 0..channels {
-        frame.push(0);
-    }
-    frame
 }

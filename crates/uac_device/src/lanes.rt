@@ -2,7 +2,7 @@
 ghost use Rattle.std.specs.Prelude.{◌≡◌, ◌==◌, ℕ, Option, Some, [], map, IfOk, IfSome};
 ghost use Rattle.std.specs.List.{find};
 ghost use Rattle.std.specs.Option.{option_and_then, option_map, option_map_or};
-ghost use Rattle.uac_alt.specs.Streams.{seen};
+ghost use Rattle.uac_alt.specs.Streams.{stream_fields};
 ghost use Rattle.uac_flow.specs.Flows.{ZerosFit};
 ghost use Rattle.uac_flow.specs.Streams.{InStream, OutStream, after_packet, after_sending, arrival_of, feedback_of, sent_frames};
 ghost use Rattle.uac_flow.specs.Streams.{sent_packet, settled_in, settled_out};
@@ -113,10 +113,10 @@ impl Lanes {
     /// An interface's stream starts anew, or it runs none from now on. A stream that is given fits the interface.
     pub(crate) fn restart(&mut self, interface: u16, begun: Option<Stream>)
         requires fits { IfSome begun (λ s. (port : ported.Port) × (find (λ p. p.interface == interface) (ports self.old) ≡ Some port)
-            × FitsPort port (seen s)) }
+            × FitsPort port (stream_fields s)) }
         ensures stands { (outs : ℕ → Option OutStream) (ins : ℕ → Option InStream) → KeepsStreams self.old outs ins
-            → KeepsStreams self.new (replaced_at interface (option_and_then out_from (option_map seen begun)) outs)
-            (replaced_at interface (option_and_then in_from (option_map seen begun)) ins) }
+            → KeepsStreams self.new (replaced_at interface (option_and_then out_from (option_map stream_fields begun)) outs)
+            (replaced_at interface (option_and_then in_from (option_map stream_fields begun)) ins) }
         ensures ports { ports self.new ≡ ports self.old }
     {
         match self.place(interface) {

@@ -2,7 +2,7 @@
 ghost use Rattle.std.specs.Prelude.{◌≡◌, ◌==◌, if◌then◌else◌, Some, None};
 ghost use Rattle.std.specs.List.{find, list_any};
 ghost use Rattle.std.specs.Option.{option_and_then, option_map};
-ghost use Rattle.uac_alt.specs.Streams.{seen, stream_of};
+ghost use Rattle.uac_alt.specs.Streams.{stream_fields, stream_of};
 ghost use Rattle.uac_request.specs.Requests as requests;
 ghost use Rattle.uac_device.specs.DeviceWorld as spec;
 ghost use Rattle.uac_device.specs.DeviceWorld.{stream_in_setting};
@@ -21,7 +21,7 @@ pub fn sets_interface(setup: &Setup) -> bool
 
 /// Whether an answer is that the request is done.
 pub fn is_done(answer: &Answer) -> bool
-    ensures { result ≡ spec.tells_done (requests.seen answer.now) }
+    ensures { result ≡ spec.tells_done (requests.answer_fields answer.now) }
 {
     match answer {
         Answer::Done => true,
@@ -36,10 +36,10 @@ pub fn stream_asked(
     interface: u16,
     setting: u16,
 ) -> Option<Stream>
-    ensures { option_map seen result ≡ stream_in_setting function.now store.now interface setting }
+    ensures { option_map stream_fields result ≡ stream_in_setting function.now store.now interface setting }
 {
     match carrier_of(function, interface) {
-        Some(carrier) => stream_now(function, store, carrier, setting),
+        Some(streaming) => stream_now(function, store, streaming, setting),
         None => None,
     }
 }
@@ -58,15 +58,15 @@ fn carrier_of(function: &Function, interface: u16) -> Option<&StreamInterface>
 fn stream_now(
     function: &Function,
     store: &Store,
-    carrier: &StreamInterface,
+    streaming: &StreamInterface,
     setting: u16,
 ) -> Option<Stream>
-    ensures { find (λ s. s.number == carrier.now.number) function.now.streams ≡ Some carrier.now
-        → option_map seen result ≡ option_and_then (λ rate. stream_of function.now rate carrier.now.number setting)
-        (requests.rate_at function.now store.now carrier.now) }
+    ensures { find (λ s. s.number == streaming.now.number) function.now.streams ≡ Some streaming.now
+        → option_map stream_fields result ≡ option_and_then (λ rate. stream_of function.now rate streaming.now.number setting)
+        (requests.rate_at function.now store.now streaming.now) }
 {
-    match rate_of(function, store, carrier) {
-        Some(rate) => stream_in(function, rate, carrier, setting),
+    match rate_of(function, store, streaming) {
+        Some(rate) => stream_in(function, rate, streaming, setting),
         None => None,
     }
 }
@@ -75,23 +75,23 @@ fn stream_now(
 fn stream_in(
     function: &Function,
     rate: u32,
-    carrier: &StreamInterface,
+    streaming: &StreamInterface,
     setting: u16,
 ) -> Option<Stream>
-    ensures { find (λ s. s.number == carrier.now.number) function.now.streams ≡ Some carrier.now
-        → option_map seen result ≡ stream_of function.now rate carrier.now.number setting }
+    ensures { find (λ s. s.number == streaming.now.number) function.now.streams ≡ Some streaming.now
+        → option_map stream_fields result ≡ stream_of function.now rate streaming.now.number setting }
 {
-    match number_among(carrier.settings.as_slice(), setting) {
-        Some(number) => stream(function, rate, carrier.number, number),
+    match number_among(streaming.settings.as_slice(), setting) {
+        Some(number) => stream(function, rate, streaming.number, number),
         None => None,
     }
 }
 
 // The rate of the clock of an interface's terminal.
-fn rate_of(function: &Function, store: &Store, carrier: &StreamInterface) -> Option<u32>
-    ensures { result ≡ requests.rate_at function.now store.now carrier.now }
+fn rate_of(function: &Function, store: &Store, streaming: &StreamInterface) -> Option<u32>
+    ensures { result ≡ requests.rate_at function.now store.now streaming.now }
 {
-    let terminal = function.entity(carrier.terminal)?;
+    let terminal = function.entity(streaming.terminal)?;
     store.rate(function, terminal.clock)
 }
 

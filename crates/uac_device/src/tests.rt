@@ -230,7 +230,7 @@ fn a_fast_clock_ticks_once_more(rt: HostRuntime) -> Result<(), Fail> {
     Ok(())
 }
 
-/// A request of these eight bytes, with these behind it.
+/// A request of these eight bytes, with these after it.
 pub(crate) fn ask(device: &mut Device, setup: [u8; 8], sent: &[u8]) -> Option<bool> {
     match device.control(&Setup::read(setup), sent) {
         Answer::Done => Some(true),

@@ -41,7 +41,6 @@ impl Lanes {
     /// The terminals of the bus in a domain take the next frames of their streams, or silence, and put them on their wires.
     pub(crate) fn give(&mut self, domain: u8, wires: &mut Wires)
         requires wired { All (WiredIn wires.old) (ports self.old) }
-        requires few { All (λ p. p.out ≡ true → p.channels ≤ 32) (ports self.old) }
         ensures stands { (on : ℕ → Bool) (outs : ℕ → Option OutStream) (ins : ℕ → Option InStream)
             → All (λ p. on p.interface ≡ (p.clock == domain)) (ports self.old) → KeepsStreams self.old outs ins
             → KeepsStreams self.new (changed_where on (λ interface. after_taking) outs) ins }
@@ -109,7 +108,6 @@ fn with_lowest(bits: u8, lowest: bool) -> u8
 fn give(lanes: &mut [Lane], domain: u8, wires: &mut Wires)
     requires sound { All IsLane lanes.old }
     requires wired { All (WiredIn wires.old) (ports lanes.old) }
-    requires few { All (λ p. p.out ≡ true → p.channels ≤ 32) (ports lanes.old) }
     ensures stands { (on : ℕ → Bool) (outs : ℕ → Option OutStream) (ins : ℕ → Option InStream)
         → All (λ p. on p.interface ≡ (p.clock == domain)) (ports lanes.old) → KeepsStreams lanes.old outs ins
         → KeepsStreams lanes.new (changed_where on (λ interface. after_taking) outs) ins }

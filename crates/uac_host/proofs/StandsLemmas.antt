@@ -14,7 +14,7 @@ use Rattle.uac_entities.specs.declared.stream.StreamInterface.{StreamInterface}
 use Rattle.uac_topology.specs.Function.{FunctionFields}
 use Rattle.uac_topology.specs.Kept.{AreInRange}
 use Rattle.uac_topology.specs.Topology.{IsSoundFunction}
-use Rattle.uac_alt.specs.Streams.{StreamFields, seen, stream_of}
+use Rattle.uac_alt.specs.Streams.{StreamFields, stream_fields, stream_of}
 use Rattle.uac_alt.specs.declared.values.Stream.{Stream}
 use Rattle.uac_host.specs.declared.lanes.Lane.{Lane}
 use Rattle.uac_host.specs.HostWorld.{HostWorld, Pace, Track, fresh_host}
@@ -456,29 +456,29 @@ samples_lane w interface samples old track whole kept own is =
     ∙ ap (λ (l : Lane). let k : TrackFields = record l.track { samples = l.track.samples ++ samples } in k) lane
     ∙ sym (samples_kept w interface samples whole))
 
-started_alike : (o : Option Stream) → option_map (λ s. kept_pace (started (seen s))) o ≡ option_map kept_pace (option_map started (option_map seen o))
+started_alike : (o : Option Stream) → option_map (λ s. kept_pace (started (stream_fields s))) o ≡ option_map kept_pace (option_map started (option_map stream_fields o))
 started_alike None = refl
 started_alike (Some s) = refl
 
 pub stream_lane : (w : HostWorld) (interface : ℕ) (stream : Option Stream) (old new : Lane) → IsKept w old → old.interface ≡ interface
-    → new ≡ record old { pace = option_map (λ s. kept_pace (started (seen s))) stream } → new ≡ kept_lane (with_stream interface (option_map seen stream) w) interface
+    → new ≡ record old { pace = option_map (λ s. kept_pace (started (stream_fields s))) stream } → new ≡ kept_lane (with_stream interface (option_map stream_fields stream) w) interface
 unfolding with_stream
 stream_lane w interface stream old new kept own is =
     let lane = own_lane w interface old kept own in
-    lane_to new (with_stream interface (option_map seen stream) w) interface
+    lane_to new (with_stream interface (option_map stream_fields stream) w) interface
     (ap (λ (l : Lane). l.interface) is ∙ own)
-    (ap (λ (l : Lane). l.pace) is ∙ started_alike stream ∙ sym (ap (option_map kept_pace) (here interface (option_map started (option_map seen stream)) w.paces)))
+    (ap (λ (l : Lane). l.pace) is ∙ started_alike stream ∙ sym (ap (option_map kept_pace) (here interface (option_map started (option_map stream_fields stream)) w.paces)))
     (ap (λ (l : Lane). l.track) is ∙ ap (λ (l : Lane). l.track) lane)
 
-pub given_of : (function : FunctionFields) (interface : ℕ) (stream : Option Stream) → IfSome stream (λ s. IsStreamOf function interface (seen s))
-    → (s : StreamFields) → option_map seen stream ≡ Some s → IsStreamOf function interface s
+pub given_of : (function : FunctionFields) (interface : ℕ) (stream : Option Stream) → IfSome stream (λ s. IsStreamOf function interface (stream_fields s))
+    → (s : StreamFields) → option_map stream_fields stream ≡ Some s → IsStreamOf function interface s
 given_of function interface None given s e = absurd cc
-given_of function interface (Some x) given s e = subst (IsStreamOf function interface) (some_same (seen x) s e) given
+given_of function interface (Some x) given s e = subst (IsStreamOf function interface) (some_same (stream_fields x) s e) given
 
 pub each_runnable : ((function : FunctionFields) → IsSoundFunction function → AreInRange function.streams) → (interface : ℕ) (stream : Option Stream)
-    → IfSome stream (λ s. (function : FunctionFields) × IsSoundFunction function × IsStreamOf function interface (seen s)) → IfSome stream (λ s. IsRunnable (seen s))
+    → IfSome stream (λ s. (function : FunctionFields) × IsSoundFunction function × IsStreamOf function interface (stream_fields s)) → IfSome stream (λ s. IsRunnable (stream_fields s))
 each_runnable ranged interface None given = given
-each_runnable ranged interface (Some s) given = runnable given.0 interface (seen s) (ranged given.0 given.1) given.2
+each_runnable ranged interface (Some s) given = runnable given.0 interface (stream_fields s) (ranged given.0 given.1) given.2
 
 pub append_stands : {T E : Type 0} (r : Result T E) (now inside : List Lane) (w : HostWorld) (interface place : ℕ) (samples : List ℤ) (old : Lane) (track : TrackFields)
     → inside ≡ now → Stands now w → AreWhole w.function interface samples → Some place ≡ place_of interface inside → old ≡ get_or inside place old
@@ -493,7 +493,7 @@ append_stands (Ok x) now inside w interface place samples old track same stands 
 
 -- what `stream` answers for a sound function can be started
 pub stream_given : (function : FunctionFields) (rate interface setting : ℕ) (stream : Option Stream) → IsSoundFunction function
-    → option_map seen stream ≡ stream_of function rate interface setting
-    → IfSome stream (λ s. (function : FunctionFields) × IsSoundFunction function × IsStreamOf function interface (seen s))
+    → option_map stream_fields stream ≡ stream_of function rate interface setting
+    → IfSome stream (λ s. (function : FunctionFields) × IsSoundFunction function × IsStreamOf function interface (stream_fields s))
 stream_given function rate interface setting None sound is = tt
 stream_given function rate interface setting (Some s) sound is = (function, sound, record { rate = rate; setting = setting; is = sym is })

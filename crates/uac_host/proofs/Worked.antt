@@ -5,7 +5,7 @@ use Rattle.uac_clock.specs.Nominal.{values_of}
 use Rattle.uac_pcm.specs.declared.tones.Tone.TheVariants.{Ramp}
 use Rattle.uac_alt.specs.Streams.{StreamFields}
 use Rattle.uac_host.specs.HostWorld.{Track}
-use Rattle.uac_host.specs.Calls.{after_frames, held, next_frames, next_size, sent, started}
+use Rattle.uac_host.specs.Calls.{after_frames, within_nominal, next_frames, next_size, sent, started}
 
 -- one channel of 16 bits to the device, at 44,100 Hz and at 48,000 Hz
 mono : ℕ → ℕ → StreamFields
@@ -26,7 +26,7 @@ unfolding mono values_of
 eight_times_six = refl
 
 -- a report of ten frames is held at seven
-seven_at_most : held (mono 48000 1) 655360 ≡ 458752
+seven_at_most : within_nominal (mono 48000 1) 655360 ≡ 458752
 unfolding mono values_of
 seven_at_most = refl
 

@@ -43,12 +43,12 @@ unfoldable pub with_stream : ℕ → Option StreamFields → HostWorld → HostW
 with_stream interface stream w = record w { paces = at_interface interface (option_map started stream) w.paces }
 
 -- a rate value, held between the least and the greatest packet of a stream
-abbrev pub held : StreamFields → ℕ → ℕ
-held stream value = max (stream.nominal.lo * 65536) (min value (stream.nominal.hi * 65536))
+abbrev pub within_nominal : StreamFields → ℕ → ℕ
+within_nominal stream value = max (stream.nominal.lo * 65536) (min value (stream.nominal.hi * 65536))
 
 -- a feedback report came: its value is in force, as far as it may be
 abbrev pub reported : ℕ → Pace → Pace
-reported value p = record p { value = held p.stream value }
+reported value p = record p { value = within_nominal p.stream value }
 
 -- the same of the stream that an interface runs
 unfoldable pub with_report : ℕ → ℕ → HostWorld → HostWorld
@@ -64,7 +64,7 @@ in_frames channels samples = first_chunks channels (length samples / channels) s
 abbrev pub AreWhole : FunctionFields → ℕ → List ℤ → Type 0
 AreWhole function interface samples = length samples % channels_at function interface ≡ 0
 
--- an interface's track has frames behind those that wait
+-- an interface's track has frames after those that wait
 unfoldable pub with_samples : ℕ → List ℤ → HostWorld → HostWorld
 with_samples interface samples w =
     let t = w.tracks interface in

@@ -17,7 +17,7 @@ pub record Pace : Type 0 where
 pub record Track : Type 0 where
   -- the frames that were appended and aren't sent yet
   pub waiting : List (List ℤ)
-  -- the tone behind them, and the place of its next frame
+  -- the tone after them, and the place of its next frame
   pub tone : Tone
   pub place : ℕ
 

@@ -5,7 +5,7 @@ use Rattle.std.specs.Option.{option_map}
 use Rattle.uac_host.specs.declared.lanes.Lane.{Lane}
 use Rattle.uac_host.specs.Fields.{PaceFields, TrackFields}
 use Rattle.uac_host.specs.HostWorld.{HostWorld, Pace, Track, silent_track}
-use Rattle.uac_host.specs.Calls.{IsStreamOf, channels_at, held, interface_in}
+use Rattle.uac_host.specs.Calls.{IsStreamOf, channels_at, within_nominal, interface_in}
 
 -- how a stream is kept: the remainder of its rate values stands for them all
 abbrev pub kept_pace : Pace → PaceFields
@@ -17,7 +17,7 @@ kept_track t = record { samples = flat_map (λ frame. frame) t.waiting; tone = t
 
 -- what is kept of a stream after a report
 abbrev pub kept_report : ℕ → PaceFields → PaceFields
-kept_report value p = record p { value = held p.stream value }
+kept_report value p = record p { value = within_nominal p.stream value }
 
 abbrev pub kept_lane : HostWorld → ℕ → Lane
 kept_lane w interface =

@@ -4,7 +4,7 @@ ghost use Rattle.std.specs.Bool.{OnTrue, OnFalse};
 ghost use Rattle.std.specs.Option.{option_map};
 ghost use Rattle.uac_topology.specs.Function.{FunctionFields};
 ghost use Rattle.uac_topology.specs.Topology.{IsSoundFunction};
-ghost use Rattle.uac_alt.specs.Streams.{seen};
+ghost use Rattle.uac_alt.specs.Streams.{stream_fields};
 ghost use Rattle.uac_host.specs.HostWorld.{HostWorld, fresh_host};
 ghost use Rattle.uac_host.specs.Calls.{AreWhole, IsStreamOf, after_packet, heard_in, packet_of, size_of};
 ghost use Rattle.uac_host.specs.Calls.{with_report, with_samples, with_stream, with_tone};
@@ -52,9 +52,9 @@ impl Host {
     /// An interface starts a stream anew, at its nominal rate and a whole frame, or runs none from now on. Its track stays. A stream that
     /// is given is one of that interface of the host's function.
     pub fn set_stream(&mut self, interface: u8, stream: Option<Stream>)
-        requires { IfSome stream (λ s. (function : FunctionFields) × IsSoundFunction function × IsStreamOf function interface (seen s)) }
-        ensures stands { (w : HostWorld) → Stands self.old w → IfSome stream (λ s. IsStreamOf w.function interface (seen s))
-            → Stands self.new (with_stream interface (option_map seen stream) w) }
+        requires { IfSome stream (λ s. (function : FunctionFields) × IsSoundFunction function × IsStreamOf function interface (stream_fields s)) }
+        ensures stands { (w : HostWorld) → Stands self.old w → IfSome stream (λ s. IsStreamOf w.function interface (stream_fields s))
+            → Stands self.new (with_stream interface (option_map stream_fields stream) w) }
     {
         settings_are_in_range();
         match self.place(interface) {
@@ -63,7 +63,7 @@ impl Host {
         }
     }
 
-    /// Frames wait behind those that do: samples of full scale, channel after channel, in whole frames of the interface's terminal. After
+    /// Frames wait after those that do: samples of full scale, channel after channel, in whole frames of the interface's terminal. After
     /// `NoMemory` the track is as it was.
     pub fn append(&mut self, interface: u8, samples: &[i32]) -> Result<(), NoMemory>
         ensures stands { (w : HostWorld) → Stands self.old w → AreWhole w.function interface samples.now

@@ -2,7 +2,7 @@
 ghost use Rattle.std.specs.Prelude.{◌≡◌, ◌↔◌, ◌<◌, [], length, slice_get, Some, IsTrue, IfSome};
 ghost use Rattle.std.specs.Bool.{OnTrue, OnFalse};
 ghost use Rattle.std.specs.Option.{option_map};
-ghost use Rattle.uac_alt.specs.Streams.{seen};
+ghost use Rattle.uac_alt.specs.Streams.{stream_fields};
 ghost use Rattle.uac_host.specs.HostWorld.{HostWorld};
 ghost use Rattle.uac_host.specs.Calls.{after_packet, heard_in, packet_of, size_of, started};
 ghost use Rattle.uac_host.specs.Fields.{IsRunnable};
@@ -36,8 +36,8 @@ impl Lane {
 
     /// Starts a stream anew, or runs none from now on.
     pub(crate) fn run(&mut self, stream: Option<Stream>)
-        requires { IfSome stream (λ s. IsRunnable (seen s)) }
-        ensures { self.new ≡ record self.old { pace = option_map (λ s. kept_pace (started (seen s))) stream } }
+        requires { IfSome stream (λ s. IsRunnable (stream_fields s)) }
+        ensures { self.new ≡ record self.old { pace = option_map (λ s. kept_pace (started (stream_fields s))) stream } }
     {
         match stream {
             Some(stream) => self.pace = Some(Pace::start(stream)),

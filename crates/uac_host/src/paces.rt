@@ -1,7 +1,7 @@
 // How a running stream is sent.
 ghost use Rattle.std.specs.Prelude.{◌≡◌, ◌≤◌, ◌<◌, ◌+◌, ◌*◌, ◌/◌, ◌%◌};
 ghost use Rattle.uac_pcm.specs.Frames.{IsFormat};
-ghost use Rattle.uac_alt.specs.Streams.{seen};
+ghost use Rattle.uac_alt.specs.Streams.{stream_fields};
 ghost use Rattle.uac_host.specs.Calls as spec;
 ghost use Rattle.uac_host.specs.Fields.{IsRunnable};
 
@@ -21,21 +21,21 @@ pub(crate) struct Pace {
 }
 
 impl Model for Pace {
-    ghost use Rattle.uac_alt.specs.Streams.{seen};
+    ghost use Rattle.uac_alt.specs.Streams.{stream_fields};
     ghost use Rattle.uac_host.specs.Fields.{PaceFields, IsPace};
 
     ghost Value = { PaceFields };
 
-    ghost view = { λ p. record { stream = seen p.stream; remainder = p.pacer; value = p.value } };
+    ghost view = { λ p. record { stream = stream_fields p.stream; remainder = p.pacer; value = p.value } };
 
-    ghost invariant = { λ p. IsPace (record { stream = seen p.stream; remainder = p.pacer; value = p.value }) };
+    ghost invariant = { λ p. IsPace (record { stream = stream_fields p.stream; remainder = p.pacer; value = p.value }) };
 }
 
 impl Pace {
     /// A stream that starts at its nominal rate.
     pub(crate) fn start(stream: Stream) -> Pace
-        requires { IsRunnable (seen stream) }
-        ensures { result ≡ record { stream = seen stream; remainder = 0; value = stream.nominal.f } }
+        requires { IsRunnable (stream_fields stream) }
+        ensures { result ≡ record { stream = stream_fields stream; remainder = 0; value = stream.nominal.f } }
     {
         nominal_values_leave_room();
         Pace {
@@ -68,7 +68,7 @@ impl Pace {
 
     /// A feedback report came: its value is in force, held between the least and the greatest packet.
     pub(crate) fn report(&mut self, value: u32)
-        ensures { self.new ≡ record self.old { value = spec.held self.old.stream value } }
+        ensures { self.new ≡ record self.old { value = spec.within_nominal self.old.stream value } }
     {
         nominal_values_leave_room();
         let nominal = self.stream.nominal;

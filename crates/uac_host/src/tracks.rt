@@ -16,7 +16,7 @@ use std::marker::Model;
 use uac_descriptor::NoMemory;
 use uac_pcm::{Format, Frame, Packet, Tone};
 
-/// The samples of the frames that wait, channel after channel, and the tone behind them. A tone's samples come again after 2^32
+/// The samples of the frames that wait, channel after channel, and the tone after them. A tone's samples come again after 2^32
 /// places, so its place wraps there.
 #[derive(Drop)]
 pub(crate) struct Track {
@@ -45,7 +45,7 @@ impl Track {
         }
     }
 
-    /// More samples wait, behind those that do.
+    /// More samples wait, after those that do.
     pub(crate) fn append(&mut self, samples: &[i32]) -> Result<(), NoMemory>
         ensures appended { OnOk result (self.new ≡ record self.old { samples = self.old.samples ++ samples.now }) }
         ensures unchanged { OnErr result (self.new ≡ self.old) }
@@ -100,7 +100,7 @@ impl Track {
     }
 }
 
-// Puts samples behind those that wait, in room that was made for them.
+// Puts samples after those that wait, in room that was made for them.
 fn push_all(waiting: &mut VecDeque<i32>, samples: &[i32])
     requires { length waiting.old.items + length samples.now ≤ deque_capacity waiting.old }
     ensures { waiting.new.items ≡ waiting.old.items ++ samples.now }

@@ -12,7 +12,7 @@ pub returns-in-Some : goal.returns-in-Some
 unfolding stream_in_setting
 returns-in-Some c =
     let f = c.args.function.now in
-    let s = c.in-Some.carrier.now in
+    let s = c.in-Some.streaming.now in
     let found : find (λ t. t.number == c.args.interface) f.streams ≡ Some s = sym c.in-Some.ensures in
     let number = has_number f.streams c.args.interface s found in
     let there : find (λ t. t.number == s.number) f.streams ≡ Some s = subst (λ (n : ℕ). find (λ t. t.number == n) f.streams ≡ Some s) (sym number) found in

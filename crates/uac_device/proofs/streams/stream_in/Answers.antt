@@ -8,9 +8,9 @@ use Rattle.uac_device.proofs.streams.stream_in.Goals as goal
 pub returns-in-Some : goal.returns-in-Some
 returns-in-Some c there =
     c.stream.ensures.value
-    ∙ ap (stream_of c.args.function.now c.args.rate c.args.carrier.now.number) (number_is _ c.in-Some.number c.args.setting c.in-Some.ensures)
+    ∙ ap (stream_of c.args.function.now c.args.rate c.args.streaming.now.number) (number_is _ c.in-Some.number c.args.setting c.in-Some.ensures)
 
 pub returns-in-None : goal.returns-in-None
 returns-in-None c there =
-    sym (unset c.args.function.now c.args.rate c.args.carrier.now c.args.setting there
+    sym (unset c.args.function.now c.args.rate c.args.streaming.now c.args.setting there
     (c.in-None.ensures ∙ ap (λ (xs : List Setting). if list_any (λ t. t.number == c.args.setting) xs then Some c.args.setting else None) c.as_slice.ensures))

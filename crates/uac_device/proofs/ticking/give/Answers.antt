@@ -18,11 +18,6 @@ give-requires-clause-wired c out =
     ∙ untouched_port (WiredIn c.args.wires.now) _ _ c.loop-lane.lanes c.args.lanes.now c.loop-lane.lane-index c.lane-item.result _ c.loop-lane.invariant.turned c.requires.wired
     (omega arith) refl out
 
-pub give-requires-clause-few : goal.give-requires-clause-few
-give-requires-clause-few c =
-    untouched_port (λ p. p.out ≡ true → p.channels ≤ 32) _ _ c.loop-lane.lanes c.args.lanes.now c.loop-lane.lane-index c.lane-item.result _ c.loop-lane.invariant.turned
-    c.requires.few (omega arith) refl
-
 pub loop-lane-preserved : goal.loop-lane-preserved
 loop-lane-preserved c = record {
   turned =

@@ -1,5 +1,5 @@
 use Rattle.std.proofs.Common.{arith, refl}
-use Rattle.uac_graph.specs.Wiring.{held}
+use Rattle.uac_graph.specs.Wiring.{samples_on}
 use Rattle.uac_device.specs.Lanes.{WiredOut, put_on}
 use Rattle.uac_device.proofs.TurnedLanes.{put_keeps, ports_turned, sound_turned, turned_more, turned_none, untouched_port, untouched_sound}
 use Rattle.uac_device.proofs.ticking.put.Goals as goal
@@ -17,7 +17,7 @@ put-requires-clause-wired c =
 
 pub loop-lane-preserved : goal.loop-lane-preserved
 loop-lane-preserved c =
-    turned_more (λ p out. out) (λ p in_. put_on c.args.domain (held c.args.wires.now p.terminal) p in_) c.loop-lane.lanes c.args.lanes.now c.loop-lane.lane-index c.put.new.self _
+    turned_more (λ p out. out) (λ p in_. put_on c.args.domain (samples_on c.args.wires.now p.terminal) p in_) c.loop-lane.lanes c.args.lanes.now c.loop-lane.lane-index c.put.new.self _
     c.lane-item.result (omega arith) c.loop-lane.invariant refl c.put.ensures.turns c.put.ensures.sound
 
 pub returns-clause-stands : goal.returns-clause-stands

@@ -2,7 +2,7 @@ use Rattle.std.proofs.Common.{◌≡◌, ◌∙◌, ◌&&◌, ap, subst, sym, tr
 use Rattle.std.specs.Option.{option_map}
 use Rattle.std.proofs.Math.Bool.{and-false}
 use Rattle.uac_alt.specs.Streams as alt
-use Rattle.uac_request.specs.Requests.{Told, seen}
+use Rattle.uac_request.specs.Requests.{AnswerFields, answer_fields}
 use Rattle.uac_device.specs.DeviceWorld.{sets_interface, tells_done}
 use Rattle.uac_device.specs.Kept.{DeviceFields, IsControlled}
 use Rattle.uac_device.specs.contracts.device.Device.{the_view}
@@ -21,19 +21,19 @@ restart-requires c = record {
 pub returns-then-is_done : goal.returns-then-is_done
 returns-then-is_done c =
     let p = c.args.setup.now in
-    let told : Told = seen c.answer-answer.result in
+    let told : AnswerFields = answer_fields c.answer-answer.result in
     let sets : sets_interface p ≡ true = sym c.sets_interface.ensures ∙ c.if-sets_interface.true in
     let done : tells_done told ≡ true = sym c.is_done.ensures ∙ c.if-is_done.true in
     let new : DeviceFields = record (the_view c.self.inside) { controls = c.answer-answer.new.store; settings = c.answer-answer.new.settings; lanes = c.restart.new.self } in
     subst (λ (device : DeviceFields). IsControlled p c.args.sent.now told device new) c.self.view_is
     (control_then (the_view c.self.inside) c.answer-answer.new.store c.answer-answer.new.settings p c.args.sent.now told c.answer-answer.ensures.answer
-    c.answer-answer.ensures.held c.restart.new.self (option_map alt.seen c.stream_asked-begun.result)
+    c.answer-answer.ensures.held c.restart.new.self (option_map alt.stream_fields c.stream_asked-begun.result)
     (ap (λ (b : Bool). b && tells_done told) sets ∙ done) c.stream_asked-begun.ensures c.restart.ensures.stands)
 
 pub returns-else-sets_interface : goal.returns-else-sets_interface
 returns-else-sets_interface c =
     let p = c.args.setup.now in
-    let told : Told = seen c.answer-answer.result in
+    let told : AnswerFields = answer_fields c.answer-answer.result in
     let new : DeviceFields = record (the_view c.self.inside) { controls = c.answer-answer.new.store; settings = c.answer-answer.new.settings } in
     let else_where : (sets_interface p && tells_done told) ≡ false → IsControlled p c.args.sent.now told c.args.self.now new =
     λ test.

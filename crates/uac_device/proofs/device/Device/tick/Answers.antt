@@ -4,7 +4,7 @@ use Rattle.uac_entities.specs.declared.entity.Entity.{Entity}
 use Rattle.uac_graph.specs.Controls.{held_in}
 use Rattle.uac_graph.specs.Jobs.{AreJobs}
 use Rattle.uac_graph.specs.Needs.{depended, needed}
-use Rattle.uac_graph.specs.Wiring.{AreRendered, AreWiresOf, held}
+use Rattle.uac_graph.specs.Wiring.{AreRendered, AreWiresOf, samples_on}
 use Rattle.uac_graph.proofs.Ends.{output_terminals}
 use Rattle.uac_graph.proofs.FromRules.{sound_graph}
 use Rattle.uac_units.specs.Panel.{readings}
@@ -15,23 +15,17 @@ use Rattle.uac_device.specs.Turns.{frames_heard}
 use Rattle.uac_device.specs.contracts.device.Device.{the_view}
 use Rattle.uac_device.proofs.LinkedLemmas.{linked}
 use Rattle.uac_device.proofs.Played.{heard_in, renders_here}
-use Rattle.uac_device.proofs.Streaming.{ports_few, ports_wired_in, ports_wired_out}
-use Rattle.uac_device.proofs.TickLemmas.{Turned, device_with_wires, input_channels, lanes_few, met_here, ticked_stands, wires_kept}
+use Rattle.uac_device.proofs.Streaming.{ports_wired_in, ports_wired_out}
+use Rattle.uac_device.proofs.TickLemmas.{Turned, device_with_wires, lanes_few, met_here, ticked_stands, wires_kept}
 use Rattle.uac_device.proofs.device.Device.tick.Goals as goal
 
 pub met-met-requires : goal.met-met-requires
 met-met-requires g c = lanes_few (the_view c.self.inside) c.self.invariant.0 (c.sound_functions_are_small.ensures c.self.inside.function c.functions_are_sound.ensures).1
 
-pub give-requires-clause-wired : goal.give-requires-clause-wired
-give-requires-clause-wired g c =
-    ports_wired_in (the_view c.self.inside) c.self.inside.wires (linked c.self.inside.function c.functions_are_sound.ensures) c.self.invariant.0.wires c.self.invariant.0
-
-pub give-requires-clause-few : goal.give-requires-clause-few
-give-requires-clause-few g c =
-    ports_few (the_view c.self.inside) (linked c.self.inside.function c.functions_are_sound.ensures)
-    (λ id input.
-    (input_channels c.self.inside.function.entities id (c.entities_have_channels.ensures c.self.inside.function c.functions_are_sound.ensures) input).1)
-    c.self.invariant.0
+pub give-requires : goal.give-requires
+give-requires g c = record {
+  wired = ports_wired_in (the_view c.self.inside) c.self.inside.wires (linked c.self.inside.function c.functions_are_sound.ensures) c.self.invariant.0.wires c.self.invariant.0;
+}
 
 pub tick_by-requires-clause-wires : goal.tick_by-requires-clause-wires
 tick_by-requires-clause-wires g c =
@@ -79,7 +73,7 @@ returns-clause-stands g c w stands =
             sound = sound_graph c.self.inside.function sound;
             ends = output_terminals c.self.inside.function sound c.args.domain;
             rendered =
-                subst (λ (graph : List Entity). AreRendered graph (held_in c.self.inside.store) (held c.give.new.wires) (depended graph c.args.domain) c.give.new.wires c.tick_by.new.wires)
+                subst (λ (graph : List Entity). AreRendered graph (held_in c.self.inside.store) (samples_on c.give.new.wires) (depended graph c.args.domain) c.give.new.wires c.tick_by.new.wires)
                 c.self.invariant.1
                 (c.tick_by.ensures.rendered (held_in c.self.inside.store)
                 (subst (λ (graph : List Entity). AreJobs graph (held_in c.self.inside.store) c.self.inside.derived.jobs) (sym c.self.invariant.1) c.self.invariant.2.asked));
@@ -104,7 +98,7 @@ returns-clause-heard g c w stands =
             sound = sound_graph c.self.inside.function sound;
             ends = output_terminals c.self.inside.function sound c.args.domain;
             rendered =
-                subst (λ (graph : List Entity). AreRendered graph (held_in c.self.inside.store) (held c.give.new.wires) (depended graph c.args.domain) c.give.new.wires c.tick_by.new.wires)
+                subst (λ (graph : List Entity). AreRendered graph (held_in c.self.inside.store) (samples_on c.give.new.wires) (depended graph c.args.domain) c.give.new.wires c.tick_by.new.wires)
                 c.self.invariant.1
                 (c.tick_by.ensures.rendered (held_in c.self.inside.store)
                 (subst (λ (graph : List Entity). AreJobs graph (held_in c.self.inside.store) c.self.inside.derived.jobs) (sym c.self.invariant.1) c.self.invariant.2.asked));

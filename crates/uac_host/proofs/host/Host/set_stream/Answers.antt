@@ -1,7 +1,7 @@
 -- The lane of the interface is the world's, and no other changes.
 use Rattle.std.proofs.Common.{◌≡◌, None, Some}
 use Rattle.std.specs.Option.{option_map}
-use Rattle.uac_alt.specs.Streams.{seen}
+use Rattle.uac_alt.specs.Streams.{stream_fields}
 use Rattle.uac_host.specs.Calls.{with_stream}
 use Rattle.uac_host.proofs.StandsLemmas.{each_runnable, given_of, kept_at, left_alone, place_of, put_back, stream_lane, stream_turns}
 use Rattle.uac_host.proofs.host.Host.set_stream.Goals as goal
@@ -17,8 +17,8 @@ returns-in-Some c = record {
       let old = c.index_mut.result.now in
       let is : Some c.in-Some.place ≡ place_of c.args.interface lanes = cc (c.in-Some.ensures, c.self.view_is) in
       let read = kept_at now lanes w c.args.interface c.in-Some.place old c.self.view_is stands is c.index_mut.ensures.value in
-      put_back now lanes w (with_stream c.args.interface (option_map seen c.args.stream) w) c.args.interface c.in-Some.place old c.run.new.self c.self.view_is stands
-      (stream_turns now w c.args.interface (option_map seen c.args.stream) stands (given_of w.function c.args.interface c.args.stream of)) is
+      put_back now lanes w (with_stream c.args.interface (option_map stream_fields c.args.stream) w) c.args.interface c.in-Some.place old c.run.new.self c.self.view_is stands
+      (stream_turns now w c.args.interface (option_map stream_fields c.args.stream) stands (given_of w.function c.args.interface c.args.stream of)) is
       (stream_lane w c.args.interface c.args.stream old c.run.new.self read.0 read.1 c.run.ensures));
 }
 
@@ -27,6 +27,6 @@ returns-in-None c = record {
   stands = λ w stands of.
       (let lanes = c.self.inside.lanes.items in
       let is : None ≡ place_of c.args.interface lanes = cc (c.in-None.ensures, c.self.view_is) in
-      left_alone c.args.self.now lanes w (with_stream c.args.interface (option_map seen c.args.stream) w) c.args.interface c.self.view_is stands
-      (stream_turns c.args.self.now w c.args.interface (option_map seen c.args.stream) stands (given_of w.function c.args.interface c.args.stream of)) is);
+      left_alone c.args.self.now lanes w (with_stream c.args.interface (option_map stream_fields c.args.stream) w) c.args.interface c.self.view_is stands
+      (stream_turns c.args.self.now w c.args.interface (option_map stream_fields c.args.stream) stands (given_of w.function c.args.interface c.args.stream of)) is);
 }
