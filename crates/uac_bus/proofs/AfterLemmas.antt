@@ -12,7 +12,7 @@ first_line : (s : Step) (w : World) → and_then s w untouched ≡ stepped s (un
 first_line (done next lines) w = ap (λ (ls : List Said). let a : After = record { lines = ls; world = next; count = 1; refusal = None } in a) (append-nil lines)
 first_line (refused fault) w = refl
 
--- one more behind a line and others is one more behind the others
+-- one more after a line and others is one more after the others
 behind_done : (said : Result Phrase ℕ) (lines : List Said) (rest : After) → one_done lines (with_one_more said rest) ≡ with_one_more said (one_done lines rest)
 behind_done said lines rest = by_refusal rest.lines rest.world rest.count rest.refusal
   where

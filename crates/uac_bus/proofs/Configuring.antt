@@ -1,4 +1,4 @@
--- The configuration's bytes: those behind a device descriptor.
+-- The configuration's bytes: those after a device descriptor.
 use Rattle.std.proofs.Common.{◌≡◌, ◌∙◌, ap, refl, arith, ℕ, ◌-◌, Bool, true, false, List, length, take, drop, min, if◌then◌else◌}
 use Rattle.std.proofs.lemmas.List.{take_rest, drop_min}
 use Rattle.uac_running.specs.Transfers.{begins_with_device, configuration_of}

@@ -9,7 +9,7 @@ use Rattle.uac_descriptor.proofs.ReadBack.{block_of-Spells}
 use Rattle.uac_sentence.specs.Cutting.{Cut, IsPiece, with_piece, chop}
 use Rattle.uac_sentence.specs.Grammar.{first_fault}
 use Rattle.uac_sentence.specs.Letter.{context_after}
-use Rattle.uac_sentence.specs.Sentence.{EachIn, Stands, spellings, IsSentence}
+use Rattle.uac_sentence.specs.Sentence.{EachIn, SpellsItself, spellings, IsSentence}
 use Rattle.uac_sentence.specs.declared.faults.GrammarFault.{GrammarFault}
 use Rattle.uac_sentence.proofs.CuttingLaw.{chop_piece, chop_rest}
 use Rattle.uac_sentence.proofs.SentenceLaw.{piece_of}
@@ -29,7 +29,7 @@ use Rattle.uac_running.specs.Lines.{ready_line}
 use Rattle.uac_running.specs.RunningWorld.{at_start}
 use Rattle.uac_bus.specs.declared.fault.BusFault.{BusFault}
 use Rattle.uac_bus.specs.declared.fault.BusFault.TheVariants as faults
-use Rattle.uac_bus.specs.declared.bus.Stage.TheVariants as stages
+use Rattle.uac_bus.specs.declared.bus.BusStage.TheVariants as stages
 use Rattle.uac_bus.specs.Description.{first_then, blocks_from, blocks_of, function_of}
 use Rattle.uac_bus.specs.World.{Step, done, describing, running, if_no_fault, if_sound, silently, fed, gone}
 use Rattle.uac_bus.specs.Kept.{StandsFor, Reaches, Prevents}
@@ -41,7 +41,7 @@ abbrev the_fields : List Entity → List ℕ → List StreamInterface → ℕ �
 the_fields es ds ss k t = record { entities = es; domains = ds; streams = ss; control_interface = k; total = t }
 
 -- the blocks of the spellings of blocks that stand are these
-pub blocks_from_spellings : (place : Context) (blocks : List Block) → EachIn Stands place blocks
+pub blocks_from_spellings : (place : Context) (blocks : List Block) → EachIn SpellsItself place blocks
     → blocks_from place (chop (spellings blocks)).pieces ≡ blocks
 unfolding blocks_from
 blocks_from_spellings place [] each = ap (λ (cut : Cut). blocks_from place cut.pieces) (chop_rest [] refl)
@@ -128,7 +128,7 @@ gone_ill bytes faults.WriteFault shown written d = absurd d
 gone_ill bytes (faults.Script rule) shown written d = absurd d
 
 -- more bytes show no fault
-pub fed_well : (taken piece : List ℕ) (r : reader.Reading) (shown : List Reading) (written : Option (List ℕ)) → r.stop ≡ None → r.taken ≡ taken ++ piece
+pub fed_well : (taken piece : List ℕ) (r : reader.ReaderFields) (shown : List Reading) (written : Option (List ℕ)) → r.stop ≡ None → r.taken ≡ taken ++ piece
     → (r.stop ≢ Some reads.NoMemory → r.stop ≡ shown_stop (taken ++ piece))
     → Reaches (fed (taken ++ piece) shown) (StandsFor (stages.Describing r) shown) written written
 unfolding fed

@@ -10,12 +10,12 @@ use Rattle.uac_topology_rules.proofs.Found.{position_is, position_none}
 use Rattle.uac_graph.specs.Meaning.{entity}
 use Rattle.uac_units.specs.Hearing.{Reading}
 use Rattle.uac_script.specs.declared.line.Mark.{Mark}
-use Rattle.uac_script.specs.Line.{loss_of}
+use Rattle.uac_script.specs.Line.{said_mark}
 use Rattle.uac_script.specs.Phrase.{deviates, sets}
 use Rattle.uac_topology.specs.Function.{FunctionFields}
 use Rattle.uac_running.specs.RunningWorld.{RunningWorld}
 use Rattle.uac_running.specs.Kept.{RunningFields, StandsBetween}
-use Rattle.uac_bus.specs.declared.bus.Stage.TheVariants as stages
+use Rattle.uac_bus.specs.declared.bus.BusStage.TheVariants as stages
 use Rattle.uac_bus.specs.declared.fault.BusFault.{BusFault}
 use Rattle.uac_bus.specs.World.{World, Step, step_running, unless, breaks_rule, is_placed, has_out, are_frames}
 use Rattle.uac_bus.specs.Kept.{StandsFor, Reaches, IsCut, Does}
@@ -79,16 +79,16 @@ pub streams_in : (r : RunningWorld) (p : RunningFields) (shown : List Reading) (
     → function ≡ p.device.function → streams ≡ function.streams → streams ≡ r.device.function.streams
 streams_in r p shown function streams s same is = is ∙ ap (λ (f : FunctionFields). f.streams) (same ∙ s.now.streaming.device.function)
 
-placed : (streams : List StreamInterface) (marks : List Mark) → list_all (λ mark. is_placed streams (loss_of mark)) marks ≡ list_all (is_placed streams) (map loss_of marks)
+placed : (streams : List StreamInterface) (marks : List Mark) → list_all (λ mark. is_placed streams (said_mark mark)) marks ≡ list_all (is_placed streams) (map said_mark marks)
 placed streams [] = refl
-placed streams (mark ∷ marks) = ap (λ (b : Bool). is_placed streams (loss_of mark) && b) (placed streams marks)
+placed streams (mark ∷ marks) = ap (λ (b : Bool). is_placed streams (said_mark mark) && b) (placed streams marks)
 
 pub has_out_in : (streams streams' : List StreamInterface) (number : ℕ) (b : Bool) → streams ≡ streams' → b ≡ has_out streams number → b ≡ has_out streams' number
 has_out_in streams streams' number b same e = e ∙ ap (λ (ss : List StreamInterface). has_out ss number) same
 
 pub are_placed_in : (streams streams' : List StreamInterface) (marks : List Mark) (b : Bool) → streams ≡ streams'
-    → b ≡ list_all (λ mark. is_placed streams (loss_of mark)) marks → b ≡ list_all (is_placed streams') (map loss_of marks)
-are_placed_in streams streams' marks b same e = e ∙ placed streams marks ∙ ap (λ (ss : List StreamInterface). list_all (is_placed ss) (map loss_of marks)) same
+    → b ≡ list_all (λ mark. is_placed streams (said_mark mark)) marks → b ≡ list_all (is_placed streams') (map said_mark marks)
+are_placed_in streams streams' marks b same e = e ∙ placed streams marks ∙ ap (λ (ss : List StreamInterface). list_all (is_placed ss) (map said_mark marks)) same
 
 pub are_frames_in : (function function' : FunctionFields) (number count : ℕ) (b : Bool) → function ≡ function' → b ≡ are_frames function number count
     → b ≡ are_frames function' number count

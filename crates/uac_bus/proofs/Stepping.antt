@@ -8,11 +8,11 @@ use Rattle.uac_script.specs.declared.lent.LentLine.TheVariants as lines
 use Rattle.uac_running.specs.Kept as play
 use Rattle.uac_running.specs.Kept.{RunningFields}
 use Rattle.uac_running.specs.RunningWorld.{RunningWorld}
-use Rattle.uac_bus.specs.declared.bus.Stage.TheVariants as stages
+use Rattle.uac_bus.specs.declared.bus.BusStage.TheVariants as stages
 use Rattle.uac_pcm.specs.declared.tones.Tone.{Tone}
 use Rattle.uac_pcm.specs.declared.tones.Tone.TheVariants.{Silent, Ramp, Noise}
 use Rattle.uac_units.specs.Hearing.{Reading}
-use Rattle.uac_script.specs.Line.{voice_of_tone}
+use Rattle.uac_script.specs.Line.{said_tone_of}
 use Rattle.uac_script.specs.Lent.{lent_phrase}
 use Rattle.uac_script.specs.Phrase.{Phrase, idle, feeds, goes}
 use Rattle.uac_bus.specs.declared.fault.BusFault.{BusFault}
@@ -20,7 +20,7 @@ use Rattle.uac_bus.specs.World.{World, describing, running, Step, done, refused,
 use Rattle.uac_bus.specs.Kept.{BusFields, Stands, StandsFor, Reaches, Prevents, Does, Answers, is_append, may_want}
 
 -- a tone is what its words spell
-pub tone_back : (tone : Tone) → tone_of (voice_of_tone tone) ≡ tone
+pub tone_back : (tone : Tone) → tone_of (said_tone_of tone) ≡ tone
 tone_back Silent = refl
 tone_back (Ramp first rise) = refl
 tone_back (Noise seed) = refl
@@ -50,14 +50,14 @@ answers_same p q w bus shown written written' result same answers =
 -- ---- a line in each stage
 
 -- a line that does nothing
-pub idle_in : (r : reader.Reading) (shown : List Reading) (w : World) (written : Option (List ℕ)) → StandsFor (stages.Describing r) shown w
+pub idle_in : (r : reader.ReaderFields) (shown : List Reading) (w : World) (written : Option (List ℕ)) → StandsFor (stages.Describing r) shown w
     → Reaches (step idle w) (StandsFor (stages.Describing r) shown) written written
 unfolding step
 idle_in r shown (describing bytes heard) written s = (s, Appends-nil written)
 idle_in r shown (running world) written s = absurd s
 
 -- more bytes
-pub fed_in : (r r' : reader.Reading) (more : List ℕ) (shown : List Reading) (w : World) (written : Option (List ℕ)) (result : Result (Unit {0}) BusFault)
+pub fed_in : (r r' : reader.ReaderFields) (more : List ℕ) (shown : List Reading) (w : World) (written : Option (List ℕ)) (result : Result (Unit {0}) BusFault)
     → StandsFor (stages.Describing r) shown w
     → (r.stop ≡ None → (heard : List Reading) (old : Option (List ℕ)) → Does (fed (r.taken ++ more) heard) true (StandsFor (stages.Describing r') heard) old old result)
     → Does (step (feeds more) w) (may_want (feeds more) w) (StandsFor (stages.Describing r') shown) written written result
@@ -69,21 +69,21 @@ fed_in r r' more shown (describing bytes heard) written result s does =
 fed_in r r' more shown (running world) written result s does = absurd s
 
 -- the descriptor's end, of a reader that was taken out
-pub begun_in : (r whole : reader.Reading) (p : RunningFields) (shown : List Reading) (w : World) (written written' : Option (List ℕ))
+pub begun_in : (r whole : reader.ReaderFields) (p : RunningFields) (shown : List Reading) (w : World) (written written' : Option (List ℕ))
     → whole ≡ r → StandsFor (stages.Describing r) shown w → ((heard : List Reading) → Reaches (gone whole.taken heard) (StandsFor (stages.Running p) heard) written written')
     → Reaches (step goes w) (StandsFor (stages.Running p) shown) written written'
 unfolding step
 begun_in r whole p shown (describing bytes heard) written written' same s begins =
-    subst (λ (bs : List ℕ). Reaches (gone bs heard) (StandsFor (stages.Running p) shown) written written') (ap (λ (x : reader.Reading). x.taken) same ∙ s.0)
+    subst (λ (bs : List ℕ). Reaches (gone bs heard) (StandsFor (stages.Running p) shown) written written') (ap (λ (x : reader.ReaderFields). x.taken) same ∙ s.0)
     (subst (λ (xs : List Reading). Reaches (gone whole.taken xs) (StandsFor (stages.Running p) shown) written written') s.2 (begins shown))
 begun_in r whole p shown (running world) written written' same s begins = absurd s
 
-pub unbegun_in : (r whole : reader.Reading) (fault : BusFault) (shown : List Reading) (w : World) (written written' : Option (List ℕ))
+pub unbegun_in : (r whole : reader.ReaderFields) (fault : BusFault) (shown : List Reading) (w : World) (written written' : Option (List ℕ))
     → whole ≡ r → StandsFor (stages.Describing r) shown w → ((heard : List Reading) → Prevents fault true (gone whole.taken heard) written written')
     → Prevents fault (may_want goes w) (step goes w) written written'
 unfolding step
 unbegun_in r whole fault shown (describing bytes heard) written written' same s prevents =
-    subst (λ (bs : List ℕ). Prevents fault true (gone bs heard) written written') (ap (λ (x : reader.Reading). x.taken) same ∙ s.0)
+    subst (λ (bs : List ℕ). Prevents fault true (gone bs heard) written written') (ap (λ (x : reader.ReaderFields). x.taken) same ∙ s.0)
     (subst (λ (xs : List Reading). Prevents fault true (gone whole.taken xs) written written') s.2 (prevents shown))
 unbegun_in r whole fault shown (running world) written written' same s prevents = absurd s
 
@@ -94,7 +94,7 @@ gone_before p shown (describing bytes heard) s = absurd s
 gone_before p shown (running r) s = refl
 
 -- any other line
-pub early_in : (r : reader.Reading) (line : LentLine) (shown : List Reading) (w : World) → StandsFor (stages.Describing r) shown w
+pub early_in : (r : reader.ReaderFields) (line : LentLine) (shown : List Reading) (w : World) → StandsFor (stages.Describing r) shown w
     → (line ≡ lines.Nothing → ⊥) → ((bytes : _) → line ≡ lines.Bytes bytes → ⊥) → (line ≡ lines.Go → ⊥)
     → step (lent_phrase line) w ≡ breaks_rule 5
 unfolding step

@@ -10,7 +10,7 @@ abbrev pub said_step : Result Phrase ℕ → World → Step
 said_step (Ok phrase) w = step phrase w
 said_step (Err rule) w = breaks_rule rule
 
--- what lines come to: the lines that they print, the world, how many were done, and the fault with which the one behind those is
+-- what lines come to: the lines that they print, the world, how many were done, and the fault with which the one after those is
 -- refused, if one is
 pub record After : Type 0 where
   pub lines : List Said
@@ -26,7 +26,7 @@ one_done lines rest = record rest { lines = lines ++ rest.lines; count = rest.co
 abbrev pub untouched : World → After
 untouched w = record { lines = []; world = w; count = 0; refusal = None }
 
--- a line's step, and then what follows in the next world; or its refusal, behind which no line is done
+-- a line's step, and then what follows in the next world; or its refusal, after which no line is done
 abbrev pub and_then : Step → World → (World → After) → After
 and_then (done next lines) w go = one_done lines (go next)
 and_then (refused fault) w go = record { lines = []; world = w; count = 0; refusal = Some fault }
@@ -36,7 +36,7 @@ unfoldable pub after : List (Result Phrase ℕ) → World → After
 after [] w = untouched w
 after (said ∷ saids) w = and_then (said_step said w) w (after saids)
 
--- one line more, behind those that were done
+-- one line more, after those that were done
 abbrev pub stepped : Step → After → After
 stepped (done next lines) so_far = record so_far { lines = so_far.lines ++ lines; world = next; count = so_far.count + 1 }
 stepped (refused fault) so_far = record so_far { refusal = Some fault }

@@ -12,7 +12,7 @@ use Rattle.uac_topology_rules.specs.Domains.{domains_of}
 use Rattle.uac_topology.specs.Function.{FunctionFields}
 use Rattle.uac_topology.specs.Topology.{control_number, first_given, streams_in, total_length}
 
--- a block, if there is one, and those behind it
+-- a block, if there is one, and those after it
 abbrev pub first_then : Option Block → (Block → List Block) → List Block
 first_then None behind = []
 first_then (Some b) behind = b ∷ behind b

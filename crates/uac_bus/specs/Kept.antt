@@ -8,17 +8,17 @@ use Rattle.uac_units.specs.Hearing.{Reading}
 use Rattle.uac_running.specs.Kept as play
 use Rattle.uac_bus.specs.declared.fault.BusFault.{BusFault}
 use Rattle.uac_bus.specs.declared.fault.BusFault.TheVariants as faults
-use Rattle.uac_bus.specs.declared.bus.Stage.{Stage}
-use Rattle.uac_bus.specs.declared.bus.Stage.TheVariants as stages
+use Rattle.uac_bus.specs.declared.bus.BusStage.{BusStage}
+use Rattle.uac_bus.specs.declared.bus.BusStage.TheVariants as stages
 use Rattle.uac_bus.specs.World.{World, describing, running, Step, done, refused, step}
 
 -- what a bus is seen as: how far it is, and the fault that it answers from now on
 pub record BusFields : Type 0 where
-  pub stage : Stage
+  pub stage : BusStage
   pub fault : Option BusFault
 
 -- how far the bus is, and how far the world
-abbrev pub StandsFor : Stage → List Reading → World → Type 0
+abbrev pub StandsFor : BusStage → List Reading → World → Type 0
 StandsFor (stages.Describing reader) meters (describing bytes shown) = (reader.taken ≡ bytes) × (reader.stop ≡ None) × (meters ≡ shown)
 StandsFor (stages.Describing reader) meters (running r) = ⊥
 StandsFor (stages.Running p) meters (describing bytes shown) = ⊥
@@ -46,7 +46,7 @@ abbrev pub is_append : Phrase → Bool
 is_append (appends number samples) = true
 is_append _ = false
 
--- before the descriptor's end memory may be wanted for its lines, and behind it for samples alone
+-- before the descriptor's end memory may be wanted for its lines, and after it for samples alone
 abbrev pub may_want : Phrase → World → Bool
 may_want phrase (describing bytes meters) = takes_memory phrase
 may_want phrase (running r) = is_append phrase

@@ -1,4 +1,4 @@
--- What the calls behind a line answer, each for its part.
+-- What the calls after a line answer, each for its part.
 use Rattle.std.specs.Prelude.{◌≡◌, ℕ, true, List, Option, None, Some, Result, Ok, Err}
 use Rattle.uac_sentence.specs.Grammar.{first_fault}
 use Rattle.uac_grammar.specs.declared.fault.ReadStop.{ReadStop}
@@ -10,7 +10,7 @@ use Rattle.uac_units.specs.Hearing.{Reading}
 use Rattle.uac_running.specs.Kept.{RunningFields}
 use Rattle.uac_bus.specs.declared.fault.BusFault.{BusFault}
 use Rattle.uac_bus.specs.declared.fault.BusFault.TheVariants as faults
-use Rattle.uac_bus.specs.declared.bus.Stage.TheVariants as stages
+use Rattle.uac_bus.specs.declared.bus.BusStage.TheVariants as stages
 use Rattle.uac_bus.specs.Description.{blocks_of, function_of}
 use Rattle.uac_bus.specs.World.{Step}
 use Rattle.uac_bus.specs.Kept.{StandsFor, Reaches, Prevents}

@@ -16,7 +16,7 @@ use Rattle.uac_graph.specs.Meaning.{entity}
 use Rattle.uac_units.specs.Hearing.{Reading}
 use Rattle.uac_script.specs.declared.line.MarkKind.{MarkKind}
 use Rattle.uac_script.specs.declared.line.MarkKind.TheVariants.{Out, In, Feedback}
-use Rattle.uac_script.specs.Phrase.{Voice, silent, ramps, hisses, Loss, Phrase, idle, feeds, goes, controls, gets, sets, shows, breaks}
+use Rattle.uac_script.specs.Phrase.{SaidTone, silent, ramps, hisses, SaidMark, Phrase, idle, feeds, goes, controls, gets, sets, shows, breaks}
 use Rattle.uac_script.specs.Phrase.{appends, tracks, jacks, deviates, runs, details, reports}
 use Rattle.uac_transcript.specs.Transcript.{Said}
 use Rattle.uac_running.specs.RunningWorld.{RunningWorld, at_start, has_jack, has_domain, with_tone, with_deviation, with_detail}
@@ -50,7 +50,7 @@ abbrev pub size_of : ℤ → ℕ
 size_of (pos n) = n
 size_of (negsuc n) = 0
 
-abbrev pub tone_of : Voice → Tone
+abbrev pub tone_of : SaidTone → Tone
 tone_of silent = Silent
 tone_of (ramps first rise) = Ramp first rise
 tone_of (hisses seed) = Noise (size_of seed)
@@ -118,7 +118,7 @@ has_marked streams In number = has_in streams number
 has_marked streams Feedback number = has_out streams number
 
 -- a mark names one of them that has such packets or reports
-abbrev pub is_placed : List StreamInterface → Loss → Bool
+abbrev pub is_placed : List StreamInterface → SaidMark → Bool
 is_placed streams loss = has_marked streams loss.letter (size_of loss.place)
 
 -- the samples are whole frames of the channels of the terminal to which the interface links
@@ -148,10 +148,10 @@ step_running r (appends number samples) =
     unless (has_out r.device.function.streams (size_of number)) 6
     (unless (are_frames r.device.function (size_of number) (length samples)) 7
     (silently (running (with_samples_on (size_of number) samples r))))
-step_running r (tracks number voice) =
-    unless (has_out r.device.function.streams (size_of number)) 6 (silently (running (with_track (size_of number) (tone_of voice) r)))
-step_running r (jacks terminal voice) =
-    unless (has_jack r (size_of terminal)) 6 (silently (running (with_tone (size_of terminal) (tone_of voice) r)))
+step_running r (tracks number tone) =
+    unless (has_out r.device.function.streams (size_of number)) 6 (silently (running (with_track (size_of number) (tone_of tone) r)))
+step_running r (jacks terminal tone) =
+    unless (has_jack r (size_of terminal)) 6 (silently (running (with_tone (size_of terminal) (tone_of tone) r)))
 step_running r (deviates clock millionths) =
     unless (has_domain r (size_of clock)) 6 (silently (running (with_deviation (size_of clock) millionths r)))
 step_running r (runs count losses) =

@@ -1,10 +1,10 @@
 // The bus and its lines.
-ghost use Rattle.std.specs.Prelude.{◌≡◌, ◌≢◌, ◌≤◌, ◌⊎◌, List, true, false, IfErr};
+ghost use Rattle.std.specs.Prelude.{◌≡◌, ◌≢◌, ◌≤◌, ◌⊎◌, List, true, false, IfErr, OnOk};
 ghost use Rattle.uac_units.specs.Fitting.{IsFitted};
 ghost use Rattle.uac_units.specs.Hearing.{Reading};
 ghost use Rattle.uac_units.specs.Panel.{readings};
 ghost use Rattle.uac_edges.specs.Faults.{Rose};
-ghost use Rattle.uac_script.specs.Line.{phrase_of, Keeps};
+ghost use Rattle.uac_script.specs.Line.{phrase_of, IsLineInRange};
 ghost use Rattle.uac_script.specs.Lent.{lent_phrase, LentKeeps};
 ghost use Rattle.uac_script.specs.Phrase.{goes};
 ghost use Rattle.uac_bus.specs.World.{World, start, step, finish_of};
@@ -24,7 +24,7 @@ use uac_units::{Meter, Meters, Rack, Unit};
 
 /// How far a script is.
 #[derive(Drop)]
-pub enum Stage {
+pub enum BusStage {
     /// The descriptor's bytes are read.
     Describing(Reader),
     /// The device runs.
@@ -35,7 +35,7 @@ pub enum Stage {
 #[derive(Drop)]
 pub struct Bus {
     alloc: Global,
-    stage: Stage,
+    stage: BusStage,
     fault: Option<BusFault>,
 }
 
@@ -54,7 +54,7 @@ impl Bus {
     {
         Bus {
             alloc,
-            stage: Stage::Describing(Reader::new(alloc)),
+            stage: BusStage::Describing(Reader::new(alloc)),
             fault: None,
         }
     }
@@ -73,7 +73,7 @@ impl Bus {
         sink: &mut K,
     ) -> Result<(), BusFault>
         requires rack { IsFitted (λ v x. (⟦<dyn Unit as Unit>⟧ v).kind_of x) rack.now }
-        requires keeps { Keeps line.now }
+        requires keeps { IsLineInRange line.now }
 
         // What it does, in every world for which the bus and the meters stand: the step of what the line says, with its lines.
         ensures answers { (w : World) → Stands self.old (readings (λ v x. (⟦<dyn Meter as Meter>⟧ v).reading_of x) meters.old) w
@@ -95,10 +95,11 @@ impl Bus {
             → readings (λ v x. (⟦<dyn Meter as Meter>⟧ v).reading_of x) meters.new
             ≡ readings (λ v x. (⟦<dyn Meter as Meter>⟧ v).reading_of x) meters.old) }
 
-        // A failed write has its cause in this call, where it wasn't kept.
+        // A failed write has its cause in this call, where it wasn't kept; and where the line is done no write met a fault.
         ensures cause { IfErr result (λ fault. fault ≡ BusFault.WriteFault → (self.old.fault ≡ Some BusFault.WriteFault)
             ⊎ Rose (K.faults sink.old) (K.faults sink.new)) }
         ensures never_falls { K.faults sink.old ≤ K.faults sink.new }
+        ensures faultless { OnOk result (K.faults sink.new ≡ K.faults sink.old) }
     {
         self.lent_line(line.lend(), rack, meters, sink)
     }
@@ -138,10 +139,11 @@ impl Bus {
             → readings (λ v x. (⟦<dyn Meter as Meter>⟧ v).reading_of x) meters.new
             ≡ readings (λ v x. (⟦<dyn Meter as Meter>⟧ v).reading_of x) meters.old) }
 
-        // A failed write has its cause in this call, where it wasn't kept.
+        // A failed write has its cause in this call, where it wasn't kept; and where the line is done no write met a fault.
         ensures cause { IfErr result (λ fault. fault ≡ BusFault.WriteFault → (self.old.fault ≡ Some BusFault.WriteFault)
             ⊎ Rose (K.faults sink.old) (K.faults sink.new)) }
         ensures never_falls { K.faults sink.old ≤ K.faults sink.new }
+        ensures faultless { OnOk result (K.faults sink.new ≡ K.faults sink.old) }
     {
         if let Some(fault) = self.fault {
             return Err(fault);
@@ -167,8 +169,8 @@ impl Bus {
             return Err(fault);
         }
         match self.stage {
-            Stage::Describing(_) => Err(BusFault::Script(8)),
-            Stage::Running(_) => Ok(()),
+            BusStage::Describing(_) => Err(BusFault::Script(8)),
+            BusStage::Running(_) => Ok(()),
         }
     }
 }
@@ -184,33 +186,34 @@ fn is_kept(fault: BusFault) -> bool
 }
 
 /// The descriptor's end. It is apart from the other lines, since a call clears at its entry what it has room for, here a whole device.
-fn go<K: Sink>(alloc: Global, stage: &mut Stage, sink: &mut K) -> Result<(), BusFault>
+fn go<K: Sink>(alloc: Global, stage: &mut BusStage, sink: &mut K) -> Result<(), BusFault>
     ensures does { (shown : List Reading) (w : World) → StandsFor stage.old shown w
         → Does (step goes w) (may_want goes w) (StandsFor stage.new shown) (K.written sink.old) (K.written sink.new) result }
     ensures script { IfErr result (λ fault. is_final fault ≡ false → stage.new ≡ stage.old) }
     ensures unwritten { IfErr result (λ fault. fault ≢ BusFault.WriteFault → sink.new ≡ sink.old) }
     ensures cause { IfErr result (λ fault. fault ≡ BusFault.WriteFault → Rose (K.faults sink.old) (K.faults sink.new)) }
     ensures never_falls { K.faults sink.old ≤ K.faults sink.new }
+    ensures faultless { OnOk result (K.faults sink.new ≡ K.faults sink.old) }
 {
     match stage {
-        Stage::Describing(reader) => {
+        BusStage::Describing(reader) => {
             let whole = mem::replace(reader, Reader::new(alloc));
             match begin(alloc, whole, sink) {
                 Ok(running) => {
-                    *stage = Stage::Running(running);
+                    *stage = BusStage::Running(running);
                     Ok(())
                 }
                 Err(fault) => Err(fault),
             }
         }
-        Stage::Running(_) => Err(BusFault::Script(5)),
+        BusStage::Running(_) => Err(BusFault::Script(5)),
     }
 }
 
 /// Does a line, however far the script is.
 fn advance<K: Sink>(
     alloc: Global,
-    stage: &mut Stage,
+    stage: &mut BusStage,
     line: LentLine<'_>,
     rack: &Rack,
     meters: &mut Meters,
@@ -227,14 +230,15 @@ fn advance<K: Sink>(
     ensures unheard { IfErr result (λ fault. fault ≢ BusFault.WriteFault → meters.new ≡ meters.old) }
     ensures cause { IfErr result (λ fault. fault ≡ BusFault.WriteFault → Rose (K.faults sink.old) (K.faults sink.new)) }
     ensures never_falls { K.faults sink.old ≤ K.faults sink.new }
+    ensures faultless { OnOk result (K.faults sink.new ≡ K.faults sink.old) }
 {
     match stage {
-        Stage::Describing(reader) => match line {
+        BusStage::Describing(reader) => match line {
             LentLine::Nothing => Ok(()),
             LentLine::Bytes(bytes) => feed(reader, bytes),
             LentLine::Go => go(alloc, stage, sink),
             _ => Err(BusFault::Script(5)),
         },
-        Stage::Running(running) => play(running, line, rack, meters, sink),
+        BusStage::Running(running) => play(running, line, rack, meters, sink),
     }
 }

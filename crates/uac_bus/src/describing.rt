@@ -1,5 +1,5 @@
 // The lines of the descriptor.
-ghost use Rattle.std.specs.Prelude.{◌≡◌, ◌≢◌, ◌≤◌, ◌++◌, ℕ, List, flat_map, Option, None, true, IfErr, IfOk};
+ghost use Rattle.std.specs.Prelude.{◌≡◌, ◌≢◌, ◌≤◌, ◌++◌, ℕ, List, flat_map, Option, None, true, IfErr, OnOk, IfOk};
 ghost use Rattle.uac_descriptor.specs.Spelling.{spelling};
 ghost use Rattle.uac_running.specs.Transfers as transfers;
 ghost use Rattle.uac_running.specs.Transfers.{configuration_of};
@@ -9,7 +9,7 @@ ghost use Rattle.uac_bus.specs.World.{fed, gone};
 ghost use Rattle.uac_bus.specs.Kept.{StandsFor, Does, is_final};
 ghost use Rattle.uac_bus.specs.Rows.{Begins, Describes, fault_of};
 
-use crate::bus::Stage;
+use crate::bus::BusStage;
 use crate::fault::BusFault;
 use std::alloc::Global;
 use uac_descriptor::{Block, ByteList, NoMemory};
@@ -22,7 +22,7 @@ use uac_topology::{CheckStop, Function, check};
 /// Takes more bytes of the descriptor.
 pub(crate) fn feed(reader: &mut Reader, bytes: &[u8]) -> Result<(), BusFault>
     ensures does { reader.old.stop ≡ None → (shown : List Reading) (written : Option (List ℕ))
-        → Does (fed (reader.old.taken ++ bytes.now) shown) true (StandsFor (Stage.Describing reader.new) shown) written written result }
+        → Does (fed (reader.old.taken ++ bytes.now) shown) true (StandsFor (BusStage.Describing reader.new) shown) written written result }
     ensures fault { IfErr result (λ fault. is_final fault ≡ true) }
     ensures unwritten { IfErr result (λ fault. fault ≢ BusFault.WriteFault) }
 {
@@ -130,6 +130,7 @@ pub(crate) fn begin<K: Sink>(
     ensures unwritten { IfErr result (λ fault. fault ≢ BusFault.WriteFault → sink.new ≡ sink.old) }
     ensures cause { IfErr result (λ fault. fault ≡ BusFault.WriteFault → Rose (K.faults sink.old) (K.faults sink.new)) }
     ensures never_falls { K.faults sink.old ≤ K.faults sink.new }
+    ensures faultless { OnOk result (K.faults sink.new ≡ K.faults sink.old) }
 {
     let described = match described(alloc, reader) {
         Ok(described) => described,

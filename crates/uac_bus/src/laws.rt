@@ -4,7 +4,7 @@ ghost use Rattle.uac_script.specs.Phrase.{Phrase};
 ghost use Rattle.uac_bus.specs.World.{World};
 ghost use Rattle.uac_bus.specs.After.{after, with_one_more};
 
-/// One more line behind others is done in the world that they leave, and prints behind them; behind a refused line nothing is done.
+/// One more line after others is done in the world that they leave, and prints after them; after a refused line nothing is done.
 /// So a bus that stands for the world after some lines stands, once it has done one more, for the world after all of them.
 #[tactic(auto, using(crate::proofs::AfterLemmas::after_one_more))]
 pub fn one_more_line()

@@ -3,7 +3,7 @@ ghost use Rattle.std.specs.Prelude.{◌≡◌, ◌==◌, ◌%◌};
 ghost use Rattle.std.specs.List.{list_all, find};
 ghost use Rattle.std.specs.Option.{option_map};
 ghost use Rattle.uac_graph.specs.Meaning.{entity};
-ghost use Rattle.uac_script.specs.Line.{loss_of};
+ghost use Rattle.uac_script.specs.Line.{said_mark};
 ghost use Rattle.uac_bus.specs.World as world;
 
 use uac_entities::StreamInterface;
@@ -40,7 +40,7 @@ fn has_in(streams: &[StreamInterface], number: u8) -> bool
 
 /// Whether a mark names an interface that has such packets or reports.
 fn is_placed(streams: &[StreamInterface], mark: &Mark) -> bool
-    ensures { result ≡ world.is_placed streams.now (loss_of mark.now) }
+    ensures { result ≡ world.is_placed streams.now (said_mark mark.now) }
 {
     match mark.kind {
         MarkKind::Out => has_out(streams, mark.interface),
@@ -51,7 +51,7 @@ fn is_placed(streams: &[StreamInterface], mark: &Mark) -> bool
 
 /// Whether each mark does.
 pub(crate) fn are_placed(streams: &[StreamInterface], marks: &[Mark]) -> bool
-    ensures { result ≡ list_all (λ mark. world.is_placed streams.now (loss_of mark)) marks.now }
+    ensures { result ≡ list_all (λ mark. world.is_placed streams.now (said_mark mark)) marks.now }
 {
     marks.iter().all(|mark| is_placed(streams, mark))
 }

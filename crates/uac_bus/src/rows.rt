@@ -1,10 +1,10 @@
 // The lines of the running device.
-ghost use Rattle.std.specs.Prelude.{◌≡◌, ◌≢◌, ◌≤◌, ◌≤ℤ◌, ℕ, List, Option, true, false, pos, negsuc, map, IfErr, OnErr};
+ghost use Rattle.std.specs.Prelude.{◌≡◌, ◌≢◌, ◌≤◌, ◌≤ℤ◌, ℕ, List, Option, true, false, pos, negsuc, map, IfErr, OnOk, OnErr};
 ghost use Rattle.uac_units.specs.Fitting.{IsFitted};
 ghost use Rattle.uac_units.specs.Hearing.{Reading};
 ghost use Rattle.uac_units.specs.Panel.{readings};
 ghost use Rattle.uac_edges.specs.Faults.{Rose};
-ghost use Rattle.uac_script.specs.Line.{voice_of_tone, loss_of};
+ghost use Rattle.uac_script.specs.Line.{said_tone_of, said_mark};
 ghost use Rattle.uac_script.specs.Lent.{lent_phrase, LentKeeps};
 ghost use Rattle.uac_script.specs.Phrase as phrase;
 ghost use Rattle.uac_running.specs.RunningWorld.{RunningWorld};
@@ -12,7 +12,7 @@ ghost use Rattle.uac_running.specs.Kept.{StandsBetween};
 ghost use Rattle.uac_bus.specs.World.{step_running};
 ghost use Rattle.uac_bus.specs.Kept.{StandsFor, Does, is_append, is_final};
 
-use crate::bus::Stage;
+use crate::bus::BusStage;
 use crate::fault::BusFault;
 use crate::naming::{are_frames, are_placed, has_out};
 use crate::transfers::{control, get, set, show};
@@ -27,7 +27,7 @@ use uac_units::{Meter, Meters, Rack, Unit};
 fn append(running: &mut Running, interface: u8, samples: &[i32]) -> Result<(), BusFault>
     ensures does { (shown : List Reading) (r : RunningWorld) (written : Option (List ℕ)) → StandsBetween running.old shown r
         → Does (step_running r (phrase.appends (pos interface) samples.now)) true
-        (StandsFor (Stage.Running running.new) shown) written written result }
+        (StandsFor (BusStage.Running running.new) shown) written written result }
     ensures unwritten { IfErr result (λ fault. fault ≢ BusFault.WriteFault) }
     ensures script { IfErr result (λ fault. is_final fault ≡ false → running.new ≡ running.old) }
 {
@@ -49,8 +49,8 @@ fn append(running: &mut Running, interface: u8, samples: &[i32]) -> Result<(), B
 /// The tone of a track.
 fn track(running: &mut Running, interface: u8, tone: &Tone) -> Result<(), BusFault>
     ensures does { (shown : List Reading) (r : RunningWorld) (written : Option (List ℕ)) → StandsBetween running.old shown r
-        → Does (step_running r (phrase.tracks (pos interface) (voice_of_tone tone.now))) false
-        (StandsFor (Stage.Running running.new) shown) written written result }
+        → Does (step_running r (phrase.tracks (pos interface) (said_tone_of tone.now))) false
+        (StandsFor (BusStage.Running running.new) shown) written written result }
     ensures rule { IfErr result (λ fault. is_final fault ≡ false) }
     ensures unchanged { OnErr result (running.new ≡ running.old) }
 {
@@ -64,8 +64,8 @@ fn track(running: &mut Running, interface: u8, tone: &Tone) -> Result<(), BusFau
 /// The tone of an input jack.
 fn set_jack(running: &mut Running, terminal: u8, tone: &Tone) -> Result<(), BusFault>
     ensures does { (shown : List Reading) (r : RunningWorld) (written : Option (List ℕ)) → StandsBetween running.old shown r
-        → Does (step_running r (phrase.jacks (pos terminal) (voice_of_tone tone.now))) false
-        (StandsFor (Stage.Running running.new) shown) written written result }
+        → Does (step_running r (phrase.jacks (pos terminal) (said_tone_of tone.now))) false
+        (StandsFor (BusStage.Running running.new) shown) written written result }
     ensures rule { IfErr result (λ fault. is_final fault ≡ false) }
     ensures unchanged { OnErr result (running.new ≡ running.old) }
 {
@@ -82,7 +82,7 @@ fn deviate(running: &mut Running, domain: u8, ppm: i32) -> Result<(), BusFault>
     requires high { ppm ≤ℤ pos 100000 }
     ensures does { (shown : List Reading) (r : RunningWorld) (written : Option (List ℕ)) → StandsBetween running.old shown r
         → Does (step_running r (phrase.deviates (pos domain) ppm)) false
-        (StandsFor (Stage.Running running.new) shown) written written result }
+        (StandsFor (BusStage.Running running.new) shown) written written result }
     ensures rule { IfErr result (λ fault. is_final fault ≡ false) }
     ensures unchanged { OnErr result (running.new ≡ running.old) }
 {
@@ -104,14 +104,15 @@ fn run<K: Sink>(
 ) -> Result<(), BusFault>
     requires rack { IsFitted (λ v x. (⟦<dyn Unit as Unit>⟧ v).kind_of x) rack.now }
     ensures does { (r : RunningWorld) → StandsBetween running.old (readings (λ v x. (⟦<dyn Meter as Meter>⟧ v).reading_of x) meters.old) r
-        → Does (step_running r (phrase.runs (pos count) (map loss_of marks.now))) false
-        (StandsFor (Stage.Running running.new) (readings (λ v x. (⟦<dyn Meter as Meter>⟧ v).reading_of x) meters.new)) (K.written sink.old)
+        → Does (step_running r (phrase.runs (pos count) (map said_mark marks.now))) false
+        (StandsFor (BusStage.Running running.new) (readings (λ v x. (⟦<dyn Meter as Meter>⟧ v).reading_of x) meters.new)) (K.written sink.old)
         (K.written sink.new) result }
     ensures script { IfErr result (λ fault. is_final fault ≡ false → running.new ≡ running.old) }
     ensures unwritten { IfErr result (λ fault. fault ≢ BusFault.WriteFault → sink.new ≡ sink.old) }
     ensures unheard { IfErr result (λ fault. fault ≢ BusFault.WriteFault → meters.new ≡ meters.old) }
     ensures cause { IfErr result (λ fault. fault ≡ BusFault.WriteFault → Rose (K.faults sink.old) (K.faults sink.new)) }
     ensures never_falls { K.faults sink.old ≤ K.faults sink.new }
+    ensures faultless { OnOk result (K.faults sink.new ≡ K.faults sink.old) }
 {
     if !are_placed(running.function().streams(), marks) {
         return Err(BusFault::Script(6));
@@ -126,10 +127,11 @@ fn run<K: Sink>(
 fn report<K: Sink>(running: &Running, meters: &Meters, sink: &mut K) -> Result<(), BusFault>
     ensures does { (r : RunningWorld) → StandsBetween running.now (readings (λ v x. (⟦<dyn Meter as Meter>⟧ v).reading_of x) meters.now) r
         → Does (step_running r phrase.reports) false
-        (StandsFor (Stage.Running running.now) (readings (λ v x. (⟦<dyn Meter as Meter>⟧ v).reading_of x) meters.now)) (K.written sink.old)
+        (StandsFor (BusStage.Running running.now) (readings (λ v x. (⟦<dyn Meter as Meter>⟧ v).reading_of x) meters.now)) (K.written sink.old)
         (K.written sink.new) result }
     ensures cause { IfErr result (λ fault. (fault ≡ BusFault.WriteFault) × Rose (K.faults sink.old) (K.faults sink.new)) }
     ensures never_falls { K.faults sink.old ≤ K.faults sink.new }
+    ensures faultless { OnOk result (K.faults sink.new ≡ K.faults sink.old) }
 {
     match running.report(meters, sink) {
         Ok(()) => Ok(()),
@@ -149,13 +151,14 @@ pub(crate) fn play<K: Sink>(
     requires keeps { LentKeeps line }
     ensures does { (r : RunningWorld) → StandsBetween running.old (readings (λ v x. (⟦<dyn Meter as Meter>⟧ v).reading_of x) meters.old) r
         → Does (step_running r (lent_phrase line.entry)) (is_append (lent_phrase line.entry))
-        (StandsFor (Stage.Running running.new) (readings (λ v x. (⟦<dyn Meter as Meter>⟧ v).reading_of x) meters.new)) (K.written sink.old)
+        (StandsFor (BusStage.Running running.new) (readings (λ v x. (⟦<dyn Meter as Meter>⟧ v).reading_of x) meters.new)) (K.written sink.old)
         (K.written sink.new) result }
     ensures script { IfErr result (λ fault. is_final fault ≡ false → running.new ≡ running.old) }
     ensures unwritten { IfErr result (λ fault. fault ≢ BusFault.WriteFault → sink.new ≡ sink.old) }
     ensures unheard { IfErr result (λ fault. fault ≢ BusFault.WriteFault → meters.new ≡ meters.old) }
     ensures cause { IfErr result (λ fault. fault ≡ BusFault.WriteFault → Rose (K.faults sink.old) (K.faults sink.new)) }
     ensures never_falls { K.faults sink.old ≤ K.faults sink.new }
+    ensures faultless { OnOk result (K.faults sink.new ≡ K.faults sink.old) }
 {
     match line {
         LentLine::Nothing => Ok(()),

@@ -1,5 +1,5 @@
 // The lines of control transfers, and those that name an element.
-ghost use Rattle.std.specs.Prelude.{◌≡◌, ◌≢◌, ◌≤◌, List, false, IfErr};
+ghost use Rattle.std.specs.Prelude.{◌≡◌, ◌≢◌, ◌≤◌, List, false, IfErr, OnOk};
 ghost use Rattle.uac_units.specs.Hearing.{Reading};
 ghost use Rattle.uac_edges.specs.Faults.{Rose};
 ghost use Rattle.uac_script.specs.Phrase as phrase;
@@ -8,7 +8,7 @@ ghost use Rattle.uac_running.specs.Kept.{StandsBetween};
 ghost use Rattle.uac_bus.specs.World.{step_running};
 ghost use Rattle.uac_bus.specs.Kept.{StandsFor, Does, is_final};
 
-use crate::bus::Stage;
+use crate::bus::BusStage;
 use crate::fault::BusFault;
 use uac_edges::Sink;
 use uac_request::Setup;
@@ -23,11 +23,12 @@ pub(crate) fn control<K: Sink>(
 ) -> Result<(), BusFault>
     ensures does { (shown : List Reading) (r : RunningWorld) → StandsBetween running.old shown r
         → Does (step_running r (phrase.controls setup sent.now)) false
-        (StandsFor (Stage.Running running.new) shown) (K.written sink.old) (K.written sink.new) result }
+        (StandsFor (BusStage.Running running.new) shown) (K.written sink.old) (K.written sink.new) result }
     ensures script { IfErr result (λ fault. is_final fault ≡ false → running.new ≡ running.old) }
     ensures unwritten { IfErr result (λ fault. fault ≢ BusFault.WriteFault → sink.new ≡ sink.old) }
     ensures cause { IfErr result (λ fault. fault ≡ BusFault.WriteFault → Rose (K.faults sink.old) (K.faults sink.new)) }
     ensures never_falls { K.faults sink.old ≤ K.faults sink.new }
+    ensures faultless { OnOk result (K.faults sink.new ≡ K.faults sink.old) }
 {
     let setup = Setup::read(setup);
     match running.control(&setup, sent, sink) {
@@ -40,11 +41,12 @@ pub(crate) fn control<K: Sink>(
 pub(crate) fn get<K: Sink>(running: &mut Running, name: &[u8], sink: &mut K) -> Result<(), BusFault>
     ensures does { (shown : List Reading) (r : RunningWorld) → StandsBetween running.old shown r
         → Does (step_running r (phrase.gets name.now)) false
-        (StandsFor (Stage.Running running.new) shown) (K.written sink.old) (K.written sink.new) result }
+        (StandsFor (BusStage.Running running.new) shown) (K.written sink.old) (K.written sink.new) result }
     ensures script { IfErr result (λ fault. is_final fault ≡ false → running.new ≡ running.old) }
     ensures unwritten { IfErr result (λ fault. fault ≢ BusFault.WriteFault → sink.new ≡ sink.old) }
     ensures cause { IfErr result (λ fault. fault ≡ BusFault.WriteFault → Rose (K.faults sink.old) (K.faults sink.new)) }
     ensures never_falls { K.faults sink.old ≤ K.faults sink.new }
+    ensures faultless { OnOk result (K.faults sink.new ≡ K.faults sink.old) }
 {
     let Some(at) = running.element(name) else {
         return Err(BusFault::Script(6));
@@ -64,11 +66,12 @@ pub(crate) fn set<K: Sink>(
 ) -> Result<(), BusFault>
     ensures does { (shown : List Reading) (r : RunningWorld) → StandsBetween running.old shown r
         → Does (step_running r (phrase.sets name.now value)) false
-        (StandsFor (Stage.Running running.new) shown) (K.written sink.old) (K.written sink.new) result }
+        (StandsFor (BusStage.Running running.new) shown) (K.written sink.old) (K.written sink.new) result }
     ensures script { IfErr result (λ fault. is_final fault ≡ false → running.new ≡ running.old) }
     ensures unwritten { IfErr result (λ fault. fault ≢ BusFault.WriteFault → sink.new ≡ sink.old) }
     ensures cause { IfErr result (λ fault. fault ≡ BusFault.WriteFault → Rose (K.faults sink.old) (K.faults sink.new)) }
     ensures never_falls { K.faults sink.old ≤ K.faults sink.new }
+    ensures faultless { OnOk result (K.faults sink.new ≡ K.faults sink.old) }
 {
     let Some(at) = running.element(name) else {
         return Err(BusFault::Script(6));
@@ -86,10 +89,11 @@ pub(crate) fn set<K: Sink>(
 pub(crate) fn show<K: Sink>(running: &Running, name: &[u8], sink: &mut K) -> Result<(), BusFault>
     ensures does { (shown : List Reading) (r : RunningWorld) → StandsBetween running.now shown r
         → Does (step_running r (phrase.shows name.now)) false
-        (StandsFor (Stage.Running running.now) shown) (K.written sink.old) (K.written sink.new) result }
+        (StandsFor (BusStage.Running running.now) shown) (K.written sink.old) (K.written sink.new) result }
     ensures unwritten { IfErr result (λ fault. fault ≢ BusFault.WriteFault → sink.new ≡ sink.old) }
     ensures cause { IfErr result (λ fault. fault ≡ BusFault.WriteFault → Rose (K.faults sink.old) (K.faults sink.new)) }
     ensures never_falls { K.faults sink.old ≤ K.faults sink.new }
+    ensures faultless { OnOk result (K.faults sink.new ≡ K.faults sink.old) }
 {
     let Some(at) = running.element(name) else {
         return Err(BusFault::Script(6));

@@ -1,5 +1,5 @@
 -- From what reading came to, and the writing of its text, to what the call means.
-use Rattle.std.proofs.Common.{◌≡◌, ℕ, ◌⊎◌, inl, inr, List, [], sym, refl, ap, subst, Option, None, Some}
+use Rattle.std.proofs.Common.{◌≡◌, ◌≢◌, ℕ, ◌⊎◌, inl, inr, List, [], sym, refl, ap, subst, Option, None, Some}
 use Rattle.uac_descriptor.specs.declared.block.Block.{Block}
 use Rattle.uac_sentence.specs.Sentence.{IsSentence}
 use Rattle.uac_grammar.specs.declared.fault.ReadStop.{ReadStop}
@@ -25,15 +25,15 @@ use Rattle.uac_cli.proofs.Composing.{nothing_shown, quiet_so_far}
 
 module _ (a b : Option (List ℕ)) (r r' : ℕ) (w w' : Option (List ℕ)) (f f' : ℕ) (status : Status) where
   -- the verdict on the blocks that were read was written
-  pub judged_run : (description : Description) (blocks : _) (lent : List Block) → Reads a b r r' (Whole blocks) → lent ≡ blocks.items
+  pub judged_run : (description : Description) (blocks : _) (lent : List Block) → Reads a b r r' (Whole blocks) → r' ≡ r → lent ≡ blocks.items
       → Judges description lent w w' f f' status → IsAnswered description a b r r' w w' f f' status
-  judged_run description blocks lent reads same judges = elim judges.meant as (λ _. IsAnswered description a b r r' w w' f f' status) [
+  judged_run description blocks lent reads still same judges = elim judges.meant as (λ _. IsAnswered description a b r r' w w' f f' status) [
     | inl verdict ↦ record {
       taken = reads.taken;
       end = at_end;
       outcome = judges.outcome;
       consumed = reads.consumed;
-      ended = reads.comes.0;
+      ended = (reads.comes.0, still);
       prompt = reads.prompt;
       meant = inl (is_read lent judges.outcome (subst (λ (bs : List Block). IsSentence reads.taken bs) (sym same) reads.comes.1) verdict);
       closed = judges.closed;
@@ -43,7 +43,7 @@ module _ (a b : Option (List ℕ)) (r r' : ℕ) (w w' : Option (List ℕ)) (f f'
       end = at_end;
       outcome = judges.outcome;
       consumed = reads.consumed;
-      ended = reads.comes.0;
+      ended = (reads.comes.0, still);
       prompt = reads.prompt;
       meant = inr none;
       closed = judges.closed;
@@ -64,25 +64,26 @@ module _ (a b : Option (List ℕ)) (r r' : ℕ) (w w' : Option (List ℕ)) (f f'
   }
 
   -- a descriptor was refused
-  pub refused_run : (description : Description) (stop : ReadStop) → Reads a b r r' (Stopped stop) → Refuses stop w w' f f' status → IsAnswered description a b r r' w w' f f' status
-  refused_run description NoMemory reads closed = record {
+  pub refused_run : (description : Description) (stop : ReadStop) → Reads a b r r' (Stopped stop) → r' ≡ r → Refuses stop w w' f f' status
+      → IsAnswered description a b r r' w w' f f' status
+  refused_run description NoMemory reads still closed = record {
     taken = reads.taken;
     end = stopped;
     outcome = no_memory;
     consumed = reads.consumed;
     prompt = reads.prompt;
-    ended = tt;
+    ended = still;
     meant = inr refl;
     closed = closed;
   }
-  refused_run description (Fault fault) reads closed = elim reads.comes as (λ _. IsAnswered description a b r r' w w' f f' status) [
+  refused_run description (Fault fault) reads still closed = elim reads.comes as (λ _. IsAnswered description a b r r' w w' f f' status) [
     | inl shown ↦ record {
       taken = reads.taken;
       end = stopped;
       outcome = refusal fault;
       consumed = reads.consumed;
       prompt = reads.prompt;
-      ended = tt;
+      ended = still;
       meant = inl (shows_fault stopped fault shown);
       closed = closed;
     }
@@ -92,7 +93,7 @@ module _ (a b : Option (List ℕ)) (r r' : ℕ) (w w' : Option (List ℕ)) (f f'
       outcome = refusal fault;
       consumed = reads.consumed;
       prompt = reads.prompt;
-      ended = last.0;
+      ended = (last.0, still);
       meant = inl (ends_in_fault fault last.1);
       closed = closed;
     }
@@ -131,7 +132,7 @@ usage_run shown a r w w' f f' status closed = record {
   ending = record { outcome = usage; meters = shown };
   consumed = Consumes-none a;
   prompt = quiet_so_far [] nothing_shown;
-  ended = tt;
+  ended = refl;
   meant = inl ((refl, refl), refl);
   lived = tt;
   closed = closed;
@@ -183,3 +184,19 @@ pub elements_said : (description : Description) (blocks : List Block) (function 
     → Closes (sound description blocks function) w w' f f' status ⊎ Closes no_memory w w' f f' status
 elements_said description blocks function w w' f f' status is closed =
     subst (λ (d : Description). Closes (sound d blocks function) w w' f f' status ⊎ Closes no_memory w w' f f' status) (sym is) closed
+
+-- ---- where no fault is told none was met
+
+-- no write failed, so none met a fault
+pub closes_faultless : (o : Outcome) (w w' : Option (List ℕ)) (f f' : ℕ) (status : Status) → Closes o w w' f f' status → status ≢ statuses.WriteFault → f' ≡ f
+closes_faultless o w w' f f' status (inl all) other = all.2
+closes_faultless o w w' f f' status (inr cut) other = absurd (other cut.0)
+
+-- the outcome's status is told, or the failed write
+pub told_status : (o : Outcome) (w w' : Option (List ℕ)) (f f' : ℕ) (status : Status) → Closes o w w' f f' status → status ≢ o.status → status ≢ statuses.WriteFault → ⊥
+told_status o w w' f f' status (inl all) unlike other = unlike all.0
+told_status o w w' f f' status (inr cut) unlike other = other cut.0
+
+pub refuses_faultless : (stop : ReadStop) (w w' : Option (List ℕ)) (f f' : ℕ) (status : Status) → Refuses stop w w' f f' status → status ≢ statuses.WriteFault → f' ≡ f
+refuses_faultless (Fault fault) w w' f f' status closed = closes_faultless (refusal fault) w w' f f' status closed
+refuses_faultless NoMemory w w' f f' status closed = closes_faultless no_memory w w' f f' status closed

@@ -16,7 +16,7 @@ use Rattle.uac_cli.specs.Outcome.{no_memory}
 use Rattle.uac_cli.specs.Program.{asked_by}
 use Rattle.uac_cli.specs.Run.{Closes}
 
--- the words behind the name ask for what the arguments ask for
+-- the words after the name ask for what the arguments ask for
 pub asked_words : {X Z E : Type 0} (args : Result (IntoIter (String X) Z) E) (words lent : List (String X)) → lent ≡ words
     → IfOk args (λ all. words ≡ drop 1 (into_iter_items all)) → IfErr args (λ _. words ≡ []) → plainly (map (λ word. string_bytes word) lent) ≡ asked_by args
 asked_words {X} (Ok all) words lent same given none = ap (λ (ws : List (String X)). plainly (map (λ word. string_bytes word) ws)) (same ∙ given)

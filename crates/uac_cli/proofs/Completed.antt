@@ -23,11 +23,11 @@ use Rattle.uac_cli.proofs.Completing.{done_once, said_once}
 -- no write failed, so the whole text was written
 closed_whole : (outcome : Outcome) (w w' : Option (List ℕ)) (f f' : ℕ) (status : Status) → Rests f f' → Closes outcome w w' f f' status
     → (status ≡ outcome.status) × Appends w w' outcome.text
-closed_whole outcome w w' f f' status quiet (inl all) = all
+closed_whole outcome w w' f f' status quiet (inl all) = (all.0, all.1)
 closed_whole outcome w w' f f' status quiet (inr cut) = absurd (quiet cut.1)
 
 -- a source that never failed
-never_failed : Rests 0 0
+pub never_failed : Rests 0 0
 never_failed (inl less) = omega arith
 never_failed (inr last) = omega arith
 

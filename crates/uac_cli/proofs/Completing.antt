@@ -23,7 +23,7 @@ use Rattle.uac_bus.proofs.Described.{function_is}
 use Rattle.uac_cli.specs.declared.jobs.Description.{Description}
 use Rattle.uac_cli.specs.declared.status.Status.TheVariants as statuses
 use Rattle.uac_cli.specs.Outcome.{End, at_end, read_failed, stopped, Outcome, refusal, sound, unsound, IsVerdict, is_sound, is_broken, Answers, shows_fault, fails, ends_in_fault, is_read}
-use Rattle.uac_cli.specs.Transcript.{Ending, after_step, behind, ends, goes, rest_done, transcript, unfinished}
+use Rattle.uac_cli.specs.Transcript.{Ending, after_step, with_text_first, ends, goes, rest_done, transcript, unfinished}
 use Rattle.uac_cli.specs.Run.{HasEnded}
 use Rattle.uac_cli.specs.Completeness.{Rests}
 use Rattle.uac_cli.proofs.Going.{goes_at, line_size}
@@ -34,9 +34,9 @@ use Rattle.uac_cli.proofs.Going.{goes_at, line_size}
 abbrev IsTold : Ending → (List ℕ → End → Ending) → Type 0
 IsTold short longer = (short.outcome.status ≡ statuses.WriteFault) ⊎ ((more : List ℕ) (end : End) → longer more end ≡ short)
 
-told_behind : (text : List ℕ) (short : Ending) (longer : List ℕ → End → Ending) → IsTold short longer → IsTold (behind text short) (λ more end. behind text (longer more end))
+told_behind : (text : List ℕ) (short : Ending) (longer : List ℕ → End → Ending) → IsTold short longer → IsTold (with_text_first text short) (λ more end. with_text_first text (longer more end))
 told_behind text short longer (inl waits) = inl waits
-told_behind text short longer (inr same) = inr (λ more end. ap (behind text) (same more end))
+told_behind text short longer (inr same) = inr (λ more end. ap (with_text_first text) (same more end))
 
 told_step : (s : Step) (number : ℕ) (w : World) (go : World → Ending) (longer : List ℕ → End → World → Ending)
     → ((next : World) → IsTold (go next) (λ more end. longer more end next)) → IsTold (after_step s number w go) (λ more end. after_step s number w (longer more end))
@@ -53,7 +53,7 @@ waits_for_more : (rest : List ℕ) (number : ℕ) (w : World) → rest_done rest
 waits_for_more [] number w = refl
 waits_for_more (b ∷ rest) number w = refl
 
--- by what stands first, where that is told of what stands behind a line
+-- by what stands first, where that is told of what stands after a line
 told_by : (h : Head) (spare : ℕ) (bytes : List ℕ) (number : ℕ) (w : World) → head_of spare bytes ≡ h
     → ((text rest : List ℕ) → h ≡ line text rest → (next : World)
     → IsTold (goes (spare - (length text + 1)) rest stopped (number + 1) next) (λ more end. goes (spare - (length text + 1)) (rest ++ more) end (number + 1) next))
@@ -121,9 +121,9 @@ said_of_all description bytes taken left reads reads' end outcome front rests en
     ends_in_fault fault (ap first_fault front.parts ∙ stop_at-Fault (first_fault (taken ++ front.rest)) fault stop)
 said_of_all description bytes taken left reads reads' end outcome front rests ended (fails none) = absurd (rests ended)
 said_of_all description bytes taken left reads reads' end outcome front rests ended (ends_in_fault fault first) =
-    ends_in_fault fault (ap first_fault (sym (front.whole ended)) ∙ first)
+    ends_in_fault fault (ap first_fault (sym (front.whole ended.0)) ∙ first)
 said_of_all description bytes taken left reads reads' end outcome front rests ended (is_read blocks told sentence verdict) =
-    is_read blocks told (subst (λ (bs : List ℕ). IsSentence bs blocks) (front.whole ended) sentence) verdict
+    is_read blocks told (subst (λ (bs : List ℕ). IsSentence bs blocks) (front.whole ended.0) sentence) verdict
 
 -- by the first fault of all the bytes, or by their blocks
 data IsSaid (description : Description) (bytes : List ℕ) (outcome : Outcome) : Type 0 where
@@ -175,7 +175,7 @@ pub done_once : (shown : List Reading) (bytes taken : List ℕ) (left left' : Op
     → left ≡ Some bytes → Consumes left left' taken → Rests reads reads' → HasEnded end left' reads reads'
     → (transcript shown taken end).outcome.status ≢ statuses.WriteFault → transcript shown bytes at_end ≡ transcript shown taken end
 done_once shown bytes taken left left' reads reads' at_end is consumed rests ended other =
-    let front = front_of left left' bytes taken is consumed in ap (λ (bs : List ℕ). transcript shown bs at_end) (sym (front.whole ended))
+    let front = front_of left left' bytes taken is consumed in ap (λ (bs : List ℕ). transcript shown bs at_end) (sym (front.whole ended.0))
 done_once shown bytes taken left left' reads reads' read_failed is consumed rests ended other = absurd (rests ended)
 done_once shown bytes taken left left' reads reads' stopped is consumed rests ended other =
     let front = front_of left left' bytes taken is consumed in

@@ -1,4 +1,4 @@
--- The bytes that were taken as the lines done so far, each with its newline, and what stands behind them.
+-- The bytes that were taken as the lines done so far, each with its newline, and what stands after them.
 use Rattle.std.proofs.Common.{◌≡◌, ◌≢◌, ℕ, ◌+◌, ◌<◌, ◌≤◌, ◌==◌, List, [], ◌∷◌, ◌++◌, length, map, take, drop, get_or, Option, None, Result, refl, sym, ap, subst, ◌∙◌, arith, append_assoc}
 use Rattle.std.specs.List.{All, AllByRecursion}
 use Rattle.std.proofs.lemmas.Bool.{eqb-true, eqb-false}
@@ -29,7 +29,7 @@ no_newline n bytes within k d below =
     let inside : k < line_end bytes = omega arith in
     λ is. eqb-false (get_or bytes k d) 10 (fails_before_first (λ b. b == 10) bytes k d inside) (sym (get_or-take n bytes k d before) ∙ is)
 
--- bytes with a newline are what stands before it, it, and what stands behind it
+-- bytes with a newline are what stands before it, it, and what stands after it
 around_newline : (bytes : List ℕ) → line_end bytes < length bytes → bytes ≡ take (line_end bytes) bytes ++ 10 ∷ drop (line_end bytes + 1) bytes
 around_newline bytes some =
     split_at_first (λ b. b == 10) bytes 0 some
@@ -78,7 +78,7 @@ rest_cut spare bytes h = go (cases_of spare bytes)
 
 -- ---- the lines that were done
 
--- The lines done so far, each with its newline, are the bytes but for what stands behind them; the text and the world are what they
+-- The lines done so far, each with its newline, are the bytes but for what stands after them; the text and the world are what they
 -- come to, and none was refused.
 pub record HasDone (shown : List Reading) (taken text unread : List ℕ) (w : World) : Type 0 where
   pub texts : List (List ℕ)
@@ -92,7 +92,7 @@ pub none_done : (shown : List Reading) → HasDone shown [] [] [] (start shown)
 unfolding after
 none_done shown = record { texts = []; lines = tt; cut = refl; printed = refl; reached = refl; accepted = refl }
 
--- more bytes stand behind them
+-- more bytes stand after them
 pub done_more : (shown : List Reading) (taken text unread : List ℕ) (w : World) (got : List ℕ) → HasDone shown taken text unread w → HasDone shown (taken ++ got) text (unread ++ got) w
 done_more shown taken text unread w got d = record {
   texts = d.texts;
@@ -111,7 +111,7 @@ with_one (text ∷ texts) told rest =
     ∙ ap (λ (xs : List ℕ). (text ++ 10 ∷ []) ++ xs) (with_one texts told rest)
     ∙ sym (append_assoc (text ++ 10 ∷ []) (with_newlines texts) (told ++ 10 ∷ rest))
 
--- one line more that is done, behind lines that were
+-- one line more that is done, after lines that were
 done_behind : (said : Result Phrase ℕ) (a : After) (next : World) (more : List Said) → a.refusal ≡ None → said_step said a.world ≡ done next more → with_one_more said a ≡ stepped (done next more) a
 done_behind said a next more none is =
     ap (λ (o : Option BusFault). if_refused o a (stepped (said_step said a.world) a)) none ∙ ap (λ (s : Step). stepped s a) is

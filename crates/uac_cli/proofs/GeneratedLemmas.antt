@@ -17,7 +17,7 @@ use Rattle.uac_cli.specs.declared.status.Status.TheVariants as statuses
 use Rattle.uac_cli.specs.Outcome.{at_end}
 use Rattle.uac_cli.specs.Script as script
 use Rattle.uac_cli.specs.Script.{IsLine, come_to, with_newlines}
-use Rattle.uac_cli.specs.Transcript.{Ending, behind, closed_by, ends, finished, goes, transcript}
+use Rattle.uac_cli.specs.Transcript.{Ending, with_text_first, closed_by, ends, finished, goes, transcript}
 use Rattle.uac_cli.specs.Generated.{GeneratedScriptsRunWhole}
 use Rattle.uac_cli.proofs.Going.{goes_at, head_nothing}
 use Rattle.uac_cli.proofs.ScriptLemmas.{script_lines}
@@ -26,7 +26,7 @@ are_lines : (texts : List (List ℕ)) → AllByRecursion IsLineOfScript texts �
 are_lines [] each = tt
 are_lines (text ∷ texts) (one, each) = (record { short = one.short; whole = one.whole }, are_lines texts each)
 
--- nothing stands behind the last newline, and the script may end
+-- nothing stands after the last newline, and the script may end
 ended : (spare number : ℕ) (w : World) → finish_of w ≡ Ok tt
     → goes spare [] at_end number w ≡ ends (record { text = []; status = statuses.Ok }) w
 unfolding finished
@@ -36,10 +36,10 @@ ended spare number w is =
 
 -- no line was refused, so what follows them is reached
 none_refused : (a : After) (number : ℕ) (go : World → Ending) (last : Ending) → a.refusal ≡ None → go a.world ≡ last
-    → come_to a number go ≡ behind (text_of a.lines) last
+    → come_to a number go ≡ with_text_first (text_of a.lines) last
 none_refused a number go last none is =
-    ap (λ (o : Option BusFault). behind (text_of a.lines) (script.behind_lines o (number + a.count) a.world go)) none
-    ∙ ap (behind (text_of a.lines)) is
+    ap (λ (o : Option BusFault). with_text_first (text_of a.lines) (script.behind_lines o (number + a.count) a.world go)) none
+    ∙ ap (with_text_first (text_of a.lines)) is
 
 pub generated_scripts_run_whole : GeneratedScriptsRunWhole
 unfolding script_of

@@ -9,9 +9,9 @@ use Rattle.uac_bus.specs.World.{World, Step, done, refused}
 use Rattle.uac_cli.specs.Outcome.{End, at_end, read_failed, read_fault}
 use Rattle.uac_transcript.specs.Printing.{text_of}
 use Rattle.uac_bus.specs.After.{said_step}
-use Rattle.uac_cli.specs.Transcript.{Ending, ends, behind, after_step, finished, rest_done, by_head, goes_within, goes}
+use Rattle.uac_cli.specs.Transcript.{Ending, ends, with_text_first, after_step, finished, rest_done, by_head, goes_within, goes}
 
--- a line and its newline are some of the bytes, and the rest stands behind them
+-- a line and its newline are some of the bytes, and the rest stands after them
 pub line_size : (spare : ℕ) (bytes text rest : List ℕ) → head_of spare bytes ≡ line text rest → length text + 1 + length rest ≡ length bytes
 line_size spare bytes text rest h = go (cases_of spare bytes)
   where
@@ -31,7 +31,7 @@ line_size spare bytes text rest h = go (cases_of spare bytes)
 -- ---- more fuel
 
 after_step_same : (s : Step) (number : ℕ) (w : World) (go go' : World → Ending) → ((next : World) → go next ≡ go' next) → after_step s number w go ≡ after_step s number w go'
-after_step_same (done next lines) number w go go' same = ap (behind (text_of lines)) (same next)
+after_step_same (done next lines) number w go go' same = ap (with_text_first (text_of lines)) (same next)
 after_step_same (refused fault) number w go go' same = refl
 
 by_head_same : (h : Head) (end : End) (number : ℕ) (w : World) (go go' : List ℕ → List ℕ → World → Ending)
@@ -54,7 +54,7 @@ goes_within_same (suc m) (suc n) spare bytes end number w p q =
     (λ text rest is next. let size = line_size spare bytes text rest is in
     goes_within_same m n (spare - (length text + 1)) rest end (number + 1) next (omega arith) (omega arith))
 
--- what goes on behind a line
+-- what goes on after a line
 abbrev go_on : ℕ → End → ℕ → List ℕ → List ℕ → World → Ending
 go_on spare end number text rest next = goes (spare - (length text + 1)) rest end (number + 1) next
 
@@ -93,7 +93,7 @@ pub rest_failed : (rest : List ℕ) (number : ℕ) (w : World) → rest_done res
 rest_failed [] number w = refl
 rest_failed (b ∷ rest) number w = refl
 
--- a text and another behind it
-pub behind-behind : (a b : List ℕ) (ending : Ending) → behind a (behind b ending) ≡ behind (a ++ b) ending
-behind-behind a b ending =
+-- a text and another after it
+pub with_text_first-with_text_first : (a b : List ℕ) (ending : Ending) → with_text_first a (with_text_first b ending) ≡ with_text_first (a ++ b) ending
+with_text_first-with_text_first a b ending =
     ap (λ (t : List ℕ). let e : Ending = record ending { outcome = record ending.outcome { text = t } } in e) (sym (append_assoc a b ending.outcome.text))

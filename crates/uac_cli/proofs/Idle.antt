@@ -18,8 +18,8 @@ said_idle text e = rw e refl
 does_idle : (w : World) (bus : BusFields) (shown : List Reading) (written : Option (List ℕ)) (writes : ℕ) → Stands bus shown w
     → Does (said_step (Ok idle) w) (wants (Ok idle) w) bus shown shown written written writes writes (Ok tt)
 unfolding step
-does_idle (describing bytes heard) bus shown written writes s = ((s, Appends-nil written), tt)
-does_idle (running r) bus shown written writes s = ((s, Appends-nil written), tt)
+does_idle (describing bytes heard) bus shown written writes s = ((s, Appends-nil written), tt, refl)
+does_idle (running r) bus shown written writes s = ((s, Appends-nil written), tt, refl)
 
 pub idle_done : (text : List ℕ) (w : World) (bus : BusFields) (shown : List Reading) (written : Option (List ℕ)) (writes : ℕ) → is_idle text ≡ true → Stands bus shown w
     → Does (said_step (answer text) w) (wants (answer text) w) bus shown shown written written writes writes (Ok tt)

@@ -1,4 +1,4 @@
--- A transcript is lived: the lines that were done, and how it ended behind them.
+-- A transcript is lived: the lines that were done, and how it ended after them.
 use Rattle.std.proofs.Common.{◌≡◌, ◌∙◌, sym, refl, ap, subst, ℕ, zero, suc, ◌+◌, ◌-◌, inl, inr, List, [], ◌∷◌, ◌++◌, length, map, append_assoc, None}
 use Rattle.std.specs.List.{AllByRecursion}
 use Rattle.std.proofs.lemmas.List.{append-nil}
@@ -15,10 +15,10 @@ use Rattle.uac_bus.specs.After.{After, after, and_then, said_step}
 use Rattle.uac_promises.proofs.AllScripts.{all_scripts_keep_promises}
 use Rattle.uac_cli.specs.Outcome.{End, Outcome, at_end, no_memory, read_failed, stopped}
 use Rattle.uac_cli.specs.Script.{IsLine, IsWanted, with_newlines}
-use Rattle.uac_cli.specs.Transcript.{Ending, after_step, behind, by_head, ends, finished, goes, goes_within, rest_done, transcript}
+use Rattle.uac_cli.specs.Transcript.{Ending, after_step, with_text_first, by_head, ends, finished, goes, goes_within, rest_done, transcript}
 use Rattle.uac_cli.specs.Lived.{AreFirst, IsLast, IsLived, at_the_end, at_a_refusal, at_a_long_line, behind_the_limit, at_a_failed_read, at_a_failed_write, without_memory}
 use Rattle.uac_cli.proofs.Cutting.{front_cut, rest_cut}
-use Rattle.uac_cli.proofs.Going.{behind-behind}
+use Rattle.uac_cli.proofs.Going.{with_text_first-with_text_first}
 
 -- lines that were done in a world, the first ones of these bytes
 pub record IsLivedFrom (w : World) (bytes : List ℕ) (ending : Ending) : Type 0 where
@@ -28,7 +28,7 @@ pub record IsLivedFrom (w : World) (bytes : List ℕ) (ending : Ending) : Type 0
   pub done : (after (map answer texts) w).refusal ≡ None
   pub last : Outcome
   pub is_last : IsLast last
-  pub printed : ending ≡ behind (text_of (after (map answer texts) w).lines) (ends last (after (map answer texts) w).world)
+  pub printed : ending ≡ with_text_first (text_of (after (map answer texts) w).lines) (ends last (after (map answer texts) w).world)
 
 -- no line was done
 none_done : (w : World) (bytes : List ℕ) (last : Outcome) → IsLast last → IsLivedFrom w bytes (ends last w)
@@ -58,7 +58,7 @@ after_first text texts w next lines is = ap (λ (s : Step). and_then s w (after 
 
 one_first : (text rest : List ℕ) (w next : World) (lines : List Said) (ending : Ending) → IsLine text
     → said_step (answer text) w ≡ done next lines → IsLivedFrom next rest ending
-    → IsLivedFrom w (text ++ 10 ∷ rest) (behind (text_of lines) ending)
+    → IsLivedFrom w (text ++ 10 ∷ rest) (with_text_first (text_of lines) ending)
 one_first text rest w next lines ending is_line step lived =
     let later : After = after (map answer lived.texts) next in
     let all : after (map answer (text ∷ lived.texts)) w ≡ and_then (done next lines) w (after (map answer lived.texts)) =
@@ -71,10 +71,10 @@ one_first text rest w next lines ending is_line step lived =
       last = lived.last;
       is_last = lived.is_last;
       printed =
-          ap (behind (text_of lines)) lived.printed
-          ∙ behind-behind (text_of lines) (text_of later.lines) (ends lived.last later.world)
-          ∙ ap (λ (t : List ℕ). behind t (ends lived.last later.world)) (sym (text_of-append lines later.lines))
-          ∙ sym (ap (λ (a : After). behind (text_of a.lines) (ends lived.last a.world)) all);
+          ap (with_text_first (text_of lines)) lived.printed
+          ∙ with_text_first-with_text_first (text_of lines) (text_of later.lines) (ends lived.last later.world)
+          ∙ ap (λ (t : List ℕ). with_text_first t (ends lived.last later.world)) (sym (text_of-append lines later.lines))
+          ∙ sym (ap (λ (a : After). with_text_first (text_of a.lines) (ends lived.last a.world)) all);
     }
 
 -- ---- the script's end
@@ -96,7 +96,7 @@ none_then_end number w bytes =
 
 -- the last line, which no newline ends
 last_done : (text : List ℕ) (number : ℕ) (w next : World) (lines : List Said) → IsLine text → said_step (answer text) w ≡ done next lines
-    → IsLivedFrom w text (behind (text_of lines) (finished number next))
+    → IsLivedFrom w text (with_text_first (text_of lines) (finished number next))
 unfolding after
 last_done text number w next lines is_line step =
     let is = finished_is number next in
@@ -109,9 +109,9 @@ last_done text number w next lines is_line step =
       last = is.last;
       is_last = is.is_last;
       printed =
-          ap (behind (text_of lines)) is.is
-          ∙ ap (λ (ls : List Said). behind (text_of ls) (ends is.last next)) (sym (append-nil lines))
-          ∙ sym (ap (λ (a : After). behind (text_of a.lines) (ends is.last a.world)) all);
+          ap (with_text_first (text_of lines)) is.is
+          ∙ ap (λ (ls : List Said). with_text_first (text_of ls) (ends is.last next)) (sym (append-nil lines))
+          ∙ sym (ap (λ (a : After). with_text_first (text_of a.lines) (ends is.last a.world)) all);
     }
 
 last_by : (s : Step) (text : List ℕ) (number : ℕ) (w : World) → IsLine text → said_step (answer text) w ≡ s

@@ -8,14 +8,14 @@ use Rattle.uac_steady.specs.Scripts.{behind_lines}
 use Rattle.uac_promises.specs.Promises.{KeepsPromises}
 use Rattle.uac_cli.specs.declared.status.Status.TheVariants as statuses
 use Rattle.uac_cli.specs.Outcome.{at_end}
-use Rattle.uac_cli.specs.Transcript.{behind, ends, transcript}
+use Rattle.uac_cli.specs.Transcript.{with_text_first, ends, transcript}
 
 -- a number's script prints the lines of all its lines and nothing else, with status Ok, and every line that it prints is as promised of
 -- steady scripts: no ring is found empty or without room
 pub record RunsWhole (number : ℕ) (shown : List Reading) : Type 0 where
   pub transcript_is :
       transcript shown (script_of number) at_end
-      ≡ behind (text_of (behind_lines (generated number) shown).lines)
+      ≡ with_text_first (text_of (behind_lines (generated number) shown).lines)
       (ends (record { text = []; status = statuses.Ok }) (behind_lines (generated number) shown).world)
   pub promised : KeepsPromises (generated number) shown
 

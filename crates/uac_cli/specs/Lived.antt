@@ -9,9 +9,9 @@ use Rattle.uac_promises.specs.Promises.{KeepsPromises}
 use Rattle.uac_cli.specs.declared.status.Status.TheVariants as statuses
 use Rattle.uac_cli.specs.Outcome.{Outcome, no_memory, read_fault}
 use Rattle.uac_cli.specs.Script.{IsLine, with_newlines}
-use Rattle.uac_cli.specs.Transcript.{Ending, behind, ends, last_line, misread, too_long, unfinished}
+use Rattle.uac_cli.specs.Transcript.{Ending, with_text_first, ends, last_line, misread, too_long, unfinished}
 
--- how a run ends behind the lines that were done
+-- how a run ends after the lines that were done
 pub data IsLast : Outcome → Type 0 where
   -- the script is at its end, and nothing more is printed
   at_the_end : IsLast (record { text = []; status = statuses.Ok })
@@ -39,5 +39,5 @@ pub record IsLived (shown : List Reading) (taken : List ℕ) (ending : Ending) :
   pub done : (behind_lines texts shown).refusal ≡ None
   pub last : Outcome
   pub is_last : IsLast last
-  pub printed : ending ≡ behind (text_of (behind_lines texts shown).lines) (ends last (behind_lines texts shown).world)
+  pub printed : ending ≡ with_text_first (text_of (behind_lines texts shown).lines) (ends last (behind_lines texts shown).world)
   pub promised : is_steady_in (behind_lines texts shown).world ≡ true → KeepsPromises texts shown

@@ -21,17 +21,22 @@ use Rattle.uac_cli.specs.Transcript.{Ending, transcript}
 use Rattle.uac_cli.specs.Script.{IsWanted}
 use Rattle.uac_cli.specs.Lived.{IsLived}
 
--- why no more was taken shows on the source: what is left, and its counts of faults before and after
+-- why no more was taken shows on the source: what is left, and its counts of faults before and after. Unless a read failed, no fault was met
 abbrev pub HasEnded : End → Option (List ℕ) → ℕ → ℕ → Type 0
-HasEnded at_end left before after = IsAtEnd left
+HasEnded at_end left before after = IsAtEnd left × (after ≡ before)
 HasEnded read_failed left before after = Rose before after
-HasEnded stopped left before after = Unit {0}
+HasEnded stopped left before after = after ≡ before
 
--- The whole text was appended and the status is the outcome's; or the sink failed, and a front of the text was.
+-- The status is the outcome's, the whole text was appended, and no write met a fault; or the sink failed, and a front of the text was.
 abbrev pub Closes : Outcome → Option (List ℕ) → Option (List ℕ) → ℕ → ℕ → Status → Type 0
 Closes outcome old new before after status =
-    ((status ≡ outcome.status) × Appends old new outcome.text)
+    ((status ≡ outcome.status) × Appends old new outcome.text × (after ≡ before))
     ⊎ ((status ≡ statuses.WriteFault) × Rose before after × AppendsFront old new outcome.text)
+
+-- A call that tells of no failed read and of no failed write met no fault.
+abbrev pub IsFaultless : ℕ → ℕ → ℕ → ℕ → Status → Type 0
+IsFaultless reads reads' writes writes' status =
+    status ≢ statuses.ReadFault → status ≢ statuses.WriteFault → (reads' ≡ reads) × (writes' ≡ writes)
 
 -- How many bytes are taken past what decides: of a descriptor all but at most the last 4,096 show no fault, and of a script at
 -- most one byte is taken past the limit.

@@ -12,7 +12,7 @@ use Rattle.uac_bus.specs.World.{World, start}
 use Rattle.uac_bus.specs.Kept.{may_want}
 use Rattle.uac_bus.specs.After.{After, after}
 use Rattle.uac_cli.specs.Outcome.{no_memory}
-use Rattle.uac_cli.specs.Transcript.{Ending, behind, ends, last_line}
+use Rattle.uac_cli.specs.Transcript.{Ending, with_text_first, ends, last_line}
 
 -- a line's bytes: at most 4,096, none of them a newline
 pub record IsLine (text : List ℕ) : Type 0 where
@@ -23,16 +23,16 @@ pub record IsLine (text : List ℕ) : Type 0 where
 abbrev pub with_newlines : List (List ℕ) → List ℕ
 with_newlines texts = flat_map (λ text. text ++ 10 ∷ []) texts
 
--- behind lines: the refusal of the next, which has this number; or what follows in the world that they leave
+-- after lines: the refusal of the next, which has this number; or what follows in the world that they leave
 abbrev pub behind_lines : Option BusFault → ℕ → World → (World → Ending) → Ending
 behind_lines None number w go = go w
 behind_lines (Some fault) number w go = ends (last_line fault number) w
 
--- what lines come to of which the first has this number: their text, and then what stands behind them
+-- what lines come to of which the first has this number: their text, and then what stands after them
 abbrev pub come_to : After → ℕ → (World → Ending) → Ending
-come_to a number go = behind (text_of a.lines) (behind_lines a.refusal (number + a.count) a.world go)
+come_to a number go = with_text_first (text_of a.lines) (behind_lines a.refusal (number + a.count) a.world go)
 
--- the bytes behind a line: none, or its newline and what follows
+-- the bytes after a line: none, or its newline and what follows
 abbrev pub StandsBehind : List ℕ → Type 0
 StandsBehind rest = (rest ≡ []) ⊎ ((more : List ℕ) × (rest ≡ 10 ∷ more))
 
@@ -41,7 +41,7 @@ abbrev pub wants : Result Phrase ℕ → World → Bool
 wants (Ok phrase) w = may_want phrase w
 wants (Err rule) w = false
 
--- Memory was wanted at a line: those in front of it were done, it is one that takes memory, and behind their text stands `no memory`.
+-- Memory was wanted at a line: those in front of it were done, it is one that takes memory, and after their text stands `no memory`.
 pub record IsWanted (shown : List Reading) (taken : List ℕ) (ending : Ending) : Type 0 where
   pub texts : List (List ℕ)
   pub text : List ℕ
@@ -52,5 +52,5 @@ pub record IsWanted (shown : List Reading) (taken : List ℕ) (ending : Ending) 
   pub whole : StandsBehind rest
   pub done : (after (map answer texts) (start shown)).refusal ≡ None
   pub takes : wants (answer text) (after (map answer texts) (start shown)).world ≡ true
-  pub is : ending ≡ behind (text_of (after (map answer texts) (start shown)).lines)
+  pub is : ending ≡ with_text_first (text_of (after (map answer texts) (start shown)).lines)
       (ends no_memory (after (map answer texts) (start shown)).world)

@@ -43,12 +43,12 @@ abbrev pub ends : Outcome → World → Ending
 ends outcome w = record { outcome = outcome; meters = meters_in w }
 
 -- this text, and then what follows
-abbrev pub behind : List ℕ → Ending → Ending
-behind text ending = record ending { outcome = record ending.outcome { text = text ++ ending.outcome.text } }
+abbrev pub with_text_first : List ℕ → Ending → Ending
+with_text_first text ending = record ending { outcome = record ending.outcome { text = text ++ ending.outcome.text } }
 
 -- a line is done and the script goes on; or its refusal ends it
 abbrev pub after_step : Step → ℕ → World → (World → Ending) → Ending
-after_step (done next lines) number w go = behind (text_of lines) (go next)
+after_step (done next lines) number w go = with_text_first (text_of lines) (go next)
 after_step (refused fault) number w go = ends (last_line fault number) w
 
 -- the script's end, where the next line would have this number
@@ -59,14 +59,14 @@ closed_by (Err fault) number w = ends (last_line fault number) w
 unfoldable pub finished : ℕ → World → Ending
 finished number w = closed_by (finish_of w) number w
 
--- the bytes behind the last newline: at the end they are the last line, if there are any
+-- the bytes after the last newline: at the end they are the last line, if there are any
 abbrev pub rest_done : List ℕ → End → ℕ → World → Ending
 rest_done [] at_end number w = finished number w
 rest_done (b ∷ rest) at_end number w = after_step (said_step (answer (b ∷ rest)) w) number w (λ next. finished (number + 1) next)
 rest_done rest read_failed number w = ends read_fault w
 rest_done rest stopped number w = ends unfinished w
 
--- by what stands first in the bytes; `go` goes on behind a line
+-- by what stands first in the bytes; `go` goes on after a line
 abbrev pub by_head : Head → End → ℕ → World → (List ℕ → List ℕ → World → Ending) → Ending
 by_head (line text rest) end number w go = after_step (said_step (answer text) w) number w (go text rest)
 by_head long end number w go = ends (misread 1 number) w

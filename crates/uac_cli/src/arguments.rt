@@ -1,4 +1,4 @@
-// The words behind the program's name.
+// The words after the program's name.
 ghost use Rattle.std.specs.Prelude.{◌≡◌, ◌≢◌, [], drop, IfErr, IfOk, IsErr, IsOk};
 ghost use Rattle.std.specs.IoError.{error_kind};
 ghost use Rattle.std.specs.Vec.Iter.{into_iter_items};
@@ -8,7 +8,7 @@ use std::env::Args;
 use std::io::{self, ErrorKind};
 use uac_descriptor::NoMemory;
 
-/// The words behind the program's name. Where one of the arguments isn't UTF-8 there are none, which is refused as that word would be.
+/// The words after the program's name. Where one of the arguments isn't UTF-8 there are none, which is refused as that word would be.
 pub(crate) fn words(alloc: Global, args: io::Result<Args>) -> Result<Vec<String>, NoMemory>
     // All arguments but the first, in their order; none where they couldn't be read.
     ensures given { IfOk args (λ all. IfOk result (λ words. words.items ≡ drop 1 (into_iter_items all))) }

@@ -7,6 +7,7 @@ ghost use Rattle.uac_words.specs.Plain.{plainly};
 ghost use Rattle.uac_cli.specs.Boxes.{IsFreshCall, fresh_readings};
 ghost use Rattle.uac_cli.specs.Call.{ask_to_read};
 ghost use Rattle.uac_cli.specs.Completeness.{IsComplete};
+ghost use Rattle.uac_cli.specs.Run.{IsFaultless};
 
 use crate::status::Status;
 use crate::top::{Racks, uac_main};
@@ -29,9 +30,11 @@ pub fn run_in_boxes<S: Source, K: Sink>(
         (S.left source.old) (S.left source.new) (S.faults source.old) (S.faults source.new)
         (K.written sink.old) (K.written sink.new) (K.faults sink.old) (K.faults sink.new) status) }
 
-    // Each fault of the outside has its cause in this call.
+    // Each fault of the outside has its cause in this call; and a call that tells of none met none.
     ensures read_fault { IfOk result (λ status. status ≡ Status.ReadFault → Rose (S.faults source.old) (S.faults source.new)) }
     ensures write_fault { IfOk result (λ status. status ≡ Status.WriteFault → Rose (K.faults sink.old) (K.faults sink.new)) }
+    ensures faultless { IfOk result (λ status. IsFaultless (S.faults source.old) (S.faults source.new)
+        (K.faults sink.old) (K.faults sink.new) status) }
 
     // The whole input was read.
     ensures ok { IfOk result (λ status. status ≡ Status.Ok → ask_to_read (plainly (map (λ word. string_bytes word) words.now)) ≡ true
@@ -78,6 +81,8 @@ fn run_with_racks<S: Source, K: Sink>(
         (K.written sink.old) (K.written sink.new) (K.faults sink.old) (K.faults sink.new) status) }
     ensures read_fault { IfOk result (λ status. status ≡ Status.ReadFault → Rose (S.faults source.old) (S.faults source.new)) }
     ensures write_fault { IfOk result (λ status. status ≡ Status.WriteFault → Rose (K.faults sink.old) (K.faults sink.new)) }
+    ensures faultless { IfOk result (λ status. IsFaultless (S.faults source.old) (S.faults source.new)
+        (K.faults sink.old) (K.faults sink.new) status) }
     ensures ok { IfOk result (λ status. status ≡ Status.Ok → ask_to_read (plainly (map (λ word. string_bytes word) words.now)) ≡ true
         → IsAtEnd (S.left source.new)) }
     ensures complete { IfOk result (λ status. IsComplete (plainly (map (λ word. string_bytes word) words.now)) fresh_readings

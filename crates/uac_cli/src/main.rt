@@ -2,7 +2,7 @@
 //! a script on a device, or a generated one.
 #![tactic(auto)]
 
-/// The words behind the program's name.
+/// The words after the program's name.
 mod arguments;
 /// The boxes of the program: its units and its meters.
 mod boxes;

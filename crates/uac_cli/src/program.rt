@@ -5,6 +5,7 @@ ghost use Rattle.uac_edges.specs.Faults.{Rose};
 ghost use Rattle.uac_cli.specs.Boxes.{IsFreshCall, fresh_readings};
 ghost use Rattle.uac_cli.specs.Call.{ask_to_read};
 ghost use Rattle.uac_cli.specs.Completeness.{IsComplete};
+ghost use Rattle.uac_cli.specs.Run.{IsFaultless};
 ghost use Rattle.uac_cli.specs.Program.{asked_by};
 
 use crate::arguments::words;
@@ -25,13 +26,14 @@ pub fn run_program<S: Source, K: Sink>(
     source: &mut S,
     sink: &mut K,
 ) -> Status
-    // Status and text follow from the words behind the name and the bytes that were taken.
+    // Status and text follow from the words after the name and the bytes that were taken.
     ensures call { IsFreshCall (asked_by args) (S.left source.old) (S.left source.new) (S.faults source.old) (S.faults source.new)
         (K.written sink.old) (K.written sink.new) (K.faults sink.old) (K.faults sink.new) result }
 
-    // Each fault of the outside has its cause in this call.
+    // Each fault of the outside has its cause in this call; and a call that tells of none met none.
     ensures read_fault { result ≡ Status.ReadFault → Rose (S.faults source.old) (S.faults source.new) }
     ensures write_fault { result ≡ Status.WriteFault → Rose (K.faults sink.old) (K.faults sink.new) }
+    ensures faultless { IsFaultless (S.faults source.old) (S.faults source.new) (K.faults sink.old) (K.faults sink.new) result }
 
     // The whole input was read, where the command reads it.
     ensures ok { result ≡ Status.Ok → ask_to_read (asked_by args) ≡ true → IsAtEnd (S.left source.new) }

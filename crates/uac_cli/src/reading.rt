@@ -1,5 +1,5 @@
 // Reading a descriptor from a source, to its end or to its first fault.
-ghost use Rattle.std.specs.Prelude.{◌≡◌, ◌≤◌, None};
+ghost use Rattle.std.specs.Prelude.{◌≡◌, ◌≢◌, ◌≤◌, None};
 ghost use Rattle.uac_cli.specs.Reading.{Reads, Finishes};
 
 use std::alloc::Global;
@@ -18,9 +18,11 @@ pub enum Reading {
     Failed,
 }
 
-/// Reads a descriptor: to the end of the input, a failed read, or the first fault that the bytes show.
+/// Reads a descriptor: to the end of the input, a failed read, or the first fault that the bytes show. Unless it answers `Failed`, no read
+/// met a fault.
 pub fn read_descriptor<S: Source>(alloc: Global, source: &mut S) -> Reading
     ensures reads { Reads (S.left source.old) (S.left source.new) (S.faults source.old) (S.faults source.new) result }
+    ensures faultless { result ≢ Reading.Failed → S.faults source.new ≡ S.faults source.old }
     ensures never_falls { S.faults source.old ≤ S.faults source.new }
 {
     let mut reader = Reader::new(alloc);

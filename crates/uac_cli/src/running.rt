@@ -10,7 +10,7 @@ ghost use Rattle.uac_bus.specs.World.{World};
 ghost use Rattle.uac_bus.specs.After.{said_step};
 ghost use Rattle.uac_bus.specs.Kept.{Stands};
 ghost use Rattle.uac_cli.specs.declared.jobs.Job.TheVariants.{Run};
-ghost use Rattle.uac_cli.specs.Run.{IsRun, Closes};
+ghost use Rattle.uac_cli.specs.Run.{IsFaultless, IsRun, Closes};
 ghost use Rattle.uac_cli.specs.Running.{Does, stop_outcome};
 ghost use Rattle.uac_cli.specs.Script.{wants};
 ghost use Rattle.uac_cli.specs.Transcript.{last_line, finished};
@@ -41,6 +41,7 @@ pub fn run_script<S: Source, K: Sink>(
         (K.written sink.old) (K.written sink.new) (K.faults sink.old) (K.faults sink.new) result }
     ensures read_fault { result ≡ Status.ReadFault → Rose (S.faults source.old) (S.faults source.new) }
     ensures write_fault { result ≡ Status.WriteFault → Rose (K.faults sink.old) (K.faults sink.new) }
+    ensures faultless { IsFaultless (S.faults source.old) (S.faults source.new) (K.faults sink.old) (K.faults sink.new) result }
     ensures ok { result ≡ Status.Ok → IsAtEnd (S.left source.new) }
 {
     let mut bus = Bus::new(alloc);
@@ -85,7 +86,7 @@ fn do_line<K: Sink>(
     }
 }
 
-/// Prints why the line with this number was refused. Behind a write that failed nothing is printed.
+/// Prints why the line with this number was refused. After a write that failed nothing is printed.
 fn refuse_line<K: Sink>(fault: BusFault, number: u64, sink: &mut K) -> Status
     ensures closed { Closes (last_line fault number) (K.written sink.old) (K.written sink.new) (K.faults sink.old)
         (K.faults sink.new) result }

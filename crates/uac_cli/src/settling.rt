@@ -15,6 +15,7 @@ use uac_settle::settle_bound;
 pub(crate) fn settle<K: Sink>(sink: &mut K) -> Status
     ensures closed { Closes settling (K.written sink.old) (K.written sink.new) (K.faults sink.old) (K.faults sink.new) result }
     ensures write_fault { result ≡ Status.WriteFault → Rose (K.faults sink.old) (K.faults sink.new) }
+    ensures faultless { result ≢ Status.WriteFault → K.faults sink.new ≡ K.faults sink.old }
     ensures else_ok { result ≢ Status.WriteFault → result ≡ Status.Ok }
 {
     nominal_values_leave_room();
@@ -30,10 +31,7 @@ fn write_rates<K: Sink>(sink: &mut K, rates: &[u32]) -> Result<(), Failed>
     ensures cause { HasCause (K.faults sink.old) (K.faults sink.new) result }
 {
     for rate in rates {
-        match write_rate(sink, *rate) {
-            Ok(()) => {}
-            Err(failed) => return Err(failed),
-        }
+        write_rate(sink, *rate)?;
     }
     Ok(())
 }

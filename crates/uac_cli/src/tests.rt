@@ -260,7 +260,7 @@ fn sink_fails_at_each_call(rt: HostRuntime) -> Result<(), Fail> {
     Ok(())
 }
 
-/// How many bytes stand behind a script of which so many were taken.
+/// How many bytes stand after a script of which so many were taken.
 fn printed(taken: usize) -> usize {
     if taken < 75 {
         0

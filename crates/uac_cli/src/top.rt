@@ -12,7 +12,7 @@ ghost use Rattle.uac_words.specs.Plain.{plainly};
 ghost use Rattle.uac_cli.specs.Call.{IsCall, IsDone, IsGenerated, ask_to_read, reads_all};
 ghost use Rattle.uac_cli.specs.Completeness.{IsComplete};
 ghost use Rattle.uac_cli.specs.Outcome.{no_memory, sound, text_of};
-ghost use Rattle.uac_cli.specs.Run.{IsAnswered, Closes, Judges, Refuses, RefusesFunction};
+ghost use Rattle.uac_cli.specs.Run.{IsAnswered, IsFaultless, Closes, Judges, Refuses, RefusesFunction};
 
 use crate::jobs::Description;
 use crate::lines::{NO_MEMORY, READ_FAULT, USAGE, refusal_line, sound_line, unsound_line};
@@ -41,7 +41,7 @@ pub struct Racks {
     pub lanes: Rack,
 }
 
-/// Runs the program: `words` are those behind its name. `check`, `show` and `elements` read a descriptor from the source, to its end or to
+/// Runs the program: `words` are those after its name. `check`, `show` and `elements` read a descriptor from the source, to its end or to
 /// the first fault that its bytes show, and write what is said of it to the sink. `run` does the lines of a script, to its end or to the
 /// first that is refused, and `gen` those of a generated script, without the source: they are rendered with the units of the rack that
 /// the words choose, and heard by the meters. `settle` writes how long streams take to come home. Every other list of words takes
@@ -64,9 +64,10 @@ pub fn uac_main<S: Source, K: Sink>(
         (S.left source.old) (S.left source.new) (S.faults source.old) (S.faults source.new)
         (K.written sink.old) (K.written sink.new) (K.faults sink.old) (K.faults sink.new) result }
 
-    // Each fault of the outside has its cause in this call.
+    // Each fault of the outside has its cause in this call; and a call that tells of none met none.
     ensures read_fault { result ≡ Status.ReadFault → Rose (S.faults source.old) (S.faults source.new) }
     ensures write_fault { result ≡ Status.WriteFault → Rose (K.faults sink.old) (K.faults sink.new) }
+    ensures faultless { IsFaultless (S.faults source.old) (S.faults source.new) (K.faults sink.old) (K.faults sink.new) result }
 
     // The whole input was read, where the command reads it.
     ensures ok { result ≡ Status.Ok → ask_to_read (plainly (map (λ word. string_bytes word) words.now)) ≡ true
@@ -103,6 +104,7 @@ fn perform<S: Source, K: Sink>(
         (K.written sink.old) (K.written sink.new) (K.faults sink.old) (K.faults sink.new) result }
     ensures read_fault { result ≡ Status.ReadFault → Rose (S.faults source.old) (S.faults source.new) }
     ensures write_fault { result ≡ Status.WriteFault → Rose (K.faults sink.old) (K.faults sink.new) }
+    ensures faultless { IsFaultless (S.faults source.old) (S.faults source.new) (K.faults sink.old) (K.faults sink.new) result }
     ensures ok { result ≡ Status.Ok → reads_all words.command ≡ true → IsAtEnd (S.left source.new) }
 {
     match words.rack {
@@ -128,6 +130,7 @@ fn do_command<S: Source, K: Sink>(
         (K.written sink.old) (K.written sink.new) (K.faults sink.old) (K.faults sink.new) result }
     ensures read_fault { result ≡ Status.ReadFault → Rose (S.faults source.old) (S.faults source.new) }
     ensures write_fault { result ≡ Status.WriteFault → Rose (K.faults sink.old) (K.faults sink.new) }
+    ensures faultless { IsFaultless (S.faults source.old) (S.faults source.new) (K.faults sink.old) (K.faults sink.new) result }
     ensures ok { result ≡ Status.Ok → reads_all command ≡ true → IsAtEnd (S.left source.new) }
 {
     match command {
@@ -155,6 +158,7 @@ fn generate<K: Sink>(
         left left reads reads (K.written sink.old) (K.written sink.new) (K.faults sink.old) (K.faults sink.new) result }
     ensures never_read { result ≢ Status.ReadFault }
     ensures write_fault { result ≡ Status.WriteFault → Rose (K.faults sink.old) (K.faults sink.new) }
+    ensures faultless { result ≢ Status.WriteFault → K.faults sink.new ≡ K.faults sink.old }
 {
     let mut script = GenSource::new(number);
     run_script(alloc, &mut script, sink, rack, meters)
@@ -171,6 +175,7 @@ fn describe<S: Source, K: Sink>(
         (K.written sink.old) (K.written sink.new) (K.faults sink.old) (K.faults sink.new) result }
     ensures read_fault { result ≡ Status.ReadFault → Rose (S.faults source.old) (S.faults source.new) }
     ensures write_fault { result ≡ Status.WriteFault → Rose (K.faults sink.old) (K.faults sink.new) }
+    ensures faultless { IsFaultless (S.faults source.old) (S.faults source.new) (K.faults sink.old) (K.faults sink.new) result }
     ensures ok { result ≡ Status.Ok → IsAtEnd (S.left source.new) }
 {
     match read_descriptor(alloc, source) {
@@ -281,14 +286,8 @@ fn write_all<K: Sink>(
     ensures written { Writes (K.written sink.old) (K.written sink.new) result (text_of Description.Show blocks.now function.now) }
     ensures cause { HasCause (K.faults sink.old) (K.faults sink.new) result }
 {
-    match write_blocks(sink, blocks, bytes) {
-        Ok(()) => {}
-        Err(failed) => return Err(failed),
-    }
-    match write_entities(sink, function.entities()) {
-        Ok(()) => {}
-        Err(failed) => return Err(failed),
-    }
+    write_blocks(sink, blocks, bytes)?;
+    write_entities(sink, function.entities())?;
     write_settings(sink, function, store)
 }
 

@@ -1,5 +1,5 @@
 -- Bytes that a reader or a writer tells, over calls that leave them as they were.
-use Rattle.std.proofs.Common.{◌≡◌, ℕ, ◌+◌, ◌-◌, ◌≤◌, List, [], ◌++◌, length, take, Option, None, Some, Result, Ok, Err, refl, ap, sym, ◌∙◌, arith, length-append}
+use Rattle.std.proofs.Common.{◌≡◌, ℕ, ◌-◌, ◌≤◌, List, ◌++◌, length, take, Option, None, Some, Result, Ok, Err, refl, ap, sym, ◌∙◌, arith, length-append}
 use Rattle.std.proofs.lemmas.List.{append-nil, take_all, take_at, length-take-le}
 use Rattle.std.specs.Io.KnownBytes.{Keeps, Appends, Consumes, ReadConsumes, WriteAppends}
 use Rattle.uac_edges.specs.Streams.{without_last}
@@ -22,12 +22,12 @@ Appends-behind (Some xs) None c bs p q = absurd p
 Appends-behind (Some xs) (Some ys) None bs p q = absurd q
 Appends-behind (Some xs) (Some ys) (Some zs) bs p q = q ∙ ap (λ l. l ++ bs) p
 
--- a read behind calls that kept the bytes
+-- a read after calls that kept the bytes
 pub ReadConsumes-behind : {E : Type 0} (a b c : Option (List ℕ)) (r : Result ℕ E) (into : List ℕ) → Keeps a b → ReadConsumes b c r into → ReadConsumes a c r into
 ReadConsumes-behind a b c (Ok n) into p q = (Consumes-behind a b c (take n into) p q.0, q.1)
 ReadConsumes-behind a b c (Err e) into p q = Keeps-Keeps a b c p q
 
--- a write behind calls that kept the bytes
+-- a write after calls that kept the bytes
 pub WriteAppends-behind : {E : Type 0} (a b c : Option (List ℕ)) (r : Result ℕ E) (piece : List ℕ) → Keeps a b → WriteAppends b c r piece → WriteAppends a c r piece
 WriteAppends-behind a b c (Ok n) piece p q = Appends-behind a b c (take n piece) p q
 WriteAppends-behind a b c (Err e) piece p q = Keeps-Keeps a b c p q

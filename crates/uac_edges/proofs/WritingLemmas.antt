@@ -1,5 +1,5 @@
 -- Texts that are written one after the other, and counts of faults over calls in a row.
-use Rattle.std.proofs.Common.{◌≡◌, ℕ, ◌+◌, ◌<◌, ◌≤◌, List, [], ◌∷◌, ◌++◌, length, take, drop, get_or, flat_map, Option, None, Some, Result, Ok, Err, refl, sym, ap, subst, ◌∙◌, inl, inr, arith, append_assoc}
+use Rattle.std.proofs.Common.{◌≡◌, ℕ, ◌+◌, ◌<◌, ◌≤◌, List, [], ◌∷◌, ◌++◌, length, take, drop, get_or, flat_map, Option, None, Some, Result, Ok, Err, IsErrAnd, refl, sym, ap, subst, ◌∙◌, inl, inr, arith, append_assoc}
 use Rattle.std.proofs.lemmas.List.{append-nil, drop_more, take-append-drop}
 use Rattle.std.proofs.lemmas.Grind.{flat_map-append}
 use Rattle.std.specs.Io.KnownBytes.{Appends, Keeps}
@@ -56,18 +56,19 @@ pub Writes-stopped : {T E : Type 0} (old new : Option (List ℕ)) (r : Result T 
 Writes-stopped old new (Ok x) e first second is f = cc
 Writes-stopped old new (Err d) e first second is f = AppendsFront-longer old new first second f
 
+-- Err in the first call, handed on by `?`: a front of both texts was written.
+pub Writes-handed_on : {T E : Type 0} (Q : E → Type 0) (old new : Option (List ℕ)) (r : Result T E) (text : List ℕ) → IsErrAnd r Q → AppendsFront old new text → Writes old new r text
+Writes-handed_on Q old new (Ok x) text fails f = absurd fails
+Writes-handed_on Q old new (Err e) text fails f = f
+
 -- A rise since a later moment is a rise since an earlier one.
 pub Rose-earlier : (old mid new : ℕ) → old ≤ mid → Rose mid new → Rose old new
 Rose-earlier old mid new le (inl lt) = inl (omega arith)
 Rose-earlier old mid new le (inr top) = inr top
 
--- What failed in the second of two calls has its cause over both.
-pub HasCause-earlier : {T E : Type 0} (old mid new : ℕ) (r : Result T E) → old ≤ mid → HasCause mid new r → HasCause old new r
-HasCause-earlier old mid new (Ok x) le h = let m = h.never_falls in record { never_falls = omega (arith, m); failed = tt }
-HasCause-earlier old mid new (Err e) le h = let m = h.never_falls in record {
-  never_falls = omega (arith, m);
-  failed = Rose-earlier old mid new le h.failed;
-}
+-- What holds of the second of two calls holds over both, where the first met no fault.
+pub HasCause-earlier : {T E : Type 0} (old mid new : ℕ) (r : Result T E) → mid ≡ old → HasCause mid new r → HasCause old new r
+HasCause-earlier old mid new r still h = subst (λ (n : ℕ). HasCause n new r) still h
 
 -- Items up to this one, this one and the rest.
 split_at : {X : Type 0} (xs : List X) (i : ℕ) (d : X) → i < length xs → xs ≡ take i xs ++ (get_or xs i d ∷ drop (i + 1) xs)

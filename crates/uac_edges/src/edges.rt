@@ -1,5 +1,5 @@
 // The source of the program's bytes and the sink of its text.
-ghost use Rattle.std.specs.Prelude.{◌≡◌, ℕ, ◌<◌, ◌≤◌, List, [], length, Option, IfOk, OnOk};
+ghost use Rattle.std.specs.Prelude.{◌≡◌, ℕ, ◌<◌, ◌≤◌, List, [], length, Option, IfOk};
 ghost use Rattle.std.specs.Io.KnownBytes.{ReadConsumes, WriteAppends};
 ghost use Rattle.uac_edges.specs.Faults.{HasCause};
 ghost use Rattle.uac_edges.specs.Writing.{Writes};
@@ -25,8 +25,7 @@ pub trait Source {
         requires { 0 < length into.old }
         ensures fits { IfOk result (λ n. n ≤ length into.new) }
         ensures bytes { ReadConsumes (left self.old) (left self.new) result into.new }
-        ensures cause { HasCause (faults self.old) (faults self.new) result }
-        ensures faultless { OnOk result (faults self.new ≡ faults self.old) };
+        ensures cause { HasCause (faults self.old) (faults self.new) result };
 }
 
 /// Where text goes. It has the bytes written, where it tells them, and a count of faults that
@@ -46,8 +45,7 @@ pub trait Sink {
         ensures some { IfOk result (λ n. 0 < n) }
         ensures fits { IfOk result (λ n. n ≤ length piece.now) }
         ensures bytes { WriteAppends (written self.old) (written self.new) result piece.now }
-        ensures cause { HasCause (faults self.old) (faults self.new) result }
-        ensures faultless { OnOk result (faults self.new ≡ faults self.old) };
+        ensures cause { HasCause (faults self.old) (faults self.new) result };
 }
 
 /// Gives the whole text, piece by piece, however little each call takes. `Ok` means that no call
@@ -55,15 +53,12 @@ pub trait Sink {
 pub fn give_all<K: Sink>(sink: &mut K, text: &[u8]) -> Result<(), Failed>
     ensures written { Writes (K.written sink.old) (K.written sink.new) result text.now }
     ensures cause { HasCause (K.faults sink.old) (K.faults sink.new) result }
-    ensures faultless { OnOk result (K.faults sink.new ≡ K.faults sink.old) }
     ensures empty { text.now ≡ [] → sink.new ≡ sink.old }
 {
     let mut rest = text;
     while !rest.is_empty() {
-        match sink.give(rest) {
-            Ok(given) => rest = &rest[given..],
-            Err(failed) => return Err(failed),
-        }
+        let given = sink.give(rest)?;
+        rest = &rest[given..];
     }
     Ok(())
 }

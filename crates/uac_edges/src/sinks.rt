@@ -1,5 +1,5 @@
 // The sink in memory, whose cut, room and faults the caller chooses.
-ghost use Rattle.std.specs.Prelude.{◌≡◌, ◌<◌, ◌≤◌, ◌↔◌, [], length, take, Some, IsOk, IsErr, IfOk, OnOk, OnErr};
+ghost use Rattle.std.specs.Prelude.{◌≡◌, ◌<◌, ◌≤◌, ◌↔◌, [], length, take, Some, IsOk, IsErr, IfOk, OnErr};
 ghost use Rattle.std.specs.Io.KnownBytes.{WriteAppends};
 ghost use Rattle.uac_edges.specs.Faults.{HasCause};
 ghost use Rattle.uac_edges.specs.Memory.{appended_count, after_appending, after_refusing, IsRefusing};
@@ -87,7 +87,6 @@ impl Sink for MemorySink {
         ensures fits { IfOk result (λ n. n ≤ length piece.now) }
         ensures bytes { WriteAppends (Some self.old.written) (Some self.new.written) result piece.now }
         ensures cause { HasCause self.old.faults self.new.faults result }
-        ensures faultless { OnOk result (self.new.faults ≡ self.old.faults) }
 
         // Exactly when it fails, and what it appends.
         ensures fails { IsErr result ↔ IsRefusing self.old }

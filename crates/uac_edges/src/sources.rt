@@ -1,5 +1,5 @@
 // The sources in memory, whose cuts and faults the caller chooses.
-ghost use Rattle.std.specs.Prelude.{◌≡◌, ℕ, ◌<◌, ◌≤◌, ◌↔◌, List, ◌++◌, length, take, drop, min, Some, IsOk, IsErr, IfOk, OnOk, OnErr};
+ghost use Rattle.std.specs.Prelude.{◌≡◌, ℕ, ◌<◌, ◌≤◌, ◌↔◌, List, ◌++◌, length, take, drop, min, Some, IsOk, IsErr, IfOk, OnErr};
 ghost use Rattle.std.specs.Io.KnownBytes.{ReadConsumes};
 ghost use Rattle.uac_edges.specs.Faults.{HasCause};
 ghost use Rattle.uac_edges.specs.Memory.{moved_count, after_moving, after_failing, IsFailing};
@@ -61,7 +61,6 @@ impl Source for MemorySource {
         ensures fits { IfOk result (λ n. n ≤ length into.new) }
         ensures bytes { ReadConsumes (Some self.old.left) (Some self.new.left) result into.new }
         ensures cause { HasCause self.old.faults self.new.faults result }
-        ensures faultless { OnOk result (self.new.faults ≡ self.old.faults) }
 
         // Exactly when it fails, and what it moves.
         ensures fails { IsErr result ↔ IsFailing self.old }

@@ -36,7 +36,6 @@ impl<R: Read + Drop> Source for StdSource<R> {
         ensures fits { IfOk result (λ n. n ≤ length into.new) }
         ensures bytes { ReadConsumes (R.remaining self.old.input) (R.remaining self.new.input) result into.new }
         ensures cause { HasCause self.old.faults self.new.faults result }
-        ensures faultless { OnOk result (self.new.faults ≡ self.old.faults) }
         ensures counted { OnErr result (self.new.faults ≡ one_more self.old.faults) }
     {
         let taken = read_some(&mut self.input, into);
@@ -83,10 +82,7 @@ impl<W: Write + Drop> StdSink<W> {
         if self.unflushed > 0 {
             return Err(Failed);
         }
-        let count = match write_some(&mut self.output, piece) {
-            Ok(count) => count,
-            Err(failed) => return Err(failed),
-        };
+        let count = write_some(&mut self.output, piece)?;
         match flush(&mut self.output) {
             Ok(()) => Ok(count),
             Err(failed) => {
@@ -111,7 +107,6 @@ impl<W: Write + Drop> Sink for StdSink<W> {
         ensures bytes { WriteAppends (without_last self.old.unflushed (W.contents self.old.output))
             (without_last self.new.unflushed (W.contents self.new.output)) result piece.now }
         ensures cause { HasCause self.old.faults self.new.faults result }
-        ensures faultless { OnOk result (self.new.faults ≡ self.old.faults) }
         ensures counted { OnErr result (self.new.faults ≡ one_more self.old.faults) }
         ensures stuck { 0 < self.old.unflushed
             → IsErr result × (self.new.output ≡ self.old.output) × (self.new.unflushed ≡ self.old.unflushed) }

@@ -14,12 +14,12 @@ piece bytes start size is =
     let few : start + size - start ≡ min 64 (length (drop start bytes)) = omega (arith, length-drop start bytes) in
     rw (few, take_min 64 (drop start bytes)) refl
 
--- behind the last group is the report
+-- after the last group is the report
 pub report : (count x : ℕ) → count ≡ 0 → from_groups count x ≡ codes "q" ∷ []
 unfolding groups
 report count x none = ap (λ n. from_groups n x) none
 
--- a group, and those behind it
+-- a group, and those after it
 pub next_group : (behind x : ℕ) → (let first = next_x x in let second = next_x first in let third = next_x second in
     from_groups (behind + 1) x ≡ deviation_line (draw 2001 first) ∷ (unreported_lines (draw 4 second) ++ (unpacked_lines (draw 2 third == 1) ++ rest_line (draw 4 second) (draw 2 third == 1) ∷ from_groups behind third)))
 unfolding groups
@@ -38,7 +38,7 @@ next_group behind x =
     (ap (λ lines. lines ++ codes "q" ∷ []) (append_assoc (unpacked_lines lost) (rest_line eights lost ∷ []) rest)
     ∙ append_assoc (unpacked_lines lost) (rest_line eights lost ∷ rest) (codes "q" ∷ [])))
 
--- the same, by what was drawn: its first line, and what stands behind it
+-- the same, by what was drawn: its first line, and what stands after it
 pub begun : (count x first second third drawn eights lost : ℕ) (line : List ℕ) (left : List (List ℕ))
     → 0 < count → first ≡ next_x x → second ≡ next_x first → third ≡ next_x second → drawn ≡ draw 2001 first → eights ≡ draw 4 second → lost ≡ draw 2 third
     → line ≡ deviation_line drawn

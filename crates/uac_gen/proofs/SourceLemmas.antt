@@ -13,7 +13,7 @@ byte_written (x ∷ xs) byte some = refl
 pub newline_moved : (line new : List ℕ) (at : ℕ) → at ≡ length line → take 1 new ≡ 10 ∷ [] → drop at (line ++ 10 ∷ []) ≡ take 1 new ++ drop (at + 1) (line ++ 10 ∷ [])
 newline_moved line new at here first = grind (arith, common_steps)
 
--- the front of a list, and what is behind it
+-- the front of a list, and what is after it
 two_parts : (xs : List ℕ) (at n : ℕ) → drop at xs ≡ take n (drop at xs) ++ drop (at + n) xs
 two_parts xs at n = sym (take-append-drop n (drop at xs)) ∙ ap (λ bytes. take n (drop at xs) ++ bytes) (drop-drop n at xs)
 

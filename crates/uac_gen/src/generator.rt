@@ -50,7 +50,7 @@ impl Gen {
         }
     }
 
-    /// Writes the next line in place of the text, without its newline. False exactly behind the last
+    /// Writes the next line in place of the text, without its newline. False exactly after the last
     /// line: then the text stays as it was.
     pub fn next(&mut self, text: &mut ArrayVec<u8, 4096>) -> bool
         ensures { MatchBool result (self.old ≡ text.new.items ∷ self.new)
@@ -70,7 +70,7 @@ impl Gen {
     }
 }
 
-// The line of a place, and the place behind it; None behind the last.
+// The line of a place, and the place after it; None after the last.
 fn step(
     number: u32,
     rate: u32,
@@ -99,7 +99,7 @@ fn step(
     }
 }
 
-// The next bytes of the descriptor, behind so many lines of them, or its end.
+// The next bytes of the descriptor, after so many lines of them, or its end.
 fn feed(bytes: &[u8], fed: u8) -> (LineText, Place)
     requires { length bytes.now ≤ 1024 }
     ensures { (number hertz x : ℕ) → lines_left number hertz bytes.now x (Place.Feed fed)

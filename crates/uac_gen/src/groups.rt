@@ -7,7 +7,7 @@ use crate::draws::Draws;
 use crate::lines::{LineText, deviation_line, fixed_line, run_line};
 use crate::places::{Group, Place};
 
-/// Draws the next of so many groups: its first line, and the place behind it. Behind the last group
+/// Draws the next of so many groups: its first line, and the place after it. After the last group
 /// is the report.
 pub fn next_group(draws: &mut Draws, count: u8) -> (LineText, Place)
     ensures { (number hertz : ℕ) (bytes : List ℕ)
@@ -27,7 +27,7 @@ pub fn next_group(draws: &mut Draws, count: u8) -> (LineText, Place)
     (deviation_line(drawn), behind_deviation(group))
 }
 
-// The place behind a group's first line.
+// The place after a group's first line.
 fn behind_deviation(group: Group) -> Place
     ensures { (number hertz x : ℕ) (bytes : List ℕ) → lines_left number hertz bytes x result
         ≡ unreported_lines group.eights ++ (unpacked_lines group.lost ++ rest_line group.eights group.lost ∷ from_groups group.behind x) }
@@ -39,7 +39,7 @@ fn behind_deviation(group: Group) -> Place
     }
 }
 
-/// The place behind the microframes of a group that have no report.
+/// The place after the microframes of a group that have no report.
 pub fn behind_unreported(group: Group) -> Place
     ensures { (number hertz x : ℕ) (bytes : List ℕ) → lines_left number hertz bytes x result
         ≡ unpacked_lines group.lost ++ rest_line group.eights group.lost ∷ from_groups group.behind x }

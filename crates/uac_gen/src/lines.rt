@@ -17,7 +17,7 @@ pub fn fixed_line(text: &[u8]) -> LineText
     line
 }
 
-/// Bytes of the descriptor, behind so many lines of 64 bytes.
+/// Bytes of the descriptor, after so many lines of 64 bytes.
 pub fn feed_line(bytes: &[u8], fed: usize) -> LineText
     requires { 64 * fed < length bytes.now }
     ensures { result ≡ feed_line bytes.now fed }

@@ -1,7 +1,7 @@
 // The places that a script has come to, each named for its next line.
 ghost use Rattle.std.specs.Prelude.{◌<◌};
 
-/// What was drawn for the group that is being written, and how many groups come behind it.
+/// What was drawn for the group that is being written, and how many groups come after it.
 #[derive(Clone, Copy, Drop)]
 pub struct Group {
     /// How many times eight microframes have no report.
@@ -15,7 +15,7 @@ pub struct Group {
 /// The next line.
 #[derive(Clone, Copy, Drop)]
 pub enum Place {
-    /// The next bytes of the descriptor, behind so many lines of them; or its end.
+    /// The next bytes of the descriptor, after so many lines of them; or its end.
     Feed(u8),
     /// The clock's rate.
     Rate,

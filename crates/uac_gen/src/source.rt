@@ -16,7 +16,7 @@ pub struct GenSource {
     script: Gen,
     // The line that is handed out, without its newline.
     line: ArrayVec<u8, 4096>,
-    // The place of the next byte in it. At its length the newline is due; behind that the next line.
+    // The place of the next byte in it. At its length the newline is due; after that the next line.
     at: usize,
 }
 
@@ -37,7 +37,7 @@ impl GenSource {
     pub fn new(number: u32) -> GenSource
         ensures { result ≡ script_of number }
     {
-        // Behind the newline of an empty line.
+        // After the newline of an empty line.
         GenSource {
             script: Gen::new(number),
             line: ArrayVec::new(),
@@ -68,7 +68,7 @@ impl Source for GenSource {
     }
 }
 
-// The place of the next byte, in this line or at the front of the next. It is behind the newline
+// The place of the next byte, in this line or at the front of the next. It is after the newline
 // only where no line is left.
 fn next_place(script: &mut Gen, line: &mut ArrayVec<u8, 4096>, at: usize) -> usize
     requires { at ≤ length line.old.items + 1 }
@@ -87,7 +87,7 @@ fn next_place(script: &mut Gen, line: &mut ArrayVec<u8, 4096>, at: usize) -> usi
 }
 
 // Copies bytes of the line with its newline, from this place on, to the front of `into`: at least
-// one, unless the place is behind the newline. Returns how many.
+// one, unless the place is after the newline. Returns how many.
 fn copy_rest(line: &[u8], at: usize, into: &mut [u8]) -> usize
     requires place { at ≤ length line.now + 1 }
     requires room { 0 < length into.old }

@@ -48,7 +48,7 @@ lines_more place i blocks b text h is whole =
     append_assoc text (block_line place b) (block_lines (place + length (spelling b)) (drop (i + 1) blocks))
     ∙ (ap (λ xs. text ++ block_lines place xs) (sym split) ∙ whole)
 
--- the same where a front of the lines that waited was written, and this block's line waits behind the others
+-- the same where a front of the lines that waited was written, and this block's line waits after the others
 pub lines_wait : (place size i : ℕ) (blocks : List Block) (b : Block) (text front before after now : List ℕ) → i < length blocks → b ≡ get_or blocks i b
     → before ≡ front ++ after → now ≡ after ++ block_line place b → size ≡ length (spelling b)
     → (text ++ before) ++ block_lines place (drop i blocks) ≡ block_lines 0 blocks
@@ -63,13 +63,13 @@ lines_wait place size i blocks b text front before after now h is parts waits n 
     ap (λ (k : ℕ). ((text ++ front) ++ now) ++ block_lines (place + k) rest) n
     ∙ (ap (λ (xs : List ℕ). xs ++ block_lines (place + length (spelling b)) rest) grouped ∙ lines_more place i blocks b (text ++ before) h is whole)
 
--- behind the last block the lines are all lines
+-- after the last block the lines are all lines
 pub lines_end : (place i : ℕ) (blocks : List Block) (text : List ℕ) → length blocks ≤ i → text ++ block_lines place (drop i blocks) ≡ block_lines 0 blocks
     → text ≡ block_lines 0 blocks
 lines_end place i blocks text past whole =
     sym (append-nil text) ∙ (ap (λ (bs : List Block). text ++ block_lines place bs) (sym (drop_of_length-le blocks past)) ∙ whole)
 
--- the bytes behind this block are those of the rest
+-- the bytes after this block are those of the rest
 pub bytes_more : (bytes : List ℕ) (place size i : ℕ) (blocks : List Block) (b : Block) → i < length blocks → b ≡ get_or blocks i b
     → place ≤ length bytes → drop place bytes ≡ flat_map spelling (drop i blocks) → size ≡ length (spelling b)
     → (place + size ≤ length bytes) × (drop (place + size) bytes ≡ flat_map spelling (drop (i + 1) blocks))
@@ -81,7 +81,7 @@ bytes_more bytes place size i blocks b h is within rest n =
     let left = length-drop place bytes in
     (omega arith, sym (drop-drop size place bytes) ∙ (ap (drop size) parts ∙ drop_at (spelling b) behind size (sym n)))
 
--- the first id, and the others behind it
+-- the first id, and the others after it
 pub ids_parts : (ids text : List ℕ) → false ≡ (length ids == 0) → text ≡ decimal (get_or ids 0 0) → text ++ more_ids (take (length ids - 1) (drop 1 ids)) ≡ ids_text ids
 ids_parts [] text e t = absurd (cc)
 ids_parts (x ∷ xs) text e t =

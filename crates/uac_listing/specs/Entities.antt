@@ -48,7 +48,7 @@ abbrev pub ids_text : List ℕ → List ℕ
 ids_text [] = codes "-"
 ids_text (id ∷ ids) = decimal id ++ more_ids ids
 
--- the line up to the sources, and behind them
+-- the line up to the sources, and after them
 unfoldable pub entity_head : entity.Entity → List ℕ
 entity_head e =
     codes "entity " ++ decimal e.id ++ codes " " ++ name_of e.kind ++ codes " channels " ++ channels_text e.kind e.cluster.channels

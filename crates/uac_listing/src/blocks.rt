@@ -24,10 +24,8 @@ pub fn write_blocks<K: Sink>(sink: &mut K, blocks: &[Block], bytes: &[u8]) -> Re
     let mut lines = TextLine::new();
     let mut place = 0;
     for block in blocks {
-        match make_room(sink, &mut lines) {
-            Ok(()) => place += push_block(&mut lines, place, block, &bytes[place..]),
-            Err(failed) => return Err(failed),
-        }
+        make_room(sink, &mut lines)?;
+        place += push_block(&mut lines, place, block, &bytes[place..]);
     }
     give_all(sink, lines.as_bytes())
 }
@@ -42,13 +40,9 @@ fn make_room<K: Sink>(sink: &mut K, lines: &mut TextLine<ROOM>) -> Result<(), Fa
     if lines.as_bytes().len() <= ROOM - LINE {
         return Ok(());
     }
-    match give_all(sink, lines.as_bytes()) {
-        Ok(()) => {
-            *lines = TextLine::new();
-            Ok(())
-        }
-        Err(failed) => Err(failed),
-    }
+    give_all(sink, lines.as_bytes())?;
+    *lines = TextLine::new();
+    Ok(())
 }
 
 /// Appends the line of a block at a place, where its bytes are in front; answers how many they are.

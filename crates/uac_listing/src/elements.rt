@@ -13,10 +13,7 @@ pub fn write_elements<K: Sink>(sink: &mut K, elements: &[Element]) -> Result<(),
     ensures cause { HasCause (K.faults sink.old) (K.faults sink.new) result }
 {
     for element in elements {
-        match give_all(sink, element_line(element).as_bytes()) {
-            Ok(()) => {}
-            Err(failed) => return Err(failed),
-        }
+        give_all(sink, element_line(element).as_bytes())?;
     }
     Ok(())
 }

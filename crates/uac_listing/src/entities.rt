@@ -13,10 +13,7 @@ pub fn write_entities<K: Sink>(sink: &mut K, entities: &[Entity]) -> Result<(), 
     ensures cause { HasCause (K.faults sink.old) (K.faults sink.new) result }
 {
     for entity in entities {
-        match write_entity(sink, entity) {
-            Ok(()) => {}
-            Err(failed) => return Err(failed),
-        }
+        write_entity(sink, entity)?;
     }
     Ok(())
 }
@@ -27,10 +24,7 @@ fn write_entity<K: Sink>(sink: &mut K, entity: &Entity) -> Result<(), Failed>
     ensures written { Writes (K.written sink.old) (K.written sink.new) result (entity_line entity.now) }
     ensures cause { HasCause (K.faults sink.old) (K.faults sink.new) result }
 {
-    match give_all(sink, head(entity).as_bytes()) {
-        Ok(()) => {}
-        Err(failed) => return Err(failed),
-    }
+    give_all(sink, head(entity).as_bytes())?;
     write_rest(sink, entity)
 }
 
@@ -40,10 +34,7 @@ fn write_rest<K: Sink>(sink: &mut K, entity: &Entity) -> Result<(), Failed>
     ensures written { Writes (K.written sink.old) (K.written sink.new) result (ids_text entity.now.sources ++ entity_tail entity.now) }
     ensures cause { HasCause (K.faults sink.old) (K.faults sink.new) result }
 {
-    match write_ids(sink, entity.sources.as_slice()) {
-        Ok(()) => {}
-        Err(failed) => return Err(failed),
-    }
+    write_ids(sink, entity.sources.as_slice())?;
     give_all(sink, tail(entity).as_bytes())
 }
 
@@ -56,10 +47,7 @@ fn write_ids<K: Sink>(sink: &mut K, ids: &[u8]) -> Result<(), Failed>
     if ids.is_empty() {
         return give_all(sink, b"-");
     }
-    match give_all(sink, number(ids[0]).as_bytes()) {
-        Ok(()) => {}
-        Err(failed) => return Err(failed),
-    }
+    give_all(sink, number(ids[0]).as_bytes())?;
     write_more_ids(sink, &ids[1..])
 }
 
@@ -69,10 +57,7 @@ fn write_more_ids<K: Sink>(sink: &mut K, ids: &[u8]) -> Result<(), Failed>
     ensures cause { HasCause (K.faults sink.old) (K.faults sink.new) result }
 {
     for id in ids {
-        match give_all(sink, next_number(*id).as_bytes()) {
-            Ok(()) => {}
-            Err(failed) => return Err(failed),
-        }
+        give_all(sink, next_number(*id).as_bytes())?;
     }
     Ok(())
 }
@@ -112,7 +97,7 @@ fn head(entity: &Entity) -> TextLine<128>
     text
 }
 
-/// The line behind the sources.
+/// The line after the sources.
 #[tactic(auto, unfolding(crate::specs::Entities::entity_tail))]
 fn tail(entity: &Entity) -> TextLine<64>
     ensures { result ≡ entity_tail entity.now }

@@ -23,10 +23,7 @@ pub fn write_settings<K: Sink>(
     ensures cause { HasCause (K.faults sink.old) (K.faults sink.new) result }
 {
     for stream in function.streams() {
-        match write_interface(sink, function, store, stream) {
-            Ok(()) => {}
-            Err(failed) => return Err(failed),
-        }
+        write_interface(sink, function, store, stream)?;
     }
     Ok(())
 }
@@ -42,10 +39,7 @@ fn write_interface<K: Sink>(
     ensures cause { HasCause (K.faults sink.old) (K.faults sink.new) result }
 {
     for setting in stream.settings.as_slice() {
-        match write_setting(sink, function, store, stream, setting) {
-            Ok(()) => {}
-            Err(failed) => return Err(failed),
-        }
+        write_setting(sink, function, store, stream, setting)?;
     }
     Ok(())
 }

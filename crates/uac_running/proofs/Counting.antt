@@ -5,7 +5,7 @@ use Rattle.std.specs.Option.{option_map_or}
 use Rattle.std.proofs.lemmas.Bool.{cases_Bool, eqb-true, eqb-false, ne_eqb}
 use Rattle.std.proofs.lemmas.List.Sums.{sum_by_push}
 use Rattle.std.proofs.lemmas.Map.Keys.{IsDistinct-head, IsDistinct-tail}
-use Rattle.uac_units.specs.Hearing.{held}
+use Rattle.uac_units.specs.Hearing.{at_most_u64}
 use Rattle.uac_clock.specs.Ticks.{ticks_in}
 use Rattle.uac_device.specs.DeviceWorld.{Domain}
 use Rattle.uac_running.specs.declared.counts.TickCount.{TickCount}
@@ -38,10 +38,10 @@ front-push steps s =
     front (x ∷ xs) s = ap (λ ys. x ∷ ys) (front xs s)
 
 -- a count that stands still at its most counts on from there
-held-more : (a b n : ℕ) → a + n ≡ b → held (held a + n) ≡ held b
-held-more a b n is = omega arith
+at_most_u64-more : (a b n : ℕ) → a + n ≡ b → at_most_u64 (at_most_u64 a + n) ≡ at_most_u64 b
+at_most_u64-more a b n is = omega arith
 
--- the ticks so far and those of the step that comes are the ticks behind it
+-- the ticks so far and those of the step that comes are the ticks after it
 ticks-push : (steps : List ℕ) (s : ℕ) → sum steps / 65536 + ticks_in (steps ++ s ∷ []) ≡ sum (steps ++ s ∷ []) / 65536
 ticks-push steps s =
     let parts : ticks_in (steps ++ s ∷ []) ≡ sum (steps ++ s ∷ []) / 65536 - sum steps / 65536 = ap (λ front. sum (steps ++ s ∷ []) / 65536 - sum front / 65536) (front-push steps s) in
@@ -76,8 +76,8 @@ counted-stepped clock n step (d ∷ ds) once is =
           (let m : n ≡ ticks_in (d.steps ++ step d ∷ []) = is ∙ rw same refl in
           rw same
           (ap (λ t. counted_of d.clock t ∷ map (more_counted clock n) (map counted ds))
-          (held-more (sum d.steps / 65536) (sum (d.steps ++ step d ∷ []) / 65536) n (ap (λ k. sum d.steps / 65536 + k) m ∙ ticks-push d.steps (step d)))
-          ∙ ap (λ (cs : List TickCount). counted_of d.clock (held (sum (d.steps ++ step d ∷ []) / 65536)) ∷ cs)
+          (at_most_u64-more (sum d.steps / 65536) (sum (d.steps ++ step d ∷ []) / 65536) n (ap (λ k. sum d.steps / 65536 + k) m ∙ ticks-push d.steps (step d)))
+          ∙ ap (λ (cs : List TickCount). counted_of d.clock (at_most_u64 (sum (d.steps ++ step d ∷ []) / 65536)) ∷ cs)
           (others_stay clock d.clock n step ds (eqb-true d.clock clock same) (IsDistinct-head eqb d.clock (clocks_of (map counted ds)) once))))
       | inr other ↦
           (let m : n ≡ option_map_or (λ (e : Domain). ticks_in (e.steps ++ step e ∷ [])) (find (λ (e : Domain). e.clock == clock) ds) 0 = is ∙ rw other refl in

@@ -1,16 +1,18 @@
 -- The input jacks, one after the other.
-use Rattle.std.proofs.Common.{◌≡◌, ◌∙◌, sym, ap, subst, refl, ℕ, ◌+◌, ◌<◌, ◌≤◌, ◌==◌, Bool, true, if◌then◌else◌, List, [], ◌∷◌, length, map, take, get_or, inl, inr}
-use Rattle.std.specs.List.{All, fold, filter}
+use Rattle.std.proofs.Common.{◌≡◌, ◌∙◌, sym, ap, subst, refl, ℕ, zero, suc, ◌+◌, ◌<◌, ◌≤◌, ◌==◌, Bool, true, if◌then◌else◌, ℤ, pos, List, [], ◌∷◌, length, map, replicate, take, get_or, inl, inr, eq-eqb}
+use Rattle.std.specs.List.{All, fold, filter, range_with_len}
 use Rattle.std.proofs.lemmas.Bool.{cases_Bool}
 use Rattle.std.proofs.lemmas.List.Elements.{filter_more}
 use Rattle.std.proofs.lemmas.List.Sums.{fold-append}
 use Rattle.std.proofs.lemmas.List.FromFn.{length-map-range_with_len}
 use Rattle.uac_pcm.specs.Tones.{tone_sample}
 use Rattle.uac_pcm.specs.declared.tones.Tone.{Tone}
+use Rattle.uac_pcm.specs.declared.tones.Tone.TheVariants as tones
 use Rattle.uac_device.specs.Kept.{DeviceFields, Stands}
 use Rattle.uac_device.specs.DeviceWorld.{DeviceWorld, is_input_jack, set_jack}
 use Rattle.uac_topology.specs.Function.{FunctionFields}
 use Rattle.uac_graph.specs.Meaning.{entity}
+use Rattle.uac_graph.specs.Wiring.{silence}
 use Rattle.uac_running.specs.declared.jacks.Jack.{Jack}
 use Rattle.uac_running.specs.Events.{after_one, given, given_one, gone_on, next_frame}
 use Rattle.uac_running.specs.RunningWorld.{toned}
@@ -74,3 +76,19 @@ jacks_kept p q function is h = record {
       (subst (λ (fn : FunctionFields). All (λ (j : Jack). (entity fn.entities j.terminal).cluster.channels ≡ j.channels) p.jacks) (sym function) h.channels);
   most = subst (λ (js : List Jack). All (λ (j : Jack). j.channels ≤ 32) js) (sym is) h.most;
 }
+
+-- a silent jack gives zeros
+pub silent_frame : (j : Jack) → j.tone ≡ tones.Silent → next_frame j ≡ replicate j.channels (pos 0)
+unfolding next_frame
+silent_frame j silent = ap (λ (t : Tone). map (tone_sample t j.place) (range_with_len 0 j.channels)) silent ∙ zeros 0 j.channels
+  where
+    zeros : (from n : ℕ) → map (tone_sample tones.Silent j.place) (range_with_len from n) ≡ replicate n (pos 0)
+    zeros from zero = refl
+    zeros from (suc n) = ap (λ (zs : List ℤ). pos 0 ∷ zs) (zeros (from + 1) n)
+
+-- a silent jack of the domain gives silence
+pub silent_given : (clock channels : ℕ) (j : Jack) (w : DeviceWorld) (new : DeviceFields) → j.clock ≡ clock → j.tone ≡ tones.Silent → channels ≡ j.channels
+    → Stands new (set_jack j.terminal (silence channels) w) → Stands new (given_one clock j w)
+silent_given clock channels j w new here silent same stands =
+    subst (Stands new) (ap (λ (b : Bool). if b then set_jack j.terminal (next_frame j) w else w) (sym (eq-eqb j.clock clock here)))
+    (subst (λ (frame : List ℤ). Stands new (set_jack j.terminal frame w)) (ap silence same ∙ sym (silent_frame j silent)) stands)

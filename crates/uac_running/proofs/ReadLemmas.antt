@@ -53,7 +53,7 @@ read_stands control xs old new w asked same stands =
     same_held h.controls w.controls h.settings w.settings (sym now.1.controls ∙ same.controls ∙ stands.controls) (sym now.1.settings ∙ same.settings ∙ stands.settings) in
     subst (λ (k : Held). device.Stands new (with_held w k)) is now.1
 
--- and so does reading every element of a view: what is kept behind it stands for what stood before it
+-- and so does reading every element of a view: what is kept after it stands for what stood before it
 pub reading_stands : (old new : LinkFields) (d e : device.DeviceFields) (w : DeviceWorld) → IsReading true old new → old.device ≡ d → e ≡ new.device
     → device.Stands d w → device.Stands e w
 reading_stands old new d e w reading lent back stands =

@@ -4,11 +4,11 @@ use Rattle.std.specs.List.{IsDistinct, filter, fold}
 use Rattle.std.proofs.lemmas.Map.Keys.{IsDistinct-tail}
 use Rattle.uac_pcm.specs.declared.tones.Tone.{Tone}
 use Rattle.uac_topology.specs.Function.{FunctionFields}
-use Rattle.uac_units.specs.Hearing.{held}
+use Rattle.uac_units.specs.Hearing.{at_most_u64}
 use Rattle.uac_request.specs.declared.setup.Setup.{Setup}
 use Rattle.uac_device.specs.DeviceWorld.{DeviceWorld, ZerosFitIn, advanced, controlled, next_ticks, set_jack, stream_in_setting}
 use Rattle.uac_device.specs.Kept.{IsInRange}
-use Rattle.uac_script.specs.Phrase.{Loss}
+use Rattle.uac_script.specs.Phrase.{SaidMark}
 use Rattle.uac_mixer.specs.declared.link.When.{When}
 use Rattle.uac_mixer.specs.declared.link.When.TheVariants as when
 use Rattle.uac_streaming.specs.StreamingWorld.{followed, in_packets, loses_out, out_packets}
@@ -62,7 +62,7 @@ module _ (about : FunctionFields → Type 0) (loses : ℕ → Bool) where
 -- ---- a microframe
 
 -- before its ends
-pub ticks_within : (about : FunctionFields → Type 0) (losses : List Loss) (r : RunningWorld) → about r.device.function → HaveRoom r.device
+pub ticks_within : (about : FunctionFields → Type 0) (losses : List SaidMark) (r : RunningWorld) → about r.device.function → HaveRoom r.device
     → AreWithin about (loses_out losses) [] 0 0 (packets_and_ticks losses r).world.device
 unfolding packets_and_ticks
 ticks_within about losses r holds room =
@@ -74,40 +74,40 @@ ticks_within about losses r holds room =
     domains_within about (loses_out losses) fetched.device.function.domains fetched behind_packets.apart behind_packets
 
 -- the zeros fit
-pub zeros_fit_in : (losses : List Loss) (r : RunningWorld) → HaveRoom r.device → (interface : ℕ)
+pub zeros_fit_in : (losses : List SaidMark) (r : RunningWorld) → HaveRoom r.device → (interface : ℕ)
     → ZerosFitIn (packets_and_ticks losses r).world.device interface
 zeros_fit_in losses r room interface =
     all_fit (λ function. Unit {0}) (loses_out losses) [] 0 (packets_and_ticks losses r).world.device interface (ticks_within (λ function. Unit {0}) losses r tt room)
 
-ends_room : (about : FunctionFields → Type 0) (losses : List Loss) (r : RunningWorld) → HaveSmallNumbers r.device.function
+ends_room : (about : FunctionFields → Type 0) (losses : List SaidMark) (r : RunningWorld) → HaveSmallNumbers r.device.function
     → AreWithin about (loses_out losses) [] 0 0 r.device → IsRoomy about (ends_and_reports losses r).world.device
 unfolding ends_and_reports
 ends_room about losses r small is =
     all_reported_keeps (IsRoomy about) r.detail losses _ (all_settled_room about r.detail (loses_out losses) 0 (streaming_of r) small is)
 
--- behind it there is room, if the numbers of interfaces are bytes; what is so of the device's function stays so
+-- after it there is room, if the numbers of interfaces are bytes; what is so of the device's function stays so
 pub microframe_room : (about : FunctionFields → Type 0) → ((function : FunctionFields) → about function → HaveSmallNumbers function)
-    → (losses : List Loss) (r : RunningWorld) → IsRoomy about r.device → IsRoomy about (microframe losses r).world.device
+    → (losses : List SaidMark) (r : RunningWorld) → IsRoomy about r.device → IsRoomy about (microframe losses r).world.device
 unfolding microframe
 microframe_room about small losses r is =
-    let numbered : RunningWorld = record r { time = held (r.time + 1) } in
+    let numbered : RunningWorld = record r { time = at_most_u64 (r.time + 1) } in
     let within = ticks_within about losses numbered is.function is.room in
     ends_room about losses (packets_and_ticks losses numbered).world (small _ within.function) within
 
 pub microframes_room : (about : FunctionFields → Type 0) → ((function : FunctionFields) → about function → HaveSmallNumbers function)
-    → (losses : List Loss) (count : ℕ) (r : RunningWorld) → IsRoomy about r.device
+    → (losses : List SaidMark) (count : ℕ) (r : RunningWorld) → IsRoomy about r.device
     → IsRoomy about (microframes losses count r).world.device
 unfolding microframes
 microframes_room about small losses zero r is = is
 microframes_room about small losses (suc count) r is =
     microframes_room about small losses count (microframe losses r).world (microframe_room about small losses r is)
 
-pub one_microframe : (losses : List Loss) (r : RunningWorld) → HaveSmallNumbers r.device.function → HaveRoom r.device
+pub one_microframe : (losses : List SaidMark) (r : RunningWorld) → HaveSmallNumbers r.device.function → HaveRoom r.device
     → HaveRoom (microframe losses r).world.device
 one_microframe losses r small room =
     (microframe_room HaveSmallNumbers (λ function is. is) losses r (record { room = room; function = small })).room
 
-pub many_microframes : (losses : List Loss) (count : ℕ) (r : RunningWorld) → HaveSmallNumbers r.device.function → HaveRoom r.device
+pub many_microframes : (losses : List SaidMark) (count : ℕ) (r : RunningWorld) → HaveSmallNumbers r.device.function → HaveRoom r.device
     → HaveRoom (microframes losses count r).world.device
 many_microframes losses count r small room =
     (microframes_room HaveSmallNumbers (λ function is. is) losses count r (record { room = room; function = small })).room

@@ -8,7 +8,7 @@ use Rattle.uac_transcript.specs.Transcript.{Said}
 use Rattle.uac_transcript.specs.Printing.{text_of}
 use Rattle.uac_transcript.proofs.PrintingLemmas.{Appends-lines, Prints-after, front_after, front_of_more}
 use Rattle.uac_running.specs.RunningWorld.{RunningWorld}
-use Rattle.uac_running.specs.Events.{Told, behind, followed_by, still}
+use Rattle.uac_running.specs.Events.{Told, with_lines_first, followed_by, still}
 use Rattle.uac_running.specs.Kept.{RunningFields, Tells}
 
 abbrev told_of : RunningWorld → List Said → Told
@@ -20,10 +20,10 @@ pub record SoFar (Keeps : RunningFields → List Reading → RunningWorld → Ty
   pub now : RunningWorld
   pub written : Appends old new (text_of lines)
   pub stands : Keeps running meters now
-  pub left : behind lines (rest now) ≡ whole
+  pub left : with_lines_first lines (rest now) ≡ whole
 
-behind-behind : (front back : List Said) (told : Told) → behind front (behind back told) ≡ behind (front ++ back) told
-behind-behind front back told = ap (told_of told.world) (sym (append_assoc front back told.lines))
+with_lines_first-with_lines_first : (front back : List Said) (told : Told) → with_lines_first front (with_lines_first back told) ≡ with_lines_first (front ++ back) told
+with_lines_first-with_lines_first front back told = ap (told_of told.world) (sym (append_assoc front back told.lines))
 
 Appends-nothing : (old : Option (List ℕ)) → Appends old old []
 Appends-nothing None = tt
@@ -36,7 +36,7 @@ begun Keeps whole rest running meters old r stands is = record { lines = []; now
 
 -- one step more
 pub one_more : (Keeps : RunningFields → List Reading → RunningWorld → Type 0) (whole : Told) (rest next step : RunningWorld → Told) (before after : RunningFields) (shown showing : List Reading) (old mid new : Option (List ℕ))
-    → ((w : RunningWorld) → rest w ≡ behind (step w).lines (next (step w).world)) → SoFar Keeps whole rest before shown old mid
+    → ((w : RunningWorld) → rest w ≡ with_lines_first (step w).lines (next (step w).world)) → SoFar Keeps whole rest before shown old mid
     → ((w : RunningWorld) → Keeps before shown w → Appends mid new (text_of (step w).lines) × Keeps after showing (step w).world)
     → SoFar Keeps whole next after showing old new
 one_more Keeps whole rest next step before after shown showing old mid new splits s tells =
@@ -46,16 +46,16 @@ one_more Keeps whole rest next step before after shown showing old mid new split
       now = (step s.now).world;
       written = Appends-lines old mid new s.lines (step s.now).lines s.written t.0;
       stands = t.1;
-      left = sym (behind-behind s.lines (step s.now).lines (next (step s.now).world)) ∙ ap (behind s.lines) (sym (splits s.now)) ∙ s.left;
+      left = sym (with_lines_first-with_lines_first s.lines (step s.now).lines (next (step s.now).world)) ∙ ap (with_lines_first s.lines) (sym (splits s.now)) ∙ s.left;
     }
 
 -- a step that failed: a front of the whole was written
 pub stopped : (Keeps : RunningFields → List Reading → RunningWorld → Type 0) (whole : Told) (rest next step : RunningWorld → Told) (before : RunningFields) (shown : List Reading) (old mid new : Option (List ℕ))
-    → ((w : RunningWorld) → rest w ≡ behind (step w).lines (next (step w).world)) → SoFar Keeps whole rest before shown old mid
+    → ((w : RunningWorld) → rest w ≡ with_lines_first (step w).lines (next (step w).world)) → SoFar Keeps whole rest before shown old mid
     → ((w : RunningWorld) → Keeps before shown w → AppendsFront mid new (text_of (step w).lines) × Unit {0})
     → AppendsFront old new (text_of whole.lines)
 stopped Keeps whole rest next step before shown old mid new splits s tells =
-    subst (λ (told : Told). AppendsFront old new (text_of told.lines)) (ap (behind s.lines) (sym (splits s.now)) ∙ s.left)
+    subst (λ (told : Told). AppendsFront old new (text_of told.lines)) (ap (with_lines_first s.lines) (sym (splits s.now)) ∙ s.left)
     (front_after old mid new s.lines ((step s.now).lines ++ (next (step s.now).world).lines) s.written
     (front_of_more mid new (step s.now).lines (next (step s.now).world).lines (tells s.now s.stands).0))
 
@@ -63,14 +63,14 @@ stopped Keeps whole rest next step before shown old mid new splits s tells =
 pub finished : (Keeps : RunningFields → List Reading → RunningWorld → Type 0) (whole : Told) (rest : RunningWorld → Told) (running : RunningFields) (meters : List Reading) (old new : Option (List ℕ))
     → SoFar Keeps whole rest running meters old new → ((w : RunningWorld) → rest w ≡ still w) → Appends old new (text_of whole.lines) × Keeps running meters whole.world
 finished Keeps whole rest running meters old new s ends =
-    let is : behind s.lines (still s.now) ≡ whole = ap (behind s.lines) (sym (ends s.now)) ∙ s.left in (
+    let is : with_lines_first s.lines (still s.now) ≡ whole = ap (with_lines_first s.lines) (sym (ends s.now)) ∙ s.left in (
       subst (λ (lines : List Said). Appends old new (text_of lines)) (sym (append-nil s.lines) ∙ ap (λ (told : Told). told.lines) is) s.written,
       subst (λ (w : RunningWorld). Keeps running meters w) (ap (λ (told : Told). told.world) is) s.stands,
     )
 
 -- lines, and then what is told
 pub tells_behind : {E : Type 0} (lines : List Said) (told : Told) (running : RunningFields) (meters : List Reading) (old mid new : Option (List ℕ)) (r : Result (Unit {0}) E)
-    → Appends old mid (text_of lines) → Tells told running meters mid new r → Tells (behind lines told) running meters old new r
+    → Appends old mid (text_of lines) → Tells told running meters mid new r → Tells (with_lines_first lines told) running meters old new r
 tells_behind lines told running meters old mid new r a t = (Prints-after old mid new r lines told.lines a t.0, t.1)
 
 -- something, and then something else

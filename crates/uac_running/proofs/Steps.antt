@@ -4,12 +4,12 @@ use Rattle.std.specs.List.{IsDistinct}
 use Rattle.std.proofs.lemmas.Bool.{cases_Bool}
 use Rattle.std.proofs.lemmas.List.{drop_all}
 use Rattle.uac_pcm.specs.declared.tones.Tone.{Tone}
-use Rattle.uac_units.specs.Hearing.{Reading, held}
+use Rattle.uac_units.specs.Hearing.{Reading, at_most_u64}
 use Rattle.uac_rate.specs.Steadiness as steadiness
 use Rattle.uac_device.specs.Kept as device
 use Rattle.uac_device.specs.DeviceWorld.{DeviceWorld, advanced, after_frames, deviated, heard_of, met_of, next_ticks, renders_of, set_jack, step_in, ticked}
 use Rattle.uac_device.specs.declared.ticking.Ticked.{Ticked}
-use Rattle.uac_script.specs.Phrase.{Loss}
+use Rattle.uac_script.specs.Phrase.{SaidMark}
 use Rattle.uac_transcript.specs.Printing.{Prints, text_of}
 use Rattle.uac_transcript.proofs.PrintingLemmas.{front_after, front_of_more}
 use Rattle.uac_edges.specs.Writing.{AppendsFront}
@@ -26,7 +26,7 @@ use Rattle.uac_topology.specs.Function.{FunctionFields}
 use Rattle.uac_mixer.specs.ViewWorld.{IsViewOf, ViewWorld}
 use Rattle.uac_running.specs.RunningWorld.{RunningWorld, streaming_of, toned, with_detail, with_deviation, with_streaming, with_tone}
 use Rattle.uac_running.specs.Lines.{played_lines}
-use Rattle.uac_running.specs.Events.{Told, all_given, behind, domain_microframe, domain_microframes, ends_and_reports, followed_by, given, gone_on, microframe, microframes, next_frame, number_said, of_streams, packets_and_ticks, still, tick, tick_times}
+use Rattle.uac_running.specs.Events.{Told, all_given, with_lines_first, domain_microframe, domain_microframes, ends_and_reports, followed_by, given, gone_on, microframe, microframes, next_frame, number_said, of_streams, packets_and_ticks, still, tick, tick_times}
 use Rattle.uac_running.specs.Transfers.{break_at, with_break}
 use Rattle.uac_running.specs.Kept.{RunningFields, Stands, StandsBetween, Tells, TellsBetween, counted, more_counted}
 use Rattle.uac_running.proofs.Counting.{clocks_of, counted-off, counted-stepped}
@@ -34,7 +34,7 @@ use Rattle.uac_running.proofs.SoFar.{at_ok, front_then, ok_then, tells_behind, t
 
 -- ---- events one after the other
 
-pub ticks_split : (count i clock : ℕ) (w : RunningWorld) → i < count → tick_times (count - i) clock w ≡ behind (tick clock w).lines (tick_times (count - (i + 1)) clock (tick clock w).world)
+pub ticks_split : (count i clock : ℕ) (w : RunningWorld) → i < count → tick_times (count - i) clock w ≡ with_lines_first (tick clock w).lines (tick_times (count - (i + 1)) clock (tick clock w).world)
 unfolding tick_times
 ticks_split count i clock w below = let left : count - i ≡ suc (count - (i + 1)) = omega arith in ap (λ n. tick_times n clock w) left
 
@@ -42,17 +42,17 @@ pub ticks_end : (count i clock : ℕ) (w : RunningWorld) → count ≤ i → tic
 unfolding tick_times
 ticks_end count i clock w past = let left : count - i ≡ 0 = omega arith in ap (λ n. tick_times n clock w) left
 
-pub microframes_split : (losses : List Loss) (count i : ℕ) (w : RunningWorld) → i < count
-    → microframes losses (count - i) w ≡ behind (microframe losses w).lines (microframes losses (count - (i + 1)) (microframe losses w).world)
+pub microframes_split : (losses : List SaidMark) (count i : ℕ) (w : RunningWorld) → i < count
+    → microframes losses (count - i) w ≡ with_lines_first (microframe losses w).lines (microframes losses (count - (i + 1)) (microframe losses w).world)
 unfolding microframes
 microframes_split losses count i w below = let left : count - i ≡ suc (count - (i + 1)) = omega arith in ap (λ n. microframes losses n w) left
 
-pub microframes_end : (losses : List Loss) (count i : ℕ) (w : RunningWorld) → count ≤ i → microframes losses (count - i) w ≡ still w
+pub microframes_end : (losses : List SaidMark) (count i : ℕ) (w : RunningWorld) → count ≤ i → microframes losses (count - i) w ≡ still w
 unfolding microframes
 microframes_end losses count i w past = let left : count - i ≡ 0 = omega arith in ap (λ n. microframes losses n w) left
 
 pub domains_split : (clocks : List ℕ) (i : ℕ) (w : RunningWorld) → i < length clocks
-    → domain_microframes (drop i clocks) w ≡ behind (domain_microframe (get_or clocks i 0) w).lines (domain_microframes (drop (i + 1) clocks) (domain_microframe (get_or clocks i 0) w).world)
+    → domain_microframes (drop i clocks) w ≡ with_lines_first (domain_microframe (get_or clocks i 0) w).lines (domain_microframes (drop (i + 1) clocks) (domain_microframe (get_or clocks i 0) w).world)
 unfolding domain_microframes
 domains_split clocks i w below = ap (λ (cs : List ℕ). domain_microframes cs w) (drop-cons clocks i 0 below) ∙ rw add-one refl
 
@@ -85,9 +85,9 @@ stands_beside s d e w v stands kept same = record {
 -- ---- the device and its counts under events
 
 module _ (meters : List Reading) (r : RunningWorld) (p q : RunningFields) (stands : Stands p meters r) where
-  pub passed : q ≡ record p { time = held (p.time + 1) } → Stands q meters (record r { time = held (r.time + 1) })
+  pub passed : q ≡ record p { time = at_most_u64 (p.time + 1) } → Stands q meters (record r { time = at_most_u64 (r.time + 1) })
   passed is =
-      let P : RunningFields → Type 0 = λ x. Stands x meters (record r { time = held (r.time + 1) }) in
+      let P : RunningFields → Type 0 = λ x. Stands x meters (record r { time = at_most_u64 (r.time + 1) }) in
       subst P (sym is)
       (record {
         streaming = stands.streaming;
@@ -96,7 +96,7 @@ module _ (meters : List Reading) (r : RunningWorld) (p q : RunningFields) (stand
         breaks = stands.breaks;
         jacks = stands.jacks;
         counts = stands.counts;
-        time = ap (λ n. held (n + 1)) stands.time;
+        time = ap (λ n. at_most_u64 (n + 1)) stands.time;
         detail = stands.detail;
         meters = stands.meters;
         renders = stands.renders;
@@ -253,7 +253,7 @@ pub sounded : (clock count : ℕ) (shown showing : List Reading) (r : RunningWor
     → ((w : DeviceWorld) → device.Stands mid w → found ≡ met_of clock w)
     → ((w : StreamingWorld) (before : DeviceWorld) → streaming.Stands p.streaming q.device w → w.device.function ≡ f → before.function ≡ f → found ≡ met_of clock before
     → streaming.Stands q.streaming q.device (record w { met = found_counts clock before w.met }))
-    → q.jacks ≡ gone_on clock jacks → q.counts ≡ p.counts → q.time ≡ p.time → q.detail ≡ p.detail → q.renders ≡ held (p.renders + count)
+    → q.jacks ≡ gone_on clock jacks → q.counts ≡ p.counts → q.time ≡ p.time → q.detail ≡ p.detail → q.renders ≡ at_most_u64 (p.renders + count)
     → IsBeside p q → Stands q showing (tick clock r).world
 unfolding tick all_given ticked set_jack
 sounded clock count shown showing r p q jacks mid found f stands own is_f gives ticks hears rendered meets finds gone counts time detail renders beside =
@@ -274,7 +274,7 @@ sounded clock count shown showing r p q jacks mid found f stands own is_f gives 
       detail = detail ∙ stands.detail;
       meters = hears (all_given clock r) before ∙ ap (after_frames (heard_of clock (ticked clock (all_given clock r)))) stands.meters;
       renders =
-          renders ∙ ap (λ n. held (n + count)) stands.renders ∙ ap (λ n. held (r.renders + n)) (rendered (all_given clock r) before);
+          renders ∙ ap (λ n. at_most_u64 (n + count)) stands.renders ∙ ap (λ n. at_most_u64 (r.renders + n)) (rendered (all_given clock r) before);
     }
 
 -- what the tick found
@@ -304,43 +304,43 @@ unfolding domain_microframe
 domain_told clock n r is = ap (λ k. tick_times k clock (record r { device = advanced clock r.device })) is
 
 -- the line of a microframe's number
-pub number_line : (r : RunningWorld) (p : RunningFields) (meters : List Reading) → Stands p meters (record r { time = held (r.time + 1) })
-    → number_said p.detail p.time ≡ number_said r.detail (held (r.time + 1))
+pub number_line : (r : RunningWorld) (p : RunningFields) (meters : List Reading) → Stands p meters (record r { time = at_most_u64 (r.time + 1) })
+    → number_said p.detail p.time ≡ number_said r.detail (at_most_u64 (r.time + 1))
 number_line r p meters stands = ap (λ n. number_said n p.time) stands.detail ∙ ap (number_said r.detail) stands.time
 
--- a microframe behind its number
+-- a microframe after its number
 abbrev pub numbered : RunningWorld → RunningWorld
-numbered r = record r { time = held (r.time + 1) }
+numbered r = record r { time = at_most_u64 (r.time + 1) }
 
-module _ (losses : List Loss) (r : RunningWorld) where
+module _ (losses : List SaidMark) (r : RunningWorld) where
   abbrev all_of_it : Told
   all_of_it = followed_by (packets_and_ticks losses) (ends_and_reports losses) (numbered r)
 
-  microframe_is : behind (number_said r.detail (held (r.time + 1))) all_of_it ≡ microframe losses r
+  microframe_is : with_lines_first (number_said r.detail (at_most_u64 (r.time + 1))) all_of_it ≡ microframe losses r
   unfolding microframe
   microframe_is = refl
 
   -- its number was not printed whole
-  pub microframe_front : (old new : Option (List ℕ)) → AppendsFront old new (text_of (number_said r.detail (held (r.time + 1)))) → AppendsFront old new (text_of (microframe losses r).lines)
+  pub microframe_front : (old new : Option (List ℕ)) → AppendsFront old new (text_of (number_said r.detail (at_most_u64 (r.time + 1)))) → AppendsFront old new (text_of (microframe losses r).lines)
   microframe_front old new front =
       subst (λ (told : Told). AppendsFront old new (text_of told.lines)) microframe_is
-      (front_of_more old new (number_said r.detail (held (r.time + 1))) all_of_it.lines front)
+      (front_of_more old new (number_said r.detail (at_most_u64 (r.time + 1))) all_of_it.lines front)
 
   -- its packets and ticks were not
-  pub microframe_next_front : (old mid new : Option (List ℕ)) → Appends old mid (text_of (number_said r.detail (held (r.time + 1))))
+  pub microframe_next_front : (old mid new : Option (List ℕ)) → Appends old mid (text_of (number_said r.detail (at_most_u64 (r.time + 1))))
       → AppendsFront mid new (text_of (packets_and_ticks losses (numbered r)).lines) → AppendsFront old new (text_of (microframe losses r).lines)
   microframe_next_front old mid new number front =
       subst (λ (told : Told). AppendsFront old new (text_of told.lines)) microframe_is
-      (front_after old mid new (number_said r.detail (held (r.time + 1))) all_of_it.lines number
+      (front_after old mid new (number_said r.detail (at_most_u64 (r.time + 1))) all_of_it.lines number
       (front_then (packets_and_ticks losses) (ends_and_reports losses) (numbered r) mid new front))
 
-  -- all of it, or what lies behind these
+  -- all of it, or what lies after these
   pub microframe_told : {E : Type 0} (p : RunningFields) (meters : List Reading) (old mid later new : Option (List ℕ)) (result : Result (Unit {0}) E)
-      → HaveRoom (microframe losses r).world.device → Appends old mid (text_of (number_said r.detail (held (r.time + 1))))
+      → HaveRoom (microframe losses r).world.device → Appends old mid (text_of (number_said r.detail (at_most_u64 (r.time + 1))))
       → Appends mid later (text_of (packets_and_ticks losses (numbered r)).lines)
       → Tells (ends_and_reports losses (packets_and_ticks losses (numbered r)).world) p meters later new result → TellsBetween (microframe losses r) p meters old new result
   microframe_told {E = E} p meters old mid later new result room number first next =
       let whole = subst (λ (told : Told). Tells told p meters old new result) microframe_is
-      (tells_behind (number_said r.detail (held (r.time + 1))) all_of_it p meters old mid new result number
+      (tells_behind (number_said r.detail (at_most_u64 (r.time + 1))) all_of_it p meters old mid new result number
       (tells_then (packets_and_ticks losses) (ends_and_reports losses) (numbered r) p meters mid later new result first next)) in
       (whole.0, ok_then (Stands p meters (microframe losses r).world) (StandsBetween p meters (microframe losses r).world) result (λ stands. record { now = stands; room = room }) whole.1)

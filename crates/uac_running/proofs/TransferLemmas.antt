@@ -1,4 +1,4 @@
--- What a transfer of a running device brings back, and the worlds behind it, from what its link and its view are seen to do.
+-- What a transfer of a running device brings back, and the worlds after it, from what its link and its view are seen to do.
 use Rattle.std.proofs.Common.{◌≡◌, ◌∙◌, sym, ap, subst, refl, ℕ, Bool, true, false, if◌then◌else◌, ℤ, List, [], ◌&&◌, map, Option, None, Some, is_some}
 use Rattle.std.specs.Prelude.{◌<◌, ◌==◌, zero, suc, ◌∷◌, position, slice_get, length, not, Result, Ok, Err, IfOk, IfSome}
 use Rattle.std.specs.Option.{option_and_then, option_map, option_map_or}
@@ -13,12 +13,12 @@ use Rattle.uac_mixer.specs.declared.element.Element.{Element}
 use Rattle.uac_mixer.specs.declared.link.Broken.{Broken}
 use Rattle.uac_alt.specs.declared.settings.InterfaceSetting.{InterfaceSetting}
 use Rattle.uac_store.specs.declared.keys.Key.{Key}
-use Rattle.uac_request.specs.Requests.{Told, held_by, rate_at, reply_of}
+use Rattle.uac_request.specs.Requests.{AnswerFields, held_by, rate_at, reply_of}
 use Rattle.uac_request.specs.declared.setup.Setup.{Setup}
 use Rattle.uac_topology.specs.Function.{FunctionFields}
 use Rattle.uac_units.specs.Hearing.{Reading}
 use Rattle.uac_device.specs.Kept as device
-use Rattle.uac_alt.specs.Streams.{StreamFields, seen, stream_of}
+use Rattle.uac_alt.specs.Streams.{StreamFields, stream_fields, stream_of}
 use Rattle.uac_alt.specs.declared.values.Stream.{Stream}
 use Rattle.uac_entities.specs.declared.stream.StreamInterface.{StreamInterface}
 use Rattle.uac_host.specs.Calls.{IsStreamOf}
@@ -44,7 +44,7 @@ replies d r p sent stands =
     ∙ ap (λ (s : List InterfaceSetting). reply_of r.device.function (held_by r.device.controls s) p sent) stands.settings
 
 -- what comes back over a link that tells its fault
-came_by : (fault : Option When) (came : Option Told) (p : Setup) (sent : List ℕ) (old new : LinkFields) (reply : Told)
+came_by : (fault : Option When) (came : Option AnswerFields) (p : Setup) (sent : List ℕ) (old new : LinkFields) (reply : AnswerFields)
     → IsAsTold fault p sent came old new → IsAnswered p sent came old new
     → reply_of old.device.function (held_by old.device.controls old.device.settings) p sent ≡ reply
     → came ≡ (if is_some fault then None else Some reply)
@@ -53,7 +53,7 @@ came_by None (Some t) p sent old new reply told answered is = ap Some (answered.
 came_by (Some w) came p sent old new reply told answered is = told.breaks.1 refl
 
 -- what the device behind it stands for
-acted : (fault : Option When) (came : Option Told) (p : Setup) (sent : List ℕ) (old new : LinkFields) (w : DeviceWorld)
+acted : (fault : Option When) (came : Option AnswerFields) (p : Setup) (sent : List ℕ) (old new : LinkFields) (w : DeviceWorld)
     → IsAsTold fault p sent came old new → IsAnswered p sent came old new → device.Stands old.device w
     → device.Stands new.device (acts fault w (controlled p sent w))
 acted None None p sent old new w told answered stands = absurd (let some = told.breaks.0 refl in cc)
@@ -62,8 +62,8 @@ acted (Some when.Before) came p sent old new w told answered stands =
     let kept : IsUntouched old new = told.at when.Before refl in
     subst (λ (d : device.DeviceFields). device.Stands d w) (sym kept.device) stands
 acted (Some when.After) came p sent old new w told answered stands =
-    let seen : BreaksAs when.After p sent old new = told.at when.After refl in
-    seen.1.device.stands w stands
+    let stream_fields : BreaksAs when.After p sent old new = told.at when.After refl in
+    stream_fields.1.device.stands w stands
 
 -- ---- what no request changes
 
@@ -103,19 +103,19 @@ beside s d e w v stands acted same = record {
 }
 
 -- the last answer over a link that tells its fault was that the device was done: it acted and was
-told_done : (fault : Option When) (came : Option Told) (p : Setup) (sent : List ℕ) (old new : LinkFields) (reply : Told)
+told_done : (fault : Option When) (came : Option AnswerFields) (p : Setup) (sent : List ℕ) (old new : LinkFields) (reply : AnswerFields)
     → IsAsTold fault p sent came old new → IsAnswered p sent came old new → old.last ≡ None
     → reply_of old.device.function (held_by old.device.controls old.device.settings) p sent ≡ reply
     → option_map_or tells_done new.last false ≡ (not (breaks_before fault) && tells_done reply)
 told_done None None p sent old new reply told answered unanswered is = absurd (let some = told.breaks.0 refl in cc)
 told_done None (Some t) p sent old new reply told answered unanswered is =
-    ap (λ (o : Option Told). option_map_or tells_done o false) answered.last ∙ ap tells_done (answered.device.answer ∙ is)
+    ap (λ (o : Option AnswerFields). option_map_or tells_done o false) answered.last ∙ ap tells_done (answered.device.answer ∙ is)
 told_done (Some when.Before) came p sent old new reply told answered unanswered is =
     let kept : IsUntouched old new = told.at when.Before refl in
-    ap (λ (o : Option Told). option_map_or tells_done o false) (kept.last ∙ unanswered)
+    ap (λ (o : Option AnswerFields). option_map_or tells_done o false) (kept.last ∙ unanswered)
 told_done (Some when.After) came p sent old new reply told answered unanswered is =
-    let seen : BreaksAs when.After p sent old new = told.at when.After refl in
-    ap (λ (o : Option Told). option_map_or tells_done o false) seen.1.last ∙ ap tells_done (seen.1.device.answer ∙ is)
+    let stream_fields : BreaksAs when.After p sent old new = told.at when.After refl in
+    ap (λ (o : Option AnswerFields). option_map_or tells_done o false) stream_fields.1.last ∙ ap tells_done (stream_fields.1.device.answer ∙ is)
 
 -- a stream that is asked for is one of its interface
 asked_is : (f : FunctionFields) (controls : List (Key × ℤ)) (interface setting : ℕ) (x : StreamFields)
@@ -133,10 +133,10 @@ asked_is f controls interface setting x asked = of_carrier (find (λ s. s.number
     of_carrier (Some s) is = at_rate (rate_at f controls s) is
 
 pub begun_is : (begun : Option Stream) (f g : FunctionFields) (controls : List (Key × ℤ)) (interface setting : ℕ)
-    → option_map seen begun ≡ stream_in_setting f controls interface setting → f ≡ g → IfSome begun (λ s. IsStreamOf g interface (seen s))
+    → option_map stream_fields begun ≡ stream_in_setting f controls interface setting → f ≡ g → IfSome begun (λ s. IsStreamOf g interface (stream_fields s))
 begun_is None f g controls interface setting asked same = tt
 begun_is (Some s) f g controls interface setting asked same =
-    subst (λ (h : FunctionFields). IsStreamOf h interface (seen s)) same (asked_is f controls interface setting (seen s) (sym asked))
+    subst (λ (h : FunctionFields). IsStreamOf h interface (stream_fields s)) same (asked_is f controls interface setting (stream_fields s) (sym asked))
 
 -- following a device changes the host's side alone
 follow_device : (b : Bool) (interface : ℕ) (begun : Option StreamFields) (s : StreamingWorld) → (if b then followed interface begun s else s).device ≡ s.device
@@ -153,7 +153,7 @@ pub record IsRest (p q : RunningFields) : Type 0 where
   pub detail : q.detail ≡ p.detail
   pub renders : q.renders ≡ p.renders
 
-module _ (meters : List Reading) (r : RunningWorld) (p q : RunningFields) (setup : Setup) (sent : List ℕ) (came : Option Told) (old new : LinkFields)
+module _ (meters : List Reading) (r : RunningWorld) (p q : RunningFields) (setup : Setup) (sent : List ℕ) (came : Option AnswerFields) (old new : LinkFields)
     (stands : Stands p meters r) (lent : old.device ≡ p.device) (fault : old.fault ≡ Some p.breaks)
     (made : IsMade setup sent came p.view q.view old new) where
   stands_lent : device.Stands old.device r.device
@@ -221,7 +221,7 @@ module _ (meters : List Reading) (r : RunningWorld) (p q : RunningFields) (setup
         made.view
         ∙ ap (λ (f : FunctionFields). view_after f.control_interface setup sent came p.view) stands_lent.function
         ∙ ap (λ (v : ViewWorld). view_after r.device.function.control_interface setup sent came v) stands.view
-        ∙ ap (λ (o : Option Told). view_after r.device.function.control_interface setup sent o r.view) came_back;
+        ∙ ap (λ (o : Option AnswerFields). view_after r.device.function.control_interface setup sent o r.view) came_back;
     configuration = rest.configuration ∙ stands.configuration;
     breaks = used;
     jacks = rest.jacks ∙ stands.jacks;

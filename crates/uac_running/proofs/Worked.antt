@@ -15,7 +15,7 @@ first_event r = record { lines = says_over 3 ∷ []; world = record r { time = 9
 next_event : RunningWorld → Told
 next_event r = record { lines = says_under r.time ∷ []; world = record r { renders = r.time } }
 
--- the second begins where the first ended, and is told behind it
+-- the second begins where the first ended, and is told after it
 one_then_the_other : (r : RunningWorld) → followed_by first_event next_event r ≡ record { lines = says_over 3 ∷ says_under 9 ∷ []; world = record r { time = 9; renders = 9 } }
 unfolding first_event next_event
 one_then_the_other r = refl

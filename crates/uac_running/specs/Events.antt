@@ -4,8 +4,8 @@ use Rattle.std.specs.Prelude.{ℕ, zero, suc, ◌+◌, ◌==◌, nat_le, if◌th
 use Rattle.std.specs.List.{fold, range_with_len}
 use Rattle.uac_pcm.specs.Tones.{tone_sample}
 use Rattle.uac_device.specs.DeviceWorld.{DeviceWorld, advanced, next_ticks, renders_of, set_jack, ticked, heard_of, after_frames}
-use Rattle.uac_units.specs.Hearing.{held}
-use Rattle.uac_script.specs.Phrase.{Loss}
+use Rattle.uac_units.specs.Hearing.{at_most_u64}
+use Rattle.uac_script.specs.Phrase.{SaidMark}
 use Rattle.uac_transcript.specs.Transcript.{Said, says_time}
 use Rattle.uac_running.specs.declared.jacks.Jack.{Jack}
 use Rattle.uac_streaming.specs.Telling.{Telling}
@@ -20,8 +20,8 @@ pub record Told : Type 0 where
   pub world : RunningWorld
 
 -- these lines, and then what is told
-abbrev pub behind : List Said → Told → Told
-behind lines told = record { lines = lines ++ told.lines; world = told.world }
+abbrev pub with_lines_first : List Said → Told → Told
+with_lines_first lines told = record { lines = lines ++ told.lines; world = told.world }
 
 -- nothing happens and nothing is said
 abbrev pub still : RunningWorld → Told
@@ -43,9 +43,9 @@ given clock jacks w = fold (λ v j. set_jack j.terminal (next_frame j) v) w (fil
 unfoldable pub all_given : ℕ → RunningWorld → DeviceWorld
 all_given clock r = given clock r.jacks r.device
 
--- a jack, and behind one frame more where it is of the domain
+-- a jack, and after one frame more where it is of the domain
 abbrev pub after_one : ℕ → Jack → Jack
-after_one clock j = if j.clock == clock then record j { place = held (j.place + 1) } else j
+after_one clock j = if j.clock == clock then record j { place = at_most_u64 (j.place + 1) } else j
 
 -- of the jacks of a domain one more frame was given
 abbrev pub gone_on : ℕ → List Jack → List Jack
@@ -64,14 +64,14 @@ tick clock r =
         jacks = gone_on clock r.jacks;
         met = found_counts clock given r.met;
         meters = after_frames (heard_of clock device) r.meters;
-        renders = held (r.renders + renders_of clock given);
+        renders = at_most_u64 (r.renders + renders_of clock given);
       };
     }
 
 -- so many ticks of a domain
 unfoldable pub tick_times : ℕ → ℕ → RunningWorld → Told
 tick_times zero clock r = still r
-tick_times (suc n) clock r = behind (tick clock r).lines (tick_times n clock (tick clock r).world)
+tick_times (suc n) clock r = with_lines_first (tick clock r).lines (tick_times n clock (tick clock r).world)
 
 -- a domain's part of a microframe: its clock goes on, and it ticks as often as that gives
 unfoldable pub domain_microframe : ℕ → RunningWorld → Told
@@ -80,7 +80,7 @@ domain_microframe clock r = tick_times (next_ticks clock r.device) clock (record
 -- the same of these domains, one after the other
 unfoldable pub domain_microframes : List ℕ → RunningWorld → Told
 domain_microframes [] r = still r
-domain_microframes (clock ∷ clocks) r = behind (domain_microframe clock r).lines
+domain_microframes (clock ∷ clocks) r = with_lines_first (domain_microframe clock r).lines
     (domain_microframes clocks (domain_microframe clock r).world)
 
 -- from detail 2 on the number of a microframe is said
@@ -95,28 +95,28 @@ of_streams event r =
 
 -- something, and then something else
 abbrev pub followed_by : (RunningWorld → Told) → (RunningWorld → Told) → RunningWorld → Told
-followed_by first next r = behind (first r).lines (next (first r).world)
+followed_by first next r = with_lines_first (first r).lines (next (first r).world)
 
 -- the domains' part of a microframe
 abbrev pub all_domains : RunningWorld → Told
 all_domains r = domain_microframes r.device.function.domains r
 
--- a microframe behind its number, in which these packets and feedback reports are lost: the packets to the device, and those from it; the
+-- a microframe after its number, in which these packets and feedback reports are lost: the packets to the device, and those from it; the
 -- ticks of each domain, in order; the end of the microframe for each stream; and the feedback reports
-unfoldable pub packets_and_ticks : List Loss → RunningWorld → Told
+unfoldable pub packets_and_ticks : List SaidMark → RunningWorld → Told
 packets_and_ticks losses r =
     followed_by (of_streams (out_packets r.detail losses)) (followed_by (of_streams (in_packets r.detail losses)) all_domains) r
 
-unfoldable pub ends_and_reports : List Loss → RunningWorld → Told
+unfoldable pub ends_and_reports : List SaidMark → RunningWorld → Told
 ends_and_reports losses r = followed_by (of_streams (all_settled r.detail)) (of_streams (all_reported r.detail losses)) r
 
 -- one microframe: from detail 2 on its number is said first
-unfoldable pub microframe : List Loss → RunningWorld → Told
+unfoldable pub microframe : List SaidMark → RunningWorld → Told
 microframe losses r =
-    let time = held (r.time + 1) in
-    behind (number_said r.detail time) (followed_by (packets_and_ticks losses) (ends_and_reports losses) (record r { time = time }))
+    let time = at_most_u64 (r.time + 1) in
+    with_lines_first (number_said r.detail time) (followed_by (packets_and_ticks losses) (ends_and_reports losses) (record r { time = time }))
 
 -- so many microframes, with these losses in each
-unfoldable pub microframes : List Loss → ℕ → RunningWorld → Told
+unfoldable pub microframes : List SaidMark → ℕ → RunningWorld → Told
 microframes losses zero r = still r
-microframes losses (suc n) r = behind (microframe losses r).lines (microframes losses n (microframe losses r).world)
+microframes losses (suc n) r = with_lines_first (microframe losses r).lines (microframes losses n (microframe losses r).world)

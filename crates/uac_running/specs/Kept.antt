@@ -1,7 +1,7 @@
 -- What is kept of a running device, and for which worlds it stands.
 use Rattle.std.specs.Prelude.{◌≡◌, ℕ, ◌≤◌, ◌+◌, ◌==◌, nat_eq, true, if◌then◌else◌, List, map, Option, Result, OnOk}
 use Rattle.std.specs.List.{All, IsDistinct}
-use Rattle.uac_units.specs.Hearing.{Reading, held}
+use Rattle.uac_units.specs.Hearing.{Reading, at_most_u64}
 use Rattle.uac_device.specs.Kept as device
 use Rattle.uac_device.specs.DeviceWorld.{Domain, is_input_jack}
 use Rattle.uac_graph.specs.Meaning.{entity}
@@ -40,7 +40,7 @@ none_counted clock = record { clock = clock; ticks = 0 }
 
 -- a domain's ticks, and so many more where it is the one with this clock
 abbrev pub more_counted : ℕ → ℕ → TickCount → TickCount
-more_counted clock ticks c = if c.clock == clock then record c { ticks = held (c.ticks + ticks) } else c
+more_counted clock ticks c = if c.clock == clock then record c { ticks = at_most_u64 (c.ticks + ticks) } else c
 
 -- it stands for this world, with meters that show this
 pub record Stands (running : RunningFields) (shown : List Reading) (r : RunningWorld) : Type 0 where

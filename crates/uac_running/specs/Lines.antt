@@ -5,7 +5,7 @@ use Rattle.uac_entities.specs.declared.stream.StreamInterface.{StreamInterface}
 use Rattle.uac_topology.specs.Function.{FunctionFields}
 use Rattle.uac_store.specs.Rates.{rate_of}
 use Rattle.uac_alt.specs.Settings.{setting_of}
-use Rattle.uac_units.specs.Hearing.{held}
+use Rattle.uac_units.specs.Hearing.{at_most_u64}
 use Rattle.uac_transcript.specs.declared.report.StreamCounts.{StreamCounts}
 use Rattle.uac_transcript.specs.Transcript.{Said, says_ready, says_played, says_passed, says_steady, says_domain, says_out_stream}
 use Rattle.uac_transcript.specs.Transcript.{says_in_stream, says_meter, says_renders}
@@ -32,7 +32,7 @@ played_lines clock w = map (played_line w) (output_jacks clock w)
 
 -- the ticks of a domain since the start: the whole frames of its steps
 abbrev pub ticks_since : Domain → ℕ
-ticks_since d = held (sum d.steps / 65536)
+ticks_since d = at_most_u64 (sum d.steps / 65536)
 
 unfoldable pub domain_line : DeviceWorld → Domain → Said
 domain_line w d = says_domain d.clock (rate_of w.function.entities w.controls d.clock) (ticks_since d)

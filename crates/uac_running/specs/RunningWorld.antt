@@ -103,7 +103,7 @@ streaming_of r = record { device = r.device; host = r.host; met = r.met; given =
 abbrev pub with_streaming : RunningWorld → StreamingWorld → RunningWorld
 with_streaming r s = record r { device = s.device; host = s.host; met = s.met; given = s.given }
 
--- samples wait behind those of an interface's track
+-- samples wait after those of an interface's track
 unfoldable pub with_samples_on : ℕ → List ℤ → RunningWorld → RunningWorld
 with_samples_on interface samples r = record r { host = with_samples interface samples r.host }
 

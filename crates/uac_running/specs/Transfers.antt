@@ -5,7 +5,7 @@ use Rattle.std.specs.Prelude.{None, Some, is_some, unwrap_or, Result, Ok, Err}
 use Rattle.std.specs.List.{find}
 use Rattle.std.specs.Str.{bytes_eq}
 use Rattle.uac_store.specs.Keyed.{value_of}
-use Rattle.uac_request.specs.Requests.{Told, held_by, reply_of, value_bytes, with_bytes, with_descriptor, is_done, is_stalled}
+use Rattle.uac_request.specs.Requests.{AnswerFields, held_by, reply_of, value_bytes, with_bytes, with_descriptor, is_done, is_stalled}
 use Rattle.uac_request.specs.declared.setup.Setup.{Setup}
 use Rattle.uac_device.specs.DeviceWorld.{DeviceWorld, controlled, sets_interface, stream_in_setting, tells_done}
 use Rattle.uac_streaming.specs.StreamingWorld.{StreamingWorld, followed}
@@ -24,11 +24,11 @@ use Rattle.uac_running.specs.Events.{still}
 -- ---- a transfer
 
 -- what the device would answer
-abbrev pub reply_in : Setup → List ℕ → RunningWorld → Told
+abbrev pub reply_in : Setup → List ℕ → RunningWorld → AnswerFields
 reply_in p sent r = reply_of r.device.function (held_by r.device.controls r.device.settings) p sent
 
 -- what comes back of the next transfer: nothing where it breaks
-unfoldable pub comes_back : Setup → List ℕ → RunningWorld → Option Told
+unfoldable pub comes_back : Setup → List ℕ → RunningWorld → Option AnswerFields
 comes_back p sent r = if is_some r.breaks then None else Some (reply_in p sent r)
 
 -- a transfer breaks before the device acts
@@ -43,7 +43,7 @@ acts None resting acted = acted
 acts (Some when.Before) resting acted = resting
 acts (Some when.After) resting acted = acted
 
--- a transfer behind which the device holds another setting of an interface: it acted, and was done
+-- a transfer after which the device holds another setting of an interface: it acted, and was done
 abbrev pub holds_setting : Setup → List ℕ → RunningWorld → Bool
 holds_setting p sent r = sets_interface p && (not (breaks_before r.breaks) && tells_done (reply_in p sent r))
 
@@ -54,7 +54,7 @@ streams_follow p sent r s =
     then followed p.index (stream_in_setting r.device.function r.device.controls p.index p.value) s
     else s
 
--- the world behind a transfer: the device acted, the host's streams follow it, the view follows what came back, and a pending break is
+-- the world after a transfer: the device acted, the host's streams follow it, the view follows what came back, and a pending break is
 -- used up
 unfoldable pub transferred : Setup → List ℕ → RunningWorld → RunningWorld
 transferred p sent r =
@@ -86,7 +86,7 @@ abbrev pub piece : ℕ → ℕ → List ℕ → List ℕ
 piece from to bytes = drop from (take to bytes)
 
 -- what came back, as a line says it: a descriptor is a piece of the configuration's bytes
-unfoldable pub outcome_of : List ℕ → Option Told → Outcome
+unfoldable pub outcome_of : List ℕ → Option AnswerFields → Outcome
 outcome_of configuration None = broke
 outcome_of configuration (Some (with_bytes bytes)) = gave bytes
 outcome_of configuration (Some (with_descriptor from to)) = gave (piece from to configuration)
@@ -119,7 +119,7 @@ read_element x r =
     }
 
 -- an element is set to a value
-abbrev pub set_sight : Option Told → Sight
+abbrev pub set_sight : Option AnswerFields → Sight
 set_sight None = was_broken
 set_sight (Some (with_bytes bytes)) = was_set
 set_sight (Some (with_descriptor from to)) = was_set

@@ -96,7 +96,7 @@ pub(crate) fn give_jacks(device: &mut Device, jacks: &mut [Jack], clock: u8)
 {
     for jack in jacks.iter_mut() {
         give_jack(device, jack, clock);
-        *jack = after_frame(*jack, clock);
+        go_on(jack, clock);
     }
 }
 
@@ -109,22 +109,21 @@ fn give_jack(device: &mut Device, jack: &Jack, clock: u8)
         → Stands device.new (given_one clock jack.now w) }
     ensures function { device.new.function ≡ device.old.function }
 {
-    if jack.clock == clock {
-        device.jack(jack.terminal, &next_frame(jack));
+    if jack.clock != clock {
+        return;
+    }
+    match jack.tone {
+        Tone::Silent => device.hush(jack.terminal),
+        Tone::Ramp { .. } | Tone::Noise { .. } => device.jack(jack.terminal, &next_frame(jack)),
     }
 }
 
-/// A jack of the domain after one frame more.
-fn after_frame(jack: Jack, clock: u8) -> Jack
-    ensures { result ≡ after_one clock jack }
+/// A jack of the domain gave one frame more.
+fn go_on(jack: &mut Jack, clock: u8)
+    ensures { jack.new ≡ after_one clock jack.old }
 {
     if jack.clock == clock {
-        Jack {
-            place: jack.place.saturating_add(1),
-            ..jack
-        }
-    } else {
-        jack
+        jack.place = jack.place.saturating_add(1);
     }
 }
 

@@ -2,10 +2,10 @@
 ghost use Rattle.std.specs.Prelude.{◌≡◌, ◌++◌, ℕ, List, ◌+◌, ◌<◌, nat_le, if◌then◌else◌, [], length, map, slice_index};
 ghost use Rattle.std.specs.List.{All};
 ghost use Rattle.uac_units.specs.Fitting.{IsFitted};
-ghost use Rattle.uac_units.specs.Hearing.{Reading, held};
+ghost use Rattle.uac_units.specs.Hearing.{Reading, at_most_u64};
 ghost use Rattle.uac_units.specs.Panel.{readings};
 ghost use Rattle.uac_edges.specs.Faults.{HasCause};
-ghost use Rattle.uac_script.specs.Line.{loss_of};
+ghost use Rattle.uac_script.specs.Line.{said_mark};
 ghost use Rattle.uac_device.specs.Kept as device;
 ghost use Rattle.uac_device.specs.DeviceWorld.{DeviceWorld, ZerosFitIn, advanced, met_of, next_ticks};
 ghost use Rattle.uac_transcript.specs.Printing.{Prints};
@@ -42,7 +42,7 @@ impl Running {
     ) -> Result<(), Failed>
         requires rack { IsFitted (λ v x. (⟦<dyn Unit as Unit>⟧ v).kind_of x) rack.now }
         ensures tells { (r : RunningWorld) → StandsBetween self.old (readings (λ v x. (⟦<dyn Meter as Meter>⟧ v).reading_of x) meters.old) r
-            → TellsBetween (microframes (map loss_of marks.now) count r) self.new
+            → TellsBetween (microframes (map said_mark marks.now) count r) self.new
             (readings (λ v x. (⟦<dyn Meter as Meter>⟧ v).reading_of x) meters.new)
             (K.written sink.old) (K.written sink.new) result }
         ensures cause { HasCause (K.faults sink.old) (K.faults sink.new) result }
@@ -66,7 +66,7 @@ impl Running {
     ) -> Result<(), Failed>
         requires rack { IsFitted (λ v x. (⟦<dyn Unit as Unit>⟧ v).kind_of x) rack.now }
         ensures tells { (r : RunningWorld) → StandsBetween self.old (readings (λ v x. (⟦<dyn Meter as Meter>⟧ v).reading_of x) meters.old) r
-            → TellsBetween (microframe (map loss_of marks.now) r) self.new
+            → TellsBetween (microframe (map said_mark marks.now) r) self.new
             (readings (λ v x. (⟦<dyn Meter as Meter>⟧ v).reading_of x) meters.new)
             (K.written sink.old) (K.written sink.new) result }
         ensures cause { HasCause (K.faults sink.old) (K.faults sink.new) result }
@@ -94,7 +94,7 @@ impl Running {
     ) -> Result<(), Failed>
         requires rack { IsFitted (λ v x. (⟦<dyn Unit as Unit>⟧ v).kind_of x) rack.now }
         ensures tells { (r : RunningWorld) → Stands self.old (readings (λ v x. (⟦<dyn Meter as Meter>⟧ v).reading_of x) meters.old) r
-            → Tells (packets_and_ticks (map loss_of marks.now) r) self.new
+            → Tells (packets_and_ticks (map said_mark marks.now) r) self.new
             (readings (λ v x. (⟦<dyn Meter as Meter>⟧ v).reading_of x) meters.new)
             (K.written sink.old) (K.written sink.new) result }
         ensures cause { HasCause (K.faults sink.old) (K.faults sink.new) result }
@@ -114,7 +114,7 @@ impl Running {
     fn ends_and_reports<K: Sink>(&mut self, marks: &[Mark], sink: &mut K) -> Result<(), Failed>
         ensures tells { (meters : List Reading) (r : RunningWorld) → Stands self.old meters r
             → ((interface : ℕ) → ZerosFitIn r.device interface)
-            → Tells (ends_and_reports (map loss_of marks.now) r) self.new meters (K.written sink.old) (K.written sink.new) result }
+            → Tells (ends_and_reports (map said_mark marks.now) r) self.new meters (K.written sink.old) (K.written sink.new) result }
         ensures cause { HasCause (K.faults sink.old) (K.faults sink.new) result }
     {
         match self.settle(sink) {
@@ -127,7 +127,7 @@ impl Running {
     /// The packets to the device.
     fn out_packets<K: Sink>(&mut self, marks: &[Mark], sink: &mut K) -> Result<(), Failed>
         ensures tells { (meters : List Reading) (r : RunningWorld) → Stands self.old meters r
-            → Tells (of_streams (out_packets r.detail (map loss_of marks.now)) r) self.new meters
+            → Tells (of_streams (out_packets r.detail (map said_mark marks.now)) r) self.new meters
             (K.written sink.old) (K.written sink.new) result }
         ensures cause { HasCause (K.faults sink.old) (K.faults sink.new) result }
     {
@@ -138,7 +138,7 @@ impl Running {
     /// The packets from the device.
     fn in_packets<K: Sink>(&mut self, marks: &[Mark], sink: &mut K) -> Result<(), Failed>
         ensures tells { (meters : List Reading) (r : RunningWorld) → Stands self.old meters r
-            → Tells (of_streams (in_packets r.detail (map loss_of marks.now)) r) self.new meters
+            → Tells (of_streams (in_packets r.detail (map said_mark marks.now)) r) self.new meters
             (K.written sink.old) (K.written sink.new) result }
         ensures cause { HasCause (K.faults sink.old) (K.faults sink.new) result }
     {
@@ -159,7 +159,7 @@ impl Running {
     /// The feedback reports.
     fn reports<K: Sink>(&mut self, marks: &[Mark], sink: &mut K) -> Result<(), Failed>
         ensures tells { (meters : List Reading) (r : RunningWorld) → Stands self.old meters r
-            → Tells (of_streams (all_reported r.detail (map loss_of marks.now)) r) self.new meters
+            → Tells (of_streams (all_reported r.detail (map said_mark marks.now)) r) self.new meters
             (K.written sink.old) (K.written sink.new) result }
         ensures cause { HasCause (K.faults sink.old) (K.faults sink.new) result }
     {
@@ -169,7 +169,7 @@ impl Running {
 
     /// One microframe more has come.
     fn pass(&mut self)
-        ensures { self.new ≡ record self.old { time = held (self.old.time + 1) } }
+        ensures { self.new ≡ record self.old { time = at_most_u64 (self.old.time + 1) } }
     {
         self.time = self.time.saturating_add(1);
     }

@@ -144,7 +144,7 @@ impl Running {
         self.detail = level;
     }
 
-    /// Frames wait behind those that do on an interface: samples of full scale, channel after channel, in whole frames of its terminal.
+    /// Frames wait after those that do on an interface: samples of full scale, channel after channel, in whole frames of its terminal.
     /// After `NoMemory` all is as it was.
     pub fn append(&mut self, interface: u8, samples: &[i32]) -> Result<(), NoMemory>
         ensures stands { (meters : List Reading) (r : RunningWorld) → StandsBetween self.old meters r

@@ -4,7 +4,7 @@ ghost use Rattle.std.specs.Prelude.{IfSome};
 ghost use Rattle.std.specs.Option.{option_and_then, option_map, option_map_or};
 ghost use Rattle.uac_store.specs.Controls.{initial_controls};
 ghost use Rattle.uac_store.specs.Keyed.{value_of};
-ghost use Rattle.uac_request.specs.Requests.{seen, value_bytes};
+ghost use Rattle.uac_request.specs.Requests.{answer_fields, value_bytes};
 ghost use Rattle.uac_units.specs.Hearing.{Reading};
 ghost use Rattle.uac_edges.specs.Faults.{HasCause};
 ghost use Rattle.uac_device.specs.DeviceWorld.{DeviceWorld, sets_interface, tells_done};
@@ -71,9 +71,9 @@ pub fn fresh_view(alloc: Global, function: Function) -> Result<View, NoMemory>
     }
 }
 
-/// Whether a device holds another setting of an interface behind a transfer, of which it answered this last.
+/// Whether a device holds another setting of an interface after a transfer, of which it answered this last.
 fn holds_setting(setup: &Setup, last: Option<&Answer>) -> bool
-    ensures { result ≡ (sets_interface setup.now && option_map_or tells_done (option_map (λ answer. seen answer.now) last.entry) false) }
+    ensures { result ≡ (sets_interface setup.now && option_map_or tells_done (option_map (λ answer. answer_fields answer.now) last.entry) false) }
 {
     match last {
         Some(answer) => sets_interface(setup) && is_done(answer),
@@ -157,7 +157,7 @@ impl Running {
     /// Prints an answer: a descriptor is a piece of the configuration's bytes.
     fn write_answer<K: Sink>(&self, answer: &Answer, sink: &mut K) -> Result<(), Failed>
         ensures printed { Prints (K.written sink.old) (K.written sink.new) result
-            (says_answer (outcome_of self.now.configuration (Some (seen answer.now))) ∷ []) }
+            (says_answer (outcome_of self.now.configuration (Some (answer_fields answer.now))) ∷ []) }
         ensures cause { HasCause (K.faults sink.old) (K.faults sink.new) result }
     {
         match answer {

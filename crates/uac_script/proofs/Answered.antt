@@ -12,7 +12,7 @@ use Rattle.uac_script.specs.declared.line.Line.{Line}
 use Rattle.uac_script.specs.declared.lent.LentLine.{LentLine}
 use Rattle.uac_script.specs.Words.{Word, words_of, is_idle, hex_of}
 use Rattle.uac_script.specs.Phrase.{Phrase, idle, feeds, goes, controls, gets, sets, shows, breaks, appends, tracks, jacks, deviates, runs, details, reports, is_in_range}
-use Rattle.uac_script.specs.Line.{IsRow, Spells, begins_known, phrase_of, HasNoEmptyPart, Keeps, Says, IsOutOfRange, IsMisspelt, IsUnknown}
+use Rattle.uac_script.specs.Line.{IsRow, Spells, begins_known, phrase_of, HasNoEmptyPart, IsLineInRange, Says, IsOutOfRange, IsMisspelt, IsUnknown}
 use Rattle.uac_script.specs.Lent.{lent_phrase, lent_said, LentKeeps}
 use Rattle.uac_script.specs.Reading.{row_of, judged, judged_row, answer_of, answer, said}
 use Rattle.uac_script.proofs.Grammar.{row_sound, row_complete, row_of-letter}
@@ -237,7 +237,7 @@ refuses_answer text (Err rule) e = rules_only text rule (case_of text) (sym e)
 pub read_says : (text : List ℕ) (r : Result Line ℕ) → said r ≡ answer text → Says text (said r)
 read_says text r e = says_answer text (said r) (sym e)
 
-pub read_keeps : (text : List ℕ) (r : Result Line ℕ) → said r ≡ answer text → IfOk r Keeps
+pub read_keeps : (text : List ℕ) (r : Result Line ℕ) → said r ≡ answer text → IfOk r IsLineInRange
 read_keeps text (Ok line) e = keeps_answer text (Ok (phrase_of line)) e
 read_keeps text (Err rule) e = tt
 

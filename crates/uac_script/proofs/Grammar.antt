@@ -11,9 +11,9 @@ use Rattle.uac_script.specs.declared.line.MarkKind.TheVariants.{Out, In, Feedbac
 use Rattle.uac_script.specs.Words.{Word, hex_of}
 use Rattle.uac_edges.specs.Numerals.{numeral}
 use Rattle.uac_script.specs.Numerals.{is_number, value_of}
-use Rattle.uac_script.specs.Phrase.{Voice, silent, ramps, hisses, Loss, Phrase, idle, feeds, goes, controls, gets, sets, shows, breaks, appends, tracks, jacks, deviates, runs, details, reports}
-use Rattle.uac_script.specs.Line.{IsRow, voice_words, letter_of, mark_word, letters}
-use Rattle.uac_script.specs.Reading.{when_empty, only_of, pair_of, then_of, name_of, numbered, feeds_of, setup_of, sent_of, controls_of, sets_of, element_of, break_at, breaks_of, appends_of, ramp_of, voice_of, signal_of, tracks_of, jacks_of, deviation_of, deviates_of, kind_of, is_mark, mark_of, runs_of, details_of, row_of}
+use Rattle.uac_script.specs.Phrase.{SaidTone, silent, ramps, hisses, SaidMark, Phrase, idle, feeds, goes, controls, gets, sets, shows, breaks, appends, tracks, jacks, deviates, runs, details, reports}
+use Rattle.uac_script.specs.Line.{IsRow, tone_words, letter_of, mark_word, letters}
+use Rattle.uac_script.specs.Reading.{when_empty, only_of, pair_of, then_of, name_of, numbered, feeds_of, setup_of, sent_of, controls_of, sets_of, element_of, break_at, breaks_of, appends_of, ramp_of, tone_read, signal_of, tracks_of, jacks_of, deviation_of, deviates_of, kind_of, is_mark, mark_of, runs_of, details_of, row_of}
 use Rattle.uac_script.proofs.Numerals.{is_number-numeral, value_of-numeral, numeral-value_of}
 
 -- ---- what a step of reading needs to give something
@@ -181,24 +181,24 @@ appends_sound (word ∷ sample ∷ samples) p h =
       λ empty. cc,
     )
 
-ramp_sound : (words : List Word) (v : Voice) → then_of ramp_of (pair_of words) ≡ Some v → codes "ramp" ∷ words ≡ voice_words v
+ramp_sound : (words : List Word) (v : SaidTone) → then_of ramp_of (pair_of words) ≡ Some v → codes "ramp" ∷ words ≡ tone_words v
 ramp_sound words v h =
     let t = then_some ramp_of (pair_of words) v h in
     let parts = cond_some (is_number t.0.0 && is_number t.0.1) (ramps (value_of t.0.0) (value_of t.0.1)) v t.2 in
     let numbers = and_parts (is_number t.0.0) (is_number t.0.1) parts.0 in
     ap (λ ws. codes "ramp" ∷ ws) (pair_some words t.0 t.1 ∙ ap (λ w. w ∷ t.0.1 ∷ []) (numeral-value_of t.0.0 numbers.0) ∙ ap (λ w. numeral (value_of t.0.0) ∷ w ∷ []) (numeral-value_of t.0.1 numbers.1))
-    ∙ ap voice_words parts.1
+    ∙ ap tone_words parts.1
 
-noise_sound : (words : List Word) (v : Voice) → then_of (numbered hisses) (only_of words) ≡ Some v → codes "noise" ∷ words ≡ voice_words v
+noise_sound : (words : List Word) (v : SaidTone) → then_of (numbered hisses) (only_of words) ≡ Some v → codes "noise" ∷ words ≡ tone_words v
 noise_sound words v h =
     let t = then_some (numbered hisses) (only_of words) v h in
     let parts = cond_some (is_number t.0) (hisses (value_of t.0)) v t.2 in
-    ap (λ ws. codes "noise" ∷ ws) (only_some words t.0 t.1 ∙ ap (λ w. w ∷ []) (numeral-value_of t.0 parts.0)) ∙ ap voice_words parts.1
+    ap (λ ws. codes "noise" ∷ ws) (only_some words t.0 t.1 ∙ ap (λ w. w ∷ []) (numeral-value_of t.0 parts.0)) ∙ ap tone_words parts.1
 
-silent_sound : (words : List Word) (v : Voice) → when_empty silent words ≡ Some v → codes "none" ∷ words ≡ voice_words v
-silent_sound words v h = let e = empty_some silent v words h in ap (λ ws. codes "none" ∷ ws) e.0 ∙ ap voice_words e.1
+silent_sound : (words : List Word) (v : SaidTone) → when_empty silent words ≡ Some v → codes "none" ∷ words ≡ tone_words v
+silent_sound words v h = let e = empty_some silent v words h in ap (λ ws. codes "none" ∷ ws) e.0 ∙ ap tone_words e.1
 
-voice_sound : (words : List Word) (v : Voice) → voice_of words ≡ Some v → words ≡ voice_words v
+voice_sound : (words : List Word) (v : SaidTone) → tone_read words ≡ Some v → words ≡ tone_words v
 voice_sound [] v h = cc
 voice_sound (kind ∷ words) v h =
     chosen (bytes_eq kind (codes "none")) (when_empty silent words) _ (Some v) h
@@ -209,25 +209,25 @@ voice_sound (kind ∷ words) v h =
     (λ t x. ap (λ w. w ∷ words) (same_word kind _ t) ∙ noise_sound words v x)
     (λ _ x. cc)))
 
-signal_sound : (words : List Word) (signal : ℤ × Voice) → signal_of words ≡ Some signal → words ≡ numeral signal.0 ∷ voice_words signal.1
+signal_sound : (words : List Word) (signal : ℤ × SaidTone) → signal_of words ≡ Some signal → words ≡ numeral signal.0 ∷ tone_words signal.1
 signal_sound [] signal h = cc
 signal_sound (word ∷ words) signal h =
-    chosen (is_number word) (option_map (λ voice. (value_of word, voice)) (voice_of words)) None (Some signal) h
+    chosen (is_number word) (option_map (λ voice. (value_of word, voice)) (tone_read words)) None (Some signal) h
     (λ number x.
-    let m = map_some (λ voice. (value_of word, voice)) (voice_of words) signal x in
-    ap (λ w. w ∷ words) (numeral-value_of word number) ∙ ap (λ ws. numeral (value_of word) ∷ ws) (voice_sound words m.0 m.1) ∙ ap (λ (s : ℤ × Voice). numeral s.0 ∷ voice_words s.1) m.2)
+    let m = map_some (λ voice. (value_of word, voice)) (tone_read words) signal x in
+    ap (λ w. w ∷ words) (numeral-value_of word number) ∙ ap (λ ws. numeral (value_of word) ∷ ws) (voice_sound words m.0 m.1) ∙ ap (λ (s : ℤ × SaidTone). numeral s.0 ∷ tone_words s.1) m.2)
     (λ _ x. cc)
 
 tracks_sound : (words : List Word) (p : Phrase) → tracks_of words ≡ Some p → Allows 116 words p
 unfolding Allows
 tracks_sound words p h =
-    let m = map_some (λ (signal : ℤ × Voice). tracks signal.0 signal.1) (signal_of words) p h in
+    let m = map_some (λ (signal : ℤ × SaidTone). tracks signal.0 signal.1) (signal_of words) p h in
     subst (λ q. IsRow ((116 ∷ []) ∷ words) q) m.2 (ap (λ ws. (116 ∷ []) ∷ ws) (signal_sound words m.0 m.1))
 
 jacks_sound : (words : List Word) (p : Phrase) → jacks_of words ≡ Some p → Allows 106 words p
 unfolding Allows
 jacks_sound words p h =
-    let m = map_some (λ (signal : ℤ × Voice). jacks signal.0 signal.1) (signal_of words) p h in
+    let m = map_some (λ (signal : ℤ × SaidTone). jacks signal.0 signal.1) (signal_of words) p h in
     subst (λ q. IsRow ((106 ∷ []) ∷ words) q) m.2 (ap (λ ws. (106 ∷ []) ∷ ws) (signal_sound words m.0 m.1))
 
 kind_by : Bool → Bool → Bool → Option MarkKind
@@ -313,21 +313,21 @@ kind_read Out = refl
 kind_read In = refl
 kind_read Feedback = refl
 
-loss_with : MarkKind → ℤ → Loss
+loss_with : MarkKind → ℤ → SaidMark
 loss_with kind z = record { letter = kind; place = z }
 
-mark_read : (loss : Loss) → (is_mark (mark_word loss) ≡ true) × (mark_of (mark_word loss) ≡ loss)
+mark_read : (loss : SaidMark) → (is_mark (mark_word loss) ≡ true) × (mark_of (mark_word loss) ≡ loss)
 unfolding loss_with
 mark_read loss = (
   and_from _ _ (ap is_some (kind_read loss.letter)) (is_number-numeral loss.place),
   ap (λ o. loss_with (unwrap_or o Out) (value_of (numeral loss.place))) (kind_read loss.letter) ∙ ap (loss_with loss.letter) (value_of-numeral loss.place),
 )
 
-marks_read : (losses : List Loss) → list_all is_mark (map mark_word losses) ≡ true
+marks_read : (losses : List SaidMark) → list_all is_mark (map mark_word losses) ≡ true
 marks_read [] = refl
 marks_read (loss ∷ losses) = and_from _ _ (mark_read loss).0 (marks_read losses)
 
-losses_read : (losses : List Loss) → map mark_of (map mark_word losses) ≡ losses
+losses_read : (losses : List SaidMark) → map mark_of (map mark_word losses) ≡ losses
 losses_read [] = refl
 losses_read (loss ∷ losses) = ap (λ x. x ∷ map mark_of (map mark_word losses)) (mark_read loss).1 ∙ ap (λ xs. loss ∷ xs) (losses_read losses)
 
@@ -335,12 +335,12 @@ name_read : (name : Word) → name ≢ [] → name_of name ≡ Some name
 name_read [] h = absurd (h refl)
 name_read (c ∷ name) h = refl
 
-voice_read : (v : Voice) → voice_of (voice_words v) ≡ Some v
+voice_read : (v : SaidTone) → tone_read (tone_words v) ≡ Some v
 voice_read silent = refl
 voice_read (ramps start step) = simp (is_number-numeral, value_of-numeral)
 voice_read (hisses seed) = simp (is_number-numeral, value_of-numeral)
 
-signal_read : (z : ℤ) (v : Voice) → signal_of (numeral z ∷ voice_words v) ≡ Some (z, v)
+signal_read : (z : ℤ) (v : SaidTone) → signal_of (numeral z ∷ tone_words v) ≡ Some (z, v)
 signal_read z v = simp (is_number-numeral, value_of-numeral, voice_read)
 
 appends_read : (z : ℤ) (samples : List ℤ) → samples ≢ [] → appends_of (numeral z ∷ map numeral samples) ≡ Some (appends z samples)
@@ -349,7 +349,7 @@ appends_read z (sample ∷ samples) h =
     cond-true _ _ _ (and_from _ _ (is_number-numeral z) (numbers_read (sample ∷ samples)))
     ∙ ap (λ v. Some (appends v (map value_of (map numeral (sample ∷ samples))))) (value_of-numeral z) ∙ ap (λ vs. Some (appends z vs)) (values_read (sample ∷ samples))
 
-runs_read : (z : ℤ) (losses : List Loss) → runs_of (numeral z ∷ map mark_word losses) ≡ Some (runs z losses)
+runs_read : (z : ℤ) (losses : List SaidMark) → runs_of (numeral z ∷ map mark_word losses) ≡ Some (runs z losses)
 runs_read z losses = simp (is_number-numeral, value_of-numeral, marks_read, losses_read)
 
 setup_read : (head : Word) (setup : List ℕ) → hex_of head ≡ Some setup → length setup ≡ 8 → setup_of head ≡ Some setup
@@ -377,8 +377,8 @@ row_complete words (shows name) h = record { letter = 104; behind = codes "show"
 row_complete words (breaks true) h = record { letter = 98; behind = codes "after" ∷ []; words-is = h; row-is = refl }
 row_complete words (breaks false) h = record { letter = 98; behind = codes "before" ∷ []; words-is = h; row-is = refl }
 row_complete words (appends z samples) h = record { letter = 97; behind = numeral z ∷ map numeral samples; words-is = h.0; row-is = ap (λ o. Some o) (appends_read z samples h.1) }
-row_complete words (tracks z v) h = record { letter = 116; behind = numeral z ∷ voice_words v; words-is = h; row-is = ap (λ o. Some (option_map (λ (signal : ℤ × Voice). tracks signal.0 signal.1) o)) (signal_read z v) }
-row_complete words (jacks z v) h = record { letter = 106; behind = numeral z ∷ voice_words v; words-is = h; row-is = ap (λ o. Some (option_map (λ (signal : ℤ × Voice). jacks signal.0 signal.1) o)) (signal_read z v) }
+row_complete words (tracks z v) h = record { letter = 116; behind = numeral z ∷ tone_words v; words-is = h; row-is = ap (λ o. Some (option_map (λ (signal : ℤ × SaidTone). tracks signal.0 signal.1) o)) (signal_read z v) }
+row_complete words (jacks z v) h = record { letter = 106; behind = numeral z ∷ tone_words v; words-is = h; row-is = ap (λ o. Some (option_map (λ (signal : ℤ × SaidTone). jacks signal.0 signal.1) o)) (signal_read z v) }
 row_complete words (deviates y z) h = record { letter = 107; behind = numeral y ∷ numeral z ∷ []; words-is = h; row-is = simp (is_number-numeral, value_of-numeral) }
 row_complete words (runs z losses) h = record { letter = 109; behind = numeral z ∷ map mark_word losses; words-is = h; row-is = ap (λ o. Some o) (runs_read z losses) }
 row_complete words (details z) h = record { letter = 118; behind = numeral z ∷ []; words-is = h; row-is = simp (is_number-numeral, value_of-numeral) }

@@ -18,7 +18,7 @@ behind_at : (t : Bool) (rest n more : ℕ) → suc n ≤ cond t (1 + rest) 0 →
 behind_at true rest n more few h = let e : rest ≡ n + more = h (omega arith) in omega arith
 behind_at false rest n more few h = absurd (omega arith)
 
--- the end, looked for behind bytes that have no newline
+-- the end, looked for after bytes that have no newline
 pub line_end_behind : (bytes : List ℕ) (n : ℕ) → n ≤ line_end bytes → line_end bytes ≡ n + line_end (drop n bytes)
 line_end_behind bytes zero few = sym (zero-add (line_end bytes))
 line_end_behind [] (suc n) few = absurd (omega arith)

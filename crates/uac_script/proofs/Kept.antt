@@ -8,7 +8,7 @@ use Rattle.arrayvec.specs.ArrayVec.{ArrayVec}
 use Rattle.uac_script.specs.declared.line.Mark.{Mark}
 use Rattle.uac_script.specs.declared.line.Line.TheVariants.{Deviate, Run, Detail}
 use Rattle.uac_script.specs.Phrase.{is_within, is_id}
-use Rattle.uac_script.specs.Line.{Keeps, loss_of}
+use Rattle.uac_script.specs.Line.{IsLineInRange, said_mark}
 
 at_most : (least z : ℤ) → int_le least z ≡ true → least ≤ℤ z
 at_most least z h = grind (arith, ints)
@@ -18,15 +18,15 @@ within_means least most z h =
     let parts = and_parts (int_le least z) (int_le z most) h in
     (at_most least z parts.0, at_most z most parts.1)
 
-pub kept_deviation : (domain : ℕ) (ppm : ℤ) → Keeps (Deviate domain ppm) → (negsuc 99999 ≤ℤ ppm) × (ppm ≤ℤ pos 100000)
+pub kept_deviation : (domain : ℕ) (ppm : ℤ) → IsLineInRange (Deviate domain ppm) → (negsuc 99999 ≤ℤ ppm) × (ppm ≤ℤ pos 100000)
 kept_deviation domain ppm h = within_means (negsuc 99999) (pos 100000) ppm (and_parts (is_id (pos domain)) _ h.0).1
 
-pub kept_run : (count : ℕ) (marks : ArrayVec Mark) → Keeps (Run count marks) → (1 ≤ count) × (count ≤ 8000) × (length marks.items ≤ 24)
+pub kept_run : (count : ℕ) (marks : ArrayVec Mark) → IsLineInRange (Run count marks) → (1 ≤ count) × (count ≤ 8000) × (length marks.items ≤ 24)
 kept_run count marks h =
     let parts = and_parts (is_within (pos 1) (pos 8000) (pos count)) _ h.0 in
     let bounds = and_parts _ _ parts.0 in
-    let few = leb-true (length (map loss_of marks.items)) 24 (and_parts _ _ parts.1).1 in
+    let few = leb-true (length (map said_mark marks.items)) 24 (and_parts _ _ parts.1).1 in
     (leb-true 1 count bounds.0, leb-true count 8000 bounds.1, simp length-map at few)
 
-pub kept_detail : (level : ℕ) → Keeps (Detail level) → level ≤ 2
+pub kept_detail : (level : ℕ) → IsLineInRange (Detail level) → level ≤ 2
 kept_detail level h = leb-true level 2 (and_parts _ _ h.0).1

@@ -13,8 +13,8 @@ use Rattle.uac_script.specs.declared.line.Mark.{Mark}
 use Rattle.uac_script.specs.declared.line.Line.{Line}
 use Rattle.uac_script.specs.declared.line.Line.TheVariants.{Nothing, Bytes, Go, Control, Get, Set, Show, Break, Append, Track, Jack, Deviate, Run, Detail, Report}
 use Rattle.uac_script.specs.Words.{Word, words_of, hex_of}
-use Rattle.uac_script.specs.Phrase.{Voice, silent, ramps, hisses, Loss, Phrase, idle, feeds, goes, controls, gets, sets, shows, breaks, appends, tracks, jacks, deviates, runs, details, reports}
-use Rattle.uac_script.specs.Line.{Spells, phrase_of, voice_of_tone, loss_of}
+use Rattle.uac_script.specs.Phrase.{SaidTone, silent, ramps, hisses, SaidMark, Phrase, idle, feeds, goes, controls, gets, sets, shows, breaks, appends, tracks, jacks, deviates, runs, details, reports}
+use Rattle.uac_script.specs.Line.{Spells, phrase_of, said_tone_of, said_mark}
 use Rattle.uac_script.specs.Reading.{row_of}
 use Rattle.uac_script.proofs.Grammar.{IsRead, row_complete}
 use Rattle.uac_script.proofs.Answered.{answers}
@@ -85,12 +85,12 @@ size : ℤ → ℕ
 size (pos n) = n
 size (negsuc n) = 0
 
-tone_back : Voice → Tone
+tone_back : SaidTone → Tone
 tone_back silent = Silent
 tone_back (ramps start step) = Ramp start step
 tone_back (hisses seed) = Noise (size seed)
 
-mark_back : Loss → Mark
+mark_back : SaidMark → Mark
 mark_back loss = record { kind = loss.letter; interface = size loss.place }
 
 line_back : Phrase → Line
@@ -110,13 +110,13 @@ line_back (runs count losses) = Run (size count) (record { items = map mark_back
 line_back (details level) = Detail (size level)
 line_back reports = Report
 
-tone_same : (tone : Tone) → tone_back (voice_of_tone tone) ≡ tone
+tone_same : (tone : Tone) → tone_back (said_tone_of tone) ≡ tone
 unfolding tone_back size
 tone_same Silent = refl
 tone_same (Ramp start step) = refl
 tone_same (Noise seed) = refl
 
-marks_same : (marks : List Mark) → map mark_back (map loss_of marks) ≡ marks
+marks_same : (marks : List Mark) → map mark_back (map said_mark marks) ≡ marks
 unfolding mark_back size
 marks_same [] = refl
 marks_same (mark ∷ marks) = ap (λ ms. mark ∷ ms) (marks_same marks)

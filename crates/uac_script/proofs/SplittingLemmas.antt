@@ -20,7 +20,7 @@ same_more old mid now taken got before others grown =
 pub others_kept : (mid now : Splitting) → now ≡ record mid { unread = now.unread } → (now.number ≡ mid.number) × (now.spare ≡ mid.spare) × (now.stop ≡ mid.stop)
 others_kept mid now others = (ap (λ (s : Splitting). s.number) others, ap (λ (s : Splitting). s.spare) others, ap (λ (s : Splitting). s.stop) others)
 
--- Bytes that don't tell what stands first, behind more that were taken, didn't tell it before.
+-- Bytes that don't tell what stands first, after more that were taken, didn't tell it before.
 pub untold : (old mid : Splitting) (taken : List ℕ) → mid ≡ record old { unread = old.unread ++ taken } → head_of mid.spare mid.unread ≡ unended mid.unread
     → IsTold (head_of old.spare old.unread) → ⊥
 untold old mid taken same waits known =

@@ -5,7 +5,7 @@ use Rattle.uac_script.specs.declared.lent.LentLine.TheVariants.{Nothing, Bytes, 
 use Rattle.uac_script.specs.declared.lent.LentLine.TheVariants.{Deviate, Run, Detail, Report}
 use Rattle.uac_script.specs.Phrase.{Phrase, idle, feeds, goes, controls, gets, sets, shows, breaks, appends, tracks, jacks, deviates, runs}
 use Rattle.uac_script.specs.Phrase.{details, reports, is_in_range}
-use Rattle.uac_script.specs.Line.{voice_of_tone, loss_of, HasNoEmptyPart}
+use Rattle.uac_script.specs.Line.{said_tone_of, said_mark, HasNoEmptyPart}
 
 -- the line that a value stands for
 abbrev pub lent_phrase : LentLine → Phrase
@@ -18,10 +18,10 @@ lent_phrase (Set name value) = sets name.now value
 lent_phrase (Show name) = shows name.now
 lent_phrase (Break after) = breaks after
 lent_phrase (Append interface samples) = appends (pos interface) samples.now
-lent_phrase (Track interface tone) = tracks (pos interface) (voice_of_tone tone)
-lent_phrase (Jack terminal tone) = jacks (pos terminal) (voice_of_tone tone)
+lent_phrase (Track interface tone) = tracks (pos interface) (said_tone_of tone)
+lent_phrase (Jack terminal tone) = jacks (pos terminal) (said_tone_of tone)
 lent_phrase (Deviate domain ppm) = deviates (pos domain) ppm
-lent_phrase (Run count marks) = runs (pos count) (map loss_of marks.now)
+lent_phrase (Run count marks) = runs (pos count) (map said_mark marks.now)
 lent_phrase (Detail level) = details (pos level)
 lent_phrase Report = reports
 

@@ -12,16 +12,16 @@ use Rattle.uac_script.specs.declared.line.Line.TheVariants.{Nothing, Bytes, Go, 
 use Rattle.uac_script.specs.declared.line.Line.TheVariants.{Deviate, Run, Detail, Report}
 use Rattle.uac_script.specs.Words.{Word, words_of, is_idle, hex_of}
 use Rattle.uac_edges.specs.Numerals.{numeral}
-use Rattle.uac_script.specs.Phrase.{Voice, silent, ramps, hisses, Loss, Phrase, idle, feeds, goes, controls, gets, sets, shows, breaks}
+use Rattle.uac_script.specs.Phrase.{SaidTone, silent, ramps, hisses, SaidMark, Phrase, idle, feeds, goes, controls, gets, sets, shows, breaks}
 use Rattle.uac_script.specs.Phrase.{appends, tracks, jacks, deviates, runs, details, reports, is_in_range}
 
 -- ---- how a line is spelt
 
--- the words of a tone, behind the id that it is for
-abbrev pub voice_words : Voice → List Word
-voice_words silent = codes "none" ∷ []
-voice_words (ramps start step) = codes "ramp" ∷ numeral start ∷ numeral step ∷ []
-voice_words (hisses seed) = codes "noise" ∷ numeral seed ∷ []
+-- the words of a tone, after the id that it is for
+abbrev pub tone_words : SaidTone → List Word
+tone_words silent = codes "none" ∷ []
+tone_words (ramps start step) = codes "ramp" ∷ numeral start ∷ numeral step ∷ []
+tone_words (hisses seed) = codes "noise" ∷ numeral seed ∷ []
 
 abbrev pub letter_of : MarkKind → ℕ
 letter_of Out = 111
@@ -29,7 +29,7 @@ letter_of In = 105
 letter_of Feedback = 102
 
 -- a mark: `o`, `i` or `f` and the interface's number, in one word
-abbrev pub mark_word : Loss → Word
+abbrev pub mark_word : SaidMark → Word
 mark_word loss = letter_of loss.letter ∷ numeral loss.place
 
 -- the words make the line: each case is a row of the table of lines
@@ -45,8 +45,8 @@ IsRow words (sets name value) = (words ≡ codes "h" ∷ codes "set" ∷ name �
 IsRow words (shows name) = (words ≡ codes "h" ∷ codes "show" ∷ name ∷ []) × (name ≢ [])
 IsRow words (breaks after) = words ≡ codes "b" ∷ (if after then codes "after" else codes "before") ∷ []
 IsRow words (appends interface samples) = (words ≡ codes "a" ∷ numeral interface ∷ map numeral samples) × (samples ≢ [])
-IsRow words (tracks interface voice) = words ≡ codes "t" ∷ numeral interface ∷ voice_words voice
-IsRow words (jacks terminal voice) = words ≡ codes "j" ∷ numeral terminal ∷ voice_words voice
+IsRow words (tracks interface tone) = words ≡ codes "t" ∷ numeral interface ∷ tone_words tone
+IsRow words (jacks terminal tone) = words ≡ codes "j" ∷ numeral terminal ∷ tone_words tone
 IsRow words (deviates domain ppm) = words ≡ codes "k" ∷ numeral domain ∷ numeral ppm ∷ []
 IsRow words (runs count marks) = words ≡ codes "m" ∷ numeral count ∷ map mark_word marks
 IsRow words (details level) = words ≡ codes "v" ∷ numeral level ∷ []
@@ -72,13 +72,13 @@ begins_known (word ∷ words) = is_letter word
 
 -- ---- what a value of the type says
 
-abbrev pub voice_of_tone : Tone → Voice
-voice_of_tone Silent = silent
-voice_of_tone (Ramp start step) = ramps start step
-voice_of_tone (Noise seed) = hisses (pos seed)
+abbrev pub said_tone_of : Tone → SaidTone
+said_tone_of Silent = silent
+said_tone_of (Ramp start step) = ramps start step
+said_tone_of (Noise seed) = hisses (pos seed)
 
-abbrev pub loss_of : Mark → Loss
-loss_of mark = record { letter = mark.kind; place = pos mark.interface }
+abbrev pub said_mark : Mark → SaidMark
+said_mark mark = record { letter = mark.kind; place = pos mark.interface }
 
 -- the line that a value stands for; two values that stand for one line are the same
 abbrev pub phrase_of : Line → Phrase
@@ -91,10 +91,10 @@ phrase_of (Set name value) = sets name.items value
 phrase_of (Show name) = shows name.items
 phrase_of (Break after) = breaks after
 phrase_of (Append interface samples) = appends (pos interface) samples.items
-phrase_of (Track interface tone) = tracks (pos interface) (voice_of_tone tone)
-phrase_of (Jack terminal tone) = jacks (pos terminal) (voice_of_tone tone)
+phrase_of (Track interface tone) = tracks (pos interface) (said_tone_of tone)
+phrase_of (Jack terminal tone) = jacks (pos terminal) (said_tone_of tone)
 phrase_of (Deviate domain ppm) = deviates (pos domain) ppm
-phrase_of (Run count marks) = runs (pos count) (map loss_of marks.items)
+phrase_of (Run count marks) = runs (pos count) (map said_mark marks.items)
 phrase_of (Detail level) = details (pos level)
 phrase_of Report = reports
 
@@ -108,8 +108,8 @@ HasNoEmptyPart (appends interface samples) = samples ≢ []
 HasNoEmptyPart _ = Unit {0}
 
 -- a line that `Line::read` gives: each number in its range, no part empty
-abbrev pub Keeps : Line → Type 0
-Keeps line = (is_in_range (phrase_of line) ≡ true) × HasNoEmptyPart (phrase_of line)
+abbrev pub IsLineInRange : Line → Type 0
+IsLineInRange line = (is_in_range (phrase_of line) ≡ true) × HasNoEmptyPart (phrase_of line)
 
 -- ---- what a text says
 

@@ -18,7 +18,7 @@ most_of_input = 268435456
 
 -- what stands first in bytes of which no more than so many count
 pub data Head : Type 0 where
-  -- a line, and what stands behind its newline
+  -- a line, and what stands after its newline
   line : List ℕ → List ℕ → Head
   -- a line of more than 4,096 bytes, each of them among those that count
   long : Head
@@ -44,7 +44,7 @@ IsTold past = Unit {0}
 IsTold (unended text) = ⊥
 
 -- a reader of lines: the last line, its number from 1, the bytes that were taken and aren't in a line yet, how many
--- bytes may still go into lines, what stopped it, and whether the last line stood at the end of the source with no newline behind it
+-- bytes may still go into lines, what stopped it, and whether the last line stood at the end of the source with no newline after it
 pub record Splitting : Type 0 where
   pub text : List ℕ
   pub number : ℕ

@@ -37,6 +37,6 @@ value_of word = unwrap_or (number_of word) (pos 0)
 abbrev pub far : ℕ
 far = 10 ^ 12
 
-abbrev pub held : ℤ → ℤ
-held (pos n) = pos (min n far)
-held (negsuc n) = neg_ℤ (pos (min (n + 1) far))
+abbrev pub clamped : ℤ → ℤ
+clamped (pos n) = pos (min n far)
+clamped (negsuc n) = neg_ℤ (pos (min (n + 1) far))

@@ -5,13 +5,13 @@ use Rattle.uac_script.specs.Words.{Word}
 use Rattle.uac_script.specs.declared.line.MarkKind.{MarkKind}
 
 -- a tone, with its numbers as they are spelt
-pub data Voice : Type 0 where
-  silent : Voice
-  ramps : ℤ → ℤ → Voice
-  hisses : ℤ → Voice
+pub data SaidTone : Type 0 where
+  silent : SaidTone
+  ramps : ℤ → ℤ → SaidTone
+  hisses : ℤ → SaidTone
 
 -- one packet or report to lose in each microframe: of which kind, and of which interface
-pub record Loss : Type 0 where
+pub record SaidMark : Type 0 where
   pub letter : MarkKind
   pub place : ℤ
 
@@ -26,10 +26,10 @@ pub data Phrase : Type 0 where
   shows : Word → Phrase
   breaks : Bool → Phrase
   appends : ℤ → List ℤ → Phrase
-  tracks : ℤ → Voice → Phrase
-  jacks : ℤ → Voice → Phrase
+  tracks : ℤ → SaidTone → Phrase
+  jacks : ℤ → SaidTone → Phrase
   deviates : ℤ → ℤ → Phrase
-  runs : ℤ → List Loss → Phrase
+  runs : ℤ → List SaidMark → Phrase
   details : ℤ → Phrase
   reports : Phrase
 
@@ -45,14 +45,14 @@ is_id z = is_within (pos 0) (pos 255) z
 abbrev pub is_signed : ℤ → Bool
 is_signed z = is_within (negsuc 2147483647) (pos 2147483647) z
 
-abbrev pub is_voice_in_range : Voice → Bool
-is_voice_in_range silent = true
-is_voice_in_range (ramps start step) = is_signed start && is_signed step
-is_voice_in_range (hisses seed) = is_within (pos 0) (pos 4294967295) seed
+abbrev pub is_tone_in_range : SaidTone → Bool
+is_tone_in_range silent = true
+is_tone_in_range (ramps start step) = is_signed start && is_signed step
+is_tone_in_range (hisses seed) = is_within (pos 0) (pos 4294967295) seed
 
 -- each interface of the marks is an id, and there are at most 24 of them
-abbrev pub are_losses_in_range : List Loss → Bool
-are_losses_in_range losses = list_all (λ loss. is_id loss.place) losses && nat_le (length losses) 24
+abbrev pub are_marks_in_range : List SaidMark → Bool
+are_marks_in_range losses = list_all (λ loss. is_id loss.place) losses && nat_le (length losses) 24
 
 -- each number of the line lies in its range, and there are at most 24 marks
 abbrev pub is_in_range : Phrase → Bool
@@ -65,9 +65,9 @@ is_in_range (sets name value) = is_signed value
 is_in_range (shows name) = true
 is_in_range (breaks after) = true
 is_in_range (appends interface samples) = is_id interface && list_all is_signed samples
-is_in_range (tracks interface voice) = is_id interface && is_voice_in_range voice
-is_in_range (jacks terminal voice) = is_id terminal && is_voice_in_range voice
+is_in_range (tracks interface tone) = is_id interface && is_tone_in_range tone
+is_in_range (jacks terminal tone) = is_id terminal && is_tone_in_range tone
 is_in_range (deviates domain ppm) = is_id domain && is_within (negsuc 99999) (pos 100000) ppm
-is_in_range (runs count marks) = is_within (pos 1) (pos 8000) count && are_losses_in_range marks
+is_in_range (runs count marks) = is_within (pos 1) (pos 8000) count && are_marks_in_range marks
 is_in_range (details level) = is_within (pos 0) (pos 2) level
 is_in_range reports = true

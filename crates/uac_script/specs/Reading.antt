@@ -1,4 +1,4 @@
--- Profile: the table of lines, read from the words behind the first one. `proofs/Grammar.antt` shows that it reads exactly what `Spells`
+-- Profile: the table of lines, read from the words after the first one. `proofs/Grammar.antt` shows that it reads exactly what `Spells`
 -- spells.
 use Rattle.std.specs.Prelude.{ℕ, ◌==◌, ◌&&◌, Bool, true, false, if◌then◌else◌, List, [], ◌∷◌, map, length, slice_index, codes, ℤ, pos}
 use Rattle.std.specs.Prelude.{Option, Some, None, is_some, unwrap_or, Result, Ok, Err}
@@ -11,10 +11,10 @@ use Rattle.uac_script.specs.declared.line.MarkKind.TheVariants.{Out, In, Feedbac
 use Rattle.uac_script.specs.declared.line.Line.{Line}
 use Rattle.uac_script.specs.Words.{Word, words_of, is_idle, hex_of}
 use Rattle.uac_script.specs.Numerals.{is_number, value_of}
-use Rattle.uac_script.specs.Phrase.{Voice, silent, ramps, hisses, Loss, Phrase, idle, feeds, goes, controls, gets, sets, shows, breaks}
-use Rattle.uac_script.specs.Phrase.{appends, tracks, jacks, deviates, runs, details, reports, is_id, is_signed, is_voice_in_range}
+use Rattle.uac_script.specs.Phrase.{SaidTone, silent, ramps, hisses, SaidMark, Phrase, idle, feeds, goes, controls, gets, sets, shows, breaks}
+use Rattle.uac_script.specs.Phrase.{appends, tracks, jacks, deviates, runs, details, reports, is_id, is_signed, is_tone_in_range}
 use Rattle.uac_script.specs.Phrase.{is_in_range}
-use Rattle.uac_script.specs.Line.{phrase_of, voice_of_tone}
+use Rattle.uac_script.specs.Line.{phrase_of, said_tone_of}
 
 -- nothing, or exactly one word
 abbrev pub when_empty : {A : Type 0} → A → List Word → Option A
@@ -87,21 +87,21 @@ appends_of (word ∷ sample ∷ samples) =
     if is_number word && list_all is_number (sample ∷ samples) then Some (appends (value_of word) (map value_of (sample ∷ samples)))
     else None
 
-abbrev pub ramp_of : Word × Word → Option Voice
+abbrev pub ramp_of : Word × Word → Option SaidTone
 ramp_of (start, step) = if is_number start && is_number step then Some (ramps (value_of start) (value_of step)) else None
 
-abbrev pub voice_of : List Word → Option Voice
-voice_of [] = None
-voice_of (kind ∷ words) =
+abbrev pub tone_read : List Word → Option SaidTone
+tone_read [] = None
+tone_read (kind ∷ words) =
     if bytes_eq kind (codes "none") then when_empty silent words
     else if bytes_eq kind (codes "ramp") then then_of ramp_of (pair_of words)
     else if bytes_eq kind (codes "noise") then then_of (numbered hisses) (only_of words)
     else None
 
 -- an id and its tone
-abbrev pub signal_of : List Word → Option (ℤ × Voice)
+abbrev pub signal_of : List Word → Option (ℤ × SaidTone)
 signal_of [] = None
-signal_of (word ∷ words) = if is_number word then option_map (λ voice. (value_of word, voice)) (voice_of words) else None
+signal_of (word ∷ words) = if is_number word then option_map (λ tone. (value_of word, tone)) (tone_read words) else None
 
 abbrev pub tracks_of : List Word → Option Phrase
 tracks_of words = option_map (λ signal. tracks signal.0 signal.1) (signal_of words)
@@ -123,7 +123,7 @@ abbrev pub is_mark : Word → Bool
 is_mark [] = false
 is_mark (letter ∷ word) = is_some (kind_of letter) && is_number word
 
-abbrev pub mark_of : Word → Loss
+abbrev pub mark_of : Word → SaidMark
 mark_of [] = record { letter = Out; place = pos 0 }
 mark_of (letter ∷ word) = record { letter = unwrap_or (kind_of letter) Out; place = value_of word }
 
@@ -134,7 +134,7 @@ runs_of (word ∷ words) = if is_number word && list_all is_mark words then Some
 abbrev pub details_of : List Word → Option Phrase
 details_of words = then_of (numbered details) (only_of words)
 
--- the row of this letter, read from the words behind it; no row has another letter
+-- the row of this letter, read from the words after it; no row has another letter
 abbrev pub row_of : ℕ → List Word → Option (Option Phrase)
 row_of letter words =
     if letter == 100 then Some (feeds_of words)
@@ -159,11 +159,11 @@ judged_by is_right (Some x) = if is_right x then Ok x else Err 4
 abbrev pub judged : Option Phrase → Result Phrase ℕ
 judged row = judged_by is_in_range row
 
-abbrev pub judged_voice : Option Voice → Result Voice ℕ
-judged_voice voice = judged_by is_voice_in_range voice
+abbrev pub judged_tone : Option SaidTone → Result SaidTone ℕ
+judged_tone tone = judged_by is_tone_in_range tone
 
-abbrev pub judged_signal : Option (ℤ × Voice) → Result (ℤ × Voice) ℕ
-judged_signal signal = judged_by (λ s. is_id s.0 && is_voice_in_range s.1) signal
+abbrev pub judged_signal : Option (ℤ × SaidTone) → Result (ℤ × SaidTone) ℕ
+judged_signal signal = judged_by (λ s. is_id s.0 && is_tone_in_range s.1) signal
 
 abbrev pub judged_row : Option (Option Phrase) → Result Phrase ℕ
 judged_row None = Err 2
@@ -183,12 +183,12 @@ abbrev pub said : Result Line ℕ → Result Phrase ℕ
 said (Ok line) = Ok (phrase_of line)
 said (Err rule) = Err rule
 
-abbrev pub said_voice : Result Tone ℕ → Result Voice ℕ
-said_voice (Ok tone) = Ok (voice_of_tone tone)
-said_voice (Err rule) = Err rule
+abbrev pub said_tone : Result Tone ℕ → Result SaidTone ℕ
+said_tone (Ok tone) = Ok (said_tone_of tone)
+said_tone (Err rule) = Err rule
 
-abbrev pub said_signal : Result (ℕ × Tone) ℕ → Result (ℤ × Voice) ℕ
-said_signal (Ok signal) = Ok (pos signal.0, voice_of_tone signal.1)
+abbrev pub said_signal : Result (ℕ × Tone) ℕ → Result (ℤ × SaidTone) ℕ
+said_signal (Ok signal) = Ok (pos signal.0, said_tone_of signal.1)
 said_signal (Err rule) = Err rule
 
 -- the samples of these words: each in range, or nothing

@@ -30,7 +30,7 @@ abbrev pub words_left : Option (Bor (List ℕ)) → List Word
 words_left None = []
 words_left (Some rest) = words_of rest.now
 
--- the bytes that are left, each word with the byte behind it
+-- the bytes that are left, each word with the byte after it
 abbrev pub bytes_left : Option (Bor (List ℕ)) → ℕ
 bytes_left None = 0
 bytes_left (Some rest) = length rest.now + 1

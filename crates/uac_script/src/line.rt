@@ -80,7 +80,7 @@ pub enum Line {
 impl Line {
     ghost use Rattle.std.specs.Prelude.{◌≡◌, ◌≤◌, length, IfOk, IfErr};
     ghost use Rattle.uac_script.specs.Reading.{said, answer};
-    ghost use Rattle.uac_script.specs.Line.{Says, Keeps};
+    ghost use Rattle.uac_script.specs.Line.{Says, IsLineInRange};
 
     /// The line that a text of at most 4,096 bytes spells.
     ///
@@ -96,7 +96,7 @@ impl Line {
         // The same as one function of the text, for definitions that compute it.
         ensures answered { said result ≡ answer text.now }
 
-        ensures keeps { IfOk result Keeps }
+        ensures keeps { IfOk result IsLineInRange }
         ensures no_other { IfErr result (λ rule. (2 ≤ rule) × (rule ≤ 4)) }
     {
         read(text)

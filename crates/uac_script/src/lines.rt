@@ -1,5 +1,5 @@
 // The lines of a script, from a source that gives its bytes in pieces of any size.
-ghost use Rattle.std.specs.Prelude.{◌≡◌, ◌+◌, ◌-◌, ◌≤◌, ◌<◌, true, false, [], None, Some, Ok, Err, IfOk, OnOk, OnErr, length, take, drop};
+ghost use Rattle.std.specs.Prelude.{◌≡◌, ◌≢◌, ◌+◌, ◌-◌, ◌≤◌, ◌<◌, true, false, [], None, Some, Ok, Err, IfOk, OnErr, length, take, drop};
 ghost use Rattle.std.specs.Io.KnownBytes.{Keeps};
 ghost use Rattle.uac_edges.specs.Faults.{HasCause};
 ghost use Rattle.uac_script.specs.Lines.{Splits, Goes, Stops, IsTold, head_of, most_of_input, most_of_line};
@@ -78,10 +78,10 @@ impl Lines {
         }
     }
 
-    /// Takes the next line from a source. After a stop it answers that stop again. Behind a line
+    /// Takes the next line from a source. After a stop it answers that stop again. After a line
     /// that no newline ends it answers `End`, and calls the source no more. A line that stands whole
-    /// in the bytes at hand is answered without a call of the source. `Ok` means that no call of the
-    /// source met a fault. All calls together take at most 268,435,457 bytes.
+    /// in the bytes at hand is answered without a call of the source. Unless it answers `Failed`, no
+    /// call of the source met a fault. All calls together take at most 268,435,457 bytes.
     pub fn next<S: Source>(&mut self, source: &mut S) -> Result<Next, LineStop>
         ensures splits { self.old.stop ≡ None → self.old.ended ≡ false
             → Splits self.old self.new (S.left source.old) (S.left source.new) (S.faults source.old) (S.faults source.new) result }
@@ -91,7 +91,7 @@ impl Lines {
             → (result ≡ Err why) × (self.new ≡ self.old) × (source.new ≡ source.old) }
         ensures told { self.old.stop ≡ None → self.old.ended ≡ false → IsTold (head_of self.old.spare self.old.unread)
             → source.new ≡ source.old }
-        ensures faultless { OnOk result (S.faults source.new ≡ S.faults source.old) }
+        ensures faultless { result ≢ Err LineStop.Failed → S.faults source.new ≡ S.faults source.old }
         ensures never_falls { S.faults source.old ≤ S.faults source.new }
         ensures bounded { self.new.stop ≡ None → self.new.number + self.new.spare ≤ most_of_input }
         ensures within { length self.new.unread ≤ self.new.spare + 1 }
@@ -143,7 +143,7 @@ impl Lines {
         look(self.unread.as_bytes(), searched, self.spare)
     }
 
-    // Takes more bytes behind the unread ones, in one call of the source.
+    // Takes more bytes after the unread ones, in one call of the source.
     fn fill<S: Source>(&mut self, source: &mut S) -> Result<usize, Failed>
         requires fits { length self.old.unread ≤ most_of_line }
         requires counted { length self.old.unread ≤ self.old.spare }
@@ -153,7 +153,6 @@ impl Lines {
         ensures err { OnErr result (self.new ≡ self.old) }
         ensures kept { OnErr result (Keeps (S.left source.old) (S.left source.new)) }
         ensures cause { HasCause (S.faults source.old) (S.faults source.new) result }
-        ensures faultless { OnOk result (S.faults source.new ≡ S.faults source.old) }
     {
         let most = self.spare + 1 - self.unread.as_bytes().len();
         self.unread.fill(source, most)

@@ -5,8 +5,8 @@ ghost use Rattle.std.specs.List.{list_all};
 ghost use Rattle.uac_script.specs.Words.{words_left, bytes_left};
 ghost use Rattle.uac_script.specs.Numerals.{is_number};
 ghost use Rattle.uac_script.specs.Reading.{judged, appends_of, runs_of, samples_of, kind_of, is_mark, mark_of};
-ghost use Rattle.uac_script.specs.Phrase.{is_id, are_losses_in_range};
-ghost use Rattle.uac_script.specs.Line.{loss_of};
+ghost use Rattle.uac_script.specs.Phrase.{is_id, are_marks_in_range};
+ghost use Rattle.uac_script.specs.Line.{said_mark};
 ghost use Rattle.uac_script.specs.Lent.{lent_said, Fits};
 
 use crate::lent::LentLine;
@@ -92,7 +92,7 @@ fn is_mark(word: &[u8]) -> bool
 fn mark(word: &[u8]) -> Option<Mark>
     requires { IsTrue (is_mark word.now) }
     ensures { MatchOption result (is_id (mark_of word.now).place ≡ false)
-        (λ mark. (is_id (mark_of word.now).place ≡ true) × (loss_of mark ≡ mark_of word.now)) }
+        (λ mark. (is_id (mark_of word.now).place ≡ true) × (said_mark mark ≡ mark_of word.now)) }
 {
     let (letter, number) = word.split_first()?;
     let kind = kind(*letter)?;
@@ -115,9 +115,9 @@ fn are_marks(mut words: Words<'_>) -> bool
 // The marks that the words spell, where each is in range and there are no more than 24.
 fn marks<'a>(mut words: Words<'_>, marks: &'a mut ArrayVec<Mark, 24>) -> Option<&'a [Mark]>
     requires { IsTrue (list_all is_mark (words_left words.rest)) }
-    ensures marks { MatchOption result (are_losses_in_range (map mark_of (words_left words.entry.rest)) ≡ false)
-        (λ marks. (are_losses_in_range (map mark_of (words_left words.entry.rest)) ≡ true)
-        × (map loss_of marks.now ≡ map mark_of (words_left words.entry.rest))) }
+    ensures marks { MatchOption result (are_marks_in_range (map mark_of (words_left words.entry.rest)) ≡ false)
+        (λ marks. (are_marks_in_range (map mark_of (words_left words.entry.rest)) ≡ true)
+        × (map said_mark marks.now ≡ map mark_of (words_left words.entry.rest))) }
     ensures fits { IfSome result (λ marks. length marks.now ≤ 24) }
 {
     marks.clear();

@@ -24,7 +24,7 @@ pub fn is_idle(text: &[u8]) -> bool
     }
 }
 
-// The row of a letter, from the words behind it.
+// The row of a letter, from the words after it.
 fn row<'a>(letter: u8, words: Words<'a>, room: &'a mut LineRoom) -> Result<LentLine<'a>, u8>
     requires { bytes_left words.rest ≤ 4096 }
     ensures says { lent_said result ≡ judged_row (row_of letter (words_left words.entry.rest)) }

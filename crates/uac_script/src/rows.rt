@@ -1,10 +1,10 @@
-//! The rows of the table of lines, each read from the words behind the first one.
+//! The rows of the table of lines, each read from the words after the first one.
 ghost use Rattle.std.specs.Prelude.{◌≡◌, ◌≤◌, ◌==◌, length, Option, Some, None, IsTrue, IfSome, IfOk};
 ghost use Rattle.std.specs.Option.{option_copied};
 ghost use Rattle.uac_script.specs.Words.{words_left, bytes_left};
 ghost use Rattle.uac_script.specs.Numerals.{is_number};
-ghost use Rattle.uac_script.specs.Reading.{said_voice, said_signal, judged, judged_voice, judged_signal, name_of, only_of, then_of};
-ghost use Rattle.uac_script.specs.Reading.{when_empty, feeds_of, controls_of, element_of, breaks_of, voice_of, signal_of, tracks_of};
+ghost use Rattle.uac_script.specs.Reading.{said_tone, said_signal, judged, judged_tone, judged_signal, name_of, only_of, then_of};
+ghost use Rattle.uac_script.specs.Reading.{when_empty, feeds_of, controls_of, element_of, breaks_of, tone_read, signal_of, tracks_of};
 ghost use Rattle.uac_script.specs.Reading.{jacks_of, deviates_of, details_of, sets_of, pair_of, sent_of, ramp_of, numbered};
 ghost use Rattle.uac_script.specs.Phrase.{silent, hisses, is_in_range};
 ghost use Rattle.uac_script.specs.Lent.{lent_phrase, lent_said, Fits};
@@ -165,7 +165,7 @@ pub fn break_at<'a>(words: Words<'_>) -> Result<LentLine<'a>, u8>
 
 // The tone of a track or a jack.
 fn tone(mut words: Words<'_>) -> Result<Tone, u8>
-    ensures { said_voice result ≡ judged_voice (voice_of (words_left words.entry.rest)) }
+    ensures { said_tone result ≡ judged_tone (tone_read (words_left words.entry.rest)) }
 {
     let Some(kind) = words.take() else {
         return Err(MISSPELT);
@@ -183,7 +183,7 @@ fn tone(mut words: Words<'_>) -> Result<Tone, u8>
 
 // A tone of zeros has no numbers.
 fn silence(words: Words<'_>) -> Result<Tone, u8>
-    ensures { said_voice result ≡ judged_voice (when_empty silent (words_left words.entry.rest)) }
+    ensures { said_tone result ≡ judged_tone (when_empty silent (words_left words.entry.rest)) }
 {
     if words.is_empty() {
         Ok(Tone::Silent)
@@ -194,7 +194,7 @@ fn silence(words: Words<'_>) -> Result<Tone, u8>
 
 // A straight line has its start and its step.
 fn ramp(words: Words<'_>) -> Result<Tone, u8>
-    ensures { said_voice result ≡ judged_voice (then_of ramp_of (pair_of (words_left words.entry.rest))) }
+    ensures { said_tone result ≡ judged_tone (then_of ramp_of (pair_of (words_left words.entry.rest))) }
 {
     let Some((start, step)) = words.pair() else {
         return Err(MISSPELT);
@@ -213,7 +213,7 @@ fn ramp(words: Words<'_>) -> Result<Tone, u8>
 
 // Noise has its seed.
 fn noise(words: Words<'_>) -> Result<Tone, u8>
-    ensures { said_voice result ≡ judged_voice (then_of (numbered hisses) (only_of (words_left words.entry.rest))) }
+    ensures { said_tone result ≡ judged_tone (then_of (numbered hisses) (only_of (words_left words.entry.rest))) }
 {
     let Some(seed) = words.only() else {
         return Err(MISSPELT);
@@ -237,10 +237,7 @@ fn signal(mut words: Words<'_>) -> Result<(u8, Tone), u8>
     if !is_number(word) {
         return Err(MISSPELT);
     }
-    let tone = match tone(words) {
-        Ok(tone) => tone,
-        Err(rule) => return Err(rule),
-    };
+    let tone = tone(words)?;
     match id(word) {
         Some(id) => Ok((id, tone)),
         None => Err(OUT_OF_RANGE),

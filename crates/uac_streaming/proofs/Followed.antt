@@ -6,7 +6,7 @@ use Rattle.std.proofs.lemmas.Bool.{cases_Bool, cases_eq}
 use Rattle.uac_entities.specs.declared.stream.StreamInterface.{StreamInterface}
 use Rattle.uac_topology.specs.Function.{FunctionFields}
 use Rattle.uac_rate.specs.Steadiness as steadiness
-use Rattle.uac_alt.specs.Streams.{StreamFields, seen}
+use Rattle.uac_alt.specs.Streams.{StreamFields, stream_fields}
 use Rattle.uac_alt.specs.declared.values.Stream.{Stream}
 use Rattle.uac_device.specs.Kept as devices
 use Rattle.uac_host.specs.HostWorld.{HostWorld, Pace}
@@ -47,11 +47,11 @@ none_found function interface e = by (interface_in function interface) refl wher
   by (Some s) found = absurd (let f : None ≡ Some s.number = e ∙ ap (option_map (λ s. s.number)) found in cc)
 
 -- no stream is of an interface that the function hasn't
-pub none_begun : (function : FunctionFields) (interface : ℕ) (begun : Option Stream) → IfSome begun (λ s. IsStreamOf function interface (seen s))
-    → interface_in function interface ≡ None → option_map seen begun ≡ None
+pub none_begun : (function : FunctionFields) (interface : ℕ) (begun : Option Stream) → IfSome begun (λ s. IsStreamOf function interface (stream_fields s))
+    → interface_in function interface ≡ None → option_map stream_fields begun ≡ None
 none_begun function interface None of none = refl
 none_begun function interface (Some s) of none =
-    let carried = carried_by function interface (seen s) of in absurd (let f : None ≡ Some carried.0 = sym none ∙ carried.1 in cc)
+    let carried = carried_by function interface (stream_fields s) of in absurd (let f : None ≡ Some carried.0 = sym none ∙ carried.1 in cc)
 
 -- where there is no such interface, the host has nothing to stop
 pub no_lane : (lanes : List Lane) (w : HostWorld) (interface : ℕ) → hosts.Stands lanes w → interface_in w.function interface ≡ None
@@ -90,8 +90,8 @@ stopped p d w interface stands of_host = record {
 }
 
 pub followed_nowhere : (p : StreamingFields) (d : devices.DeviceFields) (w : StreamingWorld) (function : FunctionFields) (interface : ℕ) (begun : Option Stream) → Stands p d w
-    → w.device.function ≡ function → IfSome begun (λ s. IsStreamOf function interface (seen s))
-    → None ≡ option_map (λ (s : StreamInterface). s.number) (interface_in function interface) → Stands p d (followed interface (option_map seen begun) w)
+    → w.device.function ≡ function → IfSome begun (λ s. IsStreamOf function interface (stream_fields s))
+    → None ≡ option_map (λ (s : StreamInterface). s.number) (interface_in function interface) → Stands p d (followed interface (option_map stream_fields begun) w)
 followed_nowhere p d w function interface begun stands same of none =
     let nothing = none_found function interface none in
     subst (λ (o : Option StreamFields). Stands p d (followed interface o w)) (sym (none_begun function interface begun of nothing))
@@ -107,6 +107,6 @@ followed_so p d w interface begun b is stands =
     subst (λ (b : Bool). Stands p d (record w { host = with_stream interface begun w.host; given = if b then given_at (place_of w.device.function interface) steadiness.restarted w.given else w.given }))
     (sym is) stands
 
-pub seen_some : (begun : Option Stream) → is_some (option_map seen begun) ≡ is_some begun
+pub seen_some : (begun : Option Stream) → is_some (option_map stream_fields begun) ≡ is_some begun
 seen_some None = refl
 seen_some (Some s) = refl

@@ -60,3 +60,9 @@ found_of met w clock found old is tick =
 pub found_all : (empty full at : ℕ) (now : List StreamCounts) → length now ≤ at → take at now ++ found_in empty full (drop at now) ≡ now
 unfolding found_in
 found_all empty full at now past = rw (take_all at now past, drop_all at now past) (append-nil now)
+
+-- nothing was found
+pub found_nothing : (met : List StreamCounts) → found_in 0 0 met ≡ met
+unfolding found_in
+found_nothing [] = refl
+found_nothing (c ∷ cs) = ap (λ (cs : List StreamCounts). c ∷ cs) (found_nothing cs)

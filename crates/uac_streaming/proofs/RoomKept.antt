@@ -1,31 +1,24 @@
--- Where there is room in a device's rings: at the start, behind deviations and behind control requests.
+-- Where there is room in a device's rings: at the start, after deviations and after control requests.
 use Rattle.std.proofs.Common.{◌≡◌, sym, refl, subst, arith, rules, ℕ, zero, suc, ◌-◌, ◌^◌, ◌≤◌, ◌==◌, ◌&&◌, ◌||◌, not, nat_eq, nat_le, Bool, true, false, if◌then◌else◌, cond, ℤ, List, [], ◌∷◌, get_or, Option, Some, None, inl, inr}
 use Rattle.std.specs.List.{AllByRecursion, IsDistinct, filter, find}
 use Rattle.std.specs.Option.{option_and_then}
-use Rattle.std.proofs.lemmas.Bool.{and_parts, cases_Bool, leb-true, true≢false}
 use Rattle.std.proofs.lemmas.Int.{ints}
 use Rattle.std.proofs.lemmas.List.Elements.{All-map}
 use Rattle.std.proofs.lemmas.Map.Keys.{IsDistinct-cons, IsDistinct-head, IsDistinct-tail}
 use Rattle.std.proofs.lemmas.Option.{cond_some, option_and_then_some}
-use Rattle.uac_clock.specs.Nominal.{nominal_of}
-use Rattle.uac_clock.specs.declared.values.Nominal.{Nominal}
-use Rattle.uac_descriptor.specs.Endpoints.{synchronization_type, usage_type}
-use Rattle.uac_descriptor.specs.declared.standard.Endpoint.{Endpoint}
-use Rattle.uac_descriptor.specs.declared.streaming.General.{General}
-use Rattle.uac_descriptor.specs.declared.streaming.TypeOne.{TypeOne}
-use Rattle.uac_entities.specs.declared.stream.Setting.{Setting}
-use Rattle.uac_entities.specs.declared.stream.StreamInterface.{StreamInterface}
 use Rattle.uac_topology_rules.specs.Domains.{domains_of, each_once}
 use Rattle.uac_topology.specs.Function.{FunctionFields}
 use Rattle.uac_topology.specs.Topology.{IsSoundFunction}
 use Rattle.uac_store.specs.declared.keys.Key.{Key}
 use Rattle.uac_rate.specs.Levels.{IsInterval}
-use Rattle.uac_alt.specs.Streams.{StreamFields, can_run, carries_data, fits, has_its_feedback, is_format, is_pcm, linked_channels, period_of, stream_at, stream_of}
+use Rattle.uac_alt.specs.Streams.{StreamFields, stream_of}
+use Rattle.uac_alt.proofs.Parts.{parts_of, ran_of}
 use Rattle.uac_request.specs.Requests.{after_request, held_by, rate_at, reply_of}
 use Rattle.uac_request.specs.declared.setup.Setup.{Setup}
 use Rattle.uac_flow.specs.Streams.{OutStream, started_out}
 use Rattle.uac_device.specs.DeviceWorld.{DeviceWorld, at_rest, controlled, deviated, fresh, out_from, replaced_at, restarted, sets_interface, stream_in_setting, tells_done}
 use Rattle.uac_device.specs.Kept.{IsInRange}
+use Rattle.uac_device.proofs.StreamsLemmas.{interval}
 use Rattle.uac_streaming.specs.Room.{HasRoom, HaveRoom}
 use Rattle.uac_streaming.proofs.RoomOfDevices.{deviations_kept}
 
@@ -108,54 +101,14 @@ started_room s serves = record {
   few = omega arith;
 }
 
--- 1, 2, 4 or 8 microframes
-interval : (n : ℕ) → n ≤ 3 → IsInterval (2 ^ n)
-interval zero most = inl (omega arith)
-interval (suc zero) most = inr (inl (omega arith))
-interval (suc (suc zero)) most = inr (inr (inl (omega arith)))
-interval (suc (suc (suc zero))) most = inr (inr (inr (omega arith)))
-interval (suc (suc (suc (suc n)))) most = absurd (omega arith)
-
--- the interval of what carries data is 1 to 4
-interval_most : (a b c : Bool) (interval : ℕ) → (a && (b && (nat_le interval 4 && c))) ≡ true → interval ≤ 4
-interval_most true true c n e = leb-true n 4 (and_parts (nat_le n 4) c e).0
-interval_most true false c n e = absurd (true≢false (sym e))
-interval_most false b c n e = absurd (true≢false (sym e))
-
--- what can run is served in such intervals
-run_interval : (function : FunctionFields) (s : StreamInterface) (setting : Setting) (nominal : Nominal) (g : General) (f : TypeOne) (first : Endpoint)
-    → can_run function s setting nominal g f first ≡ true → IsInterval (period_of first)
-unfolding can_run
-run_interval function s setting nominal g f first runs =
-    let behind : Bool = has_its_feedback s.out first setting.second && fits nominal g f first in
-    let carries : Bool = carries_data s.out first in
-    let format : Bool = is_format g.channels f.subslot f.bits in
-    let linked = and_parts (is_pcm g) ((g.channels == linked_channels function s) && (format && (carries && behind))) runs in
-    let formed = and_parts (g.channels == linked_channels function s) (format && (carries && behind)) linked.1 in
-    let carried = and_parts format (carries && behind) formed.1 in
-    let first_carries = (and_parts carries behind carried.1).0 in
-    let most : first.interval ≤ 4 =
-    interval_most (synchronization_type first.attributes == 1) (nat_le 1 first.interval)
-    (usage_type first.attributes == 0 || (not s.out && usage_type first.attributes == 2)) first.interval first_carries in
-    interval (first.interval - 1) (omega (arith, most))
-
+-- one of a setting has 1, 2, 4 or 8 microframes from packet to packet
 pub stream_interval : (function : FunctionFields) (rate interface number : ℕ) (stream : StreamFields)
     → stream_of function rate interface number ≡ Some stream
     → IsInterval stream.service
-unfolding stream_of stream_at
-stream_interval function rate interface number stream e = elim (cases_Bool (number == 0)) [
-  | inl zero_th ↦ (let none = rw zero_th at e in absurd cc)
-  | inr above ↦
-      (let found = rw above at e in
-      option_and_then_some _ (find (λ s. s.number == interface) function.streams) stream found (λ s _ in_setting.
-      option_and_then_some _ (find (λ t. t.number == number) s.settings) stream in_setting (λ setting _ at_rate.
-      option_and_then_some (stream_at function s setting) (nominal_of rate) stream at_rate (λ nominal _ with_general.
-      option_and_then_some _ setting.general stream with_general (λ g _ with_format.
-      option_and_then_some _ setting.format stream with_format (λ f _ with_first.
-      option_and_then_some _ setting.first stream with_first (λ first _ ran.
-      (let both = cond_some _ _ _ ran in
-      subst (λ (t : StreamFields). IsInterval t.service) both.1 (run_interval function s setting nominal g f first both.0)))))))))
-]
+stream_interval function rate interface number stream is =
+    let parts = parts_of function rate interface number stream is in
+    let ran = ran_of function parts.carrier parts.setting parts.nominal parts.general parts.type_one parts.first parts.runs in
+    subst (λ (t : StreamFields). IsInterval t.service) (sym parts.is) (interval (parts.first.interval - 1) (omega (arith, ran.most)))
 
 asked_interval : (function : FunctionFields) (controls : List (Key × ℤ)) (interface setting : ℕ) (s : StreamFields)
     → stream_in_setting function controls interface setting ≡ Some s → IsInterval s.service

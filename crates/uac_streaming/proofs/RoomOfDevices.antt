@@ -392,7 +392,7 @@ settled_ending about loses interface ahead w is = record {
       | inr later ↦ inr (later, both.1)
     ]
 
--- behind the last there is room in all
+-- after the last there is room in all
 pub all_ended : (about : FunctionFields → Type 0) (loses : ℕ → Bool) (w : DeviceWorld) → AreEnding about loses [] w → HaveRoom w
 unfolding IsEnding
 all_ended about loses w is = record {

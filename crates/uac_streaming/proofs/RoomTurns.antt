@@ -7,13 +7,13 @@ use Rattle.uac_entities.specs.declared.stream.StreamInterface.{StreamInterface}
 use Rattle.uac_topology.specs.Function.{FunctionFields}
 use Rattle.uac_device.specs.DeviceWorld.{DeviceWorld, feedback_in, is_due_in}
 use Rattle.uac_host.specs.Calls.{packet_of}
-use Rattle.uac_script.specs.Phrase.{Loss}
+use Rattle.uac_script.specs.Phrase.{SaidMark}
 use Rattle.uac_streaming.specs.Telling.{Telling, at_rest, in_turn}
 use Rattle.uac_streaming.specs.StreamingWorld.{StreamingWorld, all_reported, all_settled, fetched_lines, goes_out, in_packet_turn, in_packets, is_in_due, is_out_due, loses_in, loses_out, loses_report, numbers, out_packets, out_turn, packet_fetched, packet_sent, report_lines, report_made, report_turn, sent_lines, settled_turn}
 use Rattle.uac_streaming.specs.Room.{HaveRoom}
 use Rattle.uac_streaming.proofs.RoomOfDevices.{AreEnding, AreWithin, HaveSmallNumbers, all_ended, all_ending, received_within, sent_within, settled_ending}
 
--- what each of these leaves so is so behind the last
+-- what each of these leaves so is so after the last
 in_turn_keeps : {W : Type 0} (P : W → Type 0) (event : ℕ → W → Telling W) → ((n : ℕ) (w : W) → P w → P (event n w).world)
     → (ns : List ℕ) (w : W) → P w
     → P (in_turn event ns w).world
@@ -28,7 +28,7 @@ known_out : (function : FunctionFields) (interface : ℕ) → goes_out function 
 known_out function interface out none =
     true≢false (sym out ∙ ap (λ (o : Option StreamInterface). option_map_or (λ s. s.out) o false) none)
 
-module _ (about : FunctionFields → Type 0) (detail : ℕ) (losses : List Loss) (ahead : List ℕ) (clock : ℕ) where
+module _ (about : FunctionFields → Type 0) (detail : ℕ) (losses : List SaidMark) (ahead : List ℕ) (clock : ℕ) where
   abbrev Holds : StreamingWorld → Type 0
   Holds w = AreWithin about (loses_out losses) ahead clock 0 w.device
 
@@ -88,7 +88,7 @@ all_settled_room about detail loses clock w small is =
 
 -- ---- the reports
 
-report_turn_keeps : (P : DeviceWorld → Type 0) (detail : ℕ) (losses : List Loss) (interface : ℕ) (w : StreamingWorld) → P w.device
+report_turn_keeps : (P : DeviceWorld → Type 0) (detail : ℕ) (losses : List SaidMark) (interface : ℕ) (w : StreamingWorld) → P w.device
     → P (report_turn detail losses interface w).world.device
 unfolding report_turn report_made
 report_turn_keeps P detail losses interface w is = by (feedback_in w.device interface)
@@ -99,7 +99,7 @@ report_turn_keeps P detail losses interface w is = by (feedback_in w.device inte
     by None = is
     by (Some value) = is
 
-pub all_reported_keeps : (P : DeviceWorld → Type 0) (detail : ℕ) (losses : List Loss) (w : StreamingWorld) → P w.device
+pub all_reported_keeps : (P : DeviceWorld → Type 0) (detail : ℕ) (losses : List SaidMark) (w : StreamingWorld) → P w.device
     → P (all_reported detail losses w).world.device
 unfolding all_reported
 all_reported_keeps P detail losses w is =

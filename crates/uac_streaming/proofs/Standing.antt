@@ -16,7 +16,7 @@ use Rattle.uac_streaming.proofs.Counted.{counts_changed}
 -- at the start
 pub stands_start : (function : FunctionFields) (d : devices.DeviceFields) (lanes : List Lane) (order packet : List ℕ) (met : List StreamCounts) (steady : steadiness.SteadyFields)
     → devices.Stands d (fresh function) → hosts.Stands lanes (fresh_host function) → order ≡ numbers function → met ≡ met_in (λ interface. nothing_met) function
-    → steadiness.Stands steady steadiness.nothing_given
+    → steadiness.KeepsGiven steady steadiness.nothing_given
     → Stands (record { host = lanes; order = order; met = met; steady = steady; packet = packet }) d (streaming_start function)
 unfolding streaming_start fresh fresh_host
 stands_start function d lanes order packet met steady of_device of_host ordered counts given = record {
@@ -61,7 +61,7 @@ module _ (p : StreamingFields) (d : devices.DeviceFields) (w : StreamingWorld) (
   }
 
   -- what was given alone changes
-  pub steadied : (steady : steadiness.SteadyFields) (given : steadiness.Given) → steadiness.Stands steady given
+  pub steadied : (steady : steadiness.SteadyFields) (given : steadiness.Given) → steadiness.KeepsGiven steady given
       → Stands (record p { steady = steady }) d (record w { given = given })
   steadied steady given kept = record {
     device = stands.device;
@@ -103,16 +103,16 @@ set_so p q d w asked told interface change was counts stands of_asked of_told re
 
 -- an event of the reports of an interface, at its place, and of one that there isn't
 pub given_there : (f function : FunctionFields) (interface place : ℕ) (event : ℕ → steadiness.Given → steadiness.Given) (steady : steadiness.SteadyFields)
-    (given : steadiness.Given) → f ≡ function → Some place ≡ place_of function interface → steadiness.Stands steady (event place given)
-    → steadiness.Stands steady (given_at (place_of f interface) event given)
+    (given : steadiness.Given) → f ≡ function → Some place ≡ place_of function interface → steadiness.KeepsGiven steady (event place given)
+    → steadiness.KeepsGiven steady (given_at (place_of f interface) event given)
 given_there f function interface place event steady given same there =
-    subst (λ (o : Option ℕ). steadiness.Stands steady (given_at o event given)) (there ∙ ap (λ (g : FunctionFields). place_of g interface) (sym same))
+    subst (λ (o : Option ℕ). steadiness.KeepsGiven steady (given_at o event given)) (there ∙ ap (λ (g : FunctionFields). place_of g interface) (sym same))
 
 pub given_nowhere : (f function : FunctionFields) (interface : ℕ) (event : ℕ → steadiness.Given → steadiness.Given) (steady : steadiness.SteadyFields)
-    (given : steadiness.Given) → f ≡ function → None ≡ place_of function interface → steadiness.Stands steady given
-    → steadiness.Stands steady (given_at (place_of f interface) event given)
+    (given : steadiness.Given) → f ≡ function → None ≡ place_of function interface → steadiness.KeepsGiven steady given
+    → steadiness.KeepsGiven steady (given_at (place_of f interface) event given)
 given_nowhere f function interface event steady given same none =
-    subst (λ (o : Option ℕ). steadiness.Stands steady (given_at o event given)) (none ∙ ap (λ (g : FunctionFields). place_of g interface) (sym same))
+    subst (λ (o : Option ℕ). steadiness.KeepsGiven steady (given_at o event given)) (none ∙ ap (λ (g : FunctionFields). place_of g interface) (sym same))
 
 -- what follows where a call went well
 pub where_ok : {T E P Q : Type 0} (r : Result T E) → (P → Q) → OnOk r P → OnOk r Q

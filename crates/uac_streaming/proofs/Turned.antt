@@ -15,7 +15,7 @@ use Rattle.uac_device.specs.DeviceWorld.{DeviceWorld, ZerosFitIn, arrival_in, fe
 use Rattle.uac_host.specs.Kept as hosts
 use Rattle.uac_host.specs.HostWorld.{HostWorld}
 use Rattle.uac_host.specs.Calls.{heard_in, interface_in, size_of}
-use Rattle.uac_script.specs.Phrase.{Loss}
+use Rattle.uac_script.specs.Phrase.{SaidMark}
 use Rattle.uac_transcript.specs.Transcript.{Said, says_feedback, says_frame, says_in}
 use Rattle.uac_transcript.specs.Printing.{Prints, text_of}
 use Rattle.uac_transcript.proofs.PrintingLemmas.{Prints-after}
@@ -37,7 +37,7 @@ rests told p d old w is stands =
 
 -- ---- packets to the device
 
-module _ (detail interface : ℕ) (losses : List Loss) (w : StreamingWorld) (due : Bool) (is : due ≡ (goes_out w.device.function interface && is_due_in w.device interface)) where
+module _ (detail interface : ℕ) (losses : List SaidMark) (w : StreamingWorld) (due : Bool) (is : due ≡ (goes_out w.device.function interface && is_due_in w.device interface)) where
   pub out_rests : due ≡ false → at_rest w ≡ out_turn detail losses interface w
   unfolding out_turn
   out_rests idle =
@@ -79,7 +79,7 @@ host_still : (lost : Bool) (interface : ℕ) (w : StreamingWorld) → (packet_fe
 unfolding packet_fetched
 host_still lost interface w = refl
 
-module _ (detail interface : ℕ) (losses : List Loss) (w : StreamingWorld) (due : Bool) (is : due ≡ (comes_in w.device.function interface && is_due_in w.device interface)) where
+module _ (detail interface : ℕ) (losses : List SaidMark) (w : StreamingWorld) (due : Bool) (is : due ≡ (comes_in w.device.function interface && is_due_in w.device interface)) where
   pub in_rests : due ≡ false → at_rest w ≡ in_packet_turn detail losses interface w
   unfolding in_packet_turn
   in_rests idle =
@@ -109,7 +109,7 @@ module _ (detail interface : ℕ) (losses : List Loss) (w : StreamingWorld) (due
 
 -- ---- reports
 
-module _ (detail interface : ℕ) (losses : List Loss) (w : StreamingWorld) (report : Option ℕ) (is : report ≡ feedback_in w.device interface) where
+module _ (detail interface : ℕ) (losses : List SaidMark) (w : StreamingWorld) (report : Option ℕ) (is : report ≡ feedback_in w.device interface) where
   pub report_rests : report ≡ None → at_rest w ≡ report_turn detail losses interface w
   unfolding report_turn
   report_rests none =
@@ -211,12 +211,12 @@ module _ (p : StreamingFields) (d e : devices.DeviceFields) (detail interface i 
 
 -- ---- of all interfaces, by number
 
-pub out_packets_are : (detail : ℕ) (losses : List Loss) (w : StreamingWorld) (order : List ℕ) → order ≡ numbers w.device.function
+pub out_packets_are : (detail : ℕ) (losses : List SaidMark) (w : StreamingWorld) (order : List ℕ) → order ≡ numbers w.device.function
     → in_turn (out_turn detail losses) order w ≡ out_packets detail losses w
 unfolding out_packets
 out_packets_are detail losses w order is = ap (λ (ns : List ℕ). in_turn (out_turn detail losses) ns w) is
 
-pub in_packets_are : (detail : ℕ) (losses : List Loss) (w : StreamingWorld) (order : List ℕ) → order ≡ numbers w.device.function
+pub in_packets_are : (detail : ℕ) (losses : List SaidMark) (w : StreamingWorld) (order : List ℕ) → order ≡ numbers w.device.function
     → in_turn (in_packet_turn detail losses) order w ≡ in_packets detail losses w
 unfolding in_packets
 in_packets_are detail losses w order is = ap (λ (ns : List ℕ). in_turn (in_packet_turn detail losses) ns w) is
@@ -225,7 +225,7 @@ pub all_settled_are : (detail : ℕ) (w : StreamingWorld) (order : List ℕ) →
 unfolding all_settled
 all_settled_are detail w order is = ap (λ (ns : List ℕ). in_turn (settled_turn detail) ns w) is
 
-pub all_reported_are : (detail : ℕ) (losses : List Loss) (w : StreamingWorld) (order : List ℕ) → order ≡ numbers w.device.function
+pub all_reported_are : (detail : ℕ) (losses : List SaidMark) (w : StreamingWorld) (order : List ℕ) → order ≡ numbers w.device.function
     → in_turn (report_turn detail losses) order w ≡ all_reported detail losses w
 unfolding all_reported
 all_reported_are detail losses w order is = ap (λ (ns : List ℕ). in_turn (report_turn detail losses) ns w) is

@@ -25,7 +25,7 @@ pub record Stands (streaming : StreamingFields) (beside : devices.DeviceFields) 
   pub same : w.host.function ≡ w.device.function
   pub order : streaming.order ≡ numbers w.device.function
   pub met : streaming.met ≡ met_in w.met w.device.function
-  pub steady : steadiness.Stands streaming.steady w.given
+  pub steady : steadiness.KeepsGiven streaming.steady w.given
 
 -- what was told was printed: all of it, and what is kept stands for its world; or at an error a front of it
 abbrev pub Tells : {T E : Type 0} → Telling StreamingWorld → StreamingFields → devices.DeviceFields → Option (List ℕ) → Option (List ℕ)

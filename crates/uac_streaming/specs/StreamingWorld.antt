@@ -11,12 +11,12 @@ use Rattle.uac_rate.specs.Steadiness.{Given, nothing_given, reported, restarted}
 use Rattle.uac_flow.specs.Streams.{is_dry, is_full}
 use Rattle.uac_flow.specs.declared.arrival.Arrival.{Arrival}
 use Rattle.uac_flow.specs.declared.arrival.Arrival.TheVariants as arrivals
-use Rattle.uac_units.specs.Hearing.{held}
+use Rattle.uac_units.specs.Hearing.{at_most_u64}
 use Rattle.uac_device.specs.DeviceWorld.{DeviceWorld, arrival_in, feedback_in, frames_in, fresh, is_due_in, is_on, level_of, packet_in}
 use Rattle.uac_device.specs.DeviceWorld.{received, sent, settled, target_of}
 use Rattle.uac_host.specs.HostWorld.{HostWorld, fresh_host}
 use Rattle.uac_host.specs.Calls.{after_packet, heard_in, interface_in, packet_of, size_of, with_report, with_stream}
-use Rattle.uac_script.specs.Phrase.{Loss}
+use Rattle.uac_script.specs.Phrase.{SaidMark}
 use Rattle.uac_script.specs.declared.line.MarkKind.{MarkKind}
 use Rattle.uac_script.specs.declared.line.MarkKind.TheVariants as marks
 use Rattle.uac_transcript.specs.declared.packets.Arrival as printed
@@ -85,13 +85,13 @@ marks_report marks.In = false
 marks_report marks.Feedback = true
 
 -- the packet to the device of an interface is lost, that from it, or its report
-abbrev pub loses_out : List Loss → ℕ → Bool
+abbrev pub loses_out : List SaidMark → ℕ → Bool
 loses_out losses interface = list_any (λ l. marks_out l.letter && is_at l.place interface) losses
 
-abbrev pub loses_in : List Loss → ℕ → Bool
+abbrev pub loses_in : List SaidMark → ℕ → Bool
 loses_in losses interface = list_any (λ l. marks_in l.letter && is_at l.place interface) losses
 
-abbrev pub loses_report : List Loss → ℕ → Bool
+abbrev pub loses_report : List SaidMark → ℕ → Bool
 loses_report losses interface = list_any (λ l. marks_report l.letter && is_at l.place interface) losses
 
 -- ---- counts
@@ -106,19 +106,19 @@ met_in met function = map (λ s. met s.number) function.streams
 
 -- a packet was lost
 abbrev pub one_lost : StreamCounts → StreamCounts
-one_lost c = record c { lost = held (c.lost + 1) }
+one_lost c = record c { lost = at_most_u64 (c.lost + 1) }
 
 -- a ring had no room for a packet, or for a frame
 abbrev pub one_over : StreamCounts → StreamCounts
-one_over c = record c { over = held (c.over + 1) }
+one_over c = record c { over = at_most_u64 (c.over + 1) }
 
 -- a primed ring was found empty
 abbrev pub one_under : StreamCounts → StreamCounts
-one_under c = record c { under = held (c.under + 1) }
+one_under c = record c { under = at_most_u64 (c.under + 1) }
 
 -- a report was lost
 abbrev pub one_missed : StreamCounts → StreamCounts
-one_missed c = record c { missed = held (c.missed + 1) }
+one_missed c = record c { missed = at_most_u64 (c.missed + 1) }
 
 -- ---- packets to the device
 
@@ -168,7 +168,7 @@ abbrev pub is_out_due : StreamingWorld → ℕ → Bool
 is_out_due w interface = goes_out w.device.function interface && is_due_in w.device interface
 
 -- the same where the interface runs a stream to the device that is due
-unfoldable pub out_turn : ℕ → List Loss → ℕ → StreamingWorld → Telling StreamingWorld
+unfoldable pub out_turn : ℕ → List SaidMark → ℕ → StreamingWorld → Telling StreamingWorld
 out_turn detail losses interface w =
     if is_out_due w interface
     then record {
@@ -179,7 +179,7 @@ out_turn detail losses interface w =
     else at_rest w
 
 -- the packets to the device, by interface number
-unfoldable pub out_packets : ℕ → List Loss → StreamingWorld → Telling StreamingWorld
+unfoldable pub out_packets : ℕ → List SaidMark → StreamingWorld → Telling StreamingWorld
 out_packets detail losses w = in_turn (out_turn detail losses) (numbers w.device.function) w
 
 -- ---- packets from the device
@@ -205,7 +205,7 @@ abbrev pub is_in_due : StreamingWorld → ℕ → Bool
 is_in_due w interface = comes_in w.device.function interface && is_due_in w.device interface
 
 -- the same where the interface runs a stream from the device that is due
-unfoldable pub in_packet_turn : ℕ → List Loss → ℕ → StreamingWorld → Telling StreamingWorld
+unfoldable pub in_packet_turn : ℕ → List SaidMark → ℕ → StreamingWorld → Telling StreamingWorld
 in_packet_turn detail losses interface w =
     if is_in_due w interface
     then record {
@@ -216,7 +216,7 @@ in_packet_turn detail losses interface w =
     else at_rest w
 
 -- the packets from the device, by interface number
-unfoldable pub in_packets : ℕ → List Loss → StreamingWorld → Telling StreamingWorld
+unfoldable pub in_packets : ℕ → List SaidMark → StreamingWorld → Telling StreamingWorld
 in_packets detail losses w = in_turn (in_packet_turn detail losses) (numbers w.device.function) w
 
 -- ---- ticks
@@ -279,14 +279,14 @@ abbrev pub report_lines : ℕ → Bool → ℕ → ℕ → List Said
 report_lines detail lost value interface = if nat_le 2 detail then says_feedback interface value lost ∷ [] else []
 
 -- the same where a report of the interface's stream is due
-unfoldable pub report_turn : ℕ → List Loss → ℕ → StreamingWorld → Telling StreamingWorld
+unfoldable pub report_turn : ℕ → List SaidMark → ℕ → StreamingWorld → Telling StreamingWorld
 report_turn detail losses interface w =
     let lost = loses_report losses interface in
     option_map_or (λ value. record { lines = report_lines detail lost value interface; world = report_made lost value interface w })
     (feedback_in w.device interface) (at_rest w)
 
 -- the reports, by interface number
-unfoldable pub all_reported : ℕ → List Loss → StreamingWorld → Telling StreamingWorld
+unfoldable pub all_reported : ℕ → List SaidMark → StreamingWorld → Telling StreamingWorld
 all_reported detail losses w = in_turn (report_turn detail losses) (numbers w.device.function) w
 
 -- ---- starts

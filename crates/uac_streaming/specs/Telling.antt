@@ -1,4 +1,4 @@
--- What is told: lines, and the world behind them (profile).
+-- What is told: lines, and the world after them (profile).
 use Rattle.std.specs.Prelude.{ℕ, List, [], ◌∷◌, ◌++◌}
 use Rattle.uac_transcript.specs.Transcript.{Said}
 

@@ -2,7 +2,7 @@
 ghost use Rattle.std.specs.Prelude.{◌≡◌, ◌<◌, ◌≤◌, if◌then◌else◌, ℕ, Some, None, IfOk, IfSome, OnOk, OnErr, length, set, slice_get};
 ghost use Rattle.std.specs.Option.{option_map};
 ghost use Rattle.uac_topology.specs.Topology.{IsSoundFunction};
-ghost use Rattle.uac_alt.specs.Streams.{seen};
+ghost use Rattle.uac_alt.specs.Streams.{stream_fields};
 ghost use Rattle.uac_rate.specs.Steadiness.{deviated, is_steady, reported, restarted};
 ghost use Rattle.uac_device.specs.Kept as devices;
 ghost use Rattle.uac_device.specs.DeviceWorld.{DeviceWorld, arrival_in, frames_in, fresh, met_of, packet_in, received};
@@ -98,7 +98,7 @@ impl Streaming {
         self.steady.deviate(ppm);
     }
 
-    /// Frames wait behind those that do on an interface: samples of full scale, channel after channel, in whole frames of its terminal.
+    /// Frames wait after those that do on an interface: samples of full scale, channel after channel, in whole frames of its terminal.
     /// After `NoMemory` all is as it was.
     pub fn append(&mut self, interface: u8, samples: &[i32]) -> Result<(), NoMemory>
         ensures stands { (d : devices.DeviceFields) (w : StreamingWorld) → Stands self.old d w
@@ -119,9 +119,9 @@ impl Streaming {
 
     /// The host's stream of an interface follows the device's: it starts anew, or stops where none is given.
     pub fn follow(&mut self, function: &Function, interface: u16, begun: Option<Stream>)
-        requires { IfSome begun (λ s. IsStreamOf function.now interface (seen s)) }
+        requires { IfSome begun (λ s. IsStreamOf function.now interface (stream_fields s)) }
         ensures { (d : devices.DeviceFields) (w : StreamingWorld) → Stands self.old d w → w.device.function ≡ function.now
-            → Stands self.new d (followed interface (option_map seen begun) w) }
+            → Stands self.new d (followed interface (option_map stream_fields begun) w) }
     {
         functions_are_sound(function);
         sound_functions_are_small();
@@ -135,9 +135,9 @@ impl Streaming {
     fn set_stream(&mut self, function: &Function, interface: u8, begun: Option<Stream>)
         requires sound { IsSoundFunction function.now }
         requires few { length function.now.streams ≤ 8 }
-        requires begun { IfSome begun (λ s. IsStreamOf function.now interface (seen s)) }
+        requires begun { IfSome begun (λ s. IsStreamOf function.now interface (stream_fields s)) }
         ensures { (d : devices.DeviceFields) (w : StreamingWorld) → Stands self.old d w → w.device.function ≡ function.now
-            → Stands self.new d (followed interface (option_map seen begun) w) }
+            → Stands self.new d (followed interface (option_map stream_fields begun) w) }
     {
         self.host.set_stream(interface, begun);
         if begun.is_some() {
@@ -294,6 +294,10 @@ fn count_found(met: &mut [StreamCounts], found: Ticked)
     ensures { (before : ℕ → counted.StreamCounts) (w : DeviceWorld) (clock : ℕ) → met.old ≡ spec.met_in before w.function
         → found ≡ met_of clock w → met.new ≡ spec.met_in (found_counts clock w before) w.function }
 {
+    // Most ticks find nothing.
+    if found.under == 0 && found.over == 0 {
+        return;
+    }
     let mut empty = found.under;
     let mut full = found.over;
     for counts in met.iter_mut() {

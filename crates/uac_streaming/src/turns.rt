@@ -1,7 +1,7 @@
 // The events of a microframe, interface by interface, each printed as it happens.
 ghost use Rattle.std.specs.Prelude.{◌≡◌, ◌&&◌, ◌<◌, ℕ, length, map};
 ghost use Rattle.uac_edges.specs.Faults.{HasCause};
-ghost use Rattle.uac_script.specs.Line.{loss_of};
+ghost use Rattle.uac_script.specs.Line.{said_mark};
 ghost use Rattle.uac_device.specs.DeviceWorld.{DeviceWorld, ZerosFitIn, is_due_in, met_of, settled};
 ghost use Rattle.uac_device.specs.Kept as device_kept;
 ghost use Rattle.uac_transcript.specs.Printing.{Prints};
@@ -31,7 +31,7 @@ impl Streaming {
         sink: &mut K,
     ) -> Result<(), Failed>
         ensures tells { (w : StreamingWorld) → Stands self.old device.old w
-            → Tells (out_packets detail (map loss_of marks.now) w) self.new device.new (K.written sink.old) (K.written sink.new) result }
+            → Tells (out_packets detail (map said_mark marks.now) w) self.new device.new (K.written sink.old) (K.written sink.new) result }
         ensures function { device.new.function ≡ device.old.function }
         ensures cause { HasCause (K.faults sink.old) (K.faults sink.new) result }
     {
@@ -55,7 +55,7 @@ impl Streaming {
         sink: &mut K,
     ) -> Result<(), Failed>
         ensures tells { (w : StreamingWorld) → Stands self.old device.old w
-            → Tells (out_turn detail (map loss_of marks.now) interface w) self.new device.new (K.written sink.old)
+            → Tells (out_turn detail (map said_mark marks.now) interface w) self.new device.new (K.written sink.old)
             (K.written sink.new) result }
         ensures order { self.new.order ≡ self.old.order }
         ensures function { device.new.function ≡ device.old.function }
@@ -77,7 +77,7 @@ impl Streaming {
         sink: &mut K,
     ) -> Result<(), Failed>
         ensures tells { (w : StreamingWorld) → Stands self.old device.old w
-            → Tells (in_packets detail (map loss_of marks.now) w) self.new device.new (K.written sink.old) (K.written sink.new) result }
+            → Tells (in_packets detail (map said_mark marks.now) w) self.new device.new (K.written sink.old) (K.written sink.new) result }
         ensures function { device.new.function ≡ device.old.function }
         ensures cause { HasCause (K.faults sink.old) (K.faults sink.new) result }
     {
@@ -101,7 +101,7 @@ impl Streaming {
         sink: &mut K,
     ) -> Result<(), Failed>
         ensures tells { (w : StreamingWorld) → Stands self.old device.old w
-            → Tells (in_packet_turn detail (map loss_of marks.now) interface w) self.new device.new (K.written sink.old)
+            → Tells (in_packet_turn detail (map said_mark marks.now) interface w) self.new device.new (K.written sink.old)
             (K.written sink.new) result }
         ensures order { self.new.order ≡ self.old.order }
         ensures function { device.new.function ≡ device.old.function }
@@ -159,7 +159,7 @@ impl Streaming {
         sink: &mut K,
     ) -> Result<(), Failed>
         ensures tells { (w : StreamingWorld) → Stands self.old device.now w
-            → Tells (all_reported detail (map loss_of marks.now) w) self.new device.now (K.written sink.old) (K.written sink.new) result }
+            → Tells (all_reported detail (map said_mark marks.now) w) self.new device.now (K.written sink.old) (K.written sink.new) result }
         ensures cause { HasCause (K.faults sink.old) (K.faults sink.new) result }
     {
         for at in 0..self.order.len() {
@@ -182,7 +182,7 @@ impl Streaming {
         sink: &mut K,
     ) -> Result<(), Failed>
         ensures tells { (w : StreamingWorld) → Stands self.old device.now w
-            → Tells (report_turn detail (map loss_of marks.now) interface w) self.new device.now (K.written sink.old)
+            → Tells (report_turn detail (map said_mark marks.now) interface w) self.new device.now (K.written sink.old)
             (K.written sink.new) result }
         ensures order { self.new.order ≡ self.old.order }
         ensures cause { HasCause (K.faults sink.old) (K.faults sink.new) result }

@@ -3,7 +3,7 @@ use Rattle.std.specs.Prelude.{ℕ, List, flat_map, Option, Result}
 use Rattle.uac_edges.specs.Writing.{Writes}
 use Rattle.uac_transcript.specs.Transcript.{Said, spelled}
 
--- the lines, one behind the other
+-- the lines, one after the other
 abbrev pub text_of : List Said → List ℕ
 text_of lines = flat_map spelled lines
 

@@ -15,14 +15,8 @@ pub fn write_given<K: Sink>(sink: &mut K, bytes: &[u8]) -> Result<(), Failed>
     ensures written { Writes (K.written sink.old) (K.written sink.new) result (spelled (says_answer (gave bytes.now))) }
     ensures cause { HasCause (K.faults sink.old) (K.faults sink.new) result }
 {
-    match give_all(sink, b"c bytes ") {
-        Ok(()) => {}
-        Err(failed) => return Err(failed),
-    }
-    match write_hex_or_dash(sink, bytes) {
-        Ok(()) => {}
-        Err(failed) => return Err(failed),
-    }
+    give_all(sink, b"c bytes ")?;
+    write_hex_or_dash(sink, bytes)?;
     give_all(sink, b"\n")
 }
 
@@ -46,10 +40,8 @@ fn write_hex<K: Sink>(sink: &mut K, bytes: &[u8]) -> Result<(), Failed>
     let mut rest = bytes;
     while !rest.is_empty() {
         let size = rest.len().min(PIECE);
-        match write_piece(sink, &rest[..size]) {
-            Ok(()) => rest = &rest[size..],
-            Err(failed) => return Err(failed),
-        }
+        write_piece(sink, &rest[..size])?;
+        rest = &rest[size..];
     }
     Ok(())
 }

@@ -138,7 +138,7 @@ first_of word rest = at (ends_options word) refl (is_option word) refl (has_valu
     at false ea false eb false ev true ed = unknown (rw (ea, eb, ev, ed) refl)
     at false ea false eb false ev false ed = usual (rw (ea, eb, ev, ed) refl)
 
--- the value behind `--rack`
+-- the value after `--rack`
 valued : (words : List Text) (p : Places) → placed true words ≡ Some p
     → (value : Text) × (rest : List Text) × (q : Places) × (words ≡ value ∷ rest) × (placed false rest ≡ Some q) × (with_rack value q ≡ p)
 valued [] p h = nothing p h

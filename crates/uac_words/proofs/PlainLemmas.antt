@@ -157,7 +157,7 @@ step_strange rows p positional n word rest is = elim is.unknown [
   | inr short ↦ rw (is.ends, short.3, short.4, short.5) refl
 ]
 
--- the word behind `--rack`
+-- the word after `--rack`
 step_value : (rows : List Row) (n : ℕ) (word : Text) (rest : List Text) → IsBare word
     → run (at rows (Some (codes "rack", [])) (option (codes "rack")) n false) (word ∷ rest) ≡ run (at rows (Some (codes "rack", word ∷ [])) idle n false) rest
 unfolding clap_on_literals
@@ -234,7 +234,7 @@ used_again value rows e = rw e refl
 
 -- ---- the words one after the other
 
--- what the words ask for, behind others that were put in these places
+-- what the words ask for, after others that were put in these places
 abbrev pub ended : List Text → List Text → Option Places → Option Words
 ended bare racks None = None
 ended bare racks (Some places) = both (command_in (bare ++ places.bare)) (rack_in (racks ++ places.racks))
@@ -263,7 +263,7 @@ first_bare : (word : Text) (racks : List Text) (o : Option Places) → ended [] 
 first_bare word racks None = refl
 first_bare word racks (Some places) = refl
 
--- the walk stands behind words for these places
+-- the walk stands after words for these places
 pub record Stands (rows : List Row) (p : Pending) (bare racks : List Text) : Type 0 where
   pub clean : fault_at rows p ≡ []
   pub reads : Reads (rows_at rows p) bare racks

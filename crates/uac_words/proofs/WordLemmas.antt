@@ -50,7 +50,7 @@ alone b false e = record { dashed = refl; ends = rw e refl; option = rw e refl; 
 pub undashed : (b y : ℕ) (ys : Text) → (b == 45) ≡ false → IsBare (b ∷ y ∷ ys)
 undashed b y ys e = record { dashed = e; ends = rw e refl; option = rw e refl; valued = rw e refl; long = rw e refl; short = rw e refl }
 
--- a text behind a hyphen begins with a character
+-- a text after a hyphen begins with a character
 first_char : (y : ℕ) (ys : Text) → (cs : List ℕ) → chars (y ∷ ys) ≡ cs → IsUtf8 (45 ∷ y ∷ ys) → (x : ℕ) × (slice_get (chars (y ∷ ys)) 0 ≡ Some x)
 unfolding chars encode_utf8
 first_char y ys (x ∷ xs) e valid = (x, rw e refl)
@@ -67,7 +67,7 @@ short_word y ys e valid =
 take_more : (x : ℕ) (xs : Text) (k : ℕ) → take (1 + k) (x ∷ xs) ≡ x ∷ take k xs
 take_more x xs k = let one_more : 1 + k ≡ suc k = omega arith in rw one_more refl
 
--- a text is its name, or its name with `=` (61) and a value behind it
+-- a text is its name, or its name with `=` (61) and a value after it
 name_cut : (xs : Text) → (xs ≡ name_of xs) ⊎ ((v : Text) × (xs ≡ name_of xs ++ 61 ∷ v))
 name_cut [] = inl refl
 name_cut (x ∷ xs) = at (x == 61) refl (name_cut xs)

@@ -21,7 +21,7 @@ number_rule = record (new_rule (codes "number")) { action = Some Set }
 abbrev pub rack_rule : Rule
 rack_rule = record (new_rule (codes "rack")) { long = Some (codes "rack"); action = Some Set; defaults = codes "plain" ∷ [] }
 
--- the words behind the program's name are read: its name isn't among them
+-- the words after the program's name are read: its name isn't among them
 abbrev pub empty_command : App
 empty_command = on_top
     (λ s. record s { no_binary_name = true; disable_help_flag = true; disable_version_flag = true })

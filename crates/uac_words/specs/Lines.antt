@@ -40,7 +40,7 @@ Chooses option rack =
     (option ≡ []) × (rack ≡ Plain) ⊎ ((option ≡ codes "--rack" ∷ name_of rack ∷ []) ⊎ (option ≡ (codes "--rack=" ++ name_of rack) ∷ []))
 
 -- the words are the command's own, in their order, with those that choose the rack anywhere among them, and perhaps a word `--` anywhere
--- behind those
+-- after those
 pub record IsLine (words : List Text) (line : Words) : Type 0 where
   pub before : List Text
   pub option : List Text

@@ -34,12 +34,12 @@ ends_options word = bytes_eq word (codes "--")
 abbrev pub is_option : Text → Bool
 is_option word = bytes_eq word (codes "--rack")
 
--- the word is `--rack=` with a value behind it
+-- the word is `--rack=` with a value after it
 abbrev pub has_value : Text → Bool
 has_value word = bytes_eq (take 7 word) (codes "--rack=")
 
 -- the words in their places; `waits` says that the word before was `--rack`, whose value comes next. Any other dashed word is refused,
--- until a word `--`, behind which nothing is an option
+-- until a word `--`, after which nothing is an option
 abbrev pub placed : Bool → List Text → Option Places
 placed true [] = None
 placed true (word ∷ rest) = if is_dashed word then None else option_map (with_rack word) (placed false rest)

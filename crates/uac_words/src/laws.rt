@@ -2,7 +2,7 @@
 ghost use Rattle.uac_words.specs.Lines.{LinesAsk, NothingElseAsks, RulesAskTheSame};
 
 /// What is said of the words one after the other is said of whole command lines: a command, `gen` with its NUMBER, over a rack that is
-/// chosen at most once, and at most one `--` behind that choice.
+/// chosen at most once, and at most one `--` after that choice.
 pub fn command_lines_alone_ask()
     ensures lines { LinesAsk }
     ensures nothing_else { NothingElseAsks }

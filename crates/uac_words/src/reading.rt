@@ -180,7 +180,7 @@ fn answer(asked: Option<Words>) -> Result<Words, WordsFault>
     }
 }
 
-/// What the words behind the program's name ask for: by the simple command's own rules, as it is said of the words one after the other,
+/// What the words after the program's name ask for: by the simple command's own rules, as it is said of the words one after the other,
 /// and as command lines are written.
 pub fn read(alloc: Global, words: &[String]) -> Result<Words, WordsFault>
     ensures by_clap { IsAnswer (asked (map (λ w. string_bytes w) words.now)) result }

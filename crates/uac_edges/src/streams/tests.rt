@@ -26,7 +26,7 @@ fn moved(turns: &[Turn], at: usize) -> io::Result<usize> {
     }
 }
 
-// A reader of the bytes 1, 2, 3 and so on, by turns, and of none behind them.
+// A reader of the bytes 1, 2, 3 and so on, by turns, and of none after them.
 #[derive(Drop)]
 struct Counting {
     turns: [Turn; 6],
@@ -128,7 +128,7 @@ fn sink(turns: [Turn; 4], flushes: [Turn; 4]) -> StdSink<Held> {
     })
 }
 
-// These bytes lie in the writer, behind so many writes and flushes, and so many faults were met.
+// These bytes lie in the writer, after so many writes and flushes, and so many faults were met.
 fn expect(rt: &impl Abort, sink: &StdSink<Held>, bytes: &[u8], calls: (usize, usize), faults: u64) {
     assert_eq!(rt; sink.output.bytes.as_slice(), bytes);
     assert_eq!(rt; (sink.output.at, sink.output.flushed), calls);

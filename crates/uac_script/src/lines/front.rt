@@ -8,7 +8,7 @@ const MOST: usize = 4096;
 /// What stands first in the unread bytes.
 #[derive(Clone, Copy)]
 pub enum Front {
-    /// A line of so many bytes, and behind it a newline.
+    /// A line of so many bytes, and after it a newline.
     Line(usize),
     /// A line of more than 4,096 bytes.
     Long,

@@ -143,7 +143,7 @@ fn second_call_fails(rt: HostRuntime) -> Result<(), Fail> {
     Ok(())
 }
 
-// Behind a last line without a newline the source isn't called: its third call would fail.
+// After a last line without a newline the source isn't called: its third call would fail.
 #[test]
 fn no_call_behind_the_end(rt: HostRuntime) -> Result<(), Fail> {
     let alloc = rt.alloc();

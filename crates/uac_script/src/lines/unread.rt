@@ -1,5 +1,5 @@
 // The bytes that were taken of a source and aren't in a line yet.
-ghost use Rattle.std.specs.Prelude.{◌≡◌, ℕ, ◌+◌, ◌-◌, ◌<◌, ◌≤◌, [], length, take, drop, IfOk, OnOk, OnErr};
+ghost use Rattle.std.specs.Prelude.{◌≡◌, ℕ, ◌+◌, ◌-◌, ◌<◌, ◌≤◌, [], length, take, drop, IfOk, OnErr};
 ghost use Rattle.std.specs.Io.KnownBytes.{Keeps};
 ghost use Rattle.uac_edges.specs.Faults.{HasCause};
 ghost use Rattle.uac_script.specs.Taking.{Grows};
@@ -66,7 +66,7 @@ impl Unread {
         self.start += count;
     }
 
-    /// Takes at most `most` bytes of a source, in one call, behind those that stand here, and
+    /// Takes at most `most` bytes of a source, in one call, after those that stand here, and
     /// answers how many came: 0 is the end of input. `Failed` is the source's: then the bytes
     /// stay as they are.
     pub fn fill<S: Source>(&mut self, source: &mut S, most: usize) -> Result<usize, Failed>
@@ -76,18 +76,13 @@ impl Unread {
         ensures err { OnErr result (self.new ≡ self.old) }
         ensures kept { OnErr result (Keeps (S.left source.old) (S.left source.new)) }
         ensures cause { HasCause (S.faults source.old) (S.faults source.new) result }
-        ensures faultless { OnOk result (S.faults source.new ≡ S.faults source.old) }
     {
         move_to_front(&mut self.bytes, self.start, self.end);
         self.end -= self.start;
         self.start = 0;
         let room = most.min(SIZE - self.end);
-        match source.take(&mut self.bytes[self.end..self.end + room]) {
-            Ok(count) => {
-                self.end += count;
-                Ok(count)
-            }
-            Err(failed) => Err(failed),
-        }
+        let count = source.take(&mut self.bytes[self.end..self.end + room])?;
+        self.end += count;
+        Ok(count)
     }
 }

@@ -5,7 +5,7 @@ use Rattle.uac_edges.specs.Writing.{AppendsFront}
 use Rattle.uac_transcript.specs.Transcript.{spelled}
 use Rattle.uac_transcript.proofs.PrintingLemmas.{Appends-line, front_of_line}
 use Rattle.uac_running.specs.Lines.{ready_line}
-use Rattle.uac_bus.specs.declared.bus.Stage.TheVariants as stages
+use Rattle.uac_bus.specs.declared.bus.BusStage.TheVariants as stages
 use Rattle.uac_bus.specs.World.{Step}
 use Rattle.uac_bus.specs.Kept.{StandsFor, Reaches, IsCut}
 use Rattle.uac_bus.proofs.Described.{gone_well, gone_ill}

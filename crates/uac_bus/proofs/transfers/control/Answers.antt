@@ -1,7 +1,7 @@
 use Rattle.std.proofs.Common.{subst}
 use Rattle.uac_request.specs.declared.setup.Setup.{Setup}
 use Rattle.uac_running.specs.Transfers.{transfer}
-use Rattle.uac_bus.specs.declared.bus.Stage.TheVariants as stages
+use Rattle.uac_bus.specs.declared.bus.BusStage.TheVariants as stages
 use Rattle.uac_bus.specs.World.{told}
 use Rattle.uac_bus.specs.Kept.{Reaches, StandsFor}
 use Rattle.uac_bus.proofs.transfers.control.Goals as goal

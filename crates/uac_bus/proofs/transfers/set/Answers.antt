@@ -5,7 +5,7 @@ use Rattle.uac_mixer.specs.ViewWorld.{ViewWorld}
 use Rattle.uac_mixer.specs.Elements.{fits_element}
 use Rattle.uac_running.specs.Kept.{TellsBetween}
 use Rattle.uac_running.specs.Transfers.{set_element}
-use Rattle.uac_bus.specs.declared.bus.Stage.TheVariants as stages
+use Rattle.uac_bus.specs.declared.bus.BusStage.TheVariants as stages
 use Rattle.uac_bus.specs.World.{Step, breaks_rule}
 use Rattle.uac_bus.specs.Kept.{IsCut, Reaches, StandsFor}
 use Rattle.uac_bus.proofs.Stepping.{unless_fails, unless_holds}

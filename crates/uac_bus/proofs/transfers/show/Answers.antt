@@ -1,7 +1,7 @@
 use Rattle.std.proofs.Common.{ap}
 use Rattle.uac_mixer.specs.ViewWorld.{ViewWorld}
 use Rattle.uac_running.specs.Transfers.{show_element}
-use Rattle.uac_bus.specs.declared.bus.Stage.TheVariants as stages
+use Rattle.uac_bus.specs.declared.bus.BusStage.TheVariants as stages
 use Rattle.uac_bus.specs.World.{Step}
 use Rattle.uac_bus.specs.Kept.{IsCut, Reaches, StandsFor}
 use Rattle.uac_bus.proofs.TransferRows.{on_named}

@@ -10,7 +10,7 @@ use Rattle.uac_cli.specs.Completeness.{IsComplete}
 use Rattle.uac_cli.proofs.boxes.run_with_racks.OwnLists as lists
 use Rattle.uac_cli.proofs.boxes.run_with_racks.Goals as goal
 
--- three boxes were pushed one behind the other, each with its reading
+-- three boxes were pushed one after the other, each with its reading
 pushed : {B : Type 0} (read : B → Reading) (l0 l1 l2 l3 : List B) (a b c : B) (ra rb rc : Reading) → l0 ≡ [] → l1 ≡ l0 ++ (a ∷ []) → l2 ≡ l1 ++ (b ∷ []) → l3 ≡ l2 ++ (c ∷ [])
     → read a ≡ ra → read b ≡ rb → read c ≡ rc → map read l3 ≡ ra ∷ rb ∷ rc ∷ []
 pushed {B} read l0 l1 l2 l3 a b c ra rb rc e0 e1 e2 e3 pa pb pc =

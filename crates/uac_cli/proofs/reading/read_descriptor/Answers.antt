@@ -1,4 +1,4 @@
-use Rattle.std.proofs.Common.{ℕ, List, ◌<◌, ◌≤◌, length, take, arith, subst, sym}
+use Rattle.std.proofs.Common.{ℕ, List, ◌<◌, ◌≤◌, length, take, arith, subst, sym, ◌∙◌}
 use Rattle.std.proofs.lemmas.List.{length-take}
 use Rattle.std.specs.Io.KnownBytes.{Consumes}
 use Rattle.uac_cli.specs.Reading.{piece_size}
@@ -19,7 +19,7 @@ loop-reader-preserved g c =
     let taken = fed.takes i.going fed.answer in
     record {
       consumed = subst (λ (xs : List ℕ). Consumes (g.S.Source.left c.args.source.now) (g.S.Source.left c.take.new.self) xs) (sym taken) (Consumes-Consumes _ _ _ _ _ i.consumed c.in-Ok.ensures.bytes.0);
-      never_falls = (let cause = c.in-Ok.ensures.cause.never_falls in omega arith);
+      faultless = c.in-Ok.ensures.cause.faultless ∙ i.faultless;
       going = fed.answer;
       quiet = went_on c.loop-reader.reader.taken (take c.in-Ok.count c.take.new.into) _ _ fed.answer taken (fed.shown i.going);
       bounded = fed.bounded;

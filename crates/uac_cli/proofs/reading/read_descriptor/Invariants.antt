@@ -7,7 +7,7 @@ use Rattle.uac_cli.proofs.reading.read_descriptor.Given as goal
 abbrev pub invariant-loop-reader : goal.invariant-loop-reader
 invariant-loop-reader g l = record {
   consumed : Consumes (g.S.Source.left l.fn.source) (g.S.Source.left l.source) l.reader.taken;
-  never_falls : g.S.Source.faults l.fn.source ≤ g.S.Source.faults l.source;
+  faultless : g.S.Source.faults l.source ≡ g.S.Source.faults l.fn.source;
   going : l.reader.stop ≡ None;
   quiet : shown_fault l.reader.taken ≡ None;
   bounded : length l.reader.taken ≤ most_taken;

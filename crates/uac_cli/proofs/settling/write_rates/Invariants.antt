@@ -1,4 +1,4 @@
-use Rattle.std.proofs.Common.{◌≤◌, flat_map, take}
+use Rattle.std.proofs.Common.{◌≡◌, flat_map, take}
 use Rattle.std.specs.Io.KnownBytes.{Appends}
 use Rattle.uac_cli.specs.Call.{settling_line}
 use Rattle.uac_cli.proofs.settling.write_rates.Given as goal
@@ -6,5 +6,5 @@ use Rattle.uac_cli.proofs.settling.write_rates.Given as goal
 abbrev pub invariant-loop-rate : goal.invariant-loop-rate
 invariant-loop-rate g l = record {
   written : Appends (g.K.Sink.written l.fn.sink) (g.K.Sink.written l.sink) (flat_map settling_line (take l.rate-index l.rates));
-  never_falls : g.K.Sink.faults l.fn.sink ≤ g.K.Sink.faults l.sink;
+  faultless : g.K.Sink.faults l.sink ≡ g.K.Sink.faults l.fn.sink;
 }

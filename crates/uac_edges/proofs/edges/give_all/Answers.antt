@@ -19,11 +19,11 @@ some_left text given rest some parts empty =
 pub loop-rest-preserved : goal.loop-rest-preserved
 loop-rest-preserved g c =
     let before = c.loop-rest.invariant in
-    let told = c.in-Ok.ensures in
+    let told = c.in_ok-given.ensures in
     record {
-      given = before.given ++ take c.in-Ok.given c.loop-rest.rest.now;
-      parts = given_more c.args.text.now before.given c.loop-rest.rest.now c.in-Ok.given before.parts;
+      given = before.given ++ take c.in_ok-given.given c.loop-rest.rest.now;
+      parts = given_more c.args.text.now before.given c.loop-rest.rest.now c.in_ok-given.given before.parts;
       appended = Appends-twice _ _ _ _ _ before.appended told.bytes;
-      faultless = told.faultless ∙ before.faultless;
+      faultless = told.cause.faultless ∙ before.faultless;
       untouched = λ empty. absurd (some_left c.args.text.now before.given c.loop-rest.rest.now (search rules) before.parts empty);
     }

@@ -3,7 +3,7 @@ use Rattle.uac_descriptor.specs.Spelling.{spelling}
 use Rattle.uac_gen.specs.Descriptor.{units_of}
 use Rattle.uac_gen.proofs.descriptor.push_units.Given as goal
 
--- So many units stand behind the bytes that were there.
+-- So many units stand after the bytes that were there.
 abbrev pub invariant-loop-distance : goal.invariant-loop-distance
 invariant-loop-distance l = record {
   units : l.bytes ≡ l.fn.bytes ++ flat_map spelling (units_of l.distance);

@@ -1,20 +1,22 @@
-use Rattle.std.proofs.Common.{List, ℕ, ◌++◌, arith, ap, subst, ◌∙◌}
+use Rattle.std.proofs.Common.{List, ℕ, ◌++◌, ap, subst, ◌∙◌}
 use Rattle.uac_edges.specs.Writing.{AppendsFront, Writes}
-use Rattle.uac_edges.proofs.WritingLemmas.{Appends-twice, AppendsFront-after, AppendsFront-longer, Writes-after}
+use Rattle.uac_edges.proofs.WritingLemmas.{Appends-twice, AppendsFront-after, AppendsFront-longer, Writes-after, Writes-handed_on}
 use Rattle.uac_listing.proofs.ListingLemmas.{lines_wait, lines_end, bytes_more}
 use Rattle.uac_listing.proofs.blocks.write_blocks.Goals as goal
 
-pub returns-in-Err-clause-written : goal.returns-in-Err-clause-written
-returns-in-Err-clause-written g c =
+pub returns-in_err-make_room-clause-written : goal.returns-in_err-make_room-clause-written
+returns-in_err-make_room-clause-written g c =
+    Writes-handed_on _ (g.K.Sink.written c.args.sink.now) (g.K.Sink.written c.make_room.new.sink) c.from_residual.result _ c.from_residual.ensures.1 (
     let i = c.loop-block.invariant in
     subst (λ (text : List ℕ). AppendsFront (g.K.Sink.written c.args.sink.now) (g.K.Sink.written c.make_room.new.sink) text) i.whole
-    (AppendsFront-longer _ _ (i.text ++ c.loop-block.lines) _ (AppendsFront-after _ _ _ i.text _ i.written c.in-Err.ensures.given))
+    (AppendsFront-longer _ _ (i.text ++ c.loop-block.lines) _ (AppendsFront-after _ _ _ i.text _ i.written c.in_err-make_room.ensures.given))
+    )
 
 pub loop-block-preserved : goal.loop-block-preserved
 loop-block-preserved g c =
     let i = c.loop-block.invariant in
     let b = c.block-item.result in
-    let given = c.in-Ok.ensures.given in
+    let given = c.in_ok-make_room.ensures.given in
     let bytes = bytes_more c.args.bytes.now c.loop-block.place c.push_block-place.result c.loop-block.block-index c.args.blocks.now b c.loop-block-test.true c.block-item.is i.within i.rest
     c.push_block-place.ensures.size in
     record {
@@ -25,7 +27,7 @@ loop-block-preserved g c =
       whole =
           lines_wait c.loop-block.place c.push_block-place.result c.loop-block.block-index c.args.blocks.now b i.text given.front c.loop-block.lines c.make_room.new.lines
           c.push_block-place.new.lines c.loop-block-test.true c.block-item.is given.parts c.push_block-place.ensures.text c.push_block-place.ensures.size i.whole;
-      never_falls = (let cause = c.in-Ok.ensures.cause.never_falls in omega arith);
+      faultless = c.in_ok-make_room.ensures.cause.faultless ∙ i.faultless;
     }
 
 pub returns-clause-written : goal.returns-clause-written

@@ -11,5 +11,5 @@ invariant-loop-block g l = record {
   text : List ℕ;
   written : Appends (g.K.Sink.written l.fn.sink) (g.K.Sink.written l.sink) text;
   whole : (text ++ l.lines) ++ block_lines l.place (drop l.block-index l.blocks) ≡ block_lines 0 l.blocks;
-  never_falls : g.K.Sink.faults l.fn.sink ≤ g.K.Sink.faults l.sink;
+  faultless : g.K.Sink.faults l.sink ≡ g.K.Sink.faults l.fn.sink;
 }

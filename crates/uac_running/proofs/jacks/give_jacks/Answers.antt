@@ -32,8 +32,8 @@ give_jack-requires-clause-most c =
 pub loop-jack-preserved : goal.loop-jack-preserved
 loop-jack-preserved c = record {
   changed =
-      turned_more (after_one c.args.clock) c.loop-jack.jacks c.args.jacks.now c.loop-jack.jack-index c.after_frame.result _
-      (omega (arith, c.loop-jack.invariant.changed.same)) c.loop-jack.invariant.changed c.after_frame.ensures;
+      turned_more (after_one c.args.clock) c.loop-jack.jacks c.args.jacks.now c.loop-jack.jack-index c.go_on.new.jack _
+      (omega (arith, c.loop-jack.invariant.changed.same)) c.loop-jack.invariant.changed c.go_on.ensures;
   stands = λ w stands.
       gives_next c.args.clock c.args.jacks.now c.loop-jack.jacks c.loop-jack.jack-index _ w c.give_jack.new.device c.loop-jack-test.true c.loop-jack.invariant.changed
       (c.give_jack.ensures.stands _ (c.loop-jack.invariant.stands w stands));

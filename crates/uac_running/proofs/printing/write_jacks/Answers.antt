@@ -1,4 +1,4 @@
-use Rattle.std.proofs.Common.{List, ◌≡◌, ◌∙◌, ap, subst, flat_map, arith}
+use Rattle.std.proofs.Common.{List, ◌≡◌, ◌∙◌, ap, subst, flat_map}
 use Rattle.std.specs.Io.KnownBytes.{Appends}
 use Rattle.std.proofs.lemmas.List.{take_all}
 use Rattle.uac_topology.specs.Function.{FunctionFields}
@@ -30,7 +30,7 @@ loop-entity-preserved g c = record {
   written = λ w stands.
       some_lines_more _ _ _ (of_entity c.args.clock w) c.entities-entity-items.result.now c.loop-entity.entity-index c.entity-item.result _ c.loop-entity-test.true
       (ap (of_entity c.args.clock w) c.entity-item.is) (c.loop-entity.invariant.written w stands) (c.in-Ok.ensures.printed w stands);
-  never_falls = (let cause = c.in-Ok.ensures.cause.never_falls in omega arith);
+  faultless = c.in-Ok.ensures.cause.faultless ∙ c.loop-entity.invariant.faultless;
 }
 
 pub returns-clause-printed : goal.returns-clause-printed

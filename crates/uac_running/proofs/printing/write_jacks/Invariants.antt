@@ -1,4 +1,4 @@
-use Rattle.std.proofs.Common.{◌≤◌, flat_map, take}
+use Rattle.std.proofs.Common.{◌≡◌, flat_map, take}
 use Rattle.std.specs.Io.KnownBytes.{Appends}
 use Rattle.uac_device.specs.Kept.{Stands}
 use Rattle.uac_device.specs.DeviceWorld.{DeviceWorld}
@@ -10,5 +10,5 @@ abbrev pub invariant-loop-entity : goal.invariant-loop-entity
 invariant-loop-entity g l = record {
   written : (w : DeviceWorld) → Stands l.device w
       → Appends (g.K.Sink.written l.fn.sink) (g.K.Sink.written l.sink) (text_of (flat_map (of_entity l.clock w) (take l.entity-index l.entity-items)));
-  never_falls : g.K.Sink.faults l.fn.sink ≤ g.K.Sink.faults l.sink;
+  faultless : g.K.Sink.faults l.sink ≡ g.K.Sink.faults l.fn.sink;
 }

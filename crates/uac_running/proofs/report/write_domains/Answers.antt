@@ -1,4 +1,4 @@
-use Rattle.std.proofs.Common.{refl, arith}
+use Rattle.std.proofs.Common.{refl, ◌∙◌}
 use Rattle.uac_device.specs.DeviceWorld.{at_rest}
 use Rattle.uac_transcript.proofs.PrintingLemmas.{front_of_lines, one_line_more}
 use Rattle.uac_running.specs.Lines.{domain_line}
@@ -21,5 +21,5 @@ loop-count-preserved g c = record {
       one_line_more _ _ _ (domain_line w) w.domains i (at_rest 0) _ below
       (count_at c.args.device.now w c.args.counts.now i (at_rest 0) (record { clock = 0; ticks = 0 }) _ c.domain_rate.result stands same below refl c.domain_rate.ensures)
       (c.loop-count.invariant.written w stands same) c.in-Ok.ensures.written;
-  never_falls = (let cause = c.in-Ok.ensures.cause.never_falls in omega arith);
+  faultless = c.in-Ok.ensures.cause.faultless ∙ c.loop-count.invariant.faultless;
 }

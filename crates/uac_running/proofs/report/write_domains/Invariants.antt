@@ -1,4 +1,4 @@
-use Rattle.std.proofs.Common.{◌≡◌, ◌≤◌, map, take}
+use Rattle.std.proofs.Common.{◌≡◌, map, take}
 use Rattle.std.specs.Io.KnownBytes.{Appends}
 use Rattle.uac_device.specs.Kept.{Stands}
 use Rattle.uac_device.specs.DeviceWorld.{DeviceWorld}
@@ -11,5 +11,5 @@ abbrev pub invariant-loop-count : goal.invariant-loop-count
 invariant-loop-count g l = record {
   written : (w : DeviceWorld) → Stands l.device w → l.counts ≡ map counted w.domains
       → Appends (g.K.Sink.written l.fn.sink) (g.K.Sink.written l.sink) (text_of (map (domain_line w) (take l.count-index w.domains)));
-  never_falls : g.K.Sink.faults l.fn.sink ≤ g.K.Sink.faults l.sink;
+  faultless : g.K.Sink.faults l.sink ≡ g.K.Sink.faults l.fn.sink;
 }

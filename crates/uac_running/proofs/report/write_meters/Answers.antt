@@ -1,4 +1,4 @@
-use Rattle.std.proofs.Common.{◌<◌, length, arith}
+use Rattle.std.proofs.Common.{◌<◌, length, arith, ◌∙◌}
 use Rattle.uac_units.specs.Hearing.{Reading}
 use Rattle.uac_units.specs.Panel.{readings}
 use Rattle.uac_transcript.specs.Transcript.{says_meter}
@@ -22,5 +22,5 @@ loop-at-preserved g c =
     record {
       written = one_line_more _ _ _ says_meter shown c.loop-at.at d _ below (meter_at shown c.loop-at.at d c.kind.result c.value.result below c.kind.ensures c.value.ensures)
           c.loop-at.invariant.written c.in-Ok.ensures.written;
-      never_falls = (let cause = c.in-Ok.ensures.cause.never_falls in omega arith);
+      faultless = c.in-Ok.ensures.cause.faultless ∙ c.loop-at.invariant.faultless;
     }

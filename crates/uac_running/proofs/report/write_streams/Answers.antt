@@ -1,4 +1,4 @@
-use Rattle.std.proofs.Common.{List, ◌∙◌, ap, subst, map, arith}
+use Rattle.std.proofs.Common.{List, ◌∙◌, ap, subst, map}
 use Rattle.uac_entities.specs.declared.stream.StreamInterface.{StreamInterface}
 use Rattle.uac_edges.specs.Writing.{AppendsFront}
 use Rattle.uac_transcript.specs.Printing.{text_of}
@@ -24,5 +24,5 @@ loop-stream-preserved g c = record {
       (c.streams-stream-items.ensures ∙ ap (λ f. f.streams) (c.function.ensures ∙ stands.function)) c.loop-stream-test.true c.stream-item.is in
       one_line_more _ _ _ (stream_line w met) c.streams-stream-items.result.now c.loop-stream.stream-index c.stream-item.result _ c.loop-stream-test.true
       (ap (stream_line w met) c.stream-item.is) (c.loop-stream.invariant.written w met stands none) (c.in-Ok.ensures.written w met there.0 stands none there.1);
-  never_falls = (let cause = c.in-Ok.ensures.cause.never_falls in omega arith);
+  faultless = c.in-Ok.ensures.cause.faultless ∙ c.loop-stream.invariant.faultless;
 }

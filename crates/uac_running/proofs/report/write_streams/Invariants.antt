@@ -1,4 +1,4 @@
-use Rattle.std.proofs.Common.{◌≡◌, ◌≤◌, ℕ, map, take}
+use Rattle.std.proofs.Common.{◌≡◌, ℕ, map, take}
 use Rattle.std.specs.Io.KnownBytes.{Appends}
 use Rattle.uac_device.specs.Kept.{Stands}
 use Rattle.uac_device.specs.DeviceWorld.{DeviceWorld}
@@ -12,5 +12,5 @@ abbrev pub invariant-loop-stream : goal.invariant-loop-stream
 invariant-loop-stream g l = record {
   written : (w : DeviceWorld) (met : ℕ → StreamCounts) → Stands l.device w → l.streaming.met ≡ met_in met w.function
       → Appends (g.K.Sink.written l.fn.sink) (g.K.Sink.written l.sink) (text_of (map (stream_line w met) (take l.stream-index l.stream-items)));
-  never_falls : g.K.Sink.faults l.fn.sink ≤ g.K.Sink.faults l.sink;
+  faultless : g.K.Sink.faults l.sink ≡ g.K.Sink.faults l.fn.sink;
 }

@@ -1,4 +1,4 @@
-use Rattle.std.proofs.Common.{◌≡◌, ◌∙◌, sym, ap, subst, ◌==◌, ◌%◌, Bool, List, [], ◌∷◌, if◌then◌else◌, flat_map, get_or, arith}
+use Rattle.std.proofs.Common.{◌≡◌, ◌∙◌, sym, ap, subst, ◌==◌, ◌%◌, Bool, List, [], ◌∷◌, if◌then◌else◌, flat_map, get_or}
 use Rattle.std.specs.Io.KnownBytes.{Appends}
 use Rattle.std.proofs.lemmas.List.{take_all}
 use Rattle.uac_entities.specs.declared.stream.StreamInterface.{StreamInterface}
@@ -39,7 +39,7 @@ loop-stream-preserved g c = record {
       let found = found_here test xs i s c.loop-stream.rest c.loop-stream-test.true (c.loop-stream.invariant.rest test is) in
       some_lines_more _ _ _ (lines_of test) xs i s (if c.loop-stream.rest % 2 == 1 then says_under s.number ∷ [] else []) c.loop-stream-test.true
       (lines_here test s (get_or xs i s) (c.loop-stream.rest % 2 == 1) c.stream-item.is found) (c.loop-stream.invariant.written test is) c.in-Ok.ensures.printed;
-  never_falls = (let cause = c.in-Ok.ensures.cause.never_falls in omega arith);
+  faultless = c.in-Ok.ensures.cause.faultless ∙ c.loop-stream.invariant.faultless;
 }
 
 pub returns-clause-printed : goal.returns-clause-printed

@@ -1,4 +1,4 @@
-use Rattle.std.proofs.Common.{◌≡◌, ◌≤◌, Bool, map, take, drop, flat_map, if◌then◌else◌, [], ◌∷◌}
+use Rattle.std.proofs.Common.{◌≡◌, Bool, map, take, drop, flat_map, if◌then◌else◌, [], ◌∷◌}
 use Rattle.std.specs.Io.KnownBytes.{Appends}
 use Rattle.uac_entities.specs.declared.stream.StreamInterface.{StreamInterface}
 use Rattle.uac_device.specs.DeviceWorld.{bits_of}
@@ -12,5 +12,5 @@ invariant-loop-stream g l = record {
   written : (test : StreamInterface → Bool) → l.bits ≡ bits_of (map test l.streams)
       → Appends (g.K.Sink.written l.fn.sink) (g.K.Sink.written l.sink)
       (text_of (flat_map (λ (s : StreamInterface). if test s then says_under s.number ∷ [] else []) (take l.stream-index l.streams)));
-  never_falls : g.K.Sink.faults l.fn.sink ≤ g.K.Sink.faults l.sink;
+  faultless : g.K.Sink.faults l.sink ≡ g.K.Sink.faults l.fn.sink;
 }

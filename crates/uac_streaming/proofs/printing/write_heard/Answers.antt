@@ -1,4 +1,4 @@
-use Rattle.std.proofs.Common.{◌≤◌, sym, ap, subst, List, [], ℤ, map, length, arith}
+use Rattle.std.proofs.Common.{◌≤◌, sym, ap, subst, List, [], ℤ, map, length, arith, ◌∙◌}
 use Rattle.std.specs.Io.KnownBytes.{Appends}
 use Rattle.std.proofs.lemmas.List.{take_all}
 use Rattle.std.proofs.lemmas.Option.{get_or_from_slice_get, slice_get_within}
@@ -27,7 +27,7 @@ loop-at-preserved g c = record {
       (slice_get_within xs c.loop-at.at c.hear.new.frame.items there)
       (ap (says_frame c.args.interface) (sym (get_or_from_slice_get xs c.loop-at.at c.hear.new.frame.items [] there)))
       (c.loop-at.invariant.written w stands) c.in-Ok.ensures.written;
-  never_falls = (let cause = c.in-Ok.ensures.cause.never_falls in omega arith);
+  faultless = c.in-Ok.ensures.cause.faultless ∙ c.loop-at.invariant.faultless;
 }
 
 pub returns-clause-printed : goal.returns-clause-printed

@@ -1,4 +1,4 @@
-use Rattle.std.proofs.Common.{◌≤◌, map, take}
+use Rattle.std.proofs.Common.{◌≡◌, map, take}
 use Rattle.std.specs.Io.KnownBytes.{Appends}
 use Rattle.uac_host.specs.HostWorld.{HostWorld}
 use Rattle.uac_host.specs.Calls.{heard_in}
@@ -11,5 +11,5 @@ abbrev pub invariant-loop-at : goal.invariant-loop-at
 invariant-loop-at g l = record {
   written : (w : HostWorld) → kept.Stands l.host w
       → Appends (g.K.Sink.written l.fn.sink) (g.K.Sink.written l.sink) (text_of (map (says_frame l.interface) (take l.at (heard_in w l.interface l.packet.items))));
-  never_falls : g.K.Sink.faults l.fn.sink ≤ g.K.Sink.faults l.sink;
+  faultless : g.K.Sink.faults l.sink ≡ g.K.Sink.faults l.fn.sink;
 }

@@ -1,7 +1,7 @@
-use Rattle.std.proofs.Common.{◌∙◌, ap, sym, arith, ◌%◌, ◌==◌, if◌then◌else◌}
+use Rattle.std.proofs.Common.{◌≡◌, ◌∙◌, ap, sym, arith, ℕ, ◌%◌, ◌==◌, if◌then◌else◌}
 use Rattle.uac_transcript.specs.declared.report.StreamCounts.{StreamCounts}
 use Rattle.uac_streaming.specs.StreamingWorld.{nothing_met, one_over}
-use Rattle.uac_streaming.proofs.Founds.{found_all, found_more, found_of}
+use Rattle.uac_streaming.proofs.Founds.{found_all, found_in, found_more, found_nothing, found_of}
 use Rattle.uac_streaming.proofs.streaming.count_found.Goals as goal
 
 pub loop-counts-preserved : goal.loop-counts-preserved
@@ -14,4 +14,13 @@ pub returns : goal.returns
 returns c before w clock is found =
     sym (found_all c.loop-counts.empty c.loop-counts.full c.loop-counts.counts-index c.loop-counts.met (omega arith))
     ∙ c.loop-counts.invariant
+    ∙ found_of before w clock c.args.found c.args.met.now is found
+
+pub returns-then-found-eq0-2 : goal.returns-then-found-eq0-2
+returns-then-found-eq0-2 c before w clock is found =
+    let empty : 0 ≡ c.args.found.under = omega (arith, c.if-found-eq0.true) in
+    let full : 0 ≡ c.args.found.over = omega (arith, c.if-found-eq0-2.true) in
+    sym (found_nothing c.args.met.now)
+    ∙ ap (λ (n : ℕ). found_in n 0 c.args.met.now) empty
+    ∙ ap (λ (n : ℕ). found_in c.args.found.under n c.args.met.now) full
     ∙ found_of before w clock c.args.found c.args.met.now is found

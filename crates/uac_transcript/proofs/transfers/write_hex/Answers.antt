@@ -1,8 +1,8 @@
-use Rattle.std.proofs.Common.{◌≡◌, ◌∙◌, ◌++◌, ◌-◌, List, [], ℕ, ap, arith, drop, length, refl, rules, subst, sym, take, append-nil}
+use Rattle.std.proofs.Common.{◌≡◌, ◌∙◌, ◌++◌, ◌-◌, List, [], ℕ, ap, drop, length, refl, rules, subst, sym, take, append-nil}
 use Rattle.std.specs.Io.KnownBytes.{Appends}
 use Rattle.hex.specs.Hex.{encode_lower, encode_with}
 use Rattle.uac_edges.specs.Writing.{AppendsFront}
-use Rattle.uac_edges.proofs.WritingLemmas.{Appends-none, Appends-twice, AppendsFront-after, AppendsFront-longer}
+use Rattle.uac_edges.proofs.WritingLemmas.{Appends-none, Appends-twice, AppendsFront-after, AppendsFront-longer, Writes-handed_on}
 use Rattle.uac_transcript.proofs.HexPieces.{encode_pieces, parts_more}
 use Rattle.uac_transcript.proofs.transfers.write_hex.Goals as goal
 
@@ -12,25 +12,25 @@ loop-rest-init g c = record {
   before = [];
   parts = refl;
   appended = Appends-none _ _ (search rules);
-  never_falls = omega arith;
+  faultless = refl;
 }
 
 pub loop-rest-preserved : goal.loop-rest-preserved
 loop-rest-preserved g c =
     let earlier = c.loop-rest.invariant in
-    let risen = c.in-Ok.ensures.cause.never_falls in
     let piece = take c.min-size.result c.loop-rest.rest.now in
     record {
       before = earlier.before ++ piece;
       parts = parts_more c.args.bytes.now earlier.before c.loop-rest.rest.now c.min-size.result earlier.parts;
       appended =
           subst (λ (text : List ℕ). Appends (g.K.Sink.written c.args.sink.now) (g.K.Sink.written c.write_piece.new.sink) text) (sym (encode_pieces earlier.before piece))
-          (Appends-twice _ _ _ (encode_lower earlier.before) (encode_lower piece) earlier.appended c.in-Ok.ensures.written);
-      never_falls = omega (arith, earlier.never_falls, risen);
+          (Appends-twice _ _ _ (encode_lower earlier.before) (encode_lower piece) earlier.appended c.in_ok-write_piece.ensures.written);
+      faultless = c.in_ok-write_piece.ensures.cause.faultless ∙ earlier.faultless;
     }
 
-pub returns-in-Err-clause-written : goal.returns-in-Err-clause-written
-returns-in-Err-clause-written g c =
+pub returns-in_err-write_piece-clause-written : goal.returns-in_err-write_piece-clause-written
+returns-in_err-write_piece-clause-written g c =
+    Writes-handed_on _ (g.K.Sink.written c.args.sink.now) (g.K.Sink.written c.write_piece.new.sink) c.from_residual.result _ c.from_residual.ensures.1 (
     let earlier = c.loop-rest.invariant in
     let size = c.min-size.result in
     let piece = take size c.loop-rest.rest.now in
@@ -39,4 +39,5 @@ returns-in-Err-clause-written g c =
     subst (λ (text : List ℕ). AppendsFront (g.K.Sink.written c.args.sink.now) (g.K.Sink.written c.write_piece.new.sink) text)
     (sym (ap encode_lower parts ∙ encode_pieces (earlier.before ++ piece) left ∙ ap (λ front. front ++ encode_lower left) (encode_pieces earlier.before piece)))
     (AppendsFront-longer _ _ (encode_lower earlier.before ++ encode_lower piece) (encode_lower left)
-    (AppendsFront-after _ _ _ (encode_lower earlier.before) (encode_lower piece) earlier.appended c.in-Err.ensures.written))
+    (AppendsFront-after _ _ _ (encode_lower earlier.before) (encode_lower piece) earlier.appended c.in_err-write_piece.ensures.written))
+    )

@@ -1,4 +1,4 @@
-use Rattle.std.proofs.Common.{◌≡◌, ◌≤◌, ◌++◌, ℕ, List, length}
+use Rattle.std.proofs.Common.{◌≡◌, ◌++◌, ℕ, List, length}
 use Rattle.std.specs.Io.KnownBytes.{Appends}
 use Rattle.hex.specs.Hex.{encode_lower}
 use Rattle.uac_transcript.proofs.transfers.write_hex.Given as goal
@@ -9,7 +9,7 @@ invariant-loop-rest g l = record {
   before : List ℕ;
   parts : l.fn.bytes ≡ before ++ l.rest;
   appended : Appends (g.K.Sink.written l.fn.sink) (g.K.Sink.written l.sink) (encode_lower before);
-  never_falls : g.K.Sink.faults l.fn.sink ≤ g.K.Sink.faults l.sink;
+  faultless : g.K.Sink.faults l.sink ≡ g.K.Sink.faults l.fn.sink;
 }
 
 abbrev pub decreases-loop-rest : goal.decreases-loop-rest

@@ -14,7 +14,7 @@ use Rattle.uac_running.proofs.running.Running.domain_microframes.Goals as goal
 pub loop-place-init : goal.loop-place-init
 loop-place-init g c = record {
   told = λ r stands. begun Stands (domain_microframes c.args.self.now.device.function.domains r) (domain_microframes c.args.self.now.device.function.domains) c.args.self.now (readings (λ v x. (goal.Meter-dyn g (v, x)).reading_of x) c.args.meters.now) (g.K.Sink.written c.args.sink.now) r stands refl;
-  never_falls = omega arith;
+  faultless = refl;
   function = refl;
 }
 
@@ -44,7 +44,7 @@ loop-place-preserved g c =
           (domain_microframe (get_or c.args.self.now.device.function.domains c.loop-place.place 0)) c.loop-place.self c.domain_microframe.new.self (readings (λ v x. (goal.Meter-dyn g (v, x)).reading_of x) c.loop-place.meters) (readings (λ v x. (goal.Meter-dyn g (v, x)).reading_of x) c.domain_microframe.new.meters)
           (g.K.Sink.written c.args.sink.now) (g.K.Sink.written c.loop-place.sink) (g.K.Sink.written c.domain_microframe.new.sink)
           (λ w. domains_split c.args.self.now.device.function.domains c.loop-place.place w below) (c.loop-place.invariant.told r stands) told;
-      never_falls = let risen = c.domain_microframe.ensures.cause.never_falls in omega (arith, risen, c.loop-place.invariant.never_falls);
+      faultless = c.in-Ok.ensures.cause.faultless ∙ c.loop-place.invariant.faultless;
       function = c.domain_microframe.ensures.function ∙ c.loop-place.invariant.function;
     }
 

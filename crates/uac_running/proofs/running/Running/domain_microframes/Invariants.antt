@@ -1,4 +1,4 @@
-use Rattle.std.proofs.Common.{◌≡◌, ◌≤◌, drop}
+use Rattle.std.proofs.Common.{◌≡◌, drop}
 use Rattle.uac_units.specs.Panel.{readings}
 use Rattle.uac_running.specs.RunningWorld.{RunningWorld}
 use Rattle.uac_running.specs.Events.{domain_microframes}
@@ -11,6 +11,6 @@ invariant-loop-place g l = record {
   told : (r : RunningWorld) → Stands l.initial.self (readings (λ v x. (goal.Meter-dyn g (v, x)).reading_of x) l.initial.meters) r
       → SoFar Stands (domain_microframes l.initial.self.device.function.domains r) (domain_microframes (drop l.place l.initial.self.device.function.domains)) l.self
       (readings (λ v x. (goal.Meter-dyn g (v, x)).reading_of x) l.meters) (g.K.Sink.written l.fn.sink) (g.K.Sink.written l.sink);
-  never_falls : g.K.Sink.faults l.fn.sink ≤ g.K.Sink.faults l.sink;
+  faultless : g.K.Sink.faults l.sink ≡ g.K.Sink.faults l.fn.sink;
   function : l.self.device.function ≡ l.initial.self.device.function;
 }

@@ -1,5 +1,5 @@
 use Rattle.std.proofs.Common.{map}
-use Rattle.uac_script.specs.Line.{loss_of}
+use Rattle.uac_script.specs.Line.{said_mark}
 use Rattle.uac_streaming.specs.StreamingWorld.{all_reported, all_settled}
 use Rattle.uac_running.specs.Events.{ends_and_reports, of_streams}
 use Rattle.uac_running.proofs.SoFar.{front_then, tells_then}
@@ -8,7 +8,7 @@ use Rattle.uac_running.proofs.running.Running.ends_and_reports.Goals as goal
 pub returns-in-Err-clause-tells : goal.returns-in-Err-clause-tells
 unfolding ends_and_reports
 returns-in-Err-clause-tells g c meters r stands fits =
-    let losses = map loss_of c.args.marks.now in (
+    let losses = map said_mark c.args.marks.now in (
       front_then (of_streams (all_settled r.detail)) (of_streams (all_reported r.detail losses)) r
           (g.K.Sink.written c.args.sink.now) (g.K.Sink.written c.settle.new.sink) (c.in-Err.ensures.tells meters r stands fits).0,
       tt,
@@ -17,7 +17,7 @@ returns-in-Err-clause-tells g c meters r stands fits =
 pub returns-clause-tells : goal.returns-clause-tells
 unfolding ends_and_reports
 returns-clause-tells g c meters r stands fits =
-    let losses = map loss_of c.args.marks.now in
+    let losses = map said_mark c.args.marks.now in
     let first = c.in-Ok.ensures.tells meters r stands fits in
     tells_then (of_streams (all_settled r.detail)) (of_streams (all_reported r.detail losses)) r c.reports.new.self meters
     (g.K.Sink.written c.args.sink.now) (g.K.Sink.written c.settle.new.sink) (g.K.Sink.written c.reports.new.sink) c.reports.result first.0

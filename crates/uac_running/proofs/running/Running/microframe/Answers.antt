@@ -1,6 +1,6 @@
 use Rattle.std.proofs.Common.{◌∙◌, ap, subst, map, List}
 use Rattle.std.specs.Io.KnownBytes.{Appends}
-use Rattle.uac_script.specs.Line.{loss_of}
+use Rattle.uac_script.specs.Line.{said_mark}
 use Rattle.uac_units.specs.Panel.{readings}
 use Rattle.uac_edges.specs.Writing.{AppendsFront}
 use Rattle.uac_transcript.specs.Transcript.{Said}
@@ -17,7 +17,7 @@ returns-in-Err-clause-tells g c r stands =
     let shown = readings (λ v x. (goal.Meter-dyn g (v, x)).reading_of x) c.args.meters.now in
     let later = passed shown r c.args.self.now c.pass.new.self stands.now c.pass.ensures in
     let said = number_line r c.pass.new.self shown later in (
-      microframe_front (map loss_of c.args.marks.now) r (g.K.Sink.written c.args.sink.now) (g.K.Sink.written c.write_number.new.sink)
+      microframe_front (map said_mark c.args.marks.now) r (g.K.Sink.written c.args.sink.now) (g.K.Sink.written c.write_number.new.sink)
           (subst (λ (lines : List Said). AppendsFront (g.K.Sink.written c.args.sink.now) (g.K.Sink.written c.write_number.new.sink) (text_of lines)) said c.in-Err.ensures.printed),
       tt,
     )
@@ -27,7 +27,7 @@ returns-in-Err-packets_and_ticks-clause-tells g c r stands =
     let shown = readings (λ v x. (goal.Meter-dyn g (v, x)).reading_of x) c.args.meters.now in
     let later = passed shown r c.args.self.now c.pass.new.self stands.now c.pass.ensures in
     let said = number_line r c.pass.new.self shown later in (
-      microframe_next_front (map loss_of c.args.marks.now) r (g.K.Sink.written c.args.sink.now) (g.K.Sink.written c.write_number.new.sink) (g.K.Sink.written c.packets_and_ticks.new.sink)
+      microframe_next_front (map said_mark c.args.marks.now) r (g.K.Sink.written c.args.sink.now) (g.K.Sink.written c.write_number.new.sink) (g.K.Sink.written c.packets_and_ticks.new.sink)
           (subst (λ (lines : List Said). Appends (g.K.Sink.written c.args.sink.now) (g.K.Sink.written c.write_number.new.sink) (text_of lines)) said c.in-Ok.ensures.printed)
           (c.in-Err-packets_and_ticks.ensures.tells (numbered r) later).0,
       tt,
@@ -37,7 +37,7 @@ pub returns-clause-tells : goal.returns-clause-tells
 returns-clause-tells g c r stands =
     let shown = readings (λ v x. (goal.Meter-dyn g (v, x)).reading_of x) c.args.meters.now in
     let showing = readings (λ v x. (goal.Meter-dyn g (v, x)).reading_of x) c.packets_and_ticks.new.meters in
-    let losses = map loss_of c.args.marks.now in
+    let losses = map said_mark c.args.marks.now in
     let later = passed shown r c.args.self.now c.pass.new.self stands.now c.pass.ensures in
     let said = number_line r c.pass.new.self shown later in
     let number = subst (λ (lines : List Said). Appends (g.K.Sink.written c.args.sink.now) (g.K.Sink.written c.write_number.new.sink) (text_of lines)) said c.in-Ok.ensures.printed in

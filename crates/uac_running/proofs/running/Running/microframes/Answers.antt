@@ -1,5 +1,5 @@
-use Rattle.std.proofs.Common.{ap, map, arith, ◌+◌, ◌-◌}
-use Rattle.uac_script.specs.Line.{loss_of}
+use Rattle.std.proofs.Common.{ap, map, arith, ◌+◌, ◌-◌, ◌∙◌, refl}
+use Rattle.uac_script.specs.Line.{said_mark}
 use Rattle.uac_units.specs.Panel.{readings}
 use Rattle.uac_running.specs.Events.{microframe, microframes}
 use Rattle.uac_running.specs.Kept.{StandsBetween}
@@ -10,31 +10,31 @@ use Rattle.uac_running.proofs.running.Running.microframes.Goals as goal
 pub loop-passed-init : goal.loop-passed-init
 loop-passed-init g c = record {
   told = λ r stands.
-      begun StandsBetween (microframes (map loss_of c.args.marks.now) c.args.count r) (microframes (map loss_of c.args.marks.now) (c.args.count - 0)) c.args.self.now (readings (λ v x. (goal.Meter-dyn g (v, x)).reading_of x) c.args.meters.now) (g.K.Sink.written c.args.sink.now) r stands (ap (λ n. microframes (map loss_of c.args.marks.now) n r) (omega arith));
-  never_falls = omega arith;
+      begun StandsBetween (microframes (map said_mark c.args.marks.now) c.args.count r) (microframes (map said_mark c.args.marks.now) (c.args.count - 0)) c.args.self.now (readings (λ v x. (goal.Meter-dyn g (v, x)).reading_of x) c.args.meters.now) (g.K.Sink.written c.args.sink.now) r stands (ap (λ n. microframes (map said_mark c.args.marks.now) n r) (omega arith));
+  faultless = refl;
 }
 
 pub returns-in-Err-clause-tells : goal.returns-in-Err-clause-tells
 returns-in-Err-clause-tells g c r stands = (
-  stopped StandsBetween (microframes (map loss_of c.args.marks.now) c.args.count r) (microframes (map loss_of c.args.marks.now) (c.args.count - c.loop-passed._passed)) (microframes (map loss_of c.args.marks.now) (c.args.count - (c.loop-passed._passed + 1)))
-      (microframe (map loss_of c.args.marks.now)) c.loop-passed.self (readings (λ v x. (goal.Meter-dyn g (v, x)).reading_of x) c.loop-passed.meters)
+  stopped StandsBetween (microframes (map said_mark c.args.marks.now) c.args.count r) (microframes (map said_mark c.args.marks.now) (c.args.count - c.loop-passed._passed)) (microframes (map said_mark c.args.marks.now) (c.args.count - (c.loop-passed._passed + 1)))
+      (microframe (map said_mark c.args.marks.now)) c.loop-passed.self (readings (λ v x. (goal.Meter-dyn g (v, x)).reading_of x) c.loop-passed.meters)
       (g.K.Sink.written c.args.sink.now) (g.K.Sink.written c.loop-passed.sink) (g.K.Sink.written c.microframe.new.sink)
-      (λ w. microframes_split (map loss_of c.args.marks.now) c.args.count c.loop-passed._passed w c.loop-passed-test.true) (c.loop-passed.invariant.told r stands) c.in-Err.ensures.tells,
+      (λ w. microframes_split (map said_mark c.args.marks.now) c.args.count c.loop-passed._passed w c.loop-passed-test.true) (c.loop-passed.invariant.told r stands) c.in-Err.ensures.tells,
   tt,
 )
 
 pub loop-passed-preserved : goal.loop-passed-preserved
 loop-passed-preserved g c = record {
   told = λ r stands.
-      one_more StandsBetween (microframes (map loss_of c.args.marks.now) c.args.count r) (microframes (map loss_of c.args.marks.now) (c.args.count - c.loop-passed._passed)) (microframes (map loss_of c.args.marks.now) (c.args.count - (c.loop-passed._passed + 1)))
-      (microframe (map loss_of c.args.marks.now)) c.loop-passed.self c.microframe.new.self (readings (λ v x. (goal.Meter-dyn g (v, x)).reading_of x) c.loop-passed.meters) (readings (λ v x. (goal.Meter-dyn g (v, x)).reading_of x) c.microframe.new.meters)
+      one_more StandsBetween (microframes (map said_mark c.args.marks.now) c.args.count r) (microframes (map said_mark c.args.marks.now) (c.args.count - c.loop-passed._passed)) (microframes (map said_mark c.args.marks.now) (c.args.count - (c.loop-passed._passed + 1)))
+      (microframe (map said_mark c.args.marks.now)) c.loop-passed.self c.microframe.new.self (readings (λ v x. (goal.Meter-dyn g (v, x)).reading_of x) c.loop-passed.meters) (readings (λ v x. (goal.Meter-dyn g (v, x)).reading_of x) c.microframe.new.meters)
       (g.K.Sink.written c.args.sink.now) (g.K.Sink.written c.loop-passed.sink) (g.K.Sink.written c.microframe.new.sink)
-      (λ w. microframes_split (map loss_of c.args.marks.now) c.args.count c.loop-passed._passed w c.loop-passed-test.true) (c.loop-passed.invariant.told r stands) c.in-Ok.ensures.tells;
-  never_falls = let risen = c.microframe.ensures.cause.never_falls in omega (arith, risen, c.loop-passed.invariant.never_falls);
+      (λ w. microframes_split (map said_mark c.args.marks.now) c.args.count c.loop-passed._passed w c.loop-passed-test.true) (c.loop-passed.invariant.told r stands) c.in-Ok.ensures.tells;
+  faultless = c.in-Ok.ensures.cause.faultless ∙ c.loop-passed.invariant.faultless;
 }
 
 pub returns-clause-tells : goal.returns-clause-tells
 returns-clause-tells g c r stands =
-    finished StandsBetween (microframes (map loss_of c.args.marks.now) c.args.count r) (microframes (map loss_of c.args.marks.now) (c.args.count - c.loop-passed._passed)) c.loop-passed.self
+    finished StandsBetween (microframes (map said_mark c.args.marks.now) c.args.count r) (microframes (map said_mark c.args.marks.now) (c.args.count - c.loop-passed._passed)) c.loop-passed.self
     (readings (λ v x. (goal.Meter-dyn g (v, x)).reading_of x) c.loop-passed.meters) (g.K.Sink.written c.args.sink.now) (g.K.Sink.written c.loop-passed.sink)
-    (c.loop-passed.invariant.told r stands) (λ w. microframes_end (map loss_of c.args.marks.now) c.args.count c.loop-passed._passed w c.loop-passed-test.false)
+    (c.loop-passed.invariant.told r stands) (λ w. microframes_end (map said_mark c.args.marks.now) c.args.count c.loop-passed._passed w c.loop-passed-test.false)

@@ -1,5 +1,5 @@
-use Rattle.std.proofs.Common.{◌-◌, ◌≤◌, map}
-use Rattle.uac_script.specs.Line.{loss_of}
+use Rattle.std.proofs.Common.{◌≡◌, ◌-◌, map}
+use Rattle.uac_script.specs.Line.{said_mark}
 use Rattle.uac_units.specs.Panel.{readings}
 use Rattle.uac_running.specs.RunningWorld.{RunningWorld}
 use Rattle.uac_running.specs.Events.{microframes}
@@ -10,7 +10,7 @@ use Rattle.uac_running.proofs.running.Running.microframes.Given as goal
 abbrev pub invariant-loop-passed : goal.invariant-loop-passed
 invariant-loop-passed g l = record {
   told : (r : RunningWorld) → StandsBetween l.initial.self (readings (λ v x. (goal.Meter-dyn g (v, x)).reading_of x) l.initial.meters) r
-      → SoFar StandsBetween (microframes (map loss_of l.marks) l.count r) (microframes (map loss_of l.marks) (l.count - l._passed)) l.self
+      → SoFar StandsBetween (microframes (map said_mark l.marks) l.count r) (microframes (map said_mark l.marks) (l.count - l._passed)) l.self
       (readings (λ v x. (goal.Meter-dyn g (v, x)).reading_of x) l.meters) (g.K.Sink.written l.fn.sink) (g.K.Sink.written l.sink);
-  never_falls : g.K.Sink.faults l.fn.sink ≤ g.K.Sink.faults l.sink;
+  faultless : g.K.Sink.faults l.sink ≡ g.K.Sink.faults l.fn.sink;
 }

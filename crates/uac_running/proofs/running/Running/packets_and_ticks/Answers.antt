@@ -1,5 +1,5 @@
 use Rattle.std.proofs.Common.{map}
-use Rattle.uac_script.specs.Line.{loss_of}
+use Rattle.uac_script.specs.Line.{said_mark}
 use Rattle.uac_units.specs.Panel.{readings}
 use Rattle.uac_streaming.specs.StreamingWorld.{in_packets, out_packets}
 use Rattle.uac_running.specs.Events.{all_domains, followed_by, of_streams, packets_and_ticks}
@@ -10,7 +10,7 @@ pub returns-in-Err-clause-tells : goal.returns-in-Err-clause-tells
 unfolding packets_and_ticks
 returns-in-Err-clause-tells g c r stands =
     let shown = readings (λ v x. (goal.Meter-dyn g (v, x)).reading_of x) c.args.meters.now in
-    let losses = map loss_of c.args.marks.now in (
+    let losses = map said_mark c.args.marks.now in (
       front_then (of_streams (out_packets r.detail losses)) (followed_by (of_streams (in_packets r.detail losses)) all_domains) r
           (g.K.Sink.written c.args.sink.now) (g.K.Sink.written c.out_packets.new.sink) (c.in-Err.ensures.tells shown r stands).0,
       tt,
@@ -20,7 +20,7 @@ pub returns-in-Err-in_packets-clause-tells : goal.returns-in-Err-in_packets-clau
 unfolding packets_and_ticks
 returns-in-Err-in_packets-clause-tells g c r stands =
     let shown = readings (λ v x. (goal.Meter-dyn g (v, x)).reading_of x) c.args.meters.now in
-    let losses = map loss_of c.args.marks.now in
+    let losses = map said_mark c.args.marks.now in
     let first = c.in-Ok.ensures.tells shown r stands in (
       front_of_next (of_streams (out_packets r.detail losses)) (followed_by (of_streams (in_packets r.detail losses)) all_domains) r
           (g.K.Sink.written c.args.sink.now) (g.K.Sink.written c.out_packets.new.sink) (g.K.Sink.written c.in_packets.new.sink) first.0
@@ -34,7 +34,7 @@ unfolding packets_and_ticks
 returns-clause-tells g c r stands =
     let shown = readings (λ v x. (goal.Meter-dyn g (v, x)).reading_of x) c.args.meters.now in
     let showing = readings (λ v x. (goal.Meter-dyn g (v, x)).reading_of x) c.domain_microframes.new.meters in
-    let losses = map loss_of c.args.marks.now in
+    let losses = map said_mark c.args.marks.now in
     let first = c.in-Ok.ensures.tells shown r stands in
     let next = c.in-Ok-in_packets.ensures.tells shown (of_streams (out_packets r.detail losses) r).world first.1 in
     let out = of_streams (out_packets r.detail losses) r in

@@ -1,4 +1,4 @@
-use Rattle.std.proofs.Common.{◌∙◌, ap, arith, rules, ◌+◌, ◌-◌}
+use Rattle.std.proofs.Common.{◌∙◌, ap, arith, rules, ◌+◌, ◌-◌, refl}
 use Rattle.uac_units.specs.Panel.{readings}
 use Rattle.uac_running.specs.Events.{tick, tick_times}
 use Rattle.uac_running.specs.Kept.{Stands}
@@ -11,7 +11,7 @@ loop-ticked-init g c = record {
   told = λ r stands.
       begun Stands (tick_times c.args.count c.args.clock r) (tick_times (c.args.count - 0) c.args.clock) c.args.self.now (readings (λ v x. (goal.Meter-dyn g (v, x)).reading_of x) c.args.meters.now) (g.K.Sink.written c.args.sink.now) r stands
       (ap (λ n. tick_times n c.args.clock r) (omega arith));
-  never_falls = omega arith;
+  faultless = refl;
   function = search rules;
 }
 
@@ -31,7 +31,7 @@ loop-ticked-preserved g c = record {
       (tick c.args.clock) c.loop-ticked.self c.tick.new.self (readings (λ v x. (goal.Meter-dyn g (v, x)).reading_of x) c.loop-ticked.meters) (readings (λ v x. (goal.Meter-dyn g (v, x)).reading_of x) c.tick.new.meters)
       (g.K.Sink.written c.args.sink.now) (g.K.Sink.written c.loop-ticked.sink) (g.K.Sink.written c.tick.new.sink)
       (λ w. ticks_split c.args.count c.loop-ticked._ticked c.args.clock w c.loop-ticked-test.true) (c.loop-ticked.invariant.told r stands) c.in-Ok.ensures.tells;
-  never_falls = let risen = c.tick.ensures.cause.never_falls in omega (arith, risen, c.loop-ticked.invariant.never_falls);
+  faultless = c.in-Ok.ensures.cause.faultless ∙ c.loop-ticked.invariant.faultless;
   function = c.tick.ensures.function ∙ c.loop-ticked.invariant.function;
 }
 

@@ -2,7 +2,7 @@ use Rattle.std.proofs.Common.{◌≡◌, ◌∙◌, ◌&&◌, ap, sym, subst, re
 use Rattle.std.specs.Option.{option_map, option_map_or}
 use Rattle.uac_topology.specs.Function.{FunctionFields}
 use Rattle.uac_store.specs.declared.keys.Key.{Key}
-use Rattle.uac_request.specs.Requests.{Told}
+use Rattle.uac_request.specs.Requests.{AnswerFields}
 use Rattle.uac_request.specs.Requests as requests
 use Rattle.uac_device.specs.Kept as device
 use Rattle.uac_device.specs.DeviceWorld.{sets_interface, stream_in_setting, tells_done}
@@ -36,8 +36,8 @@ returns-then-holds-clause-stands c meters r stands =
     (c.store.ensures ∙ own.streaming.device.controls) in
     let held : holds_setting c.args.setup.now c.args.sent.now r ≡ true =
     sym (setting_held meters r (the_view c.self.inside) after c.args.setup.now c.args.sent.now _ _ _ own c.new-link.ensures.device fault
-    c.transfer-came.ensures.made (ap (option_map requests.seen) c.new-link.ensures.last))
-    ∙ sym (ap (λ (o : Option Told). sets_interface c.args.setup.now && option_map_or tells_done o false) c.last.ensures)
+    c.transfer-came.ensures.made (ap (option_map requests.answer_fields) c.new-link.ensures.last))
+    ∙ sym (ap (λ (o : Option AnswerFields). sets_interface c.args.setup.now && option_map_or tells_done o false) c.last.ensures)
     ∙ sym c.holds_setting-holds.ensures
     ∙ c.if-holds.true in
     transfer_stands meters r (the_view c.self.inside) after c.args.setup.now c.args.sent.now _ _ _ own c.new-link.ensures.device fault c.transfer-came.ensures.made refl
@@ -56,8 +56,8 @@ returns-else-holds-clause-stands c meters r stands =
     } in
     let rests : holds_setting c.args.setup.now c.args.sent.now r ≡ false =
     sym (setting_held meters r (the_view c.self.inside) after c.args.setup.now c.args.sent.now _ _ _ own c.new-link.ensures.device fault
-    c.transfer-came.ensures.made (ap (option_map requests.seen) c.new-link.ensures.last))
-    ∙ sym (ap (λ (o : Option Told). sets_interface c.args.setup.now && option_map_or tells_done o false) c.last.ensures)
+    c.transfer-came.ensures.made (ap (option_map requests.answer_fields) c.new-link.ensures.last))
+    ∙ sym (ap (λ (o : Option AnswerFields). sets_interface c.args.setup.now && option_map_or tells_done o false) c.last.ensures)
     ∙ sym c.holds_setting-holds.ensures
     ∙ c.if-holds.false in
     transfer_stands meters r (the_view c.self.inside) after c.args.setup.now c.args.sent.now _ _ _ own c.new-link.ensures.device fault c.transfer-came.ensures.made refl

@@ -38,7 +38,7 @@ loop-size-preserved g c =
       known = rw grows.grown (let more = line_end_more c.loop-size.self.unread grows.taken in let all = shown.4 in omega arith);
       counted = omega arith;
       told = λ known. absurd (untold c.args.self.now c.loop-size.self i.taken i.same shown.0 known);
-      faultless = told.faultless ∙ i.faultless;
+      faultless = told.cause.faultless ∙ i.faultless;
     }
 
 -- The source was called: then the bytes didn't tell what stands first.

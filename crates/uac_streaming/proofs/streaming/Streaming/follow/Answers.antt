@@ -1,6 +1,6 @@
 use Rattle.std.proofs.Common.{ℕ, sym, subst, IfSome}
 use Rattle.std.specs.Option.{option_map}
-use Rattle.uac_alt.specs.Streams.{seen}
+use Rattle.uac_alt.specs.Streams.{stream_fields}
 use Rattle.uac_host.specs.Calls.{IsStreamOf}
 use Rattle.uac_streaming.specs.StreamingWorld.{followed}
 use Rattle.uac_streaming.specs.Kept.{Stands}
@@ -10,12 +10,12 @@ use Rattle.uac_streaming.proofs.streaming.Streaming.follow.Goals as goal
 pub set_stream-requires-clause-begun : goal.set_stream-requires-clause-begun
 set_stream-requires-clause-begun c =
     let own = number_is c.args.function.now c.args.interface c.in-Some.number c.in-Some.ensures in
-    subst (λ (n : ℕ). IfSome c.args.begun (λ s. IsStreamOf c.args.function.now n (seen s))) (sym own) c.requires
+    subst (λ (n : ℕ). IfSome c.args.begun (λ s. IsStreamOf c.args.function.now n (stream_fields s))) (sym own) c.requires
 
 pub returns-in-Some : goal.returns-in-Some
 returns-in-Some c d w stands same =
     let own = number_is c.args.function.now c.args.interface c.in-Some.number c.in-Some.ensures in
-    subst (λ (n : ℕ). Stands c.set_stream.new.self d (followed n (option_map seen c.args.begun) w)) own (c.set_stream.ensures d w stands same)
+    subst (λ (n : ℕ). Stands c.set_stream.new.self d (followed n (option_map stream_fields c.args.begun) w)) own (c.set_stream.ensures d w stands same)
 
 pub returns-in-None : goal.returns-in-None
 returns-in-None c d w stands same =

@@ -1,5 +1,5 @@
 use Rattle.std.proofs.Common.{◌∙◌, sym, ap, subst, map}
-use Rattle.uac_script.specs.Line.{loss_of}
+use Rattle.uac_script.specs.Line.{said_mark}
 use Rattle.uac_streaming.specs.StreamingWorld.{in_packet_turn, packet_fetched}
 use Rattle.uac_streaming.specs.Kept.{StreamingFields, Stands}
 use Rattle.uac_streaming.specs.contracts.streaming.Streaming.{the_view}
@@ -8,13 +8,13 @@ use Rattle.uac_streaming.proofs.streaming.Streaming.in_packet.Goals as goal
 
 pub returns-then-not-is_in_due-clause-tells : goal.returns-then-not-is_in_due-clause-tells
 returns-then-not-is_in_due-clause-tells g c = λ w stands.
-    let losses = map loss_of c.args.marks.now in
+    let losses = map said_mark c.args.marks.now in
     rests (in_packet_turn c.args.detail losses c.args.interface w) c.args.self.now c.args.device.now (g.K.Sink.written c.args.sink.now) w
     (in_rests c.args.detail c.args.interface losses w c.is_in_due.result (c.is_in_due.ensures w.device stands.device) c.if-not-is_in_due.true) stands
 
 pub returns-clause-tells : goal.returns-clause-tells
 returns-clause-tells g c = λ w stands.
-    let losses = map loss_of c.args.marks.now in
+    let losses = map said_mark c.args.marks.now in
     let q = the_view c.self.inside in
     let here = subst (λ (p : StreamingFields). Stands p c.fetch-frames.new.device (packet_fetched c.loses_in-lost.result c.args.interface w)) (sym c.self.view_is) (c.fetch-frames.ensures.stands w stands) in
     let packet = ap (λ (p : StreamingFields). p.packet) c.self.view_is ∙ c.fetch-frames.ensures.packet w stands in

@@ -1,7 +1,7 @@
 use Rattle.std.proofs.Common.{◌∙◌, ap, subst, refl, arith, map, ◌<◌, ◌≤◌, length}
 use Rattle.std.specs.Io.KnownBytes.{Appends}
 use Rattle.uac_edges.specs.Writing.{AppendsFront}
-use Rattle.uac_script.specs.Line.{loss_of}
+use Rattle.uac_script.specs.Line.{said_mark}
 use Rattle.uac_transcript.specs.Printing.{text_of}
 use Rattle.uac_streaming.specs.Telling.{Telling, in_turn}
 use Rattle.uac_streaming.specs.StreamingWorld.{StreamingWorld, report_turn}
@@ -13,15 +13,15 @@ use Rattle.uac_streaming.proofs.streaming.Streaming.reports.Goals as goal
 pub loop-at-init : goal.loop-at-init
 loop-at-init g c = record {
   told = λ w stands.
-      let event = report_turn c.args.detail (map loss_of c.args.marks.now) in
+      let event = report_turn c.args.detail (map said_mark c.args.marks.now) in
       begun (in_turn event c.args.self.now.order w) (in_turn event c.args.self.now.order) (Stands c.args.self.now c.args.device.now) (g.K.Sink.written c.args.sink.now) w stands refl;
-  never_falls = omega arith;
+  faultless = refl;
   order = refl;
 }
 
 pub returns-in-Err-clause-tells : goal.returns-in-Err-clause-tells
 returns-in-Err-clause-tells g c = λ w stands.
-    let event = report_turn c.args.detail (map loss_of c.args.marks.now) in
+    let event = report_turn c.args.detail (map said_mark c.args.marks.now) in
     let order = c.args.self.now.order in
     let many = ap (λ (p : StreamingFields). length p.order) c.self.view_is in
     let below : c.loop-at.at < length c.args.self.now.order = omega (arith, many, c.len-at-end.ensures, c.self.inside.order.ok.0, c.loop-at-test.true) in
@@ -31,14 +31,14 @@ returns-in-Err-clause-tells g c = λ w stands.
     (g.K.Sink.written c.args.sink.now) (g.K.Sink.written c.loop-at.sink) (g.K.Sink.written c.report_one.new.sink) c.loop-at.at c.index-interface.result.now
     below here (c.loop-at.invariant.told w stands) (λ v s. (c.in-Err.ensures.tells v s).0) in (
       subst (λ (told : Telling StreamingWorld). AppendsFront (g.K.Sink.written c.args.sink.now) (g.K.Sink.written c.report_one.new.sink) (text_of told.lines))
-          (all_reported_are c.args.detail (map loss_of c.args.marks.now) w order stands.order) all,
+          (all_reported_are c.args.detail (map said_mark c.args.marks.now) w order stands.order) all,
       tt,
     )
 
 pub loop-at-preserved : goal.loop-at-preserved
 loop-at-preserved g c = record {
   told = λ w stands.
-      let event = report_turn c.args.detail (map loss_of c.args.marks.now) in
+      let event = report_turn c.args.detail (map said_mark c.args.marks.now) in
       let order = c.args.self.now.order in
       let many = ap (λ (p : StreamingFields). length p.order) c.self.view_is in
       let below : c.loop-at.at < length c.args.self.now.order = omega (arith, many, c.len-at-end.ensures, c.self.inside.order.ok.0, c.loop-at-test.true) in
@@ -47,13 +47,13 @@ loop-at-preserved g c = record {
       turn_more event order w (Stands c.loop-at.self c.args.device.now) (Stands c.report_one.new.self c.args.device.now)
       (g.K.Sink.written c.args.sink.now) (g.K.Sink.written c.loop-at.sink) (g.K.Sink.written c.report_one.new.sink) c.loop-at.at c.index-interface.result.now
       below here (c.loop-at.invariant.told w stands) c.in-Ok.ensures.tells;
-  never_falls = (let risen = c.report_one.ensures.cause.never_falls in omega (arith, risen, c.loop-at.invariant.never_falls));
+  faultless = c.in-Ok.ensures.cause.faultless ∙ c.loop-at.invariant.faultless;
   order = c.report_one.ensures.order ∙ c.loop-at.invariant.order;
 }
 
 pub returns-clause-tells : goal.returns-clause-tells
 returns-clause-tells g c = λ w stands.
-    let event = report_turn c.args.detail (map loss_of c.args.marks.now) in
+    let event = report_turn c.args.detail (map said_mark c.args.marks.now) in
     let order = c.args.self.now.order in
     let many = ap (λ (p : StreamingFields). length p.order) c.self.view_is in
     let past : length c.args.self.now.order ≤ c.loop-at.at = omega (arith, many, c.len-at-end.ensures, c.self.inside.order.ok.0, c.loop-at-test.false) in
@@ -61,4 +61,4 @@ returns-clause-tells g c = λ w stands.
     (c.loop-at.invariant.told w stands) in
     subst (λ (told : Telling StreamingWorld). Appends (g.K.Sink.written c.args.sink.now) (g.K.Sink.written c.loop-at.sink) (text_of told.lines)
     × Stands c.loop-at.self c.args.device.now told.world)
-    (all_reported_are c.args.detail (map loss_of c.args.marks.now) w order stands.order) all
+    (all_reported_are c.args.detail (map said_mark c.args.marks.now) w order stands.order) all

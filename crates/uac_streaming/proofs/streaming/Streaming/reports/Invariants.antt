@@ -1,5 +1,5 @@
-use Rattle.std.proofs.Common.{◌≡◌, ◌≤◌, map}
-use Rattle.uac_script.specs.Line.{loss_of}
+use Rattle.std.proofs.Common.{◌≡◌, map}
+use Rattle.uac_script.specs.Line.{said_mark}
 use Rattle.uac_streaming.specs.StreamingWorld.{StreamingWorld, report_turn}
 use Rattle.uac_streaming.specs.Kept.{Stands}
 use Rattle.uac_streaming.proofs.SoFar.{InTurn}
@@ -8,7 +8,7 @@ use Rattle.uac_streaming.proofs.streaming.Streaming.reports.Given as goal
 abbrev pub invariant-loop-at : goal.invariant-loop-at
 invariant-loop-at g l = record {
   told : (w : StreamingWorld) → Stands l.initial.self l.device w
-      → InTurn (report_turn l.detail (map loss_of l.marks)) l.initial.self.order l.at w (Stands l.self l.device) (g.K.Sink.written l.fn.sink) (g.K.Sink.written l.sink);
-  never_falls : g.K.Sink.faults l.fn.sink ≤ g.K.Sink.faults l.sink;
+      → InTurn (report_turn l.detail (map said_mark l.marks)) l.initial.self.order l.at w (Stands l.self l.device) (g.K.Sink.written l.fn.sink) (g.K.Sink.written l.sink);
+  faultless : g.K.Sink.faults l.sink ≡ g.K.Sink.faults l.fn.sink;
   order : l.self.order ≡ l.initial.self.order;
 }

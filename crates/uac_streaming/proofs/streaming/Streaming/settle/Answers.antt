@@ -16,7 +16,7 @@ loop-at-init g c = record {
       let order = c.args.self.now.order in
       begun (in_turn event order w) (in_turn event order) (StandsBefore c.args.self.now c.args.device.now order 0) (g.K.Sink.written c.args.sink.now) w
       (stands, λ k above below. fit (get_or order k 0)) refl;
-  never_falls = omega arith;
+  faultless = refl;
   function = refl;
 }
 
@@ -52,7 +52,7 @@ loop-at-preserved g c = record {
       below here (c.loop-at.invariant.told w stands fit)
       (settled_next p c.loop-at.device c.settle_one.new.device c.args.detail c.index-interface.result.now c.loop-at.at (g.K.Sink.written c.loop-at.sink) (g.K.Sink.written c.settle_one.new.sink)
       here below c.in-Ok.ensures.tells);
-  never_falls = (let risen = c.settle_one.ensures.cause.never_falls in omega (arith, risen, c.loop-at.invariant.never_falls));
+  faultless = c.in-Ok.ensures.cause.faultless ∙ c.loop-at.invariant.faultless;
   function = c.settle_one.ensures.function ∙ c.loop-at.invariant.function;
 }
 

@@ -1,4 +1,4 @@
-use Rattle.std.proofs.Common.{◌≡◌, ◌≤◌, ℕ}
+use Rattle.std.proofs.Common.{◌≡◌, ℕ}
 use Rattle.uac_device.specs.DeviceWorld.{ZerosFitIn}
 use Rattle.uac_streaming.specs.StreamingWorld.{StreamingWorld, settled_turn}
 use Rattle.uac_streaming.specs.Kept.{Stands}
@@ -10,6 +10,6 @@ abbrev pub invariant-loop-at : goal.invariant-loop-at
 invariant-loop-at g l = record {
   told : (w : StreamingWorld) → Stands l.fn.self l.initial.device w → ((interface : ℕ) → ZerosFitIn w.device interface)
       → InTurn (settled_turn l.detail) l.fn.self.order l.at w (StandsBefore l.fn.self l.device l.fn.self.order l.at) (g.K.Sink.written l.fn.sink) (g.K.Sink.written l.sink);
-  never_falls : g.K.Sink.faults l.fn.sink ≤ g.K.Sink.faults l.sink;
+  faultless : g.K.Sink.faults l.sink ≡ g.K.Sink.faults l.fn.sink;
   function : l.device.function ≡ l.initial.device.function;
 }
