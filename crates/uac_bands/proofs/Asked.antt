@@ -1,38 +1,28 @@
 -- What is so of a stream that a setting of an interface can run.
-use Rattle.std.proofs.Common.{arith, ◌≡◌, ◌∙◌, sym, refl, ap, subst, ℕ, zero, suc, ◌-◌, ◌^◌, ◌%◌, ◌≤◌, ◌==◌, ◌&&◌, ◌||◌, not, nat_le, Bool, true, false, ℤ, List, Option, Some, None, inl, inr}
+use Rattle.std.proofs.Common.{arith, ◌≡◌, ◌∙◌, sym, refl, ap, subst, ℕ, zero, suc, ◌-◌, ◌^◌, ◌%◌, ◌≤◌, ◌==◌, nat_le, Bool, true, false, ℤ, List, Option, Some, None}
 use Rattle.std.specs.List.{find}
 use Rattle.std.specs.Option.{option_and_then}
-use Rattle.std.proofs.lemmas.Bool.{and_parts, cases_Bool, leb-true, true≢false}
-use Rattle.std.proofs.lemmas.Option.{cond_some, option_and_then_some}
+use Rattle.std.proofs.lemmas.Bool.{and_parts, leb-true, true≢false}
+use Rattle.std.proofs.lemmas.Option.{option_and_then_some}
 use Rattle.uac_clock.specs.Nominal.{nominal_of}
-use Rattle.uac_clock.specs.declared.values.Nominal.{Nominal}
-use Rattle.uac_descriptor.specs.Endpoints.{synchronization_type, usage_type}
 use Rattle.uac_descriptor.specs.declared.standard.Endpoint.{Endpoint}
-use Rattle.uac_descriptor.specs.declared.streaming.General.{General}
-use Rattle.uac_descriptor.specs.declared.streaming.TypeOne.{TypeOne}
 use Rattle.uac_entities.specs.Streams.{named}
 use Rattle.uac_entities.specs.declared.entity.Entity.{Entity}
-use Rattle.uac_entities.specs.declared.stream.Setting.{Setting}
 use Rattle.uac_entities.specs.declared.stream.StreamInterface.{StreamInterface}
 use Rattle.uac_topology.specs.Function.{FunctionFields}
 use Rattle.uac_store.specs.declared.keys.Key.{Key}
 use Rattle.uac_store.specs.Rates.{rate_of}
-use Rattle.uac_rate.specs.Levels.{AreIntervals, IsInterval}
+use Rattle.uac_rate.specs.Levels.{AreIntervals}
 use Rattle.uac_graph.specs.Meaning.{entity}
-use Rattle.uac_alt.specs.Streams.{StreamFields, can_run, carries_data, fits, has_its_feedback, is_format, is_pcm, linked_channels, period_of, report_period, stream_at, stream_of, stream_with}
+use Rattle.uac_alt.specs.Streams.{StreamFields, has_its_feedback, period_of, report_period, stream_of, stream_with}
+use Rattle.uac_alt.proofs.Parts as alt
 use Rattle.uac_request.specs.Requests.{rate_at}
 use Rattle.uac_device.specs.declared.lane.Port.{Port}
 use Rattle.uac_device.specs.DeviceWorld.{stream_in_setting}
 use Rattle.uac_device.proofs.LanesLemmas.{port_named}
+use Rattle.uac_device.proofs.StreamsLemmas.{interval}
 
 -- ---- intervals
-
-interval : (n : ℕ) → n ≤ 3 → IsInterval (2 ^ n)
-interval zero most = inl (omega arith)
-interval (suc zero) most = inr (inl (omega arith))
-interval (suc (suc zero)) most = inr (inr (inl (omega arith)))
-interval (suc (suc (suc zero))) most = inr (inr (inr (omega arith)))
-interval (suc (suc (suc (suc n)))) most = absurd (omega arith)
 
 multiple : (a b : ℕ) → a ≤ b → b ≤ 3 → 2 ^ b % 2 ^ a ≡ 0
 multiple zero zero less most = refl
@@ -60,10 +50,6 @@ multiple (suc (suc (suc (suc a)))) b less most = absurd (omega arith)
 powers : (a b : ℕ) → a ≤ b → b ≤ 3 → AreIntervals (2 ^ a) (2 ^ b)
 powers a b less most = record { serves = interval a (omega arith); reports = interval b most; multiple = multiple a b less most }
 
--- an endpoint of data has an interval of at least 1
-interval_least : (a b c : Bool) (interval : ℕ) → (a && (nat_le 1 interval && (b && c))) ≡ true → 1 ≤ interval
-interval_least a b c n e = leb-true 1 n (and_parts (nat_le 1 n) (b && c) (and_parts a (nat_le 1 n && (b && c)) e).1).0
-
 reports_later : (out : Bool) (first : Endpoint) (second : Option Endpoint) → 1 ≤ first.interval → has_its_feedback out first second ≡ true
     → out ≡ true → AreIntervals (period_of first) (report_period out second)
 reports_later true first (Some e) least answers is =
@@ -73,24 +59,6 @@ reports_later true first (Some e) least answers is =
     powers (first.interval - 1) (e.interval - 1) (omega (arith, from)) (omega (arith, to))
 reports_later true first None least answers is = absurd (true≢false (sym answers))
 reports_later false first second least answers is = absurd (true≢false (sym is))
-
-run_intervals : (function : FunctionFields) (s : StreamInterface) (setting : Setting) (nominal : Nominal) (g : General) (f : TypeOne) (first : Endpoint)
-    → can_run function s setting nominal g f first ≡ true → s.out ≡ true
-    → AreIntervals (period_of first) (report_period s.out setting.second)
-unfolding can_run
-run_intervals function s setting nominal g f first runs out =
-    let feedback : Bool = has_its_feedback s.out first setting.second in
-    let room : Bool = fits nominal g f first in
-    let carries : Bool = carries_data s.out first in
-    let format : Bool = is_format g.channels f.subslot f.bits in
-    let linked = and_parts (is_pcm g) ((g.channels == linked_channels function s) && (format && (carries && (feedback && room)))) runs in
-    let formed = and_parts (g.channels == linked_channels function s) (format && (carries && (feedback && room))) linked.1 in
-    let carried = and_parts format (carries && (feedback && room)) formed.1 in
-    let behind = and_parts carries (feedback && room) carried.1 in
-    let least : 1 ≤ first.interval =
-    interval_least (synchronization_type first.attributes == 1) (nat_le first.interval 4)
-    (usage_type first.attributes == 0 || (not s.out && usage_type first.attributes == 2)) first.interval behind.0 in
-    reports_later s.out first setting.second least (and_parts feedback room behind.1).0 out
 
 -- ---- a stream of a setting
 
@@ -104,30 +72,21 @@ pub record StreamParts (function : FunctionFields) (rate interface number : ℕ)
 
 pub parts_of : (function : FunctionFields) (rate interface number : ℕ) (stream : StreamFields)
     → stream_of function rate interface number ≡ Some stream → StreamParts function rate interface number stream
-unfolding stream_of stream_at
-parts_of function rate interface number stream e = elim (cases_Bool (number == 0)) [
-  | inl zero_th ↦ (let none = rw zero_th at e in absurd cc)
-  | inr above ↦
-      (let found = rw above at e in
-      option_and_then_some _ (find (λ s. s.number == interface) function.streams) stream found (λ s there in_setting.
-      option_and_then_some _ (find (λ t. t.number == number) s.settings) stream in_setting (λ setting _ at_rate.
-      option_and_then_some (stream_at function s setting) (nominal_of rate) stream at_rate (λ nominal rated with_general.
-      option_and_then_some _ setting.general stream with_general (λ g _ with_format.
-      option_and_then_some _ setting.format stream with_format (λ f _ with_first.
-      option_and_then_some _ setting.first stream with_first (λ first _ ran.
-      (let both = cond_some _ _ _ ran in
-      let here : StreamParts function rate interface number (stream_with s setting nominal g f first) =
-      record {
-        setting = above;
-        nominal = rated;
-        carrier = s;
-        there = there;
-        out = refl;
-        intervals = run_intervals function s setting nominal g f first both.0;
-      } in
-      subst (StreamParts function rate interface number) both.1 here)))))))
-      )
-]
+parts_of function rate interface number stream is =
+    let parts = alt.parts_of function rate interface number stream is in
+    let s = parts.carrier in
+    let first = parts.first in
+    let ran = alt.ran_of function s parts.setting parts.nominal parts.general parts.type_one first parts.runs in
+    let here : StreamParts function rate interface number (stream_with s parts.setting parts.nominal parts.general parts.type_one first) =
+    record {
+      setting = parts.above;
+      nominal = parts.rated;
+      carrier = s;
+      there = parts.carried;
+      out = refl;
+      intervals = reports_later s.out first parts.setting.second ran.least ran.answers;
+    } in
+    subst (StreamParts function rate interface number) (sym parts.is) here
 
 -- ---- a stream that is asked for
 

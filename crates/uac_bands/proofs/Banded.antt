@@ -16,8 +16,8 @@ use Rattle.uac_host.specs.Calls.{next_size, sent}
 use Rattle.uac_bands.specs.Life.{Life, life_after, ticks_taken, with_end, with_feedback, with_step}
 use Rattle.uac_bands.specs.Bands.{EndsNear, HasTicked, HoldsBetween, HoldsEnough, InBand, IsAt, IsBehind, IsFilling, IsSteadyMicroframe, NeverDry, NeverOver, StartsInBand, StaysInBand, passed, played, ticks_then}
 use Rattle.uac_bands.proofs.Numbers.{IsPlacedAt, clock_goes, no_report, packet_frames, placed_at, slight_goes}
-use Rattle.uac_bands.proofs.Played.{came_for, ended_out, fits_ring, got, got_is, got_stays, not_dry, out_due, out_not_due, taken_by, ticks_played, waited_out}
-use Rattle.uac_bands.proofs.Steady.{HasEnded, HasEndedAt, enough, held_range, is_some_more, is_zero, more_is, no_feedback, primed_reported, priming_reported, reports_by, times_none}
+use Rattle.uac_bands.proofs.Played.{came_for, ended_out, fits_ring, got, got_is, got_stays, not_dry, not_zero, out_due, out_not_due, taken_by, ticks_played, waited_out}
+use Rattle.uac_bands.proofs.Steady.{HasEnded, HasEndedAt, enough, held_range, is_some_more, is_zero, no_feedback, primed_reported, priming_reported, reports_by, times_none}
 
 -- what the packet itself brings
 abbrev frames_in : Option (List ℕ) → OutStream → ℕ
@@ -126,7 +126,7 @@ module _ (l : Life) (packet : Option (List ℕ)) (step : ℕ) (band : InBand l) 
   -- ---- a primed ring
 
   module _ (target : ℕ) (p : Point) (b : IsBehind l target p) where
-    -- behind so many of its ticks, and with so many frames of its packet
+    -- after so many of its ticks, and with so many frames of its packet
     plays : (came i : ℕ) → came ≤ (sum l.pace.used % 65536 + s * l.pace.value) / 65536 → i ≤ n
         → (l.out.taken + i ≤ length l.out.arrived + came) × IsHeld s (length l.out.arrived + came - (l.out.taken + i))
     plays came i some few =
@@ -176,7 +176,7 @@ module _ (l : Life) (packet : Option (List ℕ)) (step : ℕ) (band : InBand l) 
   holds_at None filling came i some few primed = absurd (cc)
   holds_at (Some target) behind came i some few primed = (plays target behind.0 behind.1 came i some few).0
 
-  -- ---- the life behind it
+  -- ---- the life after it
 
   -- where no packet was due
   abbrev pub waited_life : ℕ → Life
@@ -192,7 +192,7 @@ module _ (l : Life) (packet : Option (List ℕ)) (step : ℕ) (band : InBand l) 
       (out_not_due n l.out o due is (λ primed. let holds = holds_at o place 0 n (omega arith) (omega arith) primed in omega (arith, holds)))
       ∙ no_feedback (waited_life (taken_by o n)) lost
       (reports_by (waited_life (taken_by o n)) false (omega arith)
-      (more_is ((l.out.microframes + 1) % period)
+      (not_zero ((l.out.microframes + 1) % period)
       (no_report s period l.out.microframes band.intervals (is_some_more ((l.out.microframes + 1) % s) due))))
 
   -- where one was
@@ -228,7 +228,7 @@ module _ (l : Life) (packet : Option (List ℕ)) (step : ℕ) (band : InBand l) 
     phase = phase_after clock t;
   }
 
-  -- a primed stream is behind the same point, with one step more
+  -- a primed stream is after the same point, with one step more
   pub behind_not_due : is_due l.out.stream l.out.microframes ≡ false → (target : ℕ) (p : Point) (b : IsBehind l target p)
       → (on : IsBehind (waited_life n) target p) × (on.ticked.steps ≡ b.ticked.steps + step)
   behind_not_due due target p b =
@@ -492,7 +492,7 @@ module _ (l : Life) (packet : Option (List ℕ)) (step : ℕ) (band : InBand l) 
 
   -- ---- its ticks
 
-  -- the stream behind some of its ticks
+  -- the stream after some of its ticks
   played_due : (o : Option ℕ) → l.out.target ≡ o → IsAt o l → is_due l.out.stream l.out.microframes ≡ true → (i : ℕ) → i ≤ n
       → played i packet step l ≡ record (after_ticks n (got packet l.out)) { taken = l.out.taken + taken_by o i }
   played_due o is place due i few =

@@ -51,7 +51,7 @@ carry r other band = record {
         stream.2,
         record {
           runs = record { out = s.runs.out; life = s.runs.life; domain = s.runs.domain };
-          fed = record { same = s.fed.same; streams = s.fed.streams; whole = s.fed.whole };
+          fed = record { same = s.fed.same; streams = s.fed.streams; format = s.fed.format; whole = s.fed.whole };
           band = s.band;
           rate = s.rate;
           slight = s.slight;
@@ -77,7 +77,7 @@ rehosted r tracks even band = record {
         stream.2,
         record {
           runs = record { out = s.runs.out; life = s.runs.life; domain = s.runs.domain };
-          fed = record { same = s.fed.same; streams = s.fed.streams; whole = even k s.fed.whole };
+          fed = record { same = s.fed.same; streams = s.fed.streams; format = s.fed.format; whole = even k s.fed.whole };
           band = s.band;
           rate = s.rate;
           slight = s.slight;
@@ -86,7 +86,7 @@ rehosted r tracks even band = record {
 }
 
 -- samples in frames of so many
-pub even_chunks : (channels n : ℕ) (samples : List ℤ) → n * channels ≤ length samples
+even_chunks : (channels n : ℕ) (samples : List ℤ) → n * channels ≤ length samples
     → All (λ frame. length frame ≡ channels) (first_chunks channels n samples)
 even_chunks channels zero samples long k d below = absurd (omega arith)
 even_chunks channels (suc n) samples long zero d below =
@@ -97,44 +97,51 @@ even_chunks channels (suc n) samples long (suc k) d below =
     let rest : length (drop channels samples) ≡ length samples - channels = length-drop channels samples in
     even_chunks channels n (drop channels samples) (omega arith) k d (omega arith)
 
-samples_keep : (interface : ℕ) (samples : List ℤ) (r : RunningWorld) → RunInBand r → RunInBand (with_samples_on interface samples r)
-unfolding with_samples_on with_samples
-samples_keep interface samples r band = rehosted r (r'.host.tracks) (λ k whole. by k (k == interface) refl whole) band
+-- frames that wait for a stream are whole after samples, and after another tone
+pub samples_whole : (interface : ℕ) (samples : List ℤ) (w : HostWorld) (k : ℕ)
+    → All (λ frame. length frame ≡ channels_at w.function k) (w.tracks k).waiting
+    → All (λ frame. length frame ≡ channels_at w.function k) ((with_samples interface samples w).tracks k).waiting
+unfolding with_samples
+samples_whole interface samples w k whole = by (k == interface) refl
   where
-    w : HostWorld
-    w = r.host
-
-    r' : RunningWorld
-    r' = with_samples_on interface samples r
-
     channels : ℕ
     channels = channels_at w.function interface
 
     frames : List (List ℤ)
     frames = in_frames channels samples
 
-    by : (k : ℕ) (b : Bool) → (k == interface) ≡ b → All (λ frame. length frame ≡ channels_at w.function k) (w.tracks k).waiting
+    by : (b : Bool) → (k == interface) ≡ b
         → All (λ frame. length frame ≡ channels_at w.function k)
         (if b then record (w.tracks interface) { waiting = (w.tracks interface).waiting ++ frames } else w.tracks k).waiting
-    by k true same whole =
+    by true same =
         let number : k ≡ interface = eqb-true k interface same in
         subst (λ (n : ℕ). All (λ frame. length frame ≡ channels_at w.function n) ((w.tracks interface).waiting ++ frames)) (sym number)
         (All-append (λ frame. length frame ≡ channels) (w.tracks interface).waiting frames
         (subst (λ (n : ℕ). All (λ frame. length frame ≡ channels_at w.function n) (w.tracks n).waiting) number whole)
         (even_chunks channels (length samples / channels) samples (div-mul-le_self (length samples) channels)))
-    by k false other whole = whole
+    by false other = whole
+
+pub track_whole : (interface : ℕ) (tone : Tone) (w : HostWorld) (k : ℕ)
+    → All (λ frame. length frame ≡ channels_at w.function k) (w.tracks k).waiting
+    → All (λ frame. length frame ≡ channels_at w.function k) ((calls.with_tone interface tone w).tracks k).waiting
+unfolding calls.with_tone
+track_whole interface tone w k whole = by (k == interface) refl
+  where
+    by : (b : Bool) → (k == interface) ≡ b
+        → All (λ frame. length frame ≡ channels_at w.function k)
+        (if b then record (w.tracks interface) { tone = tone; place = 0 } else w.tracks k).waiting
+    by true same =
+        let number : k ≡ interface = eqb-true k interface same in
+        subst (λ (n : ℕ). All (λ frame. length frame ≡ channels_at w.function k) (w.tracks n).waiting) number whole
+    by false other = whole
+
+samples_keep : (interface : ℕ) (samples : List ℤ) (r : RunningWorld) → RunInBand r → RunInBand (with_samples_on interface samples r)
+unfolding with_samples_on with_samples
+samples_keep interface samples r = rehosted r (with_samples interface samples r.host).tracks (samples_whole interface samples r.host)
 
 track_keeps : (interface : ℕ) (tone : Tone) (r : RunningWorld) → RunInBand r → RunInBand (with_track interface tone r)
 unfolding with_track calls.with_tone
-track_keeps interface tone r band = rehosted r ((with_track interface tone r).host.tracks) (λ k whole. by k (k == interface) refl whole) band
-  where
-    by : (k : ℕ) (b : Bool) → (k == interface) ≡ b → All (λ frame. length frame ≡ channels_at r.host.function k) (r.host.tracks k).waiting
-        → All (λ frame. length frame ≡ channels_at r.host.function k)
-        (if b then record (r.host.tracks interface) { tone = tone; place = 0 } else r.host.tracks k).waiting
-    by k true same whole =
-        let number : k ≡ interface = eqb-true k interface same in
-        subst (λ (n : ℕ). All (λ frame. length frame ≡ channels_at r.host.function k) (r.host.tracks n).waiting) number whole
-    by k false other whole = whole
+track_keeps interface tone r = rehosted r (calls.with_tone interface tone r.host).tracks (track_whole interface tone r.host)
 
 -- ---- deviations
 
@@ -212,7 +219,7 @@ module _ (clock : ℕ) (millionths : ℤ) where
     unfolding with_deviation deviated
     stream_off l d slight s = record {
       runs = record { out = s.runs.out; life = life_off ∙ s.runs.life; domain = domain_off ∙ ap (option_map off) s.runs.domain };
-      fed = record { same = s.fed.same; streams = s.fed.streams; whole = s.fed.whole };
+      fed = record { same = s.fed.same; streams = s.fed.streams; format = s.fed.format; whole = s.fed.whole };
       band = s.band;
       rate = ap (λ (n : ℕ). option_and_then nominal_of (rate_of r.device.function.entities r.device.controls n)) (off_clock d) ∙ s.rate;
       slight = off_slight d slight s.slight;

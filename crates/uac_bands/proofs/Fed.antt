@@ -1,20 +1,19 @@
 -- The packets of one stream: as many frames as its rate values say, microframe by microframe.
-use Rattle.std.proofs.Common.{◌≡◌, ◌∙◌, sym, refl, ap, subst, arith, ℕ, zero, suc, ◌+◌, ◌-◌, ◌*◌, ◌<◌, ◌≤◌, Bool, true, false, if◌then◌else◌, nat_le, ◌==◌, min, ℤ, List, [], ◌∷◌, ◌++◌, length, map, take, Option, Some, None, is_some, inl, inr, length-append, append-nil, mul-pos}
-use Rattle.std.specs.List.{All, find, range_with_len}
+use Rattle.std.proofs.Common.{◌≡◌, ◌∙◌, sym, refl, ap, subst, arith, ℕ, zero, suc, ◌+◌, ◌-◌, ◌*◌, ◌<◌, ◌≤◌, Bool, true, false, if◌then◌else◌, min, ℤ, List, [], ◌∷◌, ◌++◌, length, map, take, Option, Some, None, is_some, length-append, append-nil}
+use Rattle.std.specs.List.{All, range_with_len}
 use Rattle.std.specs.Option.{option_map_or}
-use Rattle.std.proofs.lemmas.Bool.{and_parts, cases_Bool, leb-true}
 use Rattle.std.proofs.lemmas.List.{length-map, length-take}
 use Rattle.std.proofs.lemmas.List.Elements.{All-append, All-take}
 use Rattle.std.proofs.lemmas.List.FromFn.{length-range_with_len}
-use Rattle.std.proofs.lemmas.Option.{cond_some, option_and_then_some}
-use Rattle.uac_clock.specs.Nominal.{nominal_of}
+use Rattle.std.proofs.lemmas.Option.{option_and_then_some}
 use Rattle.uac_clock.specs.Ticks.{ticks_in}
+use Rattle.uac_pcm.specs.Frames.{IsFormat}
 use Rattle.uac_pcm.specs.Packets.{packed, whole_frames}
 use Rattle.uac_pcm.specs.Tones.{tone_sample}
 use Rattle.uac_pcm.specs.declared.tones.Tone.{Tone}
-use Rattle.uac_pcm.proofs.PacketsLemmas.{length-unpacked, whole_frames-packed}
+use Rattle.uac_pcm.proofs.PacketsLemmas.{frame_bytes-pos, length-unpacked, whole_frames-packed}
 use Rattle.uac_topology.specs.Function.{FunctionFields}
-use Rattle.uac_alt.specs.Streams.{StreamFields, can_run, is_format, is_pcm, linked_channels, stream_at, stream_of}
+use Rattle.uac_alt.specs.Streams.{StreamFields}
 use Rattle.uac_rate.specs.Steadiness.{one_more}
 use Rattle.uac_flow.specs.Streams.{OutStream, after_packet, after_taking, after_ticks, feedback_of, frames_of, is_dry, is_due, settled_out, settled_when_due}
 use Rattle.uac_host.specs.HostWorld.{Pace, Track}
@@ -111,6 +110,7 @@ microframes_keep_fed losses r interface l d ordered runs fed =
     record {
       same = paced ∙ fed.same ∙ sym (out_stream_after packet (step_in r.device d) lost l);
       streams = subst (λ (f : FunctionFields). IsStreamOf f interface (next_life losses r interface l d).pace.stream) (sym stays.host) streams;
+      format = subst (λ (s : StreamFields). IsFormat s.channels s.subslot s.bits) (sym paced) fed.format;
       whole = subst (λ (f : FunctionFields). All (λ frame. length frame ≡ channels_at f interface) (after.host.tracks interface).waiting) (sym stays.host) whole;
     }
   where
@@ -147,33 +147,6 @@ next_even channels n t even =
     (All-take (λ frame. length frame ≡ channels) n t.waiting even)
     (tones_even channels t.tone (range_with_len t.place (n - length t.waiting)))
 
--- the samples of a stream have bytes
-format_bytes : (channels subslot bits : ℕ) → is_format channels subslot bits ≡ true → 0 < channels * subslot
-format_bytes channels subslot bits e =
-    let a = and_parts (nat_le 1 channels) _ e in
-    let b = and_parts (nat_le channels 32) _ a.1 in
-    let c = and_parts (nat_le 1 subslot) _ b.1 in
-    mul-pos (let least : 1 ≤ channels = leb-true 1 channels a.0 in omega (arith, least)) (let least : 1 ≤ subslot = leb-true 1 subslot c.0 in omega (arith, least))
-
-stream_bytes : (function : FunctionFields) (interface : ℕ) (stream : StreamFields) → IsStreamOf function interface stream → 0 < stream.channels * stream.subslot
-unfolding stream_of stream_at can_run
-stream_bytes function interface stream of = elim (cases_Bool (of.setting == 0)) [
-  | inl zero_th ↦ (let none = rw zero_th at of.is in absurd cc)
-  | inr above ↦
-      (let found = rw above at of.is in
-      option_and_then_some _ (find (λ s. s.number == interface) function.streams) stream found (λ s _ in_setting.
-      option_and_then_some _ (find (λ t. t.number == of.setting) s.settings) stream in_setting (λ setting _ at_rate.
-      option_and_then_some (stream_at function s setting) (nominal_of of.rate) stream at_rate (λ nominal _ with_general.
-      option_and_then_some _ setting.general stream with_general (λ g _ with_format.
-      option_and_then_some _ setting.format stream with_format (λ f _ with_first.
-      option_and_then_some _ setting.first stream with_first (λ first _ ran.
-      (let both = cond_some _ _ _ ran in
-      let linked = and_parts (is_pcm g) _ both.0 in
-      let formed = and_parts (g.channels == linked_channels function s) _ linked.1 in
-      let format = and_parts (is_format g.channels f.subslot f.bits) _ formed.1 in
-      subst (λ (t : StreamFields). 0 < t.channels * t.subslot) both.1 (format_bytes g.channels f.subslot f.bits format.0)))))))))
-]
-
 -- what is packed has as many frames
 packed_frames : (stream : StreamFields) (frames : List (List ℤ)) → 0 < stream.channels * stream.subslot → All (λ frame. length frame ≡ stream.channels) frames
     → length (frames_of stream (packed stream.subslot stream.bits frames)) ≡ length frames
@@ -197,5 +170,5 @@ packets_have_their_frames r interface l lives fed =
     let waits : All (λ frame. length frame ≡ s.channels) t.waiting = subst (λ (n : ℕ). All (λ frame. length frame ≡ n) t.waiting) linked fed.whole in
     ap (λ (o : Option Pace). length (frames_of l.out.stream (option_map_or (λ p. packed p.stream.subslot p.stream.bits (next_frames p.stream.channels (next_size p) t)) o []))) own
     ∙ ap (λ (of : StreamFields). length (frames_of of (packed s.subslot s.bits (next_frames s.channels (next_size l.pace) t)))) (sym fed.same)
-    ∙ packed_frames s (next_frames s.channels (next_size l.pace) t) (stream_bytes r.host.function interface s fed.streams) (next_even s.channels (next_size l.pace) t waits)
+    ∙ packed_frames s (next_frames s.channels (next_size l.pace) t) (frame_bytes-pos s.channels s.subslot s.bits fed.format) (next_even s.channels (next_size l.pace) t waits)
     ∙ length_next s.channels (next_size l.pace) t))))

@@ -1,5 +1,6 @@
 -- The life of one stream: what happens once in a row, and what a microframe makes of it.
 pub mod Once
+pub mod KeptSteps
 pub mod Shown
 pub mod Ticked
 pub mod Lived
@@ -18,6 +19,7 @@ pub mod NearLevels
 pub mod Begun
 pub mod LookingBack
 pub mod Asked
+pub mod Requested
 pub mod Transferred
 pub mod SoundRuns
 pub mod SoundTransfers

@@ -3,7 +3,7 @@ use Rattle.std.proofs.Common.{◌≡◌, ◌∙◌, sym, refl, ap, subst, ℕ, �
 use Rattle.std.specs.List.{All, IsDistinct, find}
 use Rattle.std.specs.Option.{option_and_then, option_map, option_map_or}
 use Rattle.std.proofs.lemmas.Option.{option_and_then_some}
-use Rattle.uac_units.specs.Hearing.{held}
+use Rattle.uac_units.specs.Hearing.{at_most_u64}
 use Rattle.uac_rate.specs.Steadiness.{one_more}
 use Rattle.uac_topology.specs.Function.{FunctionFields}
 use Rattle.uac_graph.specs.Meaning.{entity}
@@ -11,7 +11,7 @@ use Rattle.uac_flow.specs.Streams.{OutStream, after_packet, feedback_of, is_due}
 use Rattle.uac_host.specs.HostWorld.{Pace, Track}
 use Rattle.uac_host.specs.Calls.{interface_in, packet_of, reported, sent}
 use Rattle.uac_device.specs.DeviceWorld.{Domain, step_in}
-use Rattle.uac_script.specs.Phrase.{Loss}
+use Rattle.uac_script.specs.Phrase.{SaidMark}
 use Rattle.uac_streaming.specs.StreamingWorld.{StreamingWorld, all_reported, all_settled, goes_out, in_packet_turn, in_packets, loses_out, loses_report, numbers, out_packets, out_turn, packet_to, place_of, goes_out, report_turn, settled_turn}
 use Rattle.uac_running.specs.RunningWorld.{RunningWorld, streaming_of, with_streaming}
 use Rattle.uac_running.specs.Events.{domain_microframes, ends_and_reports, microframe, packets_and_ticks}
@@ -27,7 +27,7 @@ mapped f (Some x) y e = (x, refl, cc)
 
 -- ---- the parts of a microframe
 
-module _ (p : Place) (is : IsPlace p) (small : All (λ s. s.number < 256) p.function.streams) (losses : List Loss) where
+module _ (p : Place) (is : IsPlace p) (small : All (λ s. s.number < 256) p.function.streams) (losses : List SaidMark) where
   among : (w : StreamingWorld) (l : Life) (t : Track) → Shows p w l t → Among p.interface (numbers w.device.function)
   among w l t s =
       let found = mapped _ (interface_in p.function p.interface) p.clock is.on_clock in
@@ -90,7 +90,7 @@ module _ (p : Place) (is : IsPlace p) (small : All (λ s. s.number < 256) p.func
         → Shows p (streaming_of (microframe losses r).world) (life_after (packet l t) (step_at p) (loses_report losses p.interface) l) (track_after l t)
     unfolding microframe life_after
     microframe_shown r l t s =
-        let numbered : RunningWorld = record r { time = held (r.time + 1) } in
+        let numbered : RunningWorld = record r { time = at_most_u64 (r.time + 1) } in
         the_end (packets_and_ticks losses numbered).world (with_step (step_at p) (with_packet (packet l t) l)) (track_after l t) (before_the_end numbered l t s)
 
 -- ---- lives
@@ -176,7 +176,7 @@ unfolding step_in
 step_is r interface d clock place = refl
 
 -- what a microframe makes of a stream, and of its track
-lived_and_tracked : (losses : List Loss) (r : RunningWorld) (interface : ℕ) (l : Life) (d : Domain) → IsOrdered r.device → Runs r interface l d
+lived_and_tracked : (losses : List SaidMark) (r : RunningWorld) (interface : ℕ) (l : Life) (d : Domain) → IsOrdered r.device → Runs r interface l d
     → Runs (microframe losses r).world interface (next_life losses r interface l d) (next_domain r d)
     × ((microframe losses r).world.host.tracks interface ≡ next_track l (r.host.tracks interface))
 lived_and_tracked losses r interface l d ordered runs = opened r interface l d runs (λ clock place steps is s.

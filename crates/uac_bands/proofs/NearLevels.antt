@@ -1,11 +1,10 @@
 -- A steady microframe tells levels near their targets alone; what a level that is told may be to its target is a parameter.
-use Rattle.std.proofs.Common.{◌≡◌, ◌∙◌, sym, refl, ap, subst, ℕ, ◌+◌, ◌%◌, ◌==◌, ◌&&◌, nat_le, Bool, true, false, if◌then◌else◌, List, [], ◌∷◌, map, filter, Option, Some, None}
+use Rattle.std.proofs.Common.{◌≡◌, ◌∙◌, sym, refl, ap, subst, ℕ, ◌+◌, ◌%◌, ◌==◌, ◌&&◌, nat_le, Bool, true, false, if◌then◌else◌, List, [], ◌∷◌, Option, Some, None}
 use Rattle.std.specs.Prelude.{⊤}
 use Rattle.std.specs.List.{All}
 use Rattle.std.specs.Option.{option_and_then, option_map_or}
 use Rattle.std.proofs.lemmas.Bool.{and_parts, eqb-false}
 use Rattle.std.proofs.lemmas.List.Elements.{All-cons, All-nil}
-use Rattle.uac_entities.specs.declared.stream.StreamInterface.{StreamInterface}
 use Rattle.uac_rate.specs.Levels.{Within}
 use Rattle.uac_rate.specs.Steadiness.{one_more}
 use Rattle.uac_alt.specs.Streams.{StreamFields}
@@ -13,9 +12,9 @@ use Rattle.uac_flow.specs.Streams.{OutStream, feedback_of, is_due, out_level, se
 use Rattle.uac_host.specs.Calls.{reported}
 use Rattle.uac_host.specs.HostWorld.{Track}
 use Rattle.uac_device.specs.DeviceWorld.{DeviceWorld, Domain, advanced, either_due, is_due_in, level_in, level_of, next_ticks, settled, step_in, target_of}
-use Rattle.uac_script.specs.Phrase.{Loss}
-use Rattle.uac_transcript.specs.Transcript.{Said, says_level, says_under}
-use Rattle.uac_streaming.specs.StreamingWorld.{StreamingWorld, all_settled, finds_empty, goes_out, loses_out, loses_report, numbers, settled_turn}
+use Rattle.uac_script.specs.Phrase.{SaidMark}
+use Rattle.uac_transcript.specs.Transcript.{Said, says_level, says_over, says_under}
+use Rattle.uac_streaming.specs.StreamingWorld.{StreamingWorld, all_settled, finds_empty, finds_full, goes_out, loses_out, loses_report, numbers, out_packets, settled_turn}
 use Rattle.uac_running.specs.RunningWorld.{RunningWorld, streaming_of}
 use Rattle.uac_running.specs.Events.{all_given, domain_microframe, domain_microframes, microframe, tick}
 use Rattle.uac_bands.specs.Life.{Life, life_after, with_end, with_feedback, with_packet, with_step}
@@ -31,7 +30,7 @@ use Rattle.uac_bands.proofs.Steady.{is_zero}
 use Rattle.uac_bands.proofs.Banded.{ends_near}
 use Rattle.uac_bands.proofs.Unstarted.{RestsNow, RunsNone, before_the_end_none, settled_none}
 use Rattle.uac_bands.proofs.SteadyRun.{few_behind, next_in_band}
-use Rattle.uac_bands.proofs.Quiet.{IsQuiet, domains_say, fetched, maybe_one, microframe_says, numbered, tick_quiet, ticked_on, ticks_say, turns_once_say}
+use Rattle.uac_bands.proofs.Quiet.{IsQuiet, domains_say, each_says, fetched, maybe_one, microframe_says, numbered, outs_say, tick_says, ticked_on, ticks_say, turns_once_say}
 
 module _ (Q : ℕ → ℕ → Type 0) (k : ℕ) where
   -- where it tells a level of this interface's primed stream, that is so to its target
@@ -45,21 +44,19 @@ module _ (Q : ℕ → ℕ → Type 0) (k : ℕ) where
     in_ = λ interface frames lost level target same. absurd (cc);
     frame = λ interface samples level target same. absurd (cc);
     played = λ terminal samples level target same. absurd (cc);
-    over = λ interface level target same. absurd (cc);
     feedback = λ interface value lost level target same. absurd (cc);
   }
 
-  -- ---- ticks tell no level
+  -- ---- packets and ticks tell no level
 
-  unders_near : (test : StreamInterface → Bool) (ss : List StreamInterface) → All IsNear (map (λ s. says_under s.number) (filter test ss))
-  unders_near test ss = all (filter test ss)
-    where
-      all : (xs : List StreamInterface) → All IsNear (map (λ s. says_under s.number) xs)
-      all [] = All-nil IsNear
-      all (x ∷ xs) = All-cons IsNear (says_under x.number) (map (λ s. says_under s.number) xs) (λ level target same. absurd (cc)) (all xs)
+  outs_near : (detail : ℕ) (losses : List SaidMark) (w : StreamingWorld) → All IsNear (out_packets detail losses w).lines
+  outs_near = outs_say IsNear quiet (λ interface level target same. absurd (cc))
 
   tick_near : (c : ℕ) (r : RunningWorld) → All IsNear (tick c r).lines
-  tick_near c r = tick_quiet IsNear quiet c r (unders_near (λ s. finds_empty c (all_given c r) s.number))
+  tick_near c r =
+      tick_says IsNear quiet c r
+      (each_says IsNear says_under (finds_empty c (all_given c r)) (λ n passes level target same. absurd (cc)))
+      (each_says IsNear says_over (finds_full c (all_given c r)) (λ n passes level target same. absurd (cc)))
 
   domain_near : (c : ℕ) (r : RunningWorld) → ⊤ → All IsNear (domain_microframe c r).lines
   unfolding domain_microframe
@@ -88,7 +85,7 @@ module _ (Q : ℕ → ℕ → Type 0) (k : ℕ) where
   unfolding settled_turn target_of
   end_none detail w none =
       maybe_one IsNear quiet (is_told detail k w.device) (level_line k w.device)
-      (λ level target same. absurd (let nowhere = gone (settled_none k detail [] k w none) in
+      (λ level target same. absurd (let nowhere = gone (settled_none k detail k w none) in
       let there : target_of (settled k w.device) k ≡ Some target = cc in
       let both : None ≡ Some target = sym nowhere ∙ there in cc))
     where
@@ -98,17 +95,18 @@ module _ (Q : ℕ → ℕ → Type 0) (k : ℕ) where
   ends_near_none : (detail : ℕ) (w : StreamingWorld) → RunsNone k w → All IsNear (all_settled detail w).lines
   unfolding all_settled
   ends_near_none detail w none =
-      turns_once_say IsNear (settled_turn detail) k (end_other detail) (RunsNone k) (λ n v other nothing. settled_none k detail [] n v nothing)
+      turns_once_say IsNear (settled_turn detail) k (end_other detail) (RunsNone k) (λ n v other nothing. settled_none k detail n v nothing)
       (end_none detail) (numbers w.device.function) w (numbers_differ w.device.function) none
 
-  pub none_near : (losses : List Loss) (r : RunningWorld) → RestsNow k r → All IsNear (microframe losses r).lines
+  pub none_near : (losses : List SaidMark) (r : RunningWorld) → RestsNow k r → All IsNear (microframe losses r).lines
   none_near losses r none =
-      microframe_says IsNear quiet losses r (ticks_near (fetched losses r).device.function.domains (fetched losses r))
+      microframe_says IsNear quiet losses r (outs_near r.detail losses (streaming_of (numbered r)))
+      (ticks_near (fetched losses r).device.function.domains (fetched losses r))
       (ends_near_none (ticked_on losses r).detail (streaming_of (ticked_on losses r)) (before_the_end_none k losses (numbered r) none))
 
 -- ---- where it runs one
 
--- where it is due now, its level behind the end is near its target
+-- where it is due now, its level after the end is near its target
 abbrev IsNearThen : (ℕ → ℕ → Type 0) → OutStream → Type 0
 IsNearThen Q x =
     is_due x.stream x.microframes ≡ true → (target : ℕ) → (settled_out x).target ≡ Some target → Q (out_level (settled_out x)) target
@@ -151,7 +149,7 @@ module _ (Q : ℕ → ℕ → Type 0) (p : Place) (detail : ℕ) where
       (λ n v other there. settled_other p detail [] n v l t other there) (λ v there. end_here v l t there near) (numbers w.device.function) w
       (numbers_differ w.device.function) s
 
--- ---- the life behind the microframe
+-- ---- the life after the microframe
 
 pub feedback_out : (lost : Bool) (m : Life) → (with_feedback lost m).out ≡ m.out
 feedback_out lost m = by (feedback_of m.out)
@@ -182,7 +180,7 @@ near_then Q packet step lost l so due target is =
     ∙ is_zero ((x.microframes + 1) % x.stream.service) due in
     subst (λ (o : OutStream). Q (out_level o) target) out (so target ends (ap (λ (o : OutStream). o.target) out ∙ is))
 
-pub some_near : (Q : ℕ → ℕ → Type 0) (losses : List Loss) (r : RunningWorld) (k : ℕ) (l : Life) (d : Domain) → RunInBand r → StreamInBand r k l d
+pub some_near : (Q : ℕ → ℕ → Type 0) (losses : List SaidMark) (r : RunningWorld) (k : ℕ) (l : Life) (d : Domain) → RunInBand r → StreamInBand r k l d
     → EndsSo Q (next_life losses r k l d) → All (IsNear Q k) (microframe losses r).lines
 some_near Q losses r k l d band stream so = opened r k l d stream.runs (λ clock place steps is s.
     (let p : Place = place_in r k d clock place in
@@ -194,7 +192,8 @@ some_near Q losses r k l d band stream so = opened r k l d stream.runs (λ clock
     subst (λ (n : ℕ). EndsSo Q (life_after packet n (loses_report losses k) l)) (sym (step_is r k d clock place))
     (subst (λ (b : List ℕ). EndsSo Q (life_after (if loses_out losses k then None else Some b) (step_in r.device d) (loses_report losses k) l))
     (packet_shown p (streaming_of r) l t s) so) in
-    microframe_says (IsNear Q k) (quiet Q k) losses r (ticks_near Q k (fetched losses r).device.function.domains (fetched losses r))
+    microframe_says (IsNear Q k) (quiet Q k) losses r (outs_near Q k r.detail losses (streaming_of (numbered r)))
+    (ticks_near Q k (fetched losses r).device.function.domains (fetched losses r))
     (ends_near_here Q p (ticked_on losses r).detail (streaming_of (ticked_on losses r)) (with_step (step_at p) (with_packet packet l)) (track_after l t) ticked
     (near_then Q packet (step_at p) (loses_report losses k) l next))))
 

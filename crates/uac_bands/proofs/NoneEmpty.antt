@@ -1,20 +1,20 @@
 -- No tick of a microframe finds a primed ring of a run in its bands empty.
-use Rattle.std.proofs.Common.{arith, ◌≡◌, ◌≢◌, ◌∙◌, sym, refl, ap, subst, ℕ, zero, suc, ◌<◌, ◌==◌, ◌&&◌, nat_eq, nat_le, Bool, true, false, if◌then◌else◌, cond, List, [], ◌∷◌, ◌++◌, map, filter, Option, Some, None, inl, inr}
+use Rattle.std.proofs.Common.{arith, ◌≡◌, ◌≢◌, ◌∙◌, sym, refl, ap, subst, ℕ, zero, suc, ◌<◌, ◌==◌, ◌&&◌, nat_eq, Bool, true, false, if◌then◌else◌, List, [], ◌∷◌, ◌++◌, filter, Option, Some, None, inl, inr}
 use Rattle.std.specs.List.{All, AllByRecursion, IsDistinct}
 use Rattle.std.specs.Option.{option_map_or}
+use Rattle.std.proofs.Math.Bool.{and-false}
 use Rattle.std.proofs.lemmas.Bool.{true≢false}
-use Rattle.std.proofs.lemmas.List.Elements.{All-append, All-cons, All-nil}
+use Rattle.std.proofs.lemmas.List.Elements.{All-append, All-nil}
 use Rattle.std.proofs.lemmas.Map.Keys.{IsDistinct-head, IsDistinct-tail}
 use Rattle.uac_clock.specs.Ticks.{ticks_in}
-use Rattle.uac_entities.specs.declared.stream.StreamInterface.{StreamInterface}
 use Rattle.uac_topology.specs.Function.{FunctionFields}
 use Rattle.uac_flow.specs.Streams.{OutStream, after_packet, after_taking, after_ticks, is_dry, is_due}
 use Rattle.uac_host.specs.Calls.{sent}
 use Rattle.uac_host.specs.HostWorld.{Track}
-use Rattle.uac_device.specs.DeviceWorld.{DeviceWorld, Domain, advanced, is_due_in, is_on, level_of, next_ticks, settled, step_in, target_of}
-use Rattle.uac_script.specs.Phrase.{Loss}
-use Rattle.uac_transcript.specs.Transcript.{Said, says_level, says_under}
-use Rattle.uac_streaming.specs.StreamingWorld.{StreamingWorld, all_settled, finds_empty, goes_out, loses_out, numbers, out_packets, settled_turn}
+use Rattle.uac_device.specs.DeviceWorld.{DeviceWorld, Domain, advanced, is_on, next_ticks, step_in}
+use Rattle.uac_script.specs.Phrase.{SaidMark}
+use Rattle.uac_transcript.specs.Transcript.{Said, says_over, says_under}
+use Rattle.uac_streaming.specs.StreamingWorld.{StreamingWorld, all_settled, finds_empty, finds_full, loses_out, out_packets}
 use Rattle.uac_running.specs.declared.jacks.Jack.{Jack}
 use Rattle.uac_running.specs.RunningWorld.{RunningWorld, streaming_of}
 use Rattle.uac_running.specs.Events.{all_given, domain_microframe, domain_microframes, microframe, tick, tick_times}
@@ -28,11 +28,7 @@ use Rattle.uac_bands.proofs.Lived.{opened, packets_in, packets_out, place_in, st
 use Rattle.uac_bands.proofs.Banded.{never_dry}
 use Rattle.uac_bands.proofs.Unstarted.{RestsNow, advanced_none, before_ticks_none, domain_none, given_none, tick_none}
 use Rattle.uac_bands.proofs.SteadyRun.{steadily}
-use Rattle.uac_bands.proofs.Quiet.{IsQuiet, domains_say, fetched, maybe_one, microframe_says, numbered, tick_quiet, ticked_on, ticks_say, turns_say}
-
-and_false : (b : Bool) → (b && false) ≡ false
-and_false true = refl
-and_false false = refl
+use Rattle.uac_bands.proofs.Quiet.{IsQuiet, domains_say, each_says, ends_say, fetched, microframe_says, numbered, outs_say, tick_says, ticked_on, ticks_say}
 
 module _ (k : ℕ) where
   -- it isn't said that the ring of this interface was found empty
@@ -46,37 +42,30 @@ module _ (k : ℕ) where
     in_ = λ interface frames lost same. cc;
     frame = λ interface samples same. cc;
     played = λ terminal samples same. cc;
-    over = λ interface same. cc;
     feedback = λ interface value lost same. cc;
   }
 
-  ends_say : (detail : ℕ) (w : StreamingWorld) → All NotUnder (all_settled detail w).lines
-  unfolding all_settled settled_turn
-  ends_say detail w = turns_say NotUnder (settled_turn detail) (λ n v.
-      maybe_one NotUnder quiet (nat_le 2 detail && (goes_out v.device.function n && is_due_in v.device n))
-      (says_level n (level_of (settled n v.device) n) (target_of (settled n v.device) n)) (λ same. cc)) (numbers w.device.function) w
+  outs_not : (detail : ℕ) (losses : List SaidMark) (w : StreamingWorld) → All NotUnder (out_packets detail losses w).lines
+  outs_not = outs_say NotUnder quiet (λ interface same. cc)
 
-  -- where its ring isn't
-  unders_not : (test : ℕ → Bool) → test k ≡ false → (ss : List StreamInterface)
-      → All NotUnder (map (λ s. says_under s.number) (filter (λ s. test s.number) ss))
-  unders_not test fails [] = All-nil NotUnder
-  unders_not test fails (s ∷ ss) = by (test s.number) refl (unders_not test fails ss)
-    where
-      by : (b : Bool) → test s.number ≡ b → All NotUnder (map (λ x. says_under x.number) (filter (λ x. test x.number) ss))
-          → All NotUnder (map (λ x. says_under x.number) (cond b (s ∷ filter (λ x. test x.number) ss) (filter (λ x. test x.number) ss)))
-      by true passes rest =
-          All-cons NotUnder (says_under s.number) (map (λ x. says_under x.number) (filter (λ x. test x.number) ss))
-          (λ same. let number : s.number ≡ k = cc in true≢false (sym passes ∙ ap test number ∙ fails)) rest
-      by false fails_here rest = rest
+  ends_not : (detail : ℕ) (w : StreamingWorld) → All NotUnder (all_settled detail w).lines
+  ends_not = ends_say NotUnder quiet (λ interface level target same. cc)
+
+  -- where it isn't its ring
+  tick_not : (c : ℕ) (r : RunningWorld) → finds_empty c (all_given c r) k ≡ false → All NotUnder (tick c r).lines
+  tick_not c r fails =
+      tick_says NotUnder quiet c r
+      (each_says NotUnder says_under (finds_empty c (all_given c r)) (λ n passes same.
+      (let number : n ≡ k = cc in true≢false (sym passes ∙ ap (finds_empty c (all_given c r)) number ∙ fails))))
+      (each_says NotUnder says_over (finds_full c (all_given c r)) (λ n passes same. cc))
 
   -- ---- where it runs no stream
 
   none_tick : (c : ℕ) (r : RunningWorld) → RestsNow k r → All NotUnder (tick c r).lines
   none_tick c r none =
       let w : DeviceWorld = all_given c r in
-      tick_quiet NotUnder quiet c r
-      (unders_not (finds_empty c w)
-      (ap (λ (o : Option OutStream). is_on w c k && option_map_or is_dry o false) (given_none k c r none) ∙ and_false (is_on w c k)))
+      tick_not c r
+      (ap (λ (o : Option OutStream). is_on w c k && option_map_or is_dry o false) (given_none k c r none) ∙ and-false (is_on w c k))
 
   none_domain : (c : ℕ) (r : RunningWorld) → RestsNow k r → All NotUnder (domain_microframe c r).lines
   unfolding domain_microframe
@@ -84,12 +73,12 @@ module _ (k : ℕ) where
       ticks_say NotUnder quiet (RestsNow k) c (none_tick c) (tick_none k c) (next_ticks c r.device) (record r { device = advanced c r.device })
       (advanced_none k c r none)
 
-  none_says : (losses : List Loss) (r : RunningWorld) → RestsNow k r → All NotUnder (microframe losses r).lines
+  none_says : (losses : List SaidMark) (r : RunningWorld) → RestsNow k r → All NotUnder (microframe losses r).lines
   none_says losses r none =
-      microframe_says NotUnder quiet losses r
+      microframe_says NotUnder quiet losses r (outs_not r.detail losses (streaming_of (numbered r)))
       (domains_say NotUnder quiet (RestsNow k) none_domain (domain_none k) (fetched losses r).device.function.domains (fetched losses r)
       (before_ticks_none k losses (numbered r) none))
-      (ends_say (ticked_on losses r).detail (streaming_of (ticked_on losses r)))
+      (ends_not (ticked_on losses r).detail (streaming_of (ticked_on losses r)))
 
 -- ---- where it runs one
 
@@ -107,19 +96,17 @@ module _ (p : Place) (is : IsPlace p) where
   other_tick c r l t other s =
       let w : DeviceWorld = all_given c r in
       let there = given_shows c r l t s in
-      tick_quiet Not (quiet p.interface) c r
-      (unders_not p.interface (finds_empty c w)
-      (ap (λ (b : Bool). b && option_map_or is_dry (w.outs p.interface) false) (on_clock_only p is w c there.function ∙ other)))
+      tick_not p.interface c r
+      (ap (λ (b : Bool). b && option_map_or is_dry (w.outs p.interface) false) (on_clock_only p is w c there.function ∙ other))
 
   own_tick : (r : RunningWorld) (l : Life) (t : Track) → Shows p (streaming_of r) l t → is_dry l.out ≡ false
       → All Not (tick p.clock r).lines
   own_tick r l t s holds =
       let w : DeviceWorld = all_given p.clock r in
       let there = given_shows p.clock r l t s in
-      tick_quiet Not (quiet p.interface) p.clock r
-      (unders_not p.interface (finds_empty p.clock w)
+      tick_not p.interface p.clock r
       (ap (λ (o : Option OutStream). is_on w p.clock p.interface && option_map_or is_dry o false) there.out
-      ∙ ap (λ (b : Bool). is_on w p.clock p.interface && b) holds ∙ and_false (is_on w p.clock p.interface)))
+      ∙ ap (λ (b : Bool). is_on w p.clock p.interface && b) holds ∙ and-false (is_on w p.clock p.interface))
 
   own_ticks : (count : ℕ) (r : RunningWorld) (l : Life) (t : Track) → Shows p (streaming_of r) l t
       → ((i : ℕ) → i < count → is_dry (ticks_taken i l.out) ≡ false) → All Not (tick_times count p.clock r).lines
@@ -189,7 +176,7 @@ steps_with_packet packet l = by (is_due l.out.stream l.out.microframes)
     by true = refl
     by false = refl
 
-some_says : (losses : List Loss) (r : RunningWorld) (k : ℕ) (l : Life) (d : Domain) → RunInBand r → StreamInBand r k l d
+some_says : (losses : List SaidMark) (r : RunningWorld) (k : ℕ) (l : Life) (d : Domain) → RunInBand r → StreamInBand r k l d
     → All (NotUnder k) (microframe losses r).lines
 some_says losses r k l d band stream = opened r k l d stream.runs (λ clock place steps is s.
     (let p : Place = place_in r k d clock place in
@@ -211,7 +198,8 @@ some_says losses r k l d band stream = opened r k l d stream.runs (λ clock plac
     let ticks = all_domains_say p is (fetched losses r).device.function.domains (fetched losses r) (with_packet packet l) (track_after l t)
     (subst (λ (f : FunctionFields). IsDistinct nat_eq f.domains) (sym came_shows.function) band.ordered.apart)
     (subst (λ (f : FunctionFields). Among clock f.domains) (sym came_shows.function) clocked) came_shows holds in
-    microframe_says (NotUnder k) (quiet k) losses r ticks (ends_say k (ticked_on losses r).detail (streaming_of (ticked_on losses r)))))
+    microframe_says (NotUnder k) (quiet k) losses r (outs_not k r.detail losses (streaming_of (numbered r))) ticks
+    (ends_not k (ticked_on losses r).detail (streaming_of (ticked_on losses r)))))
 
 pub find_none_empty : MicroframesFindNoneEmpty
 find_none_empty losses r band j said below k = by (r.device.outs k) refl j said below

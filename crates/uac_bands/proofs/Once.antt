@@ -1,5 +1,5 @@
 -- Something for each number of a row, one after the other: what happens at one of them, where the numbers differ.
-use Rattle.std.proofs.Common.{◌≡◌, ◌∙◌, sym, refl, ap, subst, arith, ℕ, zero, suc, ◌+◌, ◌≤◌, ◌<◌, ◌⊎◌, ◌==◌, nat_eq, Bool, true, false, if◌then◌else◌, cond, List, [], ◌∷◌, map, filter, Option, Some, is_some, inl, inr}
+use Rattle.std.proofs.Common.{◌≡◌, ◌∙◌, sym, refl, ap, subst, arith, ℕ, zero, suc, ◌+◌, ◌≤◌, ◌<◌, ◌⊎◌, ◌==◌, nat_eq, Bool, true, false, if◌then◌else◌, cond, List, [], ◌∷◌, map, filter, Option, Some, None, is_some, inl, inr}
 use Rattle.std.specs.List.{All, AllByRecursion, IsDistinct, find, fold, list_all, range_with_len}
 use Rattle.std.specs.Option.{option_map}
 use Rattle.std.proofs.lemmas.Bool.{and_parts, cases_eq, eqb-true, true≢false}
@@ -7,7 +7,7 @@ use Rattle.std.proofs.lemmas.List.Elements.{All-head, All-tail}
 use Rattle.std.proofs.lemmas.Map.Keys.{IsDistinct-cons, IsDistinct-head, IsDistinct-tail}
 use Rattle.uac_entities.specs.declared.stream.StreamInterface.{StreamInterface}
 use Rattle.uac_topology.specs.Function.{FunctionFields}
-use Rattle.uac_device.specs.DeviceWorld.{Domain}
+use Rattle.uac_device.specs.DeviceWorld.{Domain, changed_at, changed_where}
 use Rattle.uac_host.specs.Calls.{interface_in}
 use Rattle.uac_streaming.specs.Telling.{Telling, in_turn}
 use Rattle.uac_streaming.specs.StreamingWorld.{numbers}
@@ -35,7 +35,7 @@ apart_from n m (y ∷ ns) all there = elim there [ inl same ↦ subst (λ (z : �
 -- ---- rows
 
 module _ {W : Type 0} (step : ℕ → W → W) (k : ℕ) where
-  -- what each of these leaves so is so behind the last, where none is this one
+  -- what each of these leaves so is so after the last, where none is this one
   pub row_apart : (P : W → Type 0) → ((n : ℕ) (w : W) → (k == n) ≡ false → P w → P (step n w)) → (ns : List ℕ) (w : W)
       → AllByRecursion (λ n. nat_eq k n ≡ false) ns → P w → P (fold (λ v n. step n v) w ns)
   row_apart P keeps [] w apart is = is
@@ -75,6 +75,30 @@ pub turns_once : {W : Type 0} (event : ℕ → W → Telling W) (k : ℕ) (P Q :
     → IsDistinct nat_eq ns → Among k ns → P w → Q (in_turn event ns w).world
 turns_once event k P Q before behind here ns w once there is =
     subst Q (sym (turns_are_a_row event ns w)) (row_once (λ n v. (event n v).world) k P Q before behind here ns w once there is)
+
+-- ---- streams by interface
+
+pub where_true : {S : Type 0} (test : ℕ → Bool) (change : ℕ → S → S) (streams : ℕ → Option S) (k : ℕ) (s : S) → test k ≡ true
+    → streams k ≡ Some s → changed_where test change streams k ≡ Some (change k s)
+where_true test change streams k s passes there =
+    ap (option_map (λ x. if test k then change k x else x)) there ∙ ap (λ (b : Bool). Some (if b then change k s else s)) passes
+
+pub where_false : {S : Type 0} (test : ℕ → Bool) (change : ℕ → S → S) (streams : ℕ → Option S) (k : ℕ) (s : S) → test k ≡ false
+    → streams k ≡ Some s → changed_where test change streams k ≡ Some s
+where_false test change streams k s fails there =
+    ap (option_map (λ x. if test k then change k x else x)) there ∙ ap (λ (b : Bool). Some (if b then change k s else s)) fails
+
+-- where there is none, there is none after
+pub none_where : {S : Type 0} (test : ℕ → Bool) (change : ℕ → S → S) (streams : ℕ → Option S) (k : ℕ) → streams k ≡ None
+    → changed_where test change streams k ≡ None
+none_where test change streams k none = ap (option_map (λ s. if test k then change k s else s)) none
+
+pub none_at : {S : Type 0} (n k : ℕ) (change : S → S) (streams : ℕ → Option S) → streams k ≡ None → changed_at n change streams k ≡ None
+none_at {S = S} n k change streams none = by (k == n)
+  where
+    by : (b : Bool) → (if b then option_map change (streams k) else streams k) ≡ None
+    by true = ap (option_map change) none
+    by false = none
 
 -- ---- the numbers of interfaces
 

@@ -23,7 +23,7 @@ starts_are_ordered function sound numbers = record {
   numbers = numbers;
 }
 
-abbrev clocks_of : List Domain → List ℕ
+abbrev pub clocks_of : List Domain → List ℕ
 clocks_of ds = map (λ d. d.clock) ds
 
 off_clocks : (clock : ℕ) (millionths : ℤ) (ds : List Domain)

@@ -3,7 +3,7 @@ use Rattle.std.proofs.Common.{arith, ◌≡◌, ◌∙◌, refl, ap, ℕ, zero, 
 use Rattle.uac_flow.specs.Streams.{OutStream, after_packet, after_taking, after_ticks, frames_of, is_dry, is_due, out_level, settled_out, settled_when_due, takes_all, target_after}
 use Rattle.uac_bands.specs.Life.{ticks_taken}
 
-not_zero : (n : ℕ) → 0 < n → (n == 0) ≡ false
+pub not_zero : (n : ℕ) → 0 < n → (n == 0) ≡ false
 not_zero n some = grind arith
 
 -- ---- ticks

@@ -1,5 +1,5 @@
--- The lines of a microframe: what holds of every line but those that tell of rings found empty, and of levels.
-use Rattle.std.proofs.Common.{arith, ◌≡◌, ◌∙◌, sym, refl, subst, ℕ, zero, suc, ◌+◌, ◌==◌, ◌&&◌, not, nat_le, nat_eq, Bool, true, false, if◌then◌else◌, ℤ, List, [], ◌∷◌, map, filter, Option, Some, None, inl, inr}
+-- The lines of a microframe: what holds of every line but those that tell of rings found empty or full, and of levels, which are premises.
+use Rattle.std.proofs.Common.{arith, ◌≡◌, ◌∙◌, sym, refl, subst, ℕ, zero, suc, ◌+◌, ◌==◌, ◌&&◌, not, nat_le, nat_eq, Bool, true, false, if◌then◌else◌, cond, ℤ, List, [], ◌∷◌, map, filter, Option, Some, None, inl, inr}
 use Rattle.std.specs.List.{All, AllByRecursion, IsDistinct}
 use Rattle.std.specs.Option.{option_map_or}
 use Rattle.std.proofs.lemmas.Bool.{cases_eq}
@@ -9,41 +9,40 @@ use Rattle.uac_entities.specs.declared.entity.Entity.{Entity}
 use Rattle.uac_entities.specs.declared.stream.StreamInterface.{StreamInterface}
 use Rattle.uac_flow.specs.declared.arrival.Arrival.{Arrival}
 use Rattle.uac_flow.specs.declared.arrival.Arrival.TheVariants as arrivals
-use Rattle.uac_device.specs.DeviceWorld.{DeviceWorld, arrival_in, feedback_in, frames_in, packet_in, ticked}
+use Rattle.uac_device.specs.DeviceWorld.{DeviceWorld, arrival_in, feedback_in, frames_in, is_due_in, level_of, packet_in, settled, target_of, ticked}
 use Rattle.uac_host.specs.Calls.{heard_in, size_of}
-use Rattle.uac_script.specs.Phrase.{Loss}
+use Rattle.uac_script.specs.Phrase.{SaidMark}
 use Rattle.uac_transcript.specs.declared.packets.Arrival as printed
-use Rattle.uac_transcript.specs.Transcript.{Said, says_feedback, says_frame, says_in, says_out, says_over, says_played, says_time, says_under}
+use Rattle.uac_transcript.specs.Transcript.{Said, says_feedback, says_frame, says_in, says_level, says_out, says_over, says_played, says_time, says_under}
 use Rattle.uac_streaming.specs.Telling.{Telling, at_rest, in_turn}
-use Rattle.uac_streaming.specs.StreamingWorld.{StreamingWorld, all_reported, all_settled, arrived_as, fetched_lines, finds_empty, finds_full, found_lines, in_lines, in_packet_turn, in_packets, is_in_due, is_out_due, loses_in, loses_out, loses_report, numbers, out_lines, out_packets, out_turn, over_lines, packet_fetched, packet_sent, packet_to, report_lines, report_made, report_turn, sent_lines}
-use Rattle.uac_units.specs.Hearing.{held}
+use Rattle.uac_streaming.specs.StreamingWorld.{StreamingWorld, all_reported, all_settled, arrived_as, fetched_lines, finds_empty, finds_full, found_lines, goes_out, in_lines, in_packet_turn, in_packets, is_in_due, is_out_due, loses_in, loses_out, loses_report, numbers, out_lines, out_packets, out_turn, over_lines, packet_fetched, packet_sent, packet_to, report_lines, report_made, report_turn, sent_lines, settled_turn}
+use Rattle.uac_units.specs.Hearing.{at_most_u64}
 use Rattle.uac_running.specs.RunningWorld.{RunningWorld, streaming_of, with_streaming}
 use Rattle.uac_running.specs.Events.{all_domains, all_given, domain_microframe, domain_microframes, ends_and_reports, followed_by, microframe, number_said, of_streams, packets_and_ticks, tick, tick_times}
 use Rattle.uac_running.specs.Lines.{output_jacks, played_line, played_lines}
 
--- it holds of every line that a microframe says but those of rings found empty, and of levels
+-- it holds of every line that a microframe says but those of rings found empty or full, and of levels
 pub record IsQuiet (N : Said → Type 0) : Type 0 where
   pub time : (number : ℕ) → N (says_time number)
   pub out : (interface frames : ℕ) (arrival : printed.Arrival) → N (says_out interface frames arrival)
   pub in_ : (interface frames : ℕ) (lost : Bool) → N (says_in interface frames lost)
   pub frame : (interface : ℕ) (samples : List ℤ) → N (says_frame interface samples)
   pub played : (terminal : ℕ) (samples : List ℤ) → N (says_played terminal samples)
-  pub over : (interface : ℕ) → N (says_over interface)
   pub feedback : (interface value : ℕ) (lost : Bool) → N (says_feedback interface value lost)
 
 -- ---- the worlds on the way through a microframe
 
 abbrev pub numbered : RunningWorld → RunningWorld
-numbered r = record r { time = held (r.time + 1) }
+numbered r = record r { time = at_most_u64 (r.time + 1) }
 
--- behind its packets
-abbrev pub fetched : List Loss → RunningWorld → RunningWorld
+-- after its packets
+abbrev pub fetched : List SaidMark → RunningWorld → RunningWorld
 fetched losses r =
     let sent = with_streaming (numbered r) (out_packets r.detail losses (streaming_of (numbered r))).world in
     with_streaming sent (in_packets r.detail losses (streaming_of sent)).world
 
--- and behind its ticks
-abbrev pub ticked_on : List Loss → RunningWorld → RunningWorld
+-- and after its ticks
+abbrev pub ticked_on : List SaidMark → RunningWorld → RunningWorld
 ticked_on losses r = (packets_and_ticks losses (numbered r)).world
 
 -- ---- rows
@@ -93,6 +92,18 @@ module _ {W : Type 0} (N : Said → Type 0) (event : ℕ → W → Telling W) (k
           (subst (λ (m : ℕ). AllByRecursion (λ y. nat_eq m y ≡ false) ns) (sym (same_number true same refl)) (IsDistinct-head nat_eq n ns once))
       rest false other later = later other
 
+-- a line for each interface that passes a test
+pub each_says : (N : Said → Type 0) (line : ℕ → Said) (test : ℕ → Bool) → ((n : ℕ) → test n ≡ true → N (line n)) → (ss : List StreamInterface)
+    → All N (map (λ s. line s.number) (filter (λ s. test s.number) ss))
+each_says N line test says [] = All-nil N
+each_says N line test says (s ∷ ss) = by (test s.number) refl (each_says N line test says ss)
+  where
+    by : (b : Bool) → test s.number ≡ b → All N (map (λ x. line x.number) (filter (λ x. test x.number) ss))
+        → All N (map (λ x. line x.number) (cond b (s ∷ filter (λ x. test x.number) ss) (filter (λ x. test x.number) ss)))
+    by true passes rest =
+        All-cons N (line s.number) (map (λ x. line x.number) (filter (λ x. test x.number) ss)) (says s.number passes) rest
+    by false fails rest = rest
+
 -- ---- quiet lines
 
 module _ (N : Said → Type 0) (quiet : IsQuiet N) where
@@ -100,19 +111,45 @@ module _ (N : Said → Type 0) (quiet : IsQuiet N) where
   maybe_one true said is = All-cons N said [] is (All-nil N)
   maybe_one false said is = All-nil N
 
-  pub number_quiet : (detail time : ℕ) → All N (number_said detail time)
+  number_quiet : (detail time : ℕ) → All N (number_said detail time)
   number_quiet detail time = maybe_one (nat_le 2 detail) (says_time time) (quiet.time time)
 
-  over_quiet : (interface : ℕ) (arrival : Arrival) → All N (over_lines interface arrival)
-  over_quiet interface arrivals.Taken = All-nil N
-  over_quiet interface arrivals.Lost = All-nil N
-  over_quiet interface arrivals.Over = All-cons N (says_over interface) [] (quiet.over interface) (All-nil N)
+  -- ---- packets
 
-  out_quiet : (detail interface frames : ℕ) (arrival : Arrival) → All N (out_lines detail interface frames arrival)
-  out_quiet detail interface frames arrival =
+  out_quiet : (detail interface frames : ℕ) (arrival : Arrival) → All N (over_lines interface arrival)
+      → All N (out_lines detail interface frames arrival)
+  out_quiet detail interface frames arrival overs =
       All-append N (if nat_le 2 detail then says_out interface frames (arrived_as arrival) ∷ [] else []) (over_lines interface arrival)
-      (maybe_one (nat_le 2 detail) (says_out interface frames (arrived_as arrival)) (quiet.out interface frames (arrived_as arrival)))
-      (over_quiet interface arrival)
+      (maybe_one (nat_le 2 detail) (says_out interface frames (arrived_as arrival)) (quiet.out interface frames (arrived_as arrival))) overs
+
+  pub out_turn_says : (detail : ℕ) (losses : List SaidMark) (n : ℕ) (w : StreamingWorld)
+      → (is_out_due w n ≡ true → All N (over_lines n (arrival_in w.device n (packet_to (loses_out losses n) n w))))
+      → All N (out_turn detail losses n w).lines
+  unfolding out_turn
+  out_turn_says detail losses n w overs = by (is_out_due w n) overs
+    where
+      arrival : Arrival
+      arrival = arrival_in w.device n (packet_to (loses_out losses n) n w)
+
+      by : (b : Bool) → (b ≡ true → All N (over_lines n arrival))
+          → All N (if b then record { lines = sent_lines detail (loses_out losses n) n w; world = packet_sent (loses_out losses n) n w }
+          else at_rest w).lines
+      by true here = out_quiet detail n (size_of w.host n) arrival (here refl)
+      by false here = All-nil N
+
+  -- where it holds of those of rings that are full, too
+  pub outs_say : ((interface : ℕ) → N (says_over interface)) → (detail : ℕ) (losses : List SaidMark) (w : StreamingWorld)
+      → All N (out_packets detail losses w).lines
+  unfolding out_packets
+  outs_say over detail losses w =
+      turns_say N (out_turn detail losses) (λ n v.
+      out_turn_says detail losses n v (λ due. overs n (arrival_in v.device n (packet_to (loses_out losses n) n v))))
+      (numbers w.device.function) w
+    where
+      overs : (interface : ℕ) (arrival : Arrival) → All N (over_lines interface arrival)
+      overs interface arrivals.Taken = All-nil N
+      overs interface arrivals.Lost = All-nil N
+      overs interface arrivals.Over = All-cons N (says_over interface) [] (over interface) (All-nil N)
 
   frames_quiet : (interface : ℕ) (heard : List (List ℤ)) → All N (map (says_frame interface) heard)
   frames_quiet interface [] = All-nil N
@@ -130,17 +167,7 @@ module _ (N : Said → Type 0) (quiet : IsQuiet N) where
       by true = frames_quiet interface heard
       by false = All-nil N
 
-  out_turn_quiet : (detail : ℕ) (losses : List Loss) (n : ℕ) (w : StreamingWorld) → All N (out_turn detail losses n w).lines
-  unfolding out_turn
-  out_turn_quiet detail losses n w = by (is_out_due w n)
-    where
-      by : (b : Bool)
-          → All N (if b then record { lines = sent_lines detail (loses_out losses n) n w; world = packet_sent (loses_out losses n) n w }
-          else at_rest w).lines
-      by true = out_quiet detail n (size_of w.host n) (arrival_in w.device n (packet_to (loses_out losses n) n w))
-      by false = All-nil N
-
-  in_turn_quiet : (detail : ℕ) (losses : List Loss) (n : ℕ) (w : StreamingWorld) → All N (in_packet_turn detail losses n w).lines
+  in_turn_quiet : (detail : ℕ) (losses : List SaidMark) (n : ℕ) (w : StreamingWorld) → All N (in_packet_turn detail losses n w).lines
   unfolding in_packet_turn
   in_turn_quiet detail losses n w = by (is_in_due w n)
     where
@@ -150,7 +177,18 @@ module _ (N : Said → Type 0) (quiet : IsQuiet N) where
       by true = in_quiet detail (loses_in losses n) n (frames_in w.device n) (heard_in w.host n (packet_in w.device n))
       by false = All-nil N
 
-  report_turn_quiet : (detail : ℕ) (losses : List Loss) (n : ℕ) (w : StreamingWorld) → All N (report_turn detail losses n w).lines
+  -- ---- ends and reports
+
+  -- where it holds of levels, too
+  pub ends_say : ((interface level : ℕ) (target : Option ℕ) → N (says_level interface level target)) → (detail : ℕ) (w : StreamingWorld)
+      → All N (all_settled detail w).lines
+  unfolding all_settled settled_turn
+  ends_say level detail w = turns_say N (settled_turn detail) (λ n v.
+      maybe_one (nat_le 2 detail && (goes_out v.device.function n && is_due_in v.device n))
+      (says_level n (level_of (settled n v.device) n) (target_of (settled n v.device) n))
+      (level n (level_of (settled n v.device) n) (target_of (settled n v.device) n))) (numbers w.device.function) w
+
+  report_turn_quiet : (detail : ℕ) (losses : List SaidMark) (n : ℕ) (w : StreamingWorld) → All N (report_turn detail losses n w).lines
   unfolding report_turn
   report_turn_quiet detail losses n w = by (feedback_in w.device n)
     where
@@ -160,39 +198,32 @@ module _ (N : Said → Type 0) (quiet : IsQuiet N) where
       by None = All-nil N
       by (Some value) = maybe_one (nat_le 2 detail) (says_feedback n value (loses_report losses n)) (quiet.feedback n value (loses_report losses n))
 
-  pub all_out_quiet : (detail : ℕ) (losses : List Loss) (w : StreamingWorld) → All N (out_packets detail losses w).lines
-  unfolding out_packets
-  all_out_quiet detail losses w = turns_say N (out_turn detail losses) (out_turn_quiet detail losses) (numbers w.device.function) w
-
-  pub all_in_quiet : (detail : ℕ) (losses : List Loss) (w : StreamingWorld) → All N (in_packets detail losses w).lines
+  all_in_quiet : (detail : ℕ) (losses : List SaidMark) (w : StreamingWorld) → All N (in_packets detail losses w).lines
   unfolding in_packets
   all_in_quiet detail losses w = turns_say N (in_packet_turn detail losses) (in_turn_quiet detail losses) (numbers w.device.function) w
 
-  pub all_reported_quiet : (detail : ℕ) (losses : List Loss) (w : StreamingWorld) → All N (all_reported detail losses w).lines
+  all_reported_quiet : (detail : ℕ) (losses : List SaidMark) (w : StreamingWorld) → All N (all_reported detail losses w).lines
   unfolding all_reported
   all_reported_quiet detail losses w = turns_say N (report_turn detail losses) (report_turn_quiet detail losses) (numbers w.device.function) w
 
   -- ---- a tick
 
-  overs_quiet : (ss : List StreamInterface) → All N (map (λ s. says_over s.number) ss)
-  overs_quiet [] = All-nil N
-  overs_quiet (s ∷ ss) = All-cons N (says_over s.number) (map (λ s. says_over s.number) ss) (quiet.over s.number) (overs_quiet ss)
-
   jacks_quiet : (w : DeviceWorld) (es : List Entity) → All N (map (played_line w) es)
   jacks_quiet w [] = All-nil N
   jacks_quiet w (e ∷ es) = All-cons N (played_line w e) (map (played_line w) es) (quiet.played e.id (w.played e.id)) (jacks_quiet w es)
 
-  pub tick_quiet : (c : ℕ) (r : RunningWorld)
+  pub tick_says : (c : ℕ) (r : RunningWorld)
       → ((ss : List StreamInterface) → All N (map (λ s. says_under s.number) (filter (λ s. finds_empty c (all_given c r) s.number) ss)))
+      → ((ss : List StreamInterface) → All N (map (λ s. says_over s.number) (filter (λ s. finds_full c (all_given c r) s.number) ss)))
       → All N (tick c r).lines
   unfolding tick found_lines played_lines
-  tick_quiet c r unders =
+  tick_says c r unders overs =
       let w : DeviceWorld = all_given c r in
       let device : DeviceWorld = ticked c w in
       All-append N (found_lines c w) (if nat_le 1 r.detail then played_lines c device else [])
       (All-append N (map (λ s. says_under s.number) (filter (λ s. finds_empty c w s.number) w.function.streams))
       (map (λ s. says_over s.number) (filter (λ s. finds_full c w s.number) w.function.streams)) (unders w.function.streams)
-      (overs_quiet (filter (λ s. finds_full c w s.number) w.function.streams)))
+      (overs w.function.streams))
       (by (nat_le 1 r.detail) device)
     where
       by : (b : Bool) (device : DeviceWorld) → All N (if b then played_lines c device else [])
@@ -221,22 +252,21 @@ module _ (N : Said → Type 0) (quiet : IsQuiet N) where
 
   -- ---- a microframe
 
-  -- all its lines, by those of its ticks and of its end
-  pub microframe_says : (losses : List Loss) (r : RunningWorld)
+  -- all its lines, by those of its packets to the device, of its ticks and of its end
+  pub microframe_says : (losses : List SaidMark) (r : RunningWorld) → All N (out_packets r.detail losses (streaming_of (numbered r))).lines
       → All N (domain_microframes (fetched losses r).device.function.domains (fetched losses r)).lines
       → All N (all_settled (ticked_on losses r).detail (streaming_of (ticked_on losses r))).lines → All N (microframe losses r).lines
   unfolding microframe packets_and_ticks ends_and_reports
-  microframe_says losses r ticks ends =
+  microframe_says losses r outs ticks ends =
       let v : RunningWorld = numbered r in
       let sent = with_streaming v (out_packets v.detail losses (streaming_of v)).world in
       let u : RunningWorld = ticked_on losses r in
       let ended = (all_settled u.detail (streaming_of u)).world in
-      All-append N (number_said r.detail (held (r.time + 1))) (followed_by (packets_and_ticks losses) (ends_and_reports losses) v).lines
-      (number_quiet r.detail (held (r.time + 1)))
+      All-append N (number_said r.detail (at_most_u64 (r.time + 1))) (followed_by (packets_and_ticks losses) (ends_and_reports losses) v).lines
+      (number_quiet r.detail (at_most_u64 (r.time + 1)))
       (All-append N (packets_and_ticks losses v).lines (ends_and_reports losses u).lines
       (All-append N (out_packets v.detail losses (streaming_of v)).lines
-      (followed_by (of_streams (in_packets v.detail losses)) all_domains sent).lines
-      (all_out_quiet v.detail losses (streaming_of v))
+      (followed_by (of_streams (in_packets v.detail losses)) all_domains sent).lines outs
       (All-append N (in_packets v.detail losses (streaming_of sent)).lines
       (domain_microframes (fetched losses r).device.function.domains (fetched losses r)).lines
       (all_in_quiet v.detail losses (streaming_of sent)) ticks))

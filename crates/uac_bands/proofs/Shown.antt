@@ -1,5 +1,5 @@
 -- One stream to the device in a world, and what the turns of all interfaces make of it.
-use Rattle.std.proofs.Common.{◌≡◌, ◌∙◌, sym, refl, ap, subst, arith, ℕ, ℤ, ◌==◌, ◌&&◌, Bool, true, false, if◌then◌else◌, List, [], ◌∷◌, Option, Some, None, inl, inr}
+use Rattle.std.proofs.Common.{◌≡◌, ◌∙◌, sym, refl, ap, subst, ℕ, ℤ, ◌==◌, ◌&&◌, Bool, true, false, if◌then◌else◌, List, [], ◌∷◌, Option, Some, None, inl, inr}
 use Rattle.std.specs.List.{find, position}
 use Rattle.std.specs.Option.{option_and_then, option_map, option_map_or}
 use Rattle.std.proofs.lemmas.Bool.{cases_Bool, eqb-false, eqb-true, true≢false}
@@ -17,10 +17,11 @@ use Rattle.uac_host.specs.Calls.{after_frames, interface_in, next_frames, next_s
 use Rattle.uac_host.specs.Calls.{after_packet as host_sends}
 use Rattle.uac_device.specs.DeviceWorld.{Domain, either_due, feedback_in, is_due_in, received, settled}
 use Rattle.uac_device.specs.DeviceWorld.{sent as device_sends}
-use Rattle.uac_script.specs.Phrase.{Loss}
+use Rattle.uac_script.specs.Phrase.{SaidMark}
 use Rattle.uac_streaming.specs.Telling.{at_rest}
 use Rattle.uac_streaming.specs.StreamingWorld.{StreamingWorld, fetched_lines, given_at, goes_out, in_packet_turn, is_in_due, is_out_due, loses_in, loses_out, loses_report, out_turn, packet_fetched, packet_sent, place_of, report_lines, report_made, report_turn, sent_lines, settled_turn}
 use Rattle.uac_bands.specs.Life.{Life, with_end, with_feedback, with_packet}
+use Rattle.uac_bands.proofs.Once.{own_number}
 
 -- ---- what stays so within a microframe
 
@@ -57,16 +58,13 @@ pub if_false : {A : Type 0} (b : Bool) (x y : A) → b ≡ false → (if b then 
 if_false true x y e = absurd (true≢false e)
 if_false false x y e = refl
 
-own : (n : ℕ) → (n == n) ≡ true
-own n = grind arith
-
 -- ---- packets to the device
 
 -- the bytes of the packet that a pace and a track give
 abbrev pub packet_at : Pace → Track → List ℕ
 packet_at q t = packed q.stream.subslot q.stream.bits (next_frames q.stream.channels (next_size q) t)
 
--- the track behind a packet where that is due
+-- the track after a packet where that is due
 abbrev pub track_after : Life → Track → Track
 track_after l t = if is_due l.out.stream l.out.microframes then after_frames (next_size l.pace) t else t
 
@@ -75,7 +73,7 @@ unfolding packet_of
 packet_shown p w l t s =
     ap (λ (o : Option Pace). option_map_or (λ q. packet_at q (w.host.tracks p.interface)) o []) s.pace ∙ ap (packet_at l.pace) s.track
 
-module _ (p : Place) (detail : ℕ) (losses : List Loss) where
+module _ (p : Place) (detail : ℕ) (losses : List SaidMark) where
   pub out_other : (n : ℕ) (w : StreamingWorld) (l : Life) (t : Track) → (p.interface == n) ≡ false → Shows p w l t
       → Shows p (out_turn detail losses n w).world l t
   unfolding out_turn packet_sent received host_sends
@@ -120,12 +118,12 @@ module _ (p : Place) (detail : ℕ) (losses : List Loss) where
         function = s.function;
         controls = s.controls;
         out =
-            if_true (p.interface == p.interface) _ (w.device.outs p.interface) (own p.interface)
+            if_true (p.interface == p.interface) _ (w.device.outs p.interface) (own_number p.interface)
             ∙ ap (option_map (after_packet (if loses_out losses p.interface then None else Some (packet_of w.host p.interface)))) s.out
             ∙ ap (λ (bytes : List ℕ). Some (after_packet (if loses_out losses p.interface then None else Some bytes) l.out)) (packet_shown p w l t s);
-        pace = if_true (p.interface == p.interface) _ (w.host.paces p.interface) (own p.interface) ∙ ap (option_map sent) s.pace;
+        pace = if_true (p.interface == p.interface) _ (w.host.paces p.interface) (own_number p.interface) ∙ ap (option_map sent) s.pace;
         track =
-            if_true (p.interface == p.interface) _ (w.host.tracks p.interface) (own p.interface)
+            if_true (p.interface == p.interface) _ (w.host.tracks p.interface) (own_number p.interface)
             ∙ ap (λ (o : Option Pace). after_frames (option_map_or next_size o 0) (w.host.tracks p.interface)) s.pace
             ∙ ap (after_frames (next_size l.pace)) s.track;
         domain = s.domain;
@@ -173,7 +171,7 @@ module _ (p : Place) (detail : ℕ) (losses : List Loss) where
   settled_here w l t s = record {
     function = s.function;
     controls = s.controls;
-    out = if_true (p.interface == p.interface) _ (w.device.outs p.interface) (own p.interface) ∙ ap (option_map settled_out) s.out;
+    out = if_true (p.interface == p.interface) _ (w.device.outs p.interface) (own_number p.interface) ∙ ap (option_map settled_out) s.out;
     pace = s.pace;
     track = s.track;
     domain = s.domain;
@@ -196,7 +194,7 @@ place_other k n i j ss other first second = elim (cases_Bool (i == j)) [
   | inr differ ↦ differ
 ]
 
-module _ (p : Place) (is : IsPlace p) (detail : ℕ) (losses : List Loss) where
+module _ (p : Place) (is : IsPlace p) (detail : ℕ) (losses : List SaidMark) where
   given_other : (lost : Bool) (n : ℕ) (given : Given) → (p.interface == n) ≡ false
       → (given_at (place_of p.function n) (λ place. steadiness.reported place lost) given).feedback p.place ≡ given.feedback p.place
   given_other lost n given other = by (place_of p.function n) refl
@@ -250,7 +248,7 @@ module _ (p : Place) (is : IsPlace p) (detail : ℕ) (losses : List Loss) where
       paced : (lost : Bool) (value : ℕ)
           → (if lost then w.host else with_report p.interface value w.host).paces p.interface ≡ Some (if lost then l.pace else reported value l.pace)
       paced true value = s.pace
-      paced false value = if_true (p.interface == p.interface) _ (w.host.paces p.interface) (own p.interface) ∙ ap (option_map (reported value)) s.pace
+      paced false value = if_true (p.interface == p.interface) _ (w.host.paces p.interface) (own_number p.interface) ∙ ap (option_map (reported value)) s.pace
 
       tracked : (lost : Bool) (value : ℕ) → (if lost then w.host else with_report p.interface value w.host).tracks p.interface ≡ t
       tracked true value = s.track
@@ -270,6 +268,6 @@ module _ (p : Place) (is : IsPlace p) (detail : ℕ) (losses : List Loss) where
         reports =
             ap (λ (f : FunctionFields). (given_at (place_of f p.interface) (λ place. steadiness.reported place lost) w.given).feedback p.place) s.function
             ∙ ap (λ (o : Option ℕ). (given_at o (λ place. steadiness.reported place lost) w.given).feedback p.place) is.placed
-            ∙ if_true (p.place == p.place) _ (w.given.feedback p.place) (own p.place)
+            ∙ if_true (p.place == p.place) _ (w.given.feedback p.place) (own_number p.place)
             ∙ ap (steadiness.one_more lost) s.reports;
       }

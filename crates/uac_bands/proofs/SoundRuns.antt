@@ -1,11 +1,9 @@
 -- Microframes keep a run sound, and so does what is asked of it between them.
-use Rattle.std.proofs.Common.{◌≡◌, ◌∙◌, sym, refl, ap, subst, ℕ, zero, suc, ◌+◌, ◌/◌, ◌==◌, ◌||◌, Bool, true, false, if◌then◌else◌, cond, ℤ, List, [], ◌∷◌, ◌++◌, length, get_or, map, Option, Some, None, is_some}
-use Rattle.std.specs.List.{All, filter, find, fold, list_any}
-use Rattle.std.specs.Option.{option_map, option_map_or}
-use Rattle.std.proofs.Math.Nat.{div-mul-le_self}
+use Rattle.std.proofs.Common.{◌≡◌, ◌∙◌, sym, refl, ap, subst, ℕ, ◌==◌, ◌||◌, Bool, true, false, if◌then◌else◌, cond, ℤ, List, [], ◌∷◌, length, get_or, map, Option, Some, None, is_some}
+use Rattle.std.specs.List.{All, find, list_any}
+use Rattle.std.specs.Option.{option_map}
 use Rattle.std.proofs.lemmas.Bool.{eqb-true}
-use Rattle.std.proofs.lemmas.List.Elements.{All-append, All-cons, All-head, All-map, All-nil, All-tail}
-use Rattle.uac_units.specs.Hearing.{held}
+use Rattle.std.proofs.lemmas.List.Elements.{All-cons, All-head, All-map, All-nil, All-tail}
 use Rattle.uac_pcm.specs.declared.tones.Tone.{Tone}
 use Rattle.uac_rate.specs.Steadiness.{is_slight}
 use Rattle.uac_topology.specs.Function.{FunctionFields}
@@ -18,24 +16,22 @@ use Rattle.uac_request.specs.Requests.{AreSettingsOf}
 use Rattle.uac_flow.specs.Streams.{OutStream}
 use Rattle.uac_host.specs.HostWorld.{HostWorld, Track}
 use Rattle.uac_graph.specs.Meaning.{entity}
-use Rattle.uac_host.specs.Calls.{after_frames, channels_at, in_frames, interface_in, size_of, with_report, with_samples}
+use Rattle.uac_host.specs.Calls.{after_frames, channels_at, interface_in, size_of, with_report, with_samples}
 use Rattle.uac_host.specs.Calls as calls
 use Rattle.uac_host.specs.Calls.{after_packet as host_sends}
 use Rattle.uac_host.proofs.KeptLemmas.{even_after}
-use Rattle.uac_device.specs.DeviceWorld.{DeviceWorld, Domain, advanced, deviated, feedback_in, next_ticks, received, set_jack, settled, steps_with_next, ticked}
+use Rattle.uac_device.specs.DeviceWorld.{Domain, advanced, deviated, received, set_jack, settled, steps_with_next, ticked}
 use Rattle.uac_device.specs.DeviceWorld.{sent as device_sends}
-use Rattle.uac_script.specs.Phrase.{Loss}
-use Rattle.uac_streaming.specs.Telling.{at_rest}
-use Rattle.uac_streaming.specs.StreamingWorld.{StreamingWorld, all_reported, all_settled, fetched_lines, goes_out, in_packet_turn, in_packets, is_in_due, is_out_due, loses_in, loses_out, loses_report, numbers, out_packets, out_turn, packet_fetched, packet_sent, report_lines, report_made, report_turn, sent_lines, settled_turn}
-use Rattle.uac_running.specs.declared.jacks.Jack.{Jack}
-use Rattle.uac_running.specs.RunningWorld.{RunningWorld, streaming_of, with_detail, with_deviation, with_samples_on, with_streaming, with_tone, with_track}
+use Rattle.uac_streaming.specs.StreamingWorld.{StreamingWorld, goes_out, packet_fetched, packet_sent, report_made}
+use Rattle.uac_running.specs.RunningWorld.{RunningWorld, with_detail, with_deviation, with_samples_on, with_tone, with_track}
 use Rattle.uac_running.specs.Transfers.{with_break}
-use Rattle.uac_running.specs.Events.{all_given, domain_microframe, domain_microframes, ends_and_reports, microframe, next_frame, packets_and_ticks, tick, tick_times}
+use Rattle.uac_running.specs.Events.{microframe}
 use Rattle.uac_bands.specs.Transfers.{CallsKeepSound, IsInSetting, IsSoundRun, MicroframesKeepSound}
-use Rattle.uac_bands.proofs.Once.{stepped, turns_keep}
+use Rattle.uac_bands.proofs.Once.{stepped}
+use Rattle.uac_bands.proofs.KeptSteps.{IsKeptByEach, microframe_keeps}
 use Rattle.uac_bands.proofs.Stayed.{microframes_keep_the_rest}
 use Rattle.uac_bands.proofs.Unstarted.{microframe_none}
-use Rattle.uac_bands.proofs.Begun.{even_chunks, found_off, off, off_slight}
+use Rattle.uac_bands.proofs.Begun.{found_off, off, off_slight, samples_whole, track_whole}
 
 abbrev deviations_of : List Domain → List ℤ
 deviations_of ds = map (λ d. d.deviation) ds
@@ -46,78 +42,7 @@ record Keeps (r : RunningWorld) (w : StreamingWorld) : Type 0 where
   deviations : deviations_of w.device.domains ≡ deviations_of r.device.domains
   whole : (k : ℕ) → All (λ frame. length frame ≡ channels_at r.host.function k) (w.host.tracks k).waiting
 
-abbrev KeepsNow : RunningWorld → RunningWorld → Type 0
-KeepsNow r v = Keeps r (streaming_of v)
-
-module _ (r : RunningWorld) (detail : ℕ) (losses : List Loss) where
-  sent_whole : (n k : ℕ) (w : HostWorld) → ((k : ℕ) → All (λ frame. length frame ≡ channels_at r.host.function k) (w.tracks k).waiting)
-      → All (λ frame. length frame ≡ channels_at r.host.function k)
-      (if k == n then after_frames (size_of w n) (w.tracks n) else w.tracks k).waiting
-  sent_whole n k w whole = by (k == n) refl
-    where
-      by : (b : Bool) → (k == n) ≡ b
-          → All (λ frame. length frame ≡ channels_at r.host.function k) (if b then after_frames (size_of w n) (w.tracks n) else w.tracks k).waiting
-      by true same =
-          even_after (channels_at r.host.function k) (size_of w n) (w.tracks n)
-          (subst (λ (m : ℕ). All (λ frame. length frame ≡ channels_at r.host.function k) (w.tracks m).waiting) (eqb-true k n same) (whole k))
-      by false other = whole k
-
-  out_keeps : (n : ℕ) (w : StreamingWorld) → Keeps r w → Keeps r (out_turn detail losses n w).world
-  unfolding out_turn packet_sent received host_sends
-  out_keeps n w keeps = by (is_out_due w n)
-    where
-      by : (b : Bool)
-          → Keeps r (if b then record { lines = sent_lines detail (loses_out losses n) n w; world = packet_sent (loses_out losses n) n w }
-          else at_rest w).world
-      by true = record { settings = keeps.settings; deviations = keeps.deviations; whole = λ k. sent_whole n k w.host keeps.whole }
-      by false = keeps
-
-  in_keeps : (n : ℕ) (w : StreamingWorld) → Keeps r w → Keeps r (in_packet_turn detail losses n w).world
-  unfolding in_packet_turn packet_fetched device_sends
-  in_keeps n w keeps = by (is_in_due w n)
-    where
-      by : (b : Bool)
-          → Keeps r (if b then record { lines = fetched_lines detail (loses_in losses n) n w; world = packet_fetched (loses_in losses n) n w }
-          else at_rest w).world
-      by true = record { settings = keeps.settings; deviations = keeps.deviations; whole = keeps.whole }
-      by false = keeps
-
-  settled_keeps : (n : ℕ) (w : StreamingWorld) → Keeps r w → Keeps r (settled_turn detail n w).world
-  unfolding settled_turn settled
-  settled_keeps n w keeps = record { settings = keeps.settings; deviations = keeps.deviations; whole = keeps.whole }
-
-  report_keeps : (n : ℕ) (w : StreamingWorld) → Keeps r w → Keeps r (report_turn detail losses n w).world
-  unfolding report_turn report_made with_report
-  report_keeps n w keeps = by (feedback_in w.device n)
-    where
-      hosted : (lost : Bool) (value k : ℕ)
-          → All (λ frame. length frame ≡ channels_at r.host.function k) ((if lost then w.host else with_report n value w.host).tracks k).waiting
-      hosted true value k = keeps.whole k
-      hosted false value k = keeps.whole k
-
-      by : (o : Option ℕ)
-          → Keeps r (option_map_or (λ value. record { lines = report_lines detail (loses_report losses n) value n; world = report_made (loses_report losses n) value n w })
-          o (at_rest w)).world
-      by None = keeps
-      by (Some value) = record { settings = keeps.settings; deviations = keeps.deviations; whole = hosted (loses_report losses n) value }
-
-  all_out_keep : (w : StreamingWorld) → Keeps r w → Keeps r (out_packets detail losses w).world
-  unfolding out_packets
-  all_out_keep w keeps = turns_keep (Keeps r) (out_turn detail losses) out_keeps (numbers w.device.function) w keeps
-
-  all_in_keep : (w : StreamingWorld) → Keeps r w → Keeps r (in_packets detail losses w).world
-  unfolding in_packets
-  all_in_keep w keeps = turns_keep (Keeps r) (in_packet_turn detail losses) in_keeps (numbers w.device.function) w keeps
-
-  all_settled_keep : (w : StreamingWorld) → Keeps r w → Keeps r (all_settled detail w).world
-  unfolding all_settled
-  all_settled_keep w keeps = turns_keep (Keeps r) (settled_turn detail) settled_keeps (numbers w.device.function) w keeps
-
-  all_reported_keep : (w : StreamingWorld) → Keeps r w → Keeps r (all_reported detail losses w).world
-  unfolding all_reported
-  all_reported_keep w keeps = turns_keep (Keeps r) (report_turn detail losses) report_keeps (numbers w.device.function) w keeps
-
--- ---- ticks
+-- ---- the steps of a microframe
 
 stepped_deviations : (more : Domain → List ℕ) (c : ℕ) (ds : List Domain) → deviations_of (map (stepped more c) ds) ≡ deviations_of ds
 stepped_deviations more c [] = refl
@@ -129,49 +54,41 @@ stepped_deviations more c (d ∷ ds) = by (d.clock == c) (stepped_deviations mor
     by true rest = ap (λ (ms : List ℤ). d.deviation ∷ ms) rest
     by false rest = ap (λ (ms : List ℤ). d.deviation ∷ ms) rest
 
-module _ (r : RunningWorld) where
-  jacks_keep : (jacks : List Jack) (w : DeviceWorld) → w.settings ≡ r.device.settings → deviations_of w.domains ≡ deviations_of r.device.domains
-      → (let u = fold (λ u j. set_jack j.terminal (next_frame j) u) w jacks in
-      (u.settings ≡ r.device.settings) × (deviations_of u.domains ≡ deviations_of r.device.domains))
-  unfolding set_jack
-  jacks_keep [] w settings deviations = (settings, deviations)
-  jacks_keep (j ∷ js) w settings deviations = jacks_keep js (set_jack j.terminal (next_frame j) w) settings deviations
+sent_whole : (r : RunningWorld) (n k : ℕ) (w : HostWorld)
+    → ((k : ℕ) → All (λ frame. length frame ≡ channels_at r.host.function k) (w.tracks k).waiting)
+    → All (λ frame. length frame ≡ channels_at r.host.function k)
+    (if k == n then after_frames (size_of w n) (w.tracks n) else w.tracks k).waiting
+sent_whole r n k w whole = by (k == n) refl
+  where
+    by : (b : Bool) → (k == n) ≡ b
+        → All (λ frame. length frame ≡ channels_at r.host.function k) (if b then after_frames (size_of w n) (w.tracks n) else w.tracks k).waiting
+    by true same =
+        even_after (channels_at r.host.function k) (size_of w n) (w.tracks n)
+        (subst (λ (m : ℕ). All (λ frame. length frame ≡ channels_at r.host.function k) (w.tracks m).waiting) (eqb-true k n same) (whole k))
+    by false other = whole k
 
-  tick_keeps : (c : ℕ) (v : RunningWorld) → KeepsNow r v → KeepsNow r (tick c v).world
-  unfolding tick all_given ticked
-  tick_keeps c v keeps =
-      let jacks = jacks_keep (filter (λ (j : Jack). j.clock == c) v.jacks) v.device keeps.settings keeps.deviations in
-      record { settings = jacks.0; deviations = jacks.1; whole = keeps.whole }
-
-  ticks_keep : (count c : ℕ) (v : RunningWorld) → KeepsNow r v → KeepsNow r (tick_times count c v).world
-  unfolding tick_times
-  ticks_keep zero c v keeps = keeps
-  ticks_keep (suc count) c v keeps = ticks_keep count c (tick c v).world (tick_keeps c v keeps)
-
-  domain_keeps : (c : ℕ) (v : RunningWorld) → KeepsNow r v → KeepsNow r (domain_microframe c v).world
-  unfolding domain_microframe advanced
-  domain_keeps c v keeps = ticks_keep (next_ticks c v.device) c (record v { device = advanced c v.device }) (record {
+keeps_each : (r : RunningWorld) → IsKeptByEach (Keeps r)
+unfolding packet_sent received host_sends packet_fetched device_sends settled report_made with_report set_jack ticked advanced
+keeps_each r = record {
+  sends = λ lost n w keeps.
+      record { settings = keeps.settings; deviations = keeps.deviations; whole = λ k. sent_whole r n k w.host keeps.whole };
+  fetches = λ lost n w keeps. record { settings = keeps.settings; deviations = keeps.deviations; whole = keeps.whole };
+  ends = λ n w keeps. record { settings = keeps.settings; deviations = keeps.deviations; whole = keeps.whole };
+  reports = λ lost value n w keeps.
+      record { settings = keeps.settings; deviations = keeps.deviations; whole = hosted w lost value n keeps };
+  jacks = λ terminal frame w keeps. record { settings = keeps.settings; deviations = keeps.deviations; whole = keeps.whole };
+  ticks = λ c met w keeps. record { settings = keeps.settings; deviations = keeps.deviations; whole = keeps.whole };
+  goes_on = λ c w keeps. record {
     settings = keeps.settings;
-    deviations = stepped_deviations (steps_with_next v.device) c v.device.domains ∙ keeps.deviations;
+    deviations = stepped_deviations (steps_with_next w.device) c w.device.domains ∙ keeps.deviations;
     whole = keeps.whole;
-  })
-
-  domains_keep : (clocks : List ℕ) (v : RunningWorld) → KeepsNow r v → KeepsNow r (domain_microframes clocks v).world
-  unfolding domain_microframes
-  domains_keep [] v keeps = keeps
-  domains_keep (c ∷ cs) v keeps = domains_keep cs (domain_microframe c v).world (domain_keeps c v keeps)
-
-  microframe_keeps : (losses : List Loss) → KeepsNow r r → KeepsNow r (microframe losses r).world
-  unfolding microframe packets_and_ticks ends_and_reports
-  microframe_keeps losses keeps =
-      let v : RunningWorld = record r { time = held (r.time + 1) } in
-      let sent = with_streaming v (out_packets v.detail losses (streaming_of v)).world in
-      let fetched = with_streaming sent (in_packets v.detail losses (streaming_of sent)).world in
-      let u = (packets_and_ticks losses v).world in
-      all_reported_keep r u.detail losses (all_settled u.detail (streaming_of u)).world
-      (all_settled_keep r u.detail losses (streaming_of u)
-      (domains_keep fetched.device.function.domains fetched
-      (all_in_keep r v.detail losses (streaming_of sent) (all_out_keep r v.detail losses (streaming_of v) keeps))))
+  };
+}
+  where
+    hosted : (w : StreamingWorld) (lost : Bool) (value n : ℕ) → Keeps r w → (k : ℕ)
+        → All (λ frame. length frame ≡ channels_at r.host.function k) ((if lost then w.host else with_report n value w.host).tracks k).waiting
+    hosted w true value n keeps = keeps.whole
+    hosted w false value n keeps = keeps.whole
 
 -- ---- a microframe
 
@@ -195,7 +112,7 @@ pub microframes_keep_sound : MicroframesKeepSound
 microframes_keep_sound losses r sound =
     let stays = microframes_keep_the_rest losses r in
     let after : RunningWorld = (microframe losses r).world in
-    let keeps = microframe_keeps r losses (record { settings = refl; deviations = refl; whole = sound.whole }) in
+    let keeps = microframe_keeps (Keeps r) (keeps_each r) losses r (record { settings = refl; deviations = refl; whole = sound.whole }) in
     record {
       sound = subst IsSoundFunction (sym stays.function) sound.sound;
       store = subst (λ (f : FunctionFields). IsStoreOf f.entities after.device.controls) (sym stays.function)
@@ -251,35 +168,12 @@ rehosted r tracks whole sound = record {
 samples_keep : (interface : ℕ) (samples : List ℤ) (r : RunningWorld) → IsSoundRun r → IsSoundRun (with_samples_on interface samples r)
 unfolding with_samples_on with_samples
 samples_keep interface samples r sound =
-    rehosted r ((with_samples_on interface samples r).host.tracks) (λ k. by k (k == interface) refl (sound.whole k)) sound
-  where
-    channels : ℕ
-    channels = channels_at r.host.function interface
-
-    frames : List (List ℤ)
-    frames = in_frames channels samples
-
-    by : (k : ℕ) (b : Bool) → (k == interface) ≡ b → All (λ frame. length frame ≡ channels_at r.host.function k) (r.host.tracks k).waiting
-        → All (λ frame. length frame ≡ channels_at r.host.function k)
-        (if b then record (r.host.tracks interface) { waiting = (r.host.tracks interface).waiting ++ frames } else r.host.tracks k).waiting
-    by k true same whole =
-        let number : k ≡ interface = eqb-true k interface same in
-        subst (λ (n : ℕ). All (λ frame. length frame ≡ channels_at r.host.function n) ((r.host.tracks interface).waiting ++ frames)) (sym number)
-        (All-append (λ frame. length frame ≡ channels) (r.host.tracks interface).waiting frames (sound.whole interface)
-        (even_chunks channels (length samples / channels) samples (div-mul-le_self (length samples) channels)))
-    by k false other whole = whole
+    rehosted r (with_samples interface samples r.host).tracks (λ k. samples_whole interface samples r.host k (sound.whole k)) sound
 
 track_keeps : (interface : ℕ) (tone : Tone) (r : RunningWorld) → IsSoundRun r → IsSoundRun (with_track interface tone r)
 unfolding with_track calls.with_tone
-track_keeps interface tone r sound = rehosted r ((with_track interface tone r).host.tracks) (λ k. by k (k == interface) refl (sound.whole k)) sound
-  where
-    by : (k : ℕ) (b : Bool) → (k == interface) ≡ b → All (λ frame. length frame ≡ channels_at r.host.function k) (r.host.tracks k).waiting
-        → All (λ frame. length frame ≡ channels_at r.host.function k)
-        (if b then record (r.host.tracks interface) { tone = tone; place = 0 } else r.host.tracks k).waiting
-    by k true same whole =
-        let number : k ≡ interface = eqb-true k interface same in
-        subst (λ (n : ℕ). All (λ frame. length frame ≡ channels_at r.host.function k) (r.host.tracks n).waiting) number whole
-    by k false other whole = whole
+track_keeps interface tone r sound =
+    rehosted r (calls.with_tone interface tone r.host).tracks (λ k. track_whole interface tone r.host k (sound.whole k)) sound
 
 all_off : (clock : ℕ) (millionths : ℤ) (ds : List Domain) → is_slight millionths ≡ true → All (λ d. is_slight d.deviation ≡ true) ds
     → All (λ d. is_slight d.deviation ≡ true) (map (off clock millionths) ds)

@@ -77,28 +77,41 @@ input_is_terminal kind.Selector is = absurd (true≢false (sym is))
 input_is_terminal kind.Feature is = absurd (true≢false (sym is))
 input_is_terminal kind.Effect is = absurd (true≢false (sym is))
 
-terminal_clock : (es : List Entity) (id : ℕ) → is_input (entity (clustered es) id).kind ≡ true
-    → Among (entity (clustered es) id).clock (domains_of es)
-unfolding entity at place_of domains_of
-terminal_clock es id is = elim (cases_lt (position_or_len (λ (e : Entity). e.id == id) (clustered es)) (length (clustered es))) [
-  | inl below ↦
-      (let i : ℕ = position_or_len (λ (e : Entity). e.id == id) (clustered es) in
-      let size : length (clustered es) ≡ length es = length-clustered es in
-      let within : i < length es = omega arith in
-      let there : get_or (clustered es) i nothing ≡ with_cluster (at es i) (cluster_of es i) = clustered-at es i nothing within in
-      let input : is_input (get_or es i nothing).kind ≡ true = sym (ap (λ (e : Entity). is_input e.kind) there) ∙ is in
-      let named = clocks_named es i nothing within (input_is_terminal (get_or es i nothing).kind input) in
-      subst (λ (c : ℕ). Among c (each_once (filter_map clock_named es))) (sym (ap (λ (e : Entity). e.clock) there))
-      (once_each (get_or es i nothing).clock (filter_map clock_named es) named))
-  | inr past ↦
-      absurd (let none : get_or (clustered es) (position_or_len (λ (e : Entity). e.id == id) (clustered es)) nothing ≡ nothing =
-      get_or_past (clustered es) (position_or_len (λ (e : Entity). e.id == id) (clustered es)) nothing past in
-      true≢false (sym is ∙ ap (λ (e : Entity). is_input e.kind) none))
-]
+-- entities of a kind of terminals
+module _ (is_kind : EntityKind → Bool) (terminal : (k : EntityKind) → is_kind k ≡ true → is_terminal k ≡ true)
+    (none : is_kind nothing.kind ≡ false) where
+  terminal_clock : (es : List Entity) (id : ℕ) → is_kind (entity (clustered es) id).kind ≡ true
+      → Among (entity (clustered es) id).clock (domains_of es)
+  unfolding entity at place_of domains_of
+  terminal_clock es id is = elim (cases_lt (position_or_len (λ (e : Entity). e.id == id) (clustered es)) (length (clustered es))) [
+    | inl below ↦
+        (let i : ℕ = position_or_len (λ (e : Entity). e.id == id) (clustered es) in
+        let size : length (clustered es) ≡ length es = length-clustered es in
+        let within : i < length es = omega arith in
+        let there : get_or (clustered es) i nothing ≡ with_cluster (at es i) (cluster_of es i) = clustered-at es i nothing within in
+        let here : is_kind (get_or es i nothing).kind ≡ true = sym (ap (λ (e : Entity). is_kind e.kind) there) ∙ is in
+        let named = clocks_named es i nothing within (terminal (get_or es i nothing).kind here) in
+        subst (λ (c : ℕ). Among c (each_once (filter_map clock_named es))) (sym (ap (λ (e : Entity). e.clock) there))
+        (once_each (get_or es i nothing).clock (filter_map clock_named es) named))
+    | inr past ↦
+        absurd (let missing : get_or (clustered es) (position_or_len (λ (e : Entity). e.id == id) (clustered es)) nothing ≡ nothing =
+        get_or_past (clustered es) (position_or_len (λ (e : Entity). e.id == id) (clustered es)) nothing past in
+        true≢false (sym is ∙ ap (λ (e : Entity). is_kind e.kind) missing ∙ none))
+  ]
+
+  -- the clock of the terminal of an interface is a domain of its function
+  pub clock_known : (function : FunctionFields) → IsSoundFunction function → (s : StreamInterface)
+      → is_kind (entity function.entities s.terminal).kind ≡ true → Among (entity function.entities s.terminal).clock function.domains
+  clock_known function sound s is =
+      let es : List Entity = entities_of sound.0 in
+      let there = terminal_clock es s.terminal
+      (subst (λ (all : List Entity). is_kind (entity all s.terminal).kind ≡ true) sound.2.entities is) in
+      subst (λ (all : List Entity). Among (entity all s.terminal).clock function.domains) (sym sound.2.entities)
+      (subst (λ (ds : List ℕ). Among (entity (clustered es) s.terminal).clock ds) (sym sound.2.domains) there)
 
 -- ---- a domain for each interface to the device
 
-any_among : (c : ℕ) (ns : List ℕ) → Among c ns → list_any (λ n. n == c) ns ≡ true
+pub any_among : (c : ℕ) (ns : List ℕ) → Among c ns → list_any (λ n. n == c) ns ≡ true
 unfolding Among
 any_among c [] there = absurd there
 any_among c (n ∷ ns) there = elim there [
@@ -111,7 +124,7 @@ any_among c (n ∷ ns) there = elim there [
     either true rest = refl
     either false rest = rest
 
-found_stream : (P : StreamInterface → Type 0) (k : ℕ) (ss : List StreamInterface) (s : StreamInterface) → All P ss
+pub found_stream : (P : StreamInterface → Type 0) (k : ℕ) (ss : List StreamInterface) (s : StreamInterface) → All P ss
     → find (λ s. s.number == k) ss ≡ Some s → P s
 found_stream P k [] s all e = absurd (cc)
 found_stream P k (x ∷ xs) s all e = by (x.number == k) e (found_stream P k xs s (All-tail P x xs all))
@@ -119,15 +132,6 @@ found_stream P k (x ∷ xs) s all e = by (x.number == k) e (found_stream P k xs 
     by : (b : Bool) → cond b (Some x) (find (λ s. s.number == k) xs) ≡ Some s → (find (λ s. s.number == k) xs ≡ Some s → P s) → P s
     by true found rest = let same : x ≡ s = cc in subst P same (All-head P x xs all)
     by false found rest = rest found
-
-clock_known : (function : FunctionFields) → IsSoundFunction function → (s : StreamInterface)
-    → is_input (entity function.entities s.terminal).kind ≡ true → Among (entity function.entities s.terminal).clock function.domains
-clock_known function sound s input =
-    let es : List Entity = entities_of sound.0 in
-    let there = terminal_clock es s.terminal
-    (subst (λ (all : List Entity). is_input (entity all s.terminal).kind ≡ true) sound.2.entities input) in
-    subst (λ (all : List Entity). Among (entity all s.terminal).clock function.domains) (sym sound.2.entities)
-    (subst (λ (ds : List ℕ). Among (entity (clustered es) s.terminal).clock ds) (sym sound.2.domains) there)
 
 clocked_at_start : (function : FunctionFields) → IsSoundFunction function → (k clock : ℕ) (o : Option StreamInterface)
     → interface_in function k ≡ o → option_map_or (λ s. s.out) o false ≡ true
@@ -137,7 +141,7 @@ clocked_at_start function sound k clock None there goes on = absurd (true≢fals
 clocked_at_start function sound k clock (Some s) there goes on =
     let same : (entity function.entities s.terminal).clock ≡ clock = cc in
     let input = found_stream (λ s. s.out ≡ true → IsBusInput (entity function.entities s.terminal)) k function.streams s (linked function sound).inputs there in
-    let known = subst (λ (c : ℕ). Among c function.domains) same (clock_known function sound s (input goes).0) in
+    let known = subst (λ (c : ℕ). Among c function.domains) same (clock_known is_input input_is_terminal refl function sound s (input goes).0) in
     known_clock clock (map at_rest function.domains)
     ∙ ap (list_any (λ (n : ℕ). n == clock)) (resting_clocks function.domains) ∙ any_among clock function.domains known
 

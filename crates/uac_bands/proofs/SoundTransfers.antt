@@ -1,7 +1,8 @@
 -- A control transfer keeps a run sound.
-use Rattle.std.proofs.Common.{◌≡◌, ◌∙◌, sym, refl, ap, subst, ℕ, ◌==◌, ◌&&◌, ◌||◌, not, nat_le, Bool, true, false, if◌then◌else◌, cond, List, [], ◌∷◌, map, take, Option, Some, None, is_some, unwrap_or}
+use Rattle.std.proofs.Common.{◌≡◌, ◌∙◌, sym, refl, ap, subst, ℕ, ◌==◌, ◌&&◌, ◌||◌, nat_le, Bool, true, false, if◌then◌else◌, cond, List, [], ◌∷◌, map, take, Option, Some, None, is_some, unwrap_or}
 use Rattle.std.specs.List.{find}
 use Rattle.std.specs.Option.{option_and_then, option_map, option_map_or}
+use Rattle.std.proofs.Math.Bool.{or-true}
 use Rattle.std.proofs.lemmas.Bool.{and_parts, eqb-true, true≢false}
 use Rattle.uac_entities.specs.declared.stream.StreamInterface.{StreamInterface}
 use Rattle.uac_topology.specs.Function.{FunctionFields}
@@ -9,31 +10,24 @@ use Rattle.uac_alt.specs.Streams.{StreamFields}
 use Rattle.uac_alt.specs.Settings.{setting_of, with_setting}
 use Rattle.uac_alt.specs.declared.settings.InterfaceSetting.{InterfaceSetting}
 use Rattle.uac_alt.proofs.Changed.{setting_of_changed}
-use Rattle.uac_request.specs.Requests.{Held, Told, after_request, answered, controls_set, cur_named, first_broken, gets_cur, gets_descriptor, gets_interface, gets_range, held_by, is_done, is_stalled, left_by, ranges_named, reply_of, sets_cur, with_bytes, with_descriptor}
+use Rattle.uac_request.specs.Requests.{AreSettingsOf, Held, AnswerFields, after_request, answered, controls_set, cur_named, first_broken, gets_cur, gets_descriptor, gets_interface, gets_range, is_done, is_stalled, left_by, ranges_named, reply_of, sets_cur, with_bytes, with_descriptor}
 use Rattle.uac_request.specs.declared.setup.Setup.{Setup}
 use Rattle.uac_request.proofs.Lasting.{settings_stay, store_stays}
 use Rattle.uac_flow.specs.Streams.{OutStream}
-use Rattle.uac_host.specs.Calls.{with_stream}
-use Rattle.uac_rate.specs.Steadiness.{Given}
-use Rattle.uac_rate.specs.Steadiness as steadiness
-use Rattle.uac_device.specs.DeviceWorld.{DeviceWorld, controlled, out_from, restarted, sets_interface, stream_in_setting, tells_done}
-use Rattle.uac_mixer.specs.declared.link.When.{When}
-use Rattle.uac_mixer.specs.declared.link.When.TheVariants as when
-use Rattle.uac_mixer.specs.Transfers.{view_after}
-use Rattle.uac_mixer.specs.ViewWorld.{ViewWorld}
-use Rattle.uac_streaming.specs.StreamingWorld.{followed, given_at, place_of}
-use Rattle.uac_running.specs.RunningWorld.{RunningWorld, streaming_of, with_streaming}
-use Rattle.uac_running.specs.Transfers.{acts, breaks_before, comes_back, transferred}
+use Rattle.uac_host.specs.Calls.{interface_in, with_stream}
+use Rattle.uac_device.specs.DeviceWorld.{out_from, restarted, sets_interface, tells_done}
+use Rattle.uac_running.specs.RunningWorld.{RunningWorld}
 use Rattle.uac_bands.specs.Transfers.{IsSoundRun, TransfersKeepSound}
 use Rattle.uac_bands.proofs.Once.{not_this, own_number}
 use Rattle.uac_bands.proofs.Shown.{if_true}
 use Rattle.uac_bands.proofs.Asked.{asked_of, parts_of}
+use Rattle.uac_bands.proofs.Requested.{after, asked_device, begun, done, given_then, held, seen, transferred_so}
 use Rattle.uac_bands.proofs.SoundRuns.{carried}
 
 -- ---- settings
 
 -- another interface's setting
-other_setting : (k interface setting : ℕ) (ss : List InterfaceSetting) → (k == interface) ≡ false
+pub other_setting : (k interface setting : ℕ) (ss : List InterfaceSetting) → (k == interface) ≡ false
     → setting_of (with_setting ss interface setting) k ≡ setting_of ss k
 unfolding setting_of with_setting
 other_setting k interface setting [] other = refl
@@ -66,7 +60,7 @@ differs n m is other = ap (λ (k : ℕ). k == m) (eqb-true n 1 is) ∙ other
 
 module _ (function : FunctionFields) (held : Held) (p : Setup) (bytes : List ℕ) where
   -- what is done breaks no rule
-  none_broken : tells_done (reply_of function held p bytes) ≡ true → first_broken function held p bytes ≡ None
+  pub none_broken : tells_done (reply_of function held p bytes) ≡ true → first_broken function held p bytes ≡ None
   unfolding reply_of
   none_broken done = by (first_broken function held p bytes) done
     where
@@ -81,7 +75,7 @@ module _ (function : FunctionFields) (held : Held) (p : Setup) (bytes : List ℕ
     not_cur : sets_cur p ≡ false
     not_cur = ap (λ (b : Bool). b && p.request == 1) (differs p.request_type 33 is_one refl)
 
-    set_settings : first_broken function held p bytes ≡ None → (after_request function held p bytes).settings ≡ with_setting held.settings p.index p.value
+    pub set_settings : first_broken function held p bytes ≡ None → (after_request function held p bytes).settings ≡ with_setting held.settings p.index p.value
     unfolding after_request left_by
     set_settings none =
         ap (λ (o : Option ℕ). (if is_some o then held else left_by function held p bytes).settings) none
@@ -90,7 +84,7 @@ module _ (function : FunctionFields) (held : Held) (p : Setup) (bytes : List ℕ
         else held).settings) not_cur
         ∙ ap (λ (c : Bool). (if c then record held { settings = with_setting held.settings p.index p.value } else held).settings) sets
 
-    last : (a b c d : Bool) (w x y z : Told) → a ≡ false → b ≡ false → c ≡ false → d ≡ false
+    last : (a b c d : Bool) (w x y z : AnswerFields) → a ≡ false → b ≡ false → c ≡ false → d ≡ false
         → tells_done (if a then w else if b then x else if c then y else if d then z else is_done) ≡ true
     last true b c d w x y z a_not b_not c_not d_not = absurd (true≢false a_not)
     last false true c d w x y z a_not b_not c_not d_not = absurd (true≢false b_not)
@@ -116,7 +110,7 @@ module _ (function : FunctionFields) (held : Held) (p : Setup) (bytes : List ℕ
     told_done none = ap (λ (o : Option ℕ). tells_done (option_map_or is_stalled o (answered function held p))) none ∙ is_answered
 
   -- another request leaves all settings as they are
-  same_settings : (sets_interface p && tells_done (reply_of function held p bytes)) ≡ false
+  pub same_settings : (sets_interface p && tells_done (reply_of function held p bytes)) ≡ false
       → (after_request function held p bytes).settings ≡ held.settings
   unfolding after_request left_by
   same_settings not_set = by (first_broken function held p bytes) refl
@@ -144,125 +138,75 @@ module _ (function : FunctionFields) (held : Held) (p : Setup) (bytes : List ℕ
 
 -- ---- the device behind it
 
+module _ (p : Setup) (bytes : List ℕ) (r : RunningWorld) (set : (sets_interface p && done p bytes r) ≡ true) where
+  pub settings_are : (after p bytes r).settings ≡ with_setting r.device.settings p.index p.value
+  settings_are =
+      let both = and_parts (sets_interface p) (done p bytes r) set in
+      set_settings r.device.function (held p bytes r) p bytes both.0 (none_broken r.device.function (held p bytes r) p bytes both.1)
+
+  -- the setting of an interface whose stream begins
+  pub setting_is : AreSettingsOf r.device.function r.device.settings → (carrier : StreamInterface)
+      → interface_in r.device.function p.index ≡ Some carrier → setting_of (after p bytes r).settings p.index ≡ Some p.value
+  setting_is settings carrier there =
+      let known : is_some (setting_of r.device.settings p.index) ≡ true =
+      settings p.index
+      ∙ ap (λ (o : Option StreamInterface). p.index == r.device.function.control_interface || is_some o) there
+      ∙ or-true (p.index == r.device.function.control_interface) in
+      ap (λ (ss : List InterfaceSetting). setting_of ss p.index) settings_are
+      ∙ setting_of_changed r.device.settings p.index p.value p.index known
+      ∙ if_true (p.index == p.index) (Some p.value) (setting_of r.device.settings p.index) (own_number p.index)
+
 module _ (p : Setup) (bytes : List ℕ) (r : RunningWorld) (sound : IsSoundRun r) where
-  abbrev held : Held
-  held = held_by r.device.controls r.device.settings
-
-  abbrev after : Held
-  after = after_request r.device.function held p bytes
-
-  abbrev begun : Option StreamFields
-  begun = stream_in_setting r.device.function r.device.controls p.index p.value
-
-  abbrev asked_device : DeviceWorld
-  asked_device = record r.device { controls = after.controls; settings = after.settings }
-
-  abbrev done : Bool
-  done = tells_done (reply_of r.device.function held p bytes)
-
-  acts_alone : (other : RunningWorld) → (sets_interface p && done) ≡ false
-      → IsSoundRun (record other { device = asked_device; host = r.host })
+  acts_alone : (other : RunningWorld) → (sets_interface p && done p bytes r) ≡ false
+      → IsSoundRun (record other { device = asked_device p bytes r; host = r.host })
   acts_alone other not_set = record {
     sound = sound.sound;
-    store = store_stays r.device.function held p bytes sound.store;
-    settings = settings_stay r.device.function held p bytes sound.settings;
+    store = store_stays r.device.function (held p bytes r) p bytes sound.store;
+    settings = settings_stay r.device.function (held p bytes r) p bytes sound.settings;
     running = λ k o there.
         (let set = sound.running k o there in
-        (set.0, ap (λ (ss : List InterfaceSetting). setting_of ss k) (same_settings r.device.function held p bytes not_set) ∙ set.1, set.2));
+        (set.0, ap (λ (ss : List InterfaceSetting). setting_of ss k) (same_settings r.device.function (held p bytes r) p bytes not_set) ∙ set.1, set.2));
     whole = sound.whole;
     slight = sound.slight;
     clocked = sound.clocked;
   }
 
-  restarts : (other : RunningWorld) → (sets_interface p && done) ≡ true
-      → IsSoundRun (record other { device = restarted p.index begun asked_device; host = with_stream p.index begun r.host })
+  restarts : (other : RunningWorld) → (sets_interface p && done p bytes r) ≡ true
+      → IsSoundRun (record other { device = restarted p.index (begun p bytes r) (asked_device p bytes r); host = with_stream p.index (begun p bytes r) r.host })
   unfolding restarted with_stream
   restarts other set = record {
     sound = sound.sound;
-    store = store_stays r.device.function held p bytes sound.store;
-    settings = settings_stay r.device.function held p bytes sound.settings;
+    store = store_stays r.device.function (held p bytes r) p bytes sound.store;
+    settings = settings_stay r.device.function (held p bytes r) p bytes sound.settings;
     running = λ k o there. by k o (k == p.index) refl there;
     whole = sound.whole;
     slight = sound.slight;
     clocked = sound.clocked;
   }
     where
-      settings_are : after.settings ≡ with_setting r.device.settings p.index p.value
-      settings_are =
-          let both = and_parts (sets_interface p) done set in
-          set_settings r.device.function held p bytes both.0 (none_broken r.device.function held p bytes both.1)
-
-      begins : (o : OutStream) (b : Option StreamFields) → begun ≡ b → option_and_then out_from b ≡ Some o
-          → (n : ℕ) × (setting_of after.settings p.index ≡ Some n) × ((n == 0) ≡ false)
+      begins : (o : OutStream) (b : Option StreamFields) → begun p bytes r ≡ b → option_and_then out_from b ≡ Some o
+          → (n : ℕ) × (setting_of (after p bytes r).settings p.index ≡ Some n) × ((n == 0) ≡ false)
       begins o None is there = absurd (cc)
       begins o (Some s) is there =
           let asked = asked_of r.device.function r.device.controls p.index p.value s is in
           let parts = parts_of r.device.function asked.rate p.index p.value s asked.of in
-          let known : is_some (setting_of r.device.settings p.index) ≡ true =
-          sound.settings p.index
-          ∙ ap (λ (o : Option StreamInterface). p.index == r.device.function.control_interface || is_some o) parts.there
-          ∙ either (p.index == r.device.function.control_interface) in (
-            p.value,
-            ap (λ (ss : List InterfaceSetting). setting_of ss p.index) settings_are
-                ∙ setting_of_changed r.device.settings p.index p.value p.index known
-                ∙ if_true (p.index == p.index) (Some p.value) (setting_of r.device.settings p.index) (own_number p.index),
-            parts.setting,
-          )
-        where
-          either : (b : Bool) → (b || true) ≡ true
-          either true = refl
-          either false = refl
+          (p.value, setting_is p bytes r set sound.settings parts.carrier parts.there, parts.setting)
 
-      by : (k : ℕ) (o : OutStream) (b : Bool) → (k == p.index) ≡ b → (if b then option_and_then out_from begun else r.device.outs k) ≡ Some o
-          → (n : ℕ) × (setting_of after.settings k ≡ Some n) × ((n == 0) ≡ false)
+      by : (k : ℕ) (o : OutStream) (b : Bool) → (k == p.index) ≡ b → (if b then option_and_then out_from (begun p bytes r) else r.device.outs k) ≡ Some o
+          → (n : ℕ) × (setting_of (after p bytes r).settings k ≡ Some n) × ((n == 0) ≡ false)
       by k o true same there =
-          subst (λ (m : ℕ). (n : ℕ) × (setting_of after.settings m ≡ Some n) × ((n == 0) ≡ false)) (sym (eqb-true k p.index same)) (begins o begun refl there)
+          subst (λ (m : ℕ). (n : ℕ) × (setting_of (after p bytes r).settings m ≡ Some n) × ((n == 0) ≡ false)) (sym (eqb-true k p.index same)) (begins o (begun p bytes r) refl there)
       by k o false apart there =
           let before = sound.running k o there in (
             before.0,
-            ap (λ (ss : List InterfaceSetting). setting_of ss k) settings_are ∙ other_setting k p.index p.value r.device.settings apart ∙ before.1,
+            ap (λ (ss : List InterfaceSetting). setting_of ss k) (settings_are p bytes r set) ∙ other_setting k p.index p.value r.device.settings apart ∙ before.1,
             before.2,
           )
 
 -- ---- a transfer
 
 pub transfers_keep_sound : TransfersKeepSound
-unfolding transferred followed controlled restarted
-transfers_keep_sound p bytes r sound = by r.breaks
-  where
-    view : ViewWorld
-    view = view_after r.device.function.control_interface p bytes (comes_back p bytes r) r.view
-
-    begun_then : Option StreamFields
-    begun_then = stream_in_setting r.device.function r.device.controls p.index p.value
-
-    done_then : Bool
-    done_then = tells_done (reply_of r.device.function (held_by r.device.controls r.device.settings) p bytes)
-
-    asked_then : DeviceWorld
-    asked_then =
-        let after = after_request r.device.function (held_by r.device.controls r.device.settings) p bytes in
-        record r.device { controls = after.controls; settings = after.settings }
-
-    world : Bool → DeviceWorld → RunningWorld
-    world b device =
-        let s = record (streaming_of r) { device = device } in
-        record (with_streaming r (if b then followed p.index begun_then s else s)) { view = view; breaks = None }
-
-    given_then : Given
-    given_then =
-        if is_some begun_then then given_at (place_of r.device.function p.index) steadiness.restarted r.given else r.given
-
-    acted : (b : Bool) → (sets_interface p && done_then) ≡ b → IsSoundRun (world b (if b then restarted p.index begun_then asked_then else asked_then))
-    acted true is = restarts p bytes r sound (record r { view = view; breaks = None; given = given_then }) is
-    acted false is = acts_alone p bytes r sound (record r { view = view; breaks = None }) is
-
-    rests : (b : Bool) → IsSoundRun (world (b && false) r.device)
-    rests true = carried r (record r { view = view; breaks = None }) sound
-    rests false = carried r (record r { view = view; breaks = None }) sound
-
-    by : (o : Option When)
-        → IsSoundRun (world (sets_interface p && (not (breaks_before o) && done_then)) (acts o r.device (controlled p bytes r.device)))
-    by None = acted (sets_interface p && done_then) refl
-    by (Some when.Before) = rests (sets_interface p)
-    by (Some when.After) = acted (sets_interface p && done_then) refl
+transfers_keep_sound p bytes r sound =
+    transferred_so p bytes r IsSoundRun
+    (restarts p bytes r sound (record (seen p bytes r) { given = given_then p bytes r }))
+    (acts_alone p bytes r sound (seen p bytes r)) (carried r (seen p bytes r) sound)

@@ -11,7 +11,7 @@ use Rattle.uac_rate.specs.Steadiness.{latest_run, one_more}
 use Rattle.uac_rate.proofs.LevelsLemmas.{interval_size, moment_held, rates_band, report_held, report_robust}
 use Rattle.uac_alt.specs.Streams.{StreamFields}
 use Rattle.uac_flow.specs.Streams.{feedback_of, out_level, priming_level, reports_now}
-use Rattle.uac_host.specs.Calls.{held, reported}
+use Rattle.uac_host.specs.Calls.{within_nominal, reported}
 use Rattle.uac_bands.specs.Life.{Life, with_feedback}
 use Rattle.uac_bands.specs.Bands.{HasTicked, InBand, IsAt, IsBehind, passed}
 
@@ -57,9 +57,6 @@ is_zero n h = grind arith
 
 pub is_some_more : (n : ℕ) → (n == 0) ≡ false → 0 < n
 is_some_more n h = grind arith
-
-pub more_is : (n : ℕ) → 0 < n → (n == 0) ≡ false
-more_is n h = grind arith
 
 -- at the end of a service interval, before its report: the stream's place and its clock's
 pub record HasEnded (m : Life) (waited clock : ℕ) : Type 0 where
@@ -111,7 +108,7 @@ runs_on true (latest ∷ earlier) = refl
 runs_on false (latest ∷ earlier) = refl
 
 held_stays : (stream : StreamFields) (value : ℕ) → stream.nominal.lo * 65536 ≤ value → value ≤ stream.nominal.hi * 65536
-    → held stream value ≡ value
+    → within_nominal stream value ≡ value
 held_stays stream value least most = omega arith
 
 -- with its report
@@ -142,7 +139,7 @@ reports_by m b begun is = ap (λ (c : Bool). c && m.out.microframes % m.out.stre
     begins : (n : ℕ) → 0 < n → nat_lt 0 n ≡ true
     begins n some = grind arith
 
--- the point behind a report
+-- the point after a report
 abbrev point_after : Bool → Nominal → Point → Point
 point_after lost values q = record q { waited = 0; lost = lost_after lost q.lost; value = value_after lost values q }
 
@@ -177,7 +174,7 @@ paced_same false value m = refl
 ticked_with : (lost : Bool) (value : ℕ) (m : Life) (clock : ℕ) → HasTicked m clock → HasTicked (with_report lost value m) clock
 ticked_with lost value m clock t = record { steps = t.steps; slight = t.slight; ticks = t.ticks; phase = t.phase }
 
--- a stream that has ended an interval is in its band behind its report, where it is at its place there
+-- a stream that has ended an interval is in its band after its report, where it is at its place there
 in_band : (lost : Bool) (value : ℕ) (m : Life) (waited clock : ℕ) → HasEnded m waited clock → latest_run (one_more lost m.reports) ≤ 3
     → IsAt m.out.target (with_report lost value m) → InBand (with_report lost value m)
 in_band lost value m waited clock ended few at = record {
@@ -217,7 +214,7 @@ priming_reported m lost waited clock ended priming low value few = by (m.out.mic
     still true = value
     still false =
         let room = has_room m.out.stream.nominal ended.nominal in
-        ap (λ (s : StreamFields). held s f) ended.same ∙ held_stays m.out.stream f (omega (arith, room.below)) (omega (arith, room.above))
+        ap (λ (s : StreamFields). within_nominal s f) ended.same ∙ held_stays m.out.stream f (omega (arith, room.below)) (omega (arith, room.above))
 
     by : (b : Bool) → (m.out.microframes % m.out.stream.period == 0) ≡ b → InBand (with_feedback lost m)
     by false none =
@@ -241,7 +238,7 @@ priming_reported m lost waited clock ended priming low value few = by (m.out.mic
           ticked = ticked_with lost f m clock ticked;
         })))
 
--- the value behind a report
+-- the value after a report
 value_there : (m : Life) (lost : Bool) (target : ℕ) (q : Point) → HasEndedAt m target q
     → value_after lost m.out.stream.nominal q ≡ (with_report lost (report_of m.out.stream.nominal target (out_level m.out)) m).pace.value
 value_there m true target q at = at.value
@@ -251,9 +248,9 @@ value_there m false target q at =
     let here = report_held values target (out_level m.out) (omega (arith, room.below, room.above)) in
     ap (λ (t : ℕ). report_of values t q.level) at.target_is ∙ ap (report_of values target) at.level
     ∙ sym (held_stays m.out.stream (report_of values target (out_level m.out)) here.least here.most)
-    ∙ sym (ap (λ (s : StreamFields). held s (report_of values target (out_level m.out))) at.ended.same)
+    ∙ sym (ap (λ (s : StreamFields). within_nominal s (report_of values target (out_level m.out))) at.ended.same)
 
--- a primed stream behind the end of an interval: the point there is that of the end, or that behind the report which fell due
+-- a primed stream after the end of an interval: the point there is that of the end, or that after the report which fell due
 pub record Goes (m : Life) (lost : Bool) (target : ℕ) (q : Point) (behind_it : Life) : Type 0 where
   pub band : InBand behind_it
   pub point : Point

@@ -18,7 +18,7 @@ use Rattle.uac_alt.specs.Streams.{StreamFields}
 use Rattle.uac_flow.specs.Streams.{OutStream, frames_of}
 use Rattle.uac_host.specs.Calls.{next_size, packet_of}
 use Rattle.uac_device.specs.DeviceWorld.{Domain, step_in}
-use Rattle.uac_script.specs.Phrase.{Loss}
+use Rattle.uac_script.specs.Phrase.{SaidMark}
 use Rattle.uac_streaming.specs.StreamingWorld.{loses_out, loses_report, packet_to, place_of}
 use Rattle.uac_running.specs.RunningWorld.{RunningWorld, streaming_of}
 use Rattle.uac_running.specs.Events.{microframe}
@@ -94,7 +94,7 @@ life_few r interface l s life few steady =
 
 -- ---- one stream
 
-module _ (losses : List Loss) (r : RunningWorld) (k : ℕ) (l : Life) (d : Domain) (s : StreamInBand r k l d) where
+module _ (losses : List SaidMark) (r : RunningWorld) (k : ℕ) (l : Life) (d : Domain) (s : StreamInBand r k l d) where
   abbrev packet : Option (List ℕ)
   packet = packet_to (loses_out losses k) k (streaming_of r)
 
@@ -144,7 +144,7 @@ interface_of r k l d runs = by (find (λ s. s.number == k) r.device.function.str
 
 -- ---- all
 
-pub few_behind : (losses : List Loss) (r : RunningWorld) → RunInBand r → steadiness.is_steady (microframe losses r).world.given ≡ true
+pub few_behind : (losses : List SaidMark) (r : RunningWorld) → RunInBand r → steadiness.is_steady (microframe losses r).world.given ≡ true
     → (k : ℕ) (l : Life) (d : Domain) → Runs r k l d → latest_run (next_life losses r k l d).reports ≤ 3
 few_behind losses r band steady k l d runs =
     let stays = microframes_keep_the_rest losses r in

@@ -1,5 +1,5 @@
 -- One stream to the device, and what the ticks of all domains make of it.
-use Rattle.std.proofs.Common.{◌≡◌, ◌∙◌, sym, refl, ap, subst, arith, ℕ, zero, suc, ◌==◌, Bool, true, false, if◌then◌else◌, nat_eq, ℤ, List, [], ◌∷◌, ◌++◌, Option, Some, None}
+use Rattle.std.proofs.Common.{◌≡◌, ◌∙◌, sym, refl, ap, subst, ℕ, zero, suc, ◌==◌, false, nat_eq, ℤ, List, [], ◌∷◌, ◌++◌, Option, Some, None}
 use Rattle.std.specs.List.{IsDistinct, filter, find, fold}
 use Rattle.std.specs.Option.{option_and_then, option_map, option_map_or}
 use Rattle.uac_clock.specs.Nominal.{nominal_of, step_of}
@@ -9,48 +9,40 @@ use Rattle.uac_topology.specs.Function.{FunctionFields}
 use Rattle.uac_store.specs.declared.keys.Key.{Key}
 use Rattle.uac_store.specs.Rates.{rate_of}
 use Rattle.uac_graph.specs.Meaning.{entity}
-use Rattle.uac_flow.specs.Streams.{OutStream, after_taking, after_ticks}
+use Rattle.uac_flow.specs.Streams.{after_taking, after_ticks}
 use Rattle.uac_host.specs.HostWorld.{Track}
 use Rattle.uac_host.specs.Calls.{interface_in}
-use Rattle.uac_device.specs.DeviceWorld.{DeviceWorld, Domain, advanced, changed_where, is_on, next_ticks, set_jack, step_in, steps_with_next, ticked}
+use Rattle.uac_device.specs.DeviceWorld.{DeviceWorld, Domain, advanced, is_on, next_ticks, set_jack, step_in, steps_with_next, ticked}
 use Rattle.uac_streaming.specs.StreamingWorld.{StreamingWorld}
 use Rattle.uac_running.specs.declared.jacks.Jack.{Jack}
 use Rattle.uac_running.specs.RunningWorld.{RunningWorld, streaming_of}
 use Rattle.uac_running.specs.Events.{all_given, domain_microframe, domain_microframes, given, next_frame, tick, tick_times}
 use Rattle.uac_bands.specs.Life.{Life, ticks_taken, with_step}
-use Rattle.uac_bands.proofs.Once.{Among, domain_other, domain_same, row_once}
+use Rattle.uac_bands.proofs.Once.{Among, domain_other, domain_same, own_number, row_once, where_false, where_true}
 use Rattle.uac_bands.proofs.Shown.{IsPlace, Place, Shows}
 
 -- ---- streams of one domain
 
-where_true : (test : ℕ → Bool) (change : ℕ → OutStream → OutStream) (streams : ℕ → Option OutStream) (k : ℕ) (o : OutStream) → test k ≡ true
-    → streams k ≡ Some o → changed_where test change streams k ≡ Some (change k o)
-where_true test change streams k o passes there =
-    ap (option_map (λ s. if test k then change k s else s)) there ∙ ap (λ (b : Bool). Some (if b then change k o else o)) passes
-
-where_false : (test : ℕ → Bool) (change : ℕ → OutStream → OutStream) (streams : ℕ → Option OutStream) (k : ℕ) (o : OutStream) → test k ≡ false
-    → streams k ≡ Some o → changed_where test change streams k ≡ Some o
-where_false test change streams k o fails there =
-    ap (option_map (λ s. if test k then change k s else s)) there ∙ ap (λ (b : Bool). Some (if b then change k o else o)) fails
-
--- the stream is of its clock's domain, and of no other
-pub on_clock_only : (p : Place) → IsPlace p → (w : DeviceWorld) (c : ℕ) → w.function ≡ p.function → is_on w c p.interface ≡ (p.clock == c)
-on_clock_only p is w c same =
-    ap (λ (f : FunctionFields). option_map_or (λ s. (entity f.entities s.terminal).clock == c) (find (λ s. s.number == p.interface) f.streams) false) same
-    ∙ by (interface_in p.function p.interface)
-    ∙ ap (λ (o : Option ℕ). option_map_or (λ n. n == c) o false) is.on_clock
+-- an interface is of its clock's domain, and of no other
+pub clock_only : (function : FunctionFields) (interface clock : ℕ)
+    → option_map (λ s. (entity function.entities s.terminal).clock) (interface_in function interface) ≡ Some clock
+    → (w : DeviceWorld) (c : ℕ) → w.function ≡ function → is_on w c interface ≡ (clock == c)
+clock_only function interface clock on_clock w c same =
+    ap (λ (f : FunctionFields). option_map_or (λ s. (entity f.entities s.terminal).clock == c) (find (λ s. s.number == interface) f.streams) false) same
+    ∙ by (interface_in function interface)
+    ∙ ap (λ (o : Option ℕ). option_map_or (λ n. n == c) o false) on_clock
   where
-    by : (o : Option StreamInterface) → option_map_or (λ s. (entity p.function.entities s.terminal).clock == c) o false
-        ≡ option_map_or (λ n. n == c) (option_map (λ s. (entity p.function.entities s.terminal).clock) o) false
+    by : (o : Option StreamInterface) → option_map_or (λ s. (entity function.entities s.terminal).clock == c) o false
+        ≡ option_map_or (λ n. n == c) (option_map (λ s. (entity function.entities s.terminal).clock) o) false
     by None = refl
     by (Some s) = refl
 
+pub on_clock_only : (p : Place) → IsPlace p → (w : DeviceWorld) (c : ℕ) → w.function ≡ p.function → is_on w c p.interface ≡ (p.clock == c)
+on_clock_only p is = clock_only p.function p.interface p.clock is.on_clock
+
 -- ---- ticks
 
-own : (n : ℕ) → (n == n) ≡ true
-own n = grind arith
-
-a_row : (clocks : List ℕ) (r : RunningWorld) → (domain_microframes clocks r).world ≡ fold (λ v c. (domain_microframe c v).world) r clocks
+pub a_row : (clocks : List ℕ) (r : RunningWorld) → (domain_microframes clocks r).world ≡ fold (λ v c. (domain_microframe c v).world) r clocks
 unfolding domain_microframes
 a_row [] r = refl
 a_row (c ∷ cs) r = a_row cs (domain_microframe c r).world
@@ -101,7 +93,7 @@ module _ (p : Place) where
       record {
         function = s.function;
         controls = s.controls;
-        out = where_true (is_on w p.clock) (λ interface. after_taking) w.outs p.interface l.out (on_clock_only p is w p.clock s.function ∙ own p.clock) s.out;
+        out = where_true (is_on w p.clock) (λ interface. after_taking) w.outs p.interface l.out (on_clock_only p is w p.clock s.function ∙ own_number p.clock) s.out;
         pace = s.pace;
         track = s.track;
         domain = s.domain;
@@ -163,7 +155,7 @@ module _ (p : Place) where
   advanced_own is r l t s = record {
     function = s.function;
     controls = s.controls;
-    out = where_true (is_on r.device p.clock) (λ interface. after_ticks (next_ticks p.clock r.device)) r.device.outs p.interface l.out (on_clock_only p is r.device p.clock s.function ∙ own p.clock) s.out;
+    out = where_true (is_on r.device p.clock) (λ interface. after_ticks (next_ticks p.clock r.device)) r.device.outs p.interface l.out (on_clock_only p is r.device p.clock s.function ∙ own_number p.clock) s.out;
     pace = s.pace;
     track = s.track;
     domain = domain_same (steps_with_next r.device) p.clock r.device.domains (record p.domain { steps = l.steps }) s.domain

@@ -17,21 +17,17 @@ use Rattle.uac_store.specs.Rates.{rate_of}
 use Rattle.uac_graph.specs.Meaning.{entity}
 use Rattle.uac_alt.specs.Streams.{StreamFields, stream_of}
 use Rattle.uac_alt.specs.Settings.{is_running, setting_of, with_setting}
+use Rattle.uac_alt.proofs.Formats.{stream_format}
 use Rattle.uac_alt.specs.declared.settings.InterfaceSetting.{InterfaceSetting}
-use Rattle.uac_request.specs.Requests.{Held, after_request, controls_set, first_broken, held_by, left_by, reply_of, sets_cur}
+use Rattle.uac_request.specs.Requests.{Held, after_request, controls_set, first_broken, left_by, sets_cur}
 use Rattle.uac_request.specs.declared.setup.Setup.{Setup}
 use Rattle.uac_request.proofs.Lasting.{rates_stay}
 use Rattle.uac_flow.specs.Streams.{InStream, OutStream, started_out}
 use Rattle.uac_host.specs.HostWorld.{Pace}
 use Rattle.uac_host.specs.Calls.{at_interface, started, with_stream}
-use Rattle.uac_device.specs.DeviceWorld.{DeviceWorld, Domain, controlled, in_from, out_from, replaced_at, restarted, sets_interface, stream_in_setting, tells_done}
-use Rattle.uac_mixer.specs.declared.link.When.{When}
-use Rattle.uac_mixer.specs.declared.link.When.TheVariants as when
-use Rattle.uac_mixer.specs.Transfers.{view_after}
-use Rattle.uac_mixer.specs.ViewWorld.{ViewWorld}
-use Rattle.uac_streaming.specs.StreamingWorld.{followed, given_at, goes_out, place_of}
-use Rattle.uac_running.specs.RunningWorld.{RunningWorld, streaming_of, with_streaming}
-use Rattle.uac_running.specs.Transfers.{acts, breaks_before, comes_back, transferred}
+use Rattle.uac_device.specs.DeviceWorld.{Domain, in_from, out_from, replaced_at, restarted, sets_interface}
+use Rattle.uac_streaming.specs.StreamingWorld.{given_at, goes_out, place_of}
+use Rattle.uac_running.specs.RunningWorld.{RunningWorld}
 use Rattle.uac_bands.specs.Life.{Life, clock_on, domain_on, life_of}
 use Rattle.uac_bands.specs.Bands.{started_life}
 use Rattle.uac_bands.specs.Projection.{Runs}
@@ -43,6 +39,7 @@ use Rattle.uac_bands.proofs.Shown.{if_false, if_true, place_other}
 use Rattle.uac_bands.proofs.Banded.{starts_in_band}
 use Rattle.uac_bands.proofs.Begun.{carry}
 use Rattle.uac_bands.proofs.Asked.{IsAsked, asked_of, parts_of}
+use Rattle.uac_bands.proofs.Requested.{after, asked_device, begun, done, given_then, held, seen, transferred_so}
 
 -- ---- a life, by its parts
 
@@ -94,7 +91,7 @@ lives r k l d h =
 
 -- ---- what is found
 
-found_domain : (P : Domain → Type 0) (clock : ℕ) (ds : List Domain) (d : Domain) → All P ds → find (λ d. d.clock == clock) ds ≡ Some d
+pub found_domain : (P : Domain → Type 0) (clock : ℕ) (ds : List Domain) (d : Domain) → All P ds → find (λ d. d.clock == clock) ds ≡ Some d
     → P d × (d.clock ≡ clock)
 found_domain P clock [] d all e = absurd (cc)
 found_domain P clock (x ∷ xs) d all e = by (x.clock == clock) refl e (found_domain P clock xs d (All-tail P x xs all))
@@ -106,7 +103,7 @@ found_domain P clock (x ∷ xs) d all e = by (x.clock == clock) refl e (found_do
         (subst P same (All-head P x xs all), ap (λ (e : Domain). e.clock) (sym same) ∙ eqb-true x.clock clock is)
     by false is found rest = rest found
 
-some_of : {A : Type 0} (o : Option A) → is_some o ≡ true → (x : A) × (o ≡ Some x)
+pub some_of : {A : Type 0} (o : Option A) → is_some o ≡ true → (x : A) × (o ≡ Some x)
 some_of None is = absurd (true≢false (sym is))
 some_of (Some x) is = (x, refl)
 
@@ -124,7 +121,7 @@ found_place k ss s e = elim (cases_lt (position_or_len (λ (t : StreamInterface)
 ]
 
 -- some interface is in a setting other than 0
-running_by : (settings : List InterfaceSetting) (k n : ℕ) → setting_of settings k ≡ Some n → (n == 0) ≡ false → is_running settings ≡ true
+pub running_by : (settings : List InterfaceSetting) (k n : ℕ) → setting_of settings k ≡ Some n → (n == 0) ≡ false → is_running settings ≡ true
 unfolding setting_of
 running_by [] k n is other = absurd (cc)
 running_by (s ∷ ss) k n is other = by (s.interface == k) is (running_by ss k n)
@@ -147,7 +144,7 @@ running_by (s ∷ ss) k n is other = by (s.interface == k) is (running_by ss k n
 -- ---- controls
 
 -- a request that sets an interface leaves all controls as they are
-controls_same : (function : FunctionFields) (held : Held) (p : Setup) (bytes : List ℕ) → sets_interface p ≡ true
+pub controls_same : (function : FunctionFields) (held : Held) (p : Setup) (bytes : List ℕ) → sets_interface p ≡ true
     → (after_request function held p bytes).controls ≡ held.controls
 unfolding after_request left_by
 controls_same function held p bytes sets = by (is_some (first_broken function held p bytes)) (sets_cur p) not_cur
@@ -207,7 +204,7 @@ module _ (r other : RunningWorld) (cs : List (Key × ℤ)) (ss : List InterfaceS
           });
           domain = h.domain;
         };
-        fed = record { same = s.fed.same; streams = s.fed.streams; whole = s.fed.whole };
+        fed = record { same = s.fed.same; streams = s.fed.streams; format = s.fed.format; whole = s.fed.whole };
         band = s.band;
         rate = ap (option_and_then nominal_of) rate ∙ s.rate;
         slight = s.slight;
@@ -246,6 +243,7 @@ module _ (r other : RunningWorld) (cs : List (Key × ℤ)) (ss : List InterfaceS
               setting = number;
               is = subst (λ (f : FunctionFields). stream_of f asked.rate k number ≡ Some s) (sym band.hosts) asked.of;
             };
+            format = stream_format function asked.rate k number s sound.sound asked.of;
             whole = sound.whole k;
           };
           band = starts_in_band s d.steps (r.given.feedback place.0) (asked.rate, parts.nominal) (parts.intervals goes);
@@ -265,42 +263,27 @@ module _ (r other : RunningWorld) (cs : List (Key × ℤ)) (ss : List InterfaceS
 -- ---- a request
 
 module _ (p : Setup) (bytes : List ℕ) (r : RunningWorld) (band : RunInBand r) (sound : IsSoundRun r) where
-  abbrev held : Held
-  held = held_by r.device.controls r.device.settings
-
-  abbrev after : Held
-  after = after_request r.device.function held p bytes
-
-  abbrev pub begun : Option StreamFields
-  begun = stream_in_setting r.device.function r.device.controls p.index p.value
-
-  abbrev asked_device : DeviceWorld
-  asked_device = record r.device { controls = after.controls; settings = after.settings }
-
   -- while a stream runs, no rate changes
   rates_last : (k : ℕ) (o : OutStream) → r.device.outs k ≡ Some o → (id : ℕ)
-      → rate_of r.device.function.entities after.controls id ≡ rate_of r.device.function.entities r.device.controls id
+      → rate_of r.device.function.entities (after p bytes r).controls id ≡ rate_of r.device.function.entities r.device.controls id
   rates_last k o there id =
       let set = sound.running k o there in
-      rates_stay r.device.function held p bytes sound.store (running_by r.device.settings k set.0 set.1 set.2) id
+      rates_stay r.device.function (held p bytes r) p bytes sound.store (running_by r.device.settings k set.0 set.1 set.2) id
 
-  acts_alone : (other : RunningWorld) → RunInBand (record other { device = asked_device; host = r.host; given = r.given })
+  acts_alone : (other : RunningWorld) → RunInBand (record other { device = asked_device p bytes r; host = r.host; given = r.given })
   acts_alone other =
-      changed_in_band r other after.controls after.settings r.device.outs r.device.ins r.host.paces r.given band (λ k o there.
+      changed_in_band r other (after p bytes r).controls (after p bytes r).settings r.device.outs r.device.ins r.host.paces r.given band (λ k o there.
       (let stream = band.streams k o there in (
         stream.0,
         stream.1,
         stream.2,
-        stays_there r other after.controls after.settings r.device.outs r.device.ins r.host.paces r.given k stream.0 stream.1 stream.3 refl refl
+        stays_there r other (after p bytes r).controls (after p bytes r).settings r.device.outs r.device.ins r.host.paces r.given k stream.0 stream.1 stream.3 refl refl
             (λ place placed. refl) (rates_last k o there stream.1.clock),
       )))
 
-  abbrev pub given_then : Given
-  given_then = if is_some begun then given_at (place_of r.device.function p.index) steadiness.restarted r.given else r.given
-
   pub reports_elsewhere : (k place : ℕ) → (k == p.index) ≡ false → place_of r.device.function k ≡ Some place
-      → given_then.feedback place ≡ r.given.feedback place
-  reports_elsewhere k place other placed = by (is_some begun)
+      → (given_then p bytes r).feedback place ≡ r.given.feedback place
+  reports_elsewhere k place other placed = by (is_some (begun p bytes r))
     where
       at : (o : Option ℕ) → place_of r.device.function p.index ≡ o
           → (given_at o steadiness.restarted r.given).feedback place ≡ r.given.feedback place
@@ -313,8 +296,8 @@ module _ (p : Setup) (bytes : List ℕ) (r : RunningWorld) (band : RunInBand r) 
       by true = at (place_of r.device.function p.index) refl
       by false = refl
 
-  reports_here : (s : StreamFields) (place : ℕ) → begun ≡ Some s → place_of r.device.function p.index ≡ Some place
-      → given_then.feedback place ≡ [] ∷ r.given.feedback place
+  reports_here : (s : StreamFields) (place : ℕ) → begun p bytes r ≡ Some s → place_of r.device.function p.index ≡ Some place
+      → (given_then p bytes r).feedback place ≡ [] ∷ r.given.feedback place
   reports_here s place is placed =
       ap (λ (o : Option StreamFields). (if is_some o then given_at (place_of r.device.function p.index) steadiness.restarted r.given else r.given).feedback place) is
       ∙ ap (λ (o : Option ℕ). (given_at o steadiness.restarted r.given).feedback place) placed
@@ -322,16 +305,16 @@ module _ (p : Setup) (bytes : List ℕ) (r : RunningWorld) (band : RunInBand r) 
 
   module _ (other : RunningWorld) (sets : sets_interface p ≡ true) where
     abbrev outs_then : ℕ → Option OutStream
-    outs_then = replaced_at p.index (option_and_then out_from begun) r.device.outs
+    outs_then = replaced_at p.index (option_and_then out_from (begun p bytes r)) r.device.outs
 
     abbrev ins_then : ℕ → Option InStream
-    ins_then = replaced_at p.index (option_and_then in_from begun) r.device.ins
+    ins_then = replaced_at p.index (option_and_then in_from (begun p bytes r)) r.device.ins
 
     abbrev paces_then : ℕ → Option Pace
-    paces_then = at_interface p.index (option_map started begun) r.host.paces
+    paces_then = at_interface p.index (option_map started (begun p bytes r)) r.host.paces
 
     abbrev Then : ℕ → OutStream → Type 0
-    Then k o = IsThere r other after.controls after.settings outs_then ins_then paces_then given_then k o
+    Then k o = IsThere r other (after p bytes r).controls (after p bytes r).settings outs_then ins_then paces_then (given_then p bytes r) k o
 
     elsewhere : (k : ℕ) (o : OutStream) → (k == p.index) ≡ false → r.device.outs k ≡ Some o → Then k o
     elsewhere k o apart there =
@@ -339,71 +322,40 @@ module _ (p : Setup) (bytes : List ℕ) (r : RunningWorld) (band : RunInBand r) 
           stream.0,
           stream.1,
           stream.2,
-          stays_there r other after.controls after.settings outs_then ins_then paces_then given_then k stream.0 stream.1 stream.3
+          stays_there r other (after p bytes r).controls (after p bytes r).settings outs_then ins_then paces_then (given_then p bytes r) k stream.0 stream.1 stream.3
               (if_false (k == p.index) _ (r.device.outs k) apart) (if_false (k == p.index) _ (r.host.paces k) apart)
               (λ place placed. reports_elsewhere k place apart placed) (rates_last k o there stream.1.clock),
         )
 
-    here : (o : OutStream) (b : Option StreamFields) → begun ≡ b → option_and_then out_from b ≡ Some o → Then p.index o
+    here : (o : OutStream) (b : Option StreamFields) → begun p bytes r ≡ b → option_and_then out_from b ≡ Some o → Then p.index o
     here o None is there = absurd (cc)
     here o (Some s) is there =
         let both = cond_some s.out (started_out s) o there in
         let asked = asked_of r.device.function r.device.controls p.index p.value s is in
-        let same = controls_same r.device.function held p bytes sets in
+        let same = controls_same r.device.function (held p bytes r) p bytes sets in
         subst (Then p.index) both.1
-        (starts_there r other after.controls after.settings outs_then ins_then paces_then given_then p.index p.value s band sound asked both.0
+        (starts_there r other (after p bytes r).controls (after p bytes r).settings outs_then ins_then paces_then (given_then p bytes r) p.index p.value s band sound asked both.0
         (if_true (p.index == p.index) _ (r.device.outs p.index) (own_number p.index)
         ∙ ap (option_and_then out_from) is ∙ ap (λ (c : Bool). if c then Some (started_out s) else None) both.0)
         (if_true (p.index == p.index) _ (r.host.paces p.index) (own_number p.index) ∙ ap (option_map started) is)
         (λ place placed. reports_here s place is placed)
         (λ id. ap (λ (cs : List (Key × ℤ)). rate_of r.device.function.entities cs id) same))
 
-    restarts : RunInBand (record other { device = restarted p.index begun asked_device; host = with_stream p.index begun r.host; given = given_then })
+    restarts : RunInBand (record other { device = restarted p.index (begun p bytes r) (asked_device p bytes r); host = with_stream p.index (begun p bytes r) r.host; given = given_then p bytes r })
     unfolding restarted with_stream
     restarts =
-        changed_in_band r other after.controls after.settings outs_then ins_then paces_then given_then band
+        changed_in_band r other (after p bytes r).controls (after p bytes r).settings outs_then ins_then paces_then (given_then p bytes r) band
         (λ k o there. by k o (k == p.index) refl there)
       where
         by : (k : ℕ) (o : OutStream) (b : Bool) → (k == p.index) ≡ b
-            → (if b then option_and_then out_from begun else r.device.outs k) ≡ Some o → Then k o
-        by k o true same there = subst (λ (n : ℕ). Then n o) (sym (eqb-true k p.index same)) (here o begun refl there)
+            → (if b then option_and_then out_from (begun p bytes r) else r.device.outs k) ≡ Some o → Then k o
+        by k o true same there = subst (λ (n : ℕ). Then n o) (sym (eqb-true k p.index same)) (here o (begun p bytes r) refl there)
         by k o false apart there = elsewhere k o apart there
 
 -- ---- a transfer
 
 pub transfers_keep_bands : TransfersKeepBands
-unfolding transferred followed controlled restarted
-transfers_keep_bands p bytes r band sound = by r.breaks
-  where
-    view : ViewWorld
-    view = view_after r.device.function.control_interface p bytes (comes_back p bytes r) r.view
-
-    begun_then : Option StreamFields
-    begun_then = stream_in_setting r.device.function r.device.controls p.index p.value
-
-    done : Bool
-    done = tells_done (reply_of r.device.function (held_by r.device.controls r.device.settings) p bytes)
-
-    asked_then : DeviceWorld
-    asked_then =
-        let after = after_request r.device.function (held_by r.device.controls r.device.settings) p bytes in
-        record r.device { controls = after.controls; settings = after.settings }
-
-    world : Bool → DeviceWorld → RunningWorld
-    world b device =
-        let s = record (streaming_of r) { device = device } in
-        record (with_streaming r (if b then followed p.index begun_then s else s)) { view = view; breaks = None }
-
-    acted : (b : Bool) → (sets_interface p && done) ≡ b → RunInBand (world b (if b then restarted p.index begun_then asked_then else asked_then))
-    acted true is = restarts p bytes r band sound (record r { view = view; breaks = None }) (and_parts (sets_interface p) done is).0
-    acted false is = acts_alone p bytes r band sound (record r { view = view; breaks = None })
-
-    rests : (b : Bool) → RunInBand (world (b && false) r.device)
-    rests true = carry r (record r { view = view; breaks = None }) band
-    rests false = carry r (record r { view = view; breaks = None }) band
-
-    by : (o : Option When)
-        → RunInBand (world (sets_interface p && (not (breaks_before o) && done)) (acts o r.device (controlled p bytes r.device)))
-    by None = acted (sets_interface p && done) refl
-    by (Some when.Before) = rests (sets_interface p)
-    by (Some when.After) = acted (sets_interface p && done) refl
+transfers_keep_bands p bytes r band sound =
+    transferred_so p bytes r RunInBand
+    (λ is. restarts p bytes r band sound (seen p bytes r) (and_parts (sets_interface p) (done p bytes r) is).0)
+    (λ is. acts_alone p bytes r band sound (seen p bytes r)) (carry r (seen p bytes r) band)

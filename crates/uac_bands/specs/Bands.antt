@@ -93,7 +93,7 @@ ticks_then step l = ticks_in (l.steps ++ step ∷ [])
 abbrev pub played : ℕ → Option (List ℕ) → ℕ → Life → OutStream
 played i packet step l = ticks_taken i (after_ticks (ticks_then step l) (with_packet packet l).out)
 
--- what a primed ring holds before each tick of a steady microframe, and behind the last
+-- what a primed ring holds before each tick of a steady microframe, and after the last
 abbrev pub HoldsEnough : Type 0
 HoldsEnough =
     (l : Life) (packet : Option (List ℕ)) (step : ℕ) (target : ℕ) → InBand l → IsSteadyMicroframe packet step l → l.out.target ≡ Some target

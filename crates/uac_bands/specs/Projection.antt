@@ -1,6 +1,7 @@
 -- What a microframe of a running device is to one of its streams.
 use Rattle.std.specs.Prelude.{◌≡◌, ◌<◌, ℕ, ℤ, nat_eq, if◌then◌else◌, true, List, [], ◌∷◌, ◌++◌, map, length, Some}
 use Rattle.std.specs.List.{All, IsDistinct}
+use Rattle.uac_pcm.specs.Frames.{IsFormat}
 use Rattle.uac_topology.specs.Function.{FunctionFields}
 use Rattle.uac_topology.specs.Topology.{IsSoundFunction}
 use Rattle.uac_request.specs.declared.setup.Setup.{Setup}
@@ -8,7 +9,7 @@ use Rattle.uac_flow.specs.Streams.{frames_of, is_due}
 use Rattle.uac_host.specs.HostWorld.{Track}
 use Rattle.uac_host.specs.Calls.{IsStreamOf, after_frames, channels_at, next_size, packet_of}
 use Rattle.uac_device.specs.DeviceWorld.{DeviceWorld, Domain, controlled, deviated, fresh, step_in}
-use Rattle.uac_script.specs.Phrase.{Loss}
+use Rattle.uac_script.specs.Phrase.{SaidMark}
 use Rattle.uac_streaming.specs.StreamingWorld.{goes_out, loses_out, loses_report, packet_to}
 use Rattle.uac_running.specs.RunningWorld.{RunningWorld, streaming_of}
 use Rattle.uac_running.specs.Events.{microframe}
@@ -28,23 +29,24 @@ pub record Runs (r : RunningWorld) (interface : ℕ) (l : Life) (d : Domain) : T
   pub life : life_of r interface ≡ Some l
   pub domain : domain_on r interface ≡ Some d
 
--- the host sends it what the device takes: both run the same stream, which is one of the interface's; and frames that wait for it have a
--- sample for each channel of the interface's terminal
+-- the host sends it what the device takes: both run the same stream, which is one of the interface's and has the numbers of a format; and
+-- frames that wait for it have a sample for each channel of the interface's terminal
 pub record IsFed (r : RunningWorld) (interface : ℕ) (l : Life) : Type 0 where
   pub same : l.pace.stream ≡ l.out.stream
   pub streams : IsStreamOf r.host.function interface l.pace.stream
+  pub format : IsFormat l.pace.stream.channels l.pace.stream.subslot l.pace.stream.bits
   pub whole : All (λ frame. length frame ≡ channels_at r.host.function interface) (r.host.tracks interface).waiting
 
--- the stream's life behind a microframe
-abbrev pub next_life : List Loss → RunningWorld → ℕ → Life → Domain → Life
+-- the stream's life after a microframe
+abbrev pub next_life : List SaidMark → RunningWorld → ℕ → Life → Domain → Life
 next_life losses r interface l d =
     life_after (packet_to (loses_out losses interface) interface (streaming_of r)) (step_in r.device d) (loses_report losses interface) l
 
--- its domain behind a microframe
+-- its domain after a microframe
 abbrev pub next_domain : RunningWorld → Domain → Domain
 next_domain r d = record d { steps = d.steps ++ step_in r.device d ∷ [] }
 
--- the track behind a microframe: its next frames went out where a packet was due
+-- the track after a microframe: its next frames went out where a packet was due
 abbrev pub next_track : Life → Track → Track
 next_track l t = if is_due l.out.stream l.out.microframes then after_frames (next_size l.pace) t else t
 
@@ -52,12 +54,12 @@ next_track l t = if is_due l.out.stream l.out.microframes then after_frames (nex
 -- whether its packet and its report were lost
 abbrev pub MicroframesAreLived : Type 0
 MicroframesAreLived =
-    (losses : List Loss) (r : RunningWorld) (interface : ℕ) (l : Life) (d : Domain) → IsOrdered r.device → Runs r interface l d
+    (losses : List SaidMark) (r : RunningWorld) (interface : ℕ) (l : Life) (d : Domain) → IsOrdered r.device → Runs r interface l d
     → Runs (microframe losses r).world interface (next_life losses r interface l d) (next_domain r d)
 
 abbrev pub TracksGoOn : Type 0
 TracksGoOn =
-    (losses : List Loss) (r : RunningWorld) (interface : ℕ) (l : Life) (d : Domain) → IsOrdered r.device → Runs r interface l d
+    (losses : List SaidMark) (r : RunningWorld) (interface : ℕ) (l : Life) (d : Domain) → IsOrdered r.device → Runs r interface l d
     → (microframe losses r).world.host.tracks interface ≡ next_track l (r.host.tracks interface)
 
 -- what stays so
@@ -68,10 +70,10 @@ pub record Stays (before after : RunningWorld) : Type 0 where
   pub host : after.host.function ≡ before.host.function
 
 abbrev pub MicroframesKeepTheRest : Type 0
-MicroframesKeepTheRest = (losses : List Loss) (r : RunningWorld) → Stays r (microframe losses r).world
+MicroframesKeepTheRest = (losses : List SaidMark) (r : RunningWorld) → Stays r (microframe losses r).world
 
 abbrev pub MicroframesKeepOrder : Type 0
-MicroframesKeepOrder = (losses : List Loss) (r : RunningWorld) → IsOrdered r.device → IsOrdered (microframe losses r).world.device
+MicroframesKeepOrder = (losses : List SaidMark) (r : RunningWorld) → IsOrdered r.device → IsOrdered (microframe losses r).world.device
 
 -- so it is at the start, and deviations, control requests and transfers leave it so
 abbrev pub StartsAreOrdered : Type 0
@@ -87,10 +89,10 @@ RequestsKeepOrder = (p : Setup) (bytes : List ℕ) (w : DeviceWorld) → IsOrder
 abbrev pub TransfersKeepOrder : Type 0
 TransfersKeepOrder = (p : Setup) (bytes : List ℕ) (r : RunningWorld) → IsOrdered r.device → IsOrdered (transferred p bytes r).device
 
--- a stream that is fed is so behind a microframe
+-- a stream that is fed is so after a microframe
 abbrev pub MicroframesKeepFed : Type 0
 MicroframesKeepFed =
-    (losses : List Loss) (r : RunningWorld) (interface : ℕ) (l : Life) (d : Domain) → IsOrdered r.device → Runs r interface l d
+    (losses : List SaidMark) (r : RunningWorld) (interface : ℕ) (l : Life) (d : Domain) → IsOrdered r.device → Runs r interface l d
     → IsFed r interface l → IsFed (microframe losses r).world interface (next_life losses r interface l d)
 
 -- its packet has as many frames as its rate values say

@@ -7,7 +7,7 @@ use Rattle.uac_rate.specs.Levels.{Within}
 use Rattle.uac_rate.specs.Steadiness.{is_slight}
 use Rattle.uac_rate.specs.Steadiness as steadiness
 use Rattle.uac_store.specs.Rates.{rate_of}
-use Rattle.uac_script.specs.Phrase.{Loss}
+use Rattle.uac_script.specs.Phrase.{SaidMark}
 use Rattle.uac_flow.specs.Streams.{OutStream}
 use Rattle.uac_device.specs.DeviceWorld.{Domain}
 use Rattle.uac_transcript.specs.Transcript.{Said, says_level, says_under}
@@ -41,36 +41,36 @@ IsNoUnder said = (interface : ℕ) → said ≢ says_under interface
 abbrev pub IsNearLevel : Said → Type 0
 IsNearLevel said = (interface level target : ℕ) → said ≡ says_level interface level (Some target) → Within 130 level target
 
--- a microframe of a run that is steady behind it keeps the streams in their bands
+-- a microframe of a run that is steady after it keeps the streams in their bands
 abbrev pub SteadyMicroframesKeepBands : Type 0
 SteadyMicroframesKeepBands =
-    (losses : List Loss) (r : RunningWorld) → RunInBand r → steadiness.is_steady (microframe losses r).world.given ≡ true
+    (losses : List SaidMark) (r : RunningWorld) → RunInBand r → steadiness.is_steady (microframe losses r).world.given ≡ true
     → RunInBand (microframe losses r).world
 
 -- none finds a primed ring empty
 abbrev pub MicroframesFindNoneEmpty : Type 0
-MicroframesFindNoneEmpty = (losses : List Loss) (r : RunningWorld) → RunInBand r → All IsNoUnder (microframe losses r).lines
+MicroframesFindNoneEmpty = (losses : List SaidMark) (r : RunningWorld) → RunInBand r → All IsNoUnder (microframe losses r).lines
 
--- and one that is steady behind it tells levels near their targets alone
+-- and one that is steady after it tells levels near their targets alone
 abbrev pub SteadyMicroframesTellNear : Type 0
 SteadyMicroframesTellNear =
-    (losses : List Loss) (r : RunningWorld) → RunInBand r → steadiness.is_steady (microframe losses r).world.given ≡ true
+    (losses : List SaidMark) (r : RunningWorld) → RunInBand r → steadiness.is_steady (microframe losses r).world.given ≡ true
     → All IsNearLevel (microframe losses r).lines
 
--- a run that is steady behind a microframe was so before it
+-- a run that is steady after a microframe was so before it
 abbrev pub SteadinessLooksBack : Type 0
 SteadinessLooksBack =
-    (losses : List Loss) (r : RunningWorld) → steadiness.is_steady (microframe losses r).world.given ≡ true
+    (losses : List SaidMark) (r : RunningWorld) → steadiness.is_steady (microframe losses r).world.given ≡ true
     → steadiness.is_steady r.given ≡ true
 
--- so many microframes of a run that is steady behind them: the run is in its bands behind them, and their lines tell of no ring that was
+-- so many microframes of a run that is steady after them: the run is in its bands after them, and their lines tell of no ring that was
 -- found empty, and of levels near their targets
-pub record StaysSteady (losses : List Loss) (count : ℕ) (r : RunningWorld) : Type 0 where
+pub record StaysSteady (losses : List SaidMark) (count : ℕ) (r : RunningWorld) : Type 0 where
   pub stays : RunInBand (microframes losses count r).world
   pub no_under : All IsNoUnder (microframes losses count r).lines
   pub near : All IsNearLevel (microframes losses count r).lines
 
 abbrev pub SteadyRunsStaySteady : Type 0
 SteadyRunsStaySteady =
-    (losses : List Loss) (count : ℕ) (r : RunningWorld) → RunInBand r
+    (losses : List SaidMark) (count : ℕ) (r : RunningWorld) → RunInBand r
     → steadiness.is_steady (microframes losses count r).world.given ≡ true → StaysSteady losses count r

@@ -12,7 +12,7 @@ use Rattle.uac_request.specs.Requests.{AreSettingsOf}
 use Rattle.uac_request.specs.declared.setup.Setup.{Setup}
 use Rattle.uac_flow.specs.Streams.{OutStream}
 use Rattle.uac_host.specs.Calls.{channels_at}
-use Rattle.uac_script.specs.Phrase.{Loss}
+use Rattle.uac_script.specs.Phrase.{SaidMark}
 use Rattle.uac_streaming.specs.StreamingWorld.{goes_out}
 use Rattle.uac_pcm.specs.declared.tones.Tone.{Tone}
 use Rattle.uac_running.specs.Events.{microframe}
@@ -51,7 +51,7 @@ RunsStartSound =
 
 -- microframes keep it sound, and so does what is asked of it between them
 abbrev pub MicroframesKeepSound : Type 0
-MicroframesKeepSound = (losses : List Loss) (r : RunningWorld) → IsSoundRun r → IsSoundRun (microframe losses r).world
+MicroframesKeepSound = (losses : List SaidMark) (r : RunningWorld) → IsSoundRun r → IsSoundRun (microframe losses r).world
 
 pub record StaysSound (r : RunningWorld) : Type 0 where
   pub tone : (terminal : ℕ) (tone : Tone) → IsSoundRun (with_tone terminal tone r)
@@ -68,7 +68,7 @@ CallsKeepSound = (r : RunningWorld) → IsSoundRun r → StaysSound r
 abbrev pub TransfersKeepSound : Type 0
 TransfersKeepSound = (p : Setup) (bytes : List ℕ) (r : RunningWorld) → IsSoundRun r → IsSoundRun (transferred p bytes r)
 
--- what is steady behind a deviation or a transfer was so before, and the deviation is at most a thousandth
+-- what is steady after a deviation or a transfer was so before, and the deviation is at most a thousandth
 pub record LooksBack (r : RunningWorld) : Type 0 where
   pub deviation : (clock : ℕ) (millionths : ℤ) → steadiness.is_steady (with_deviation clock millionths r).given ≡ true
       → (is_slight millionths ≡ true) × (steadiness.is_steady r.given ≡ true)

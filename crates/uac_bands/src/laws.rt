@@ -62,7 +62,7 @@ pub fn levels_are_near()
     ensures between { HoldsBetween }
 {}
 
-/// A microframe of a run that is steady behind it keeps the run's streams in their bands.
+/// A microframe of a run that is steady after it keeps the run's streams in their bands.
 #[tactic(auto)]
 pub fn steady_microframes_keep_bands()
     ensures stays { SteadyMicroframesKeepBands }
@@ -74,7 +74,7 @@ pub fn microframes_find_none_empty()
     ensures none { MicroframesFindNoneEmpty }
 {}
 
-/// A microframe of a run that is steady behind it tells levels of primed streams that are near their targets.
+/// A microframe of a run that is steady after it tells levels of primed streams that are near their targets.
 #[tactic(auto)]
 pub fn steady_microframes_tell_near()
     ensures near { SteadyMicroframesTellNear }
@@ -87,7 +87,7 @@ pub fn runs_start_in_their_bands()
     ensures calls { CallsKeepBands }
 {}
 
-/// A run that is steady behind so many microframes was so before each, stays in its bands, finds no primed ring empty, and tells levels
+/// A run that is steady after so many microframes was so before each, stays in its bands, finds no primed ring empty, and tells levels
 /// near their targets.
 #[tactic(auto)]
 pub fn steady_runs_stay_steady()

@@ -1,14 +1,11 @@
 -- The lines of a descriptor: what they feed is bytes, and what the host knows of the device that the bytes describe is so from the start.
-use Rattle.std.proofs.Common.{◌≡◌, sym, refl, ap, ℕ, ℤ, true, List, [], ◌∷◌, ◌++◌, map, Option, None, Some, is_some, IfSome}
+use Rattle.std.proofs.Common.{◌≡◌, sym, refl, ap, ℕ, ℤ, true, List, [], ◌∷◌, map, Option, None, Some, is_some, IfSome}
 use Rattle.std.specs.List.{AllByRecursion}
 use Rattle.std.proofs.lemmas.List.Elements.{All-map}
 use Rattle.uac_descriptor.specs.Reading.{AreBytes}
-use Rattle.uac_sentence.specs.Grammar.{first_fault}
-use Rattle.uac_sentence.specs.declared.faults.GrammarFault.{GrammarFault}
 use Rattle.uac_entities.specs.declared.entity.Entity.{Entity}
-use Rattle.uac_topology_rules.specs.declared.fault.TopologyFault.{TopologyFault}
 use Rattle.uac_topology.specs.Function.{FunctionFields}
-use Rattle.uac_topology.specs.Topology.{IsSoundFunction, first_broken}
+use Rattle.uac_topology.specs.Topology.{IsSoundFunction}
 use Rattle.uac_topology.proofs.PinLemmas.{have_pins}
 use Rattle.uac_store.specs.declared.keys.Key.{Key}
 use Rattle.uac_store.specs.Controls.{IsStoreOf}
@@ -21,15 +18,12 @@ use Rattle.uac_mixer.specs.declared.element.Element.{Element}
 use Rattle.uac_mixer.proofs.Agreed.{held_as}
 use Rattle.uac_mixer.proofs.Members.{IsElementOf, all_listed, none_read}
 use Rattle.uac_mixer.proofs.Stored.{starts}
-use Rattle.uac_grammar.specs.Stop.{shown_fault}
-use Rattle.uac_script.specs.Phrase.{Phrase, idle, feeds, goes, controls, gets, sets, shows, breaks, appends, tracks, jacks, deviates, runs, details, reports}
+use Rattle.uac_script.specs.Phrase.{Phrase, feeds}
 use Rattle.uac_units.specs.Hearing.{Reading}
 use Rattle.uac_running.specs.RunningWorld.{at_start}
-use Rattle.uac_running.specs.Lines.{ready_line}
 use Rattle.uac_device.specs.DeviceWorld.{fresh}
-use Rattle.uac_bus.specs.Description.{blocks_of, function_of}
-use Rattle.uac_bus.specs.World.{describing, done, fed, gone, if_no_fault, if_sound, running, silently, step_describing}
-use Rattle.uac_steady.proofs.Beginning.{appended_bytes, described}
+use Rattle.uac_bus.specs.World.{step_describing}
+use Rattle.uac_steady.proofs.Beginning.{describing_is}
 use Rattle.uac_believed.proofs.Worlds.{Begins, IsBegun, IsBelieved}
 
 -- ---- the device that bytes without a fault describe
@@ -89,41 +83,8 @@ starts_begun bytes function meters sound =
 
 -- ---- lines
 
-fed_begins : (bytes : List ℕ) (meters : List Reading) → AreBytes bytes → Begins (fed bytes meters)
-unfolding fed
-fed_begins bytes meters are = by (shown_fault bytes)
-  where
-    by : (o : Option GrammarFault) → Begins (if_no_fault o (silently (describing bytes meters)))
-    by None = are
-    by (Some fault) = tt
-
-gone_begins : (bytes : List ℕ) (meters : List Reading) → AreBytes bytes → Begins (gone bytes meters)
-unfolding gone
-gone_begins bytes meters are = by (first_fault bytes) refl (first_broken (blocks_of bytes)) refl
-  where
-    function : FunctionFields
-    function = function_of (blocks_of bytes)
-
-    by : (f : Option GrammarFault) → first_fault bytes ≡ f → (b : Option TopologyFault) → first_broken (blocks_of bytes) ≡ b
-        → Begins (if_no_fault f (if_sound b (done (running (at_start bytes function meters)) (ready_line function ∷ []))))
-    by None whole None sound = starts_begun bytes function meters ((described bytes are whole sound).sound)
-    by None whole (Some fault) broken = tt
-    by (Some fault) at b is = tt
-
 pub describing_begins : (bytes : List ℕ) (meters : List Reading) (phrase : Phrase) → AreBytes bytes
     → ((more : List ℕ) → phrase ≡ feeds more → AreBytes more) → Begins (step_describing bytes meters phrase)
-describing_begins bytes meters idle are feed = are
-describing_begins bytes meters (feeds more) are feed = fed_begins (bytes ++ more) meters (appended_bytes bytes more are (feed more refl))
-describing_begins bytes meters goes are feed = gone_begins bytes meters are
-describing_begins bytes meters (controls setup sent) are feed = tt
-describing_begins bytes meters (gets name) are feed = tt
-describing_begins bytes meters (sets name value) are feed = tt
-describing_begins bytes meters (shows name) are feed = tt
-describing_begins bytes meters (breaks later) are feed = tt
-describing_begins bytes meters (appends number samples) are feed = tt
-describing_begins bytes meters (tracks number voice) are feed = tt
-describing_begins bytes meters (jacks terminal voice) are feed = tt
-describing_begins bytes meters (deviates clock millionths) are feed = tt
-describing_begins bytes meters (runs count losses) are feed = tt
-describing_begins bytes meters (details level) are feed = tt
-describing_begins bytes meters reports are feed = tt
+describing_begins bytes meters =
+    describing_is (λ phrase s. Begins s) (λ phrase fault. tt) bytes meters (λ are. are) (λ more now are. are)
+    (λ function is. starts_begun bytes function meters is.sound)

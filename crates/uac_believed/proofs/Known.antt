@@ -1,5 +1,5 @@
--- Behind lines, the value of each element is known or unknown as was told of it last.
-use Rattle.std.proofs.Common.{◌≡◌, ◌∙◌, refl, sym, ap, subst, ℕ, Bool, true, false, List, [], ◌∷◌, length, map, rules, Option, None, Some, is_some, unwrap_or, option_map, option_and_then, Result, Ok, Err}
+-- After lines, the value of each element is known or unknown as was told of it last.
+use Rattle.std.proofs.Common.{◌≡◌, ◌∙◌, refl, sym, ap, subst, ℕ, Bool, true, List, [], ◌∷◌, length, map, rules, Option, None, Some, is_some, unwrap_or, option_map, option_and_then, Result, Ok, Err}
 use Rattle.std.specs.List.{AllByRecursion, AllZip, cons_option}
 use Rattle.std.proofs.lemmas.List.Elements.{All-from_recursion}
 use Rattle.uac_descriptor.specs.Reading.{AreBytes}
@@ -12,10 +12,12 @@ use Rattle.uac_request.specs.Requests.{setup_of}
 use Rattle.uac_running.specs.RunningWorld.{RunningWorld, with_detail, with_deviation, with_samples_on, with_tone, with_track}
 use Rattle.uac_running.specs.Events.{microframes}
 use Rattle.uac_running.specs.Transfers.{element_named, read_element, set_element, show_element, transfer, with_break}
+use Rattle.uac_bus.specs.declared.fault.BusFault.{BusFault}
 use Rattle.uac_bus.specs.World.{Step, World, are_frames, describing, done, on_element, refused, running, silently, size_of, start, step, step_running, told, tone_of, unless}
 use Rattle.uac_bus.specs.After.{after, and_then, said_step}
 use Rattle.uac_believed.specs.Unknown.{ElementsStay, Transfer, ValuesAreKnownAsTold, elements_in, get_by, if_done, last_or, set_by, tells, tells_in, told_of, transfer_of}
 use Rattle.uac_steady.proofs.Beginning.{feeds_bytes}
+use Rattle.uac_steady.proofs.Steps.{on_element_is, unless_is}
 use Rattle.uac_units.specs.Hearing.{Reading}
 use Rattle.uac_believed.proofs.Worlds.{Begins}
 use Rattle.uac_believed.proofs.Beginning.{describing_begins}
@@ -33,10 +35,12 @@ Tells told xs (refused fault) = Unit {0}
 abbrev TellsNone : List Element → Step → Type 0
 TellsNone xs s = Tells (λ x. None) xs s
 
+refused_tells : (told : Element → Option Bool) (xs : List Element) (fault : BusFault) → Tells told xs (refused fault)
+refused_tells told xs fault = tt
+
 tells_unless : (told : Element → Option Bool) (xs : List Element) (b : Bool) (rule : ℕ) (s : Step) → Tells told xs s
     → Tells told xs (unless b rule s)
-tells_unless told xs true rule s tells = tells
-tells_unless told xs false rule s tells = tt
+tells_unless told xs = unless_is (Tells told xs) (refused_tells told xs)
 
 -- a line that names an element
 tells_on : (r : RunningWorld) (o : Option Element) (made : Element → Transfer) (of : Element → Step)
@@ -44,11 +48,6 @@ tells_on : (r : RunningWorld) (o : Option Element) (made : Element → Transfer)
     → Tells (λ y. option_and_then (tells r y) (option_map made o)) r.view.elements (on_element o of)
 tells_on r None made of each = tt
 tells_on r (Some x) made of each = each x
-
-shows_none : (r : RunningWorld) (o : Option Element) (of : Element → Step) → ((x : Element) → TellsNone r.view.elements (of x))
-    → TellsNone r.view.elements (on_element o of)
-shows_none r None of each = tt
-shows_none r (Some x) of each = each x
 
 running_tells : (r : RunningWorld) (phrase : Phrase) → Tells (tells_in (running r) (Ok phrase)) r.view.elements (step_running r phrase)
 unfolding transfer read_element set_element show_element with_break with_samples_on with_track with_tone with_detail with_deviation
@@ -62,7 +61,9 @@ running_tells r (sets name value) =
     tells_on r (element_named r name) (set_by value r) (λ x. unless (fits_element x.kind value) 7 (told (set_element x value r)))
     (λ x. tells_unless (λ y. tells r y (set_by value r x)) r.view.elements (fits_element x.kind value) 7 (told (set_element x value r))
     (transfer_told r (set_by value r x)))
-running_tells r (shows name) = shows_none r (element_named r name) (λ x. told (show_element x r)) (λ x. none_told r.view.elements)
+running_tells r (shows name) =
+    on_element_is (TellsNone r.view.elements) (refused_tells (λ x. None) r.view.elements) (element_named r name)
+    (λ x. told (show_element x r)) (λ x. none_told r.view.elements)
 running_tells r (breaks later) = none_told r.view.elements
 running_tells r (appends number samples) =
     tells_unless (λ x. None) r.view.elements _ 6
@@ -119,12 +120,12 @@ told_same saids w x y same = sym (told_unread saids w y) ∙ ap (told_of saids w
 
 -- ---- lines in a row
 
--- what becomes of an element behind lines
+-- what becomes of an element after lines
 record IsLeft (saids : List (Result Phrase ℕ)) (r : RunningWorld) (x y : Element) : Type 0 where
   pub same : unread y ≡ unread x
   pub known : is_some y.value ≡ last_or (is_some x.value) (told_of saids (running r) x)
 
--- the elements behind lines are those before them, each left as was told of it
+-- the elements after lines are those before them, each left as was told of it
 abbrev AreLeft : List (Result Phrase ℕ) → RunningWorld → World → Type 0
 AreLeft saids r (running last) = AllZip (IsLeft saids r) r.view.elements last.view.elements
 AreLeft saids r (describing bytes meters) = ⊥
@@ -152,7 +153,7 @@ unfolding after told_of last_or
 left_behind [] r = zip_itself (IsLeft [] r) r.view.elements (λ x. record { same = refl; known = refl })
 left_behind (said ∷ saids) r = by (said_step said (running r)) refl (said_tells r said) (left_behind saids)
   where
-    -- the last that this line, which makes this step, and those behind it tell of an element
+    -- the last that this line, which makes this step, and those after it tell of an element
     last_in : Element → Step → Bool
     last_in x s = last_or (is_some x.value) (if_done s (λ w. cons_option (tells_in (running r) said x) (told_of saids w x)))
 

@@ -1,33 +1,29 @@
--- Line by line: what the host knows is so behind each, and so behind all of them.
-use Rattle.std.proofs.Common.{◌≡◌, refl, ℕ, Bool, true, false, List, [], ◌∷◌, length, map, rules, Option, None, Some, Result, Ok, Err}
+-- Line by line: what the host knows is so after each, and so after all of them.
+use Rattle.std.proofs.Common.{◌≡◌, refl, ℕ, List, [], ◌∷◌, length, map, rules, Result, Ok, Err}
 use Rattle.uac_descriptor.specs.Reading.{AreBytes}
 use Rattle.uac_request.specs.Requests.{setup_of}
 use Rattle.uac_device.specs.DeviceWorld.{deviated}
 use Rattle.uac_mixer.specs.Elements.{fits_element}
-use Rattle.uac_mixer.specs.declared.element.Element.{Element}
 use Rattle.uac_script.specs.Phrase.{Phrase, idle, feeds, goes, controls, gets, sets, shows, breaks, appends, tracks, jacks, deviates, runs, details, reports}
 use Rattle.uac_script.specs.Reading.{answer}
 use Rattle.uac_running.specs.RunningWorld.{RunningWorld, with_detail, with_deviation, with_samples_on, with_tone, with_track}
 use Rattle.uac_running.specs.Events.{microframes}
 use Rattle.uac_running.specs.Transfers.{element_named, read_element, set_element, show_element, transfer, with_break}
-use Rattle.uac_bus.specs.World.{Step, World, are_frames, describing, done, on_element, refused, running, silently, size_of, start, step, step_describing, step_running, told, tone_of, unless}
+use Rattle.uac_bus.specs.declared.fault.BusFault.{BusFault}
+use Rattle.uac_bus.specs.World.{Step, World, are_frames, describing, done, refused, running, silently, size_of, start, step, step_describing, step_running, told, tone_of, unless}
 use Rattle.uac_bus.specs.After.{after, and_then, said_step}
 use Rattle.uac_believed.specs.Believed.{KnownValuesAreSo}
 use Rattle.uac_believed.proofs.Worlds.{IsBelieved, IsGood, Keeps, begins_good, is_so}
 use Rattle.uac_believed.proofs.Microframes.{microframes_believed}
 use Rattle.uac_believed.proofs.Transferred.{transfers_believed}
 use Rattle.uac_steady.proofs.Beginning.{feeds_bytes}
+use Rattle.uac_steady.proofs.Steps.{on_element_is, unless_is}
 use Rattle.uac_believed.proofs.Beginning.{describing_begins}
 
 -- ---- a line of a running device
 
-keeps_unless : (b : Bool) (rule : ℕ) (s : Step) → Keeps s → Keeps (unless b rule s)
-keeps_unless true rule s keeps = keeps
-keeps_unless false rule s keeps = tt
-
-keeps_on : (o : Option Element) (of : Element → Step) → ((x : Element) → Keeps (of x)) → Keeps (on_element o of)
-keeps_on None of keeps = tt
-keeps_on (Some x) of keeps = keeps x
+refused_keeps : (fault : BusFault) → Keeps (refused fault)
+refused_keeps fault = tt
 
 running_keeps : (r : RunningWorld) → IsBelieved r → (phrase : Phrase) → Keeps (step_running r phrase)
 unfolding transfer read_element set_element show_element with_break with_samples_on with_track with_tone with_detail with_deviation deviated
@@ -36,25 +32,25 @@ running_keeps r agree (feeds more) = tt
 running_keeps r agree goes = tt
 running_keeps r agree (controls setup sent) = transfers_believed (setup_of setup) sent r agree
 running_keeps r agree (gets name) =
-    keeps_on (element_named r name) (λ x. told (read_element x r)) (λ x. transfers_believed _ _ r agree)
+    on_element_is Keeps refused_keeps (element_named r name) (λ x. told (read_element x r)) (λ x. transfers_believed _ _ r agree)
 running_keeps r agree (sets name value) =
-    keeps_on (element_named r name) (λ x. unless (fits_element x.kind value) 7 (told (set_element x value r)))
-    (λ x. keeps_unless (fits_element x.kind value) 7 (told (set_element x value r)) (transfers_believed _ _ r agree))
-running_keeps r agree (shows name) = keeps_on (element_named r name) (λ x. told (show_element x r)) (λ x. agree)
+    on_element_is Keeps refused_keeps (element_named r name) (λ x. unless (fits_element x.kind value) 7 (told (set_element x value r)))
+    (λ x. unless_is Keeps refused_keeps (fits_element x.kind value) 7 (told (set_element x value r)) (transfers_believed _ _ r agree))
+running_keeps r agree (shows name) = on_element_is Keeps refused_keeps (element_named r name) (λ x. told (show_element x r)) (λ x. agree)
 running_keeps r agree (breaks later) = agree
 running_keeps r agree (appends number samples) =
-    keeps_unless _ 6
+    unless_is Keeps refused_keeps _ 6
     (unless (are_frames r.device.function (size_of number) (length samples)) 7
     (silently (running (with_samples_on (size_of number) samples r))))
-    (keeps_unless _ 7 (silently (running (with_samples_on (size_of number) samples r))) agree)
+    (unless_is Keeps refused_keeps _ 7 (silently (running (with_samples_on (size_of number) samples r))) agree)
 running_keeps r agree (tracks number voice) =
-    keeps_unless _ 6 (silently (running (with_track (size_of number) (tone_of voice) r))) agree
+    unless_is Keeps refused_keeps _ 6 (silently (running (with_track (size_of number) (tone_of voice) r))) agree
 running_keeps r agree (jacks terminal voice) =
-    keeps_unless _ 6 (silently (running (with_tone (size_of terminal) (tone_of voice) r))) agree
+    unless_is Keeps refused_keeps _ 6 (silently (running (with_tone (size_of terminal) (tone_of voice) r))) agree
 running_keeps r agree (deviates clock millionths) =
-    keeps_unless _ 6 (silently (running (with_deviation (size_of clock) millionths r))) agree
+    unless_is Keeps refused_keeps _ 6 (silently (running (with_deviation (size_of clock) millionths r))) agree
 running_keeps r agree (runs count losses) =
-    keeps_unless _ 6 (told (microframes losses (size_of count) r)) (microframes_believed losses (size_of count) r agree)
+    unless_is Keeps refused_keeps _ 6 (told (microframes losses (size_of count) r)) (microframes_believed losses (size_of count) r agree)
 running_keeps r agree (details level) = agree
 running_keeps r agree reports = agree
 

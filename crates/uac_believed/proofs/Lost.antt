@@ -1,4 +1,4 @@
--- The value of an element is unknown exactly where a set of it broke and nothing was told of it behind.
+-- The value of an element is unknown exactly where a set of it broke and nothing was told of it after.
 use Rattle.std.proofs.Common.{◌≡◌, ◌∙◌, ◌↔◌, refl, sym, ap, ℕ, Bool, true, false, List, [], ◌∷◌, ◌++◌, map, Option, None, Some, is_some, unwrap_or, Result}
 use Rattle.std.specs.List.{cons_option}
 use Rattle.std.proofs.lemmas.List.Elements.{All-weaker}

@@ -1,8 +1,8 @@
 -- Microframes leave the host's view as it is, and the device's function and controls.
 use Rattle.std.proofs.Common.{◌≡◌, ◌∙◌, refl, ℕ, zero, suc, ◌+◌, List, [], ◌∷◌}
-use Rattle.uac_units.specs.Hearing.{held}
+use Rattle.uac_units.specs.Hearing.{at_most_u64}
 use Rattle.uac_device.specs.DeviceWorld.{advanced, next_ticks}
-use Rattle.uac_script.specs.Phrase.{Loss}
+use Rattle.uac_script.specs.Phrase.{SaidMark}
 use Rattle.uac_streaming.specs.StreamingWorld.{in_packets, out_packets}
 use Rattle.uac_running.specs.RunningWorld.{RunningWorld, streaming_of, with_streaming}
 use Rattle.uac_running.specs.Events.{domain_microframe, domain_microframes, ends_and_reports, microframe, microframes, packets_and_ticks, tick, tick_times}
@@ -27,20 +27,20 @@ unfolding domain_microframes
 domains_view [] v = refl
 domains_view (c ∷ cs) v = domains_view cs (domain_microframe c v).world ∙ domain_view c v
 
-microframe_view : (losses : List Loss) (r : RunningWorld) → (microframe losses r).world.view ≡ r.view
+microframe_view : (losses : List SaidMark) (r : RunningWorld) → (microframe losses r).world.view ≡ r.view
 unfolding microframe packets_and_ticks ends_and_reports
 microframe_view losses r =
-    let v : RunningWorld = record r { time = held (r.time + 1) } in
+    let v : RunningWorld = record r { time = at_most_u64 (r.time + 1) } in
     let sent = with_streaming v (out_packets v.detail losses (streaming_of v)).world in
     let fetched = with_streaming sent (in_packets v.detail losses (streaming_of sent)).world in
     domains_view fetched.device.function.domains fetched
 
-pub microframes_view : (losses : List Loss) (count : ℕ) (r : RunningWorld) → (microframes losses count r).world.view ≡ r.view
+pub microframes_view : (losses : List SaidMark) (count : ℕ) (r : RunningWorld) → (microframes losses count r).world.view ≡ r.view
 unfolding microframes
 microframes_view losses zero r = refl
 microframes_view losses (suc count) r = microframes_view losses count (microframe losses r).world ∙ microframe_view losses r
 
-pub microframes_believed : (losses : List Loss) (count : ℕ) (r : RunningWorld) → IsBelieved r
+pub microframes_believed : (losses : List SaidMark) (count : ℕ) (r : RunningWorld) → IsBelieved r
     → IsBelieved (microframes losses count r).world
 unfolding microframes
 microframes_believed losses zero r agree = agree

@@ -1,7 +1,7 @@
 -- What a transfer tells of an element is what becomes of its value in the host's view.
 use Rattle.std.proofs.Common.{◌≡◌, refl, ℕ, ◌==◌, ◌&&◌, ◌||◌, Bool, true, false, if◌then◌else◌, ℤ, List, [], ◌∷◌, map, length, Option, None, Some, is_some, unwrap_or}
 use Rattle.std.specs.List.{AllZip}
-use Rattle.uac_request.specs.Requests.{Told, is_done, is_stalled, with_bytes, with_descriptor}
+use Rattle.uac_request.specs.Requests.{AnswerFields, is_done, is_stalled, with_bytes, with_descriptor}
 use Rattle.uac_request.specs.declared.setup.Setup.{Setup}
 use Rattle.uac_mixer.specs.Elements.{unread, width_of}
 use Rattle.uac_mixer.specs.Transfers.{after_get, after_set, element_after, gets, is_for, sets, value_after, value_in, view_after}
@@ -33,15 +33,15 @@ no_get : (control : ℕ) (p : Setup) (x : Element) → sets control p x ≡ true
 unfolding is_for
 no_get control p x is = (let type : p.request_type ≡ 33 = (is_request 33 control p x is).type' in rw type refl)
 
--- the value behind a transfer that this came back of, where it is a set of the element or isn't, and a get or isn't
-abbrev value_by : Bool → Bool → List ℕ → Option Told → Element → Option ℤ
+-- the value after a transfer that this came back of, where it is a set of the element or isn't, and a get or isn't
+abbrev value_by : Bool → Bool → List ℕ → Option AnswerFields → Element → Option ℤ
 value_by s g sent came x = if s then after_set x sent came else if g then after_get x came else x.value
 
-abbrev told_by : Bool → Bool → Option Told → Element → Option Bool
+abbrev told_by : Bool → Bool → Option AnswerFields → Element → Option Bool
 told_by s g came x =
     if s && is_broken came then Some false else if (s && says_done came) || (g && brings (width_of x.kind) came) then Some true else None
 
-abbrev IsAsTold : Bool → Bool → List ℕ → Option Told → Element → Type 0
+abbrev IsAsTold : Bool → Bool → List ℕ → Option AnswerFields → Element → Type 0
 IsAsTold s g sent came x = is_some (value_by s g sent came x) ≡ unwrap_or (told_by s g came x) (is_some x.value)
 
 got : (sent bytes : List ℕ) (x : Element) → IsAsTold false true sent (Some (with_bytes bytes)) x
@@ -51,7 +51,7 @@ got sent bytes x = by (length bytes == width_of x.kind)
     by true = refl
     by false = refl
 
-by_kind : (s g : Bool) (sent : List ℕ) (came : Option Told) (x : Element) → (s ≡ true → g ≡ false) → IsAsTold s g sent came x
+by_kind : (s g : Bool) (sent : List ℕ) (came : Option AnswerFields) (x : Element) → (s ≡ true → g ≡ false) → IsAsTold s g sent came x
 by_kind true true sent came x apart = (let no : true ≡ false = apart refl in cc)
 by_kind true false sent None x apart = refl
 by_kind true false sent (Some (with_bytes bytes)) x apart = refl

@@ -1,8 +1,8 @@
--- What the host knows is so behind a control transfer, whatever came back of it.
+-- What the host knows is so after a control transfer, whatever came back of it.
 use Rattle.std.proofs.Common.{◌≡◌, ◌∙◌, refl, ap, ℕ, ◌&&◌, Bool, true, false, if◌then◌else◌, List, [], ◌∷◌, map, Option, None, Some, is_some}
 use Rattle.uac_alt.specs.Streams.{StreamFields}
 use Rattle.uac_store.proofs.Soundness.{keyed}
-use Rattle.uac_request.specs.Requests.{Held, Told, after_request, held_by, reply_of}
+use Rattle.uac_request.specs.Requests.{Held, AnswerFields, after_request, held_by, reply_of}
 use Rattle.uac_request.specs.declared.setup.Setup.{Setup}
 use Rattle.uac_device.specs.DeviceWorld.{DeviceWorld, controlled, restarted, sets_interface, stream_in_setting, tells_done}
 use Rattle.uac_mixer.specs.Agreement.{IsAgreed, StaysAgreed}
@@ -22,12 +22,12 @@ use Rattle.uac_believed.proofs.Worlds.{Agree, IsBelieved}
 
 -- ---- the view's elements stay those of the function
 
-unread_after : (control : ℕ) (p : Setup) (sent : List ℕ) (came : Option Told) (xs : List Element)
+unread_after : (control : ℕ) (p : Setup) (sent : List ℕ) (came : Option AnswerFields) (xs : List Element)
     → map unread (map (element_after control p sent came) xs) ≡ map unread xs
 unread_after control p sent came [] = refl
 unread_after control p sent came (x ∷ xs) = ap (λ (ys : List Element). unread x ∷ ys) (unread_after control p sent came xs)
 
-viewed : (control : ℕ) (p : Setup) (sent : List ℕ) (came : Option Told) (entities : List Entity) (view : ViewWorld)
+viewed : (control : ℕ) (p : Setup) (sent : List ℕ) (came : Option AnswerFields) (entities : List Entity) (view : ViewWorld)
     → IsViewOf entities view → IsViewOf entities (view_after control p sent came view)
 unfolding view_after
 viewed control p sent came entities view is = unread_after control p sent came view.elements ∙ is
@@ -64,10 +64,10 @@ module _ (p : Setup) (bytes : List ℕ) (r : RunningWorld) (agree : IsBelieved r
   known =
       stays_known keyed r.device.function holds p bytes r.view agree.sound agree.store agree.of_function agree.agreed
 
-  abbrev seen : Option Told → ViewWorld
+  abbrev seen : Option AnswerFields → ViewWorld
   seen came = view_after r.device.function.control_interface p bytes came r.view
 
-  rests : (came : Option Told) → IsAgreed r.device.controls (seen came) → Of r.device (seen came)
+  rests : (came : Option AnswerFields) → IsAgreed r.device.controls (seen came) → Of r.device (seen came)
   rests came agreed = record {
     sound = agree.sound;
     store = agree.store;
@@ -75,7 +75,7 @@ module _ (p : Setup) (bytes : List ℕ) (r : RunningWorld) (agree : IsBelieved r
     agreed = agreed;
   }
 
-  acted : (came : Option Told)
+  acted : (came : Option AnswerFields)
       → IsAgreed (after_request r.device.function holds p bytes).controls (seen came)
       → Of (controlled p bytes r.device) (seen came)
   unfolding controlled

@@ -1,4 +1,4 @@
--- Worked rows: what lines tell of the elements of a small device, a feature of two channels behind an input terminal.
+-- Worked rows: what lines tell of the elements of a small device, a feature of two channels after an input terminal.
 use Rattle.std.proofs.Common.{◌≡◌, refl, ℕ, true, false, ℤ, pos, negsuc, List, [], ◌∷◌, ◌++◌, map, Option, None, Some, Result, Ok}
 use Rattle.uac_entities.specs.declared.entity.Entity.{Entity}
 use Rattle.uac_entities.specs.declared.entity.EntityKind.{EntityKind}

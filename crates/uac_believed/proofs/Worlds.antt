@@ -39,7 +39,7 @@ carried f g c d v w function controls view agree =
     subst (λ (h : FunctionFields). Agree h d w) (sym function)
     (subst (λ (e : List (Key × ℤ)). Agree f e w) (sym controls) (subst (λ (u : ViewWorld). Agree f c u) (sym view) agree))
 
--- just behind the descriptor's end each value is known
+-- just after the descriptor's end each value is known
 pub record IsBegun (r : RunningWorld) : Type 0 where
   pub believed : IsBelieved r
   pub known : AllByRecursion (λ (x : Element). is_some x.value ≡ true) r.view.elements

@@ -1,4 +1,4 @@
--- What the host knows of a control is the device's value, behind every list of lines of a script (Audio Class 2.0, 5.2; profile).
+-- What the host knows of a control is the device's value, after every list of lines of a script (Audio Class 2.0, 5.2; profile).
 use Rattle.std.specs.Prelude.{ℕ, List, map}
 use Rattle.uac_units.specs.Hearing.{Reading}
 use Rattle.uac_script.specs.Reading.{answer}

@@ -4,7 +4,7 @@ use Rattle.std.specs.Prelude.{◌≡◌, ◌↔◌, ℕ, ◌==◌, ◌&&◌, ◌
 use Rattle.std.specs.Prelude.{None, Some, is_some, option_map, option_and_then, Result, Ok, Err}
 use Rattle.std.specs.List.{All, cons_option}
 use Rattle.uac_units.specs.Hearing.{Reading}
-use Rattle.uac_request.specs.Requests.{Told, setup_of, value_bytes, is_done, is_stalled, with_bytes, with_descriptor}
+use Rattle.uac_request.specs.Requests.{AnswerFields, setup_of, value_bytes, is_done, is_stalled, with_bytes, with_descriptor}
 use Rattle.uac_request.specs.declared.setup.Setup.{Setup}
 use Rattle.uac_mixer.specs.Elements.{unread, width_of}
 use Rattle.uac_mixer.specs.Transfers as mixer
@@ -53,12 +53,12 @@ transfer_of reports r = None
 -- ---- what it tells of an element
 
 -- nothing came back: the transfer broke
-abbrev pub is_broken : Option Told → Bool
+abbrev pub is_broken : Option AnswerFields → Bool
 is_broken None = true
 is_broken (Some told) = false
 
 -- it is done
-abbrev pub says_done : Option Told → Bool
+abbrev pub says_done : Option AnswerFields → Bool
 says_done None = false
 says_done (Some (with_bytes bytes)) = false
 says_done (Some (with_descriptor from to)) = false
@@ -66,7 +66,7 @@ says_done (Some is_done) = true
 says_done (Some (is_stalled rule)) = false
 
 -- so many bytes came
-abbrev pub brings : ℕ → Option Told → Bool
+abbrev pub brings : ℕ → Option AnswerFields → Bool
 brings count None = false
 brings count (Some (with_bytes bytes)) = length bytes == count
 brings count (Some (with_descriptor from to)) = false
@@ -80,7 +80,7 @@ is_set r x t = mixer.sets r.device.function.control_interface t.setup x
 abbrev pub is_get : RunningWorld → Element → Transfer → Bool
 is_get r x t = mixer.gets r.device.function.control_interface t.setup x
 
-abbrev pub came_back : RunningWorld → Transfer → Option Told
+abbrev pub came_back : RunningWorld → Transfer → Option AnswerFields
 came_back r t = comes_back t.setup t.sent r
 
 -- a set that broke tells that the element's value is unknown; a set that is done tells that it is known, and so does a get that brings all
@@ -121,14 +121,14 @@ abbrev pub elements_in : World → List Element
 elements_in (describing bytes meters) = []
 elements_in (running r) = r.view.elements
 
--- behind every list of lines, by their texts, the value of an element is known or unknown as was told of it last; it is known where nothing
+-- after every list of lines, by their texts, the value of an element is known or unknown as was told of it last; it is known where nothing
 -- was told
 abbrev pub ValuesAreKnownAsTold : Type 0
 ValuesAreKnownAsTold = (texts : List (List ℕ)) (shown : List Reading)
     → All (λ x. is_some x.value ≡ last_or true (told_of (map answer texts) (start shown) x))
     (elements_in (after (map answer texts) (start shown)).world)
 
--- an element lost its value: at one of these lines, which was done, a set of it broke; and no line behind that one told of it that a set
+-- an element lost its value: at one of these lines, which was done, a set of it broke; and no line after that one told of it that a set
 -- was done or that a get brought all bytes
 pub record IsLost (saids : List (Result Phrase ℕ)) (w : World) (x : Element) : Type 0 where
   pub before : List (Result Phrase ℕ)
@@ -139,13 +139,13 @@ pub record IsLost (saids : List (Result Phrase ℕ)) (w : World) (x : Element) :
   pub broke : tells_in (after before w).world said x ≡ Some false
   pub since : told_of behind (after (before ++ said ∷ []) w).world x ≡ []
 
--- behind every list of lines exactly those values are unknown that were lost
+-- after every list of lines exactly those values are unknown that were lost
 abbrev pub UnknownValuesAreLost : Type 0
 UnknownValuesAreLost = (texts : List (List ℕ)) (shown : List Reading)
     → All (λ x. (x.value ≡ None) ↔ IsLost (map answer texts) (start shown) x)
     (elements_in (after (map answer texts) (start shown)).world)
 
--- the elements of a running device, but for their values, are the same ones in the same order behind every list of lines
+-- the elements of a running device, but for their values, are the same ones in the same order after every list of lines
 abbrev pub ElementsStay : Type 0
 ElementsStay = (saids : List (Result Phrase ℕ)) (r : RunningWorld)
     → map unread (elements_in (after saids (running r)).world) ≡ map unread r.view.elements

@@ -2,14 +2,14 @@
 ghost use Rattle.uac_believed.specs.Believed.{KnownValuesAreSo};
 ghost use Rattle.uac_believed.specs.Unknown.{ElementsStay, UnknownValuesAreLost, ValuesAreKnownAsTold};
 
-/// What the host knows of a control is the device's value, whatever was sent, set, answered, stalled or broken before: so it is behind
+/// What the host knows of a control is the device's value, whatever was sent, set, answered, stalled or broken before: so it is after
 /// every list of lines of a script.
 pub fn known_values_are_so()
     ensures { KnownValuesAreSo }
 {}
 
 /// A control's value is unknown to the host exactly from a set of it that broke, whether before or after the device acted, until a get that
-/// brings all bytes of the control, or a set of it that is done. So it is behind every list of lines of a script.
+/// brings all bytes of the control, or a set of it that is done. So it is after every list of lines of a script.
 pub fn values_are_unknown_between()
     ensures { UnknownValuesAreLost }
 {}
@@ -19,7 +19,7 @@ pub fn values_are_known_as_told()
     ensures { ValuesAreKnownAsTold }
 {}
 
-/// The controls that the host's view shows are the same ones, in the same order, behind every list of lines from the descriptor's end on.
+/// The controls that the host's view shows are the same ones, in the same order, after every list of lines from the descriptor's end on.
 pub fn elements_stay()
     ensures { ElementsStay }
 {}

@@ -3,20 +3,20 @@
 use Rattle.std.proofs.Common.{◌≡◌, ◌∙◌, sym, refl, ap, subst, ℕ, zero, suc, ◌+◌, ◌==◌, if◌then◌else◌, Bool, true, false, List, [], ◌∷◌, Option, None, Some, is_some}
 use Rattle.std.specs.List.{filter, fold}
 use Rattle.std.specs.Option.{option_and_then, option_map, option_map_or}
-use Rattle.uac_units.specs.Hearing.{held}
+use Rattle.uac_units.specs.Hearing.{at_most_u64}
 use Rattle.uac_rate.specs.Steadiness.{Given, reported}
 use Rattle.uac_topology.specs.Function.{FunctionFields}
 use Rattle.uac_rate.specs.Reports.{report_of}
 use Rattle.uac_flow.specs.Streams.{OutStream, after_packet, after_taking, after_ticks, feedback_of, is_dry, is_due, out_level, settled_out, settled_when_due}
 use Rattle.uac_device.specs.DeviceWorld.{DeviceWorld, advanced, changed_at, feedback_in, is_on, next_ticks, received, set_jack, settled, ticked}
 use Rattle.uac_device.specs.DeviceWorld.{sent as device_sends}
-use Rattle.uac_script.specs.Phrase.{Loss}
+use Rattle.uac_script.specs.Phrase.{SaidMark}
 use Rattle.uac_streaming.specs.Telling.{Telling, at_rest}
 use Rattle.uac_streaming.specs.StreamingWorld.{StreamingWorld, all_reported, all_settled, fetched_lines, given_at, in_packet_turn, in_packets, is_in_due, is_out_due, loses_in, loses_out, loses_report, numbers, out_packets, out_turn, packet_fetched, packet_sent, packet_to, place_of, report_lines, report_made, report_turn, sent_lines, settled_turn}
 use Rattle.uac_running.specs.declared.jacks.Jack.{Jack}
 use Rattle.uac_running.specs.RunningWorld.{RunningWorld, streaming_of, with_streaming}
 use Rattle.uac_running.specs.Events.{all_given, domain_microframe, domain_microframes, ends_and_reports, microframe, next_frame, packets_and_ticks, tick, tick_times}
-use Rattle.uac_bands.proofs.Once.{Among, numbers_differ, own_number, turns_keep, turns_once}
+use Rattle.uac_bands.proofs.Once.{Among, none_at, numbers_differ, own_number, turns_keep, turns_once}
 use Rattle.uac_bands.proofs.Shown.{if_false, if_true}
 use Rattle.uac_generated.proofs.Timely.{Beat, beat_of, given_behind, is_told, next_beat, told_at}
 
@@ -71,13 +71,6 @@ kept_at n k change same streams = by (k == n)
     by true = kept_beat change same (streams k)
     by false = refl
 
-none_at : (n k : ℕ) (change : OutStream → OutStream) (streams : ℕ → Option OutStream) → streams k ≡ None → changed_at n change streams k ≡ None
-none_at n k change streams none = by (k == n)
-  where
-    by : (b : Bool) → (if b then option_map change (streams k) else streams k) ≡ None
-    by true = ap (option_map change) none
-    by false = none
-
 -- ---- the world of one stream
 
 module _ (function : FunctionFields) (interface : ℕ) where
@@ -92,7 +85,7 @@ module _ (function : FunctionFields) (interface : ℕ) where
     pub plays : Plays beat w.device
     pub given_is : w.given ≡ given
 
-  module _ (detail : ℕ) (losses : List Loss) where
+  module _ (detail : ℕ) (losses : List SaidMark) where
     module _ (given : Given) (beat : Option Beat) where
       out_beats : (n : ℕ) (w : StreamingWorld) → Beats beat given w → Beats beat given (out_turn detail losses n w).world
       unfolding out_turn packet_sent received
@@ -278,14 +271,14 @@ module _ (function : FunctionFields) (interface : ℕ) where
 
   -- ---- a microframe
 
-  pub microframe_beats : (among : Among interface (numbers function)) (losses : List Loss) (r : RunningWorld) (beat : Option Beat) (given : Given)
+  pub microframe_beats : (among : Among interface (numbers function)) (losses : List SaidMark) (r : RunningWorld) (beat : Option Beat) (given : Given)
       → Beats beat given (streaming_of r)
       → Beats (option_map next_beat beat)
       (given_behind (loses_report losses interface) (place_of function interface) (option_map next_beat beat) given)
       (streaming_of (microframe losses r).world)
   unfolding microframe packets_and_ticks ends_and_reports
   microframe_beats among losses r beat given beats =
-      let v : RunningWorld = record r { time = held (r.time + 1) } in
+      let v : RunningWorld = record r { time = at_most_u64 (r.time + 1) } in
       let sent = with_streaming v (out_packets v.detail losses (streaming_of v)).world in
       let fetched = with_streaming sent (in_packets v.detail losses (streaming_of sent)).world in
       let u = (packets_and_ticks losses v).world in

@@ -1,4 +1,4 @@
--- The lines of the descriptor of a generated script: each is fed, and behind them the descriptor's end is accepted.
+-- The lines of the descriptor of a generated script: each is fed, and after them the descriptor's end is accepted.
 use Rattle.std.proofs.Common.{◌≡◌, ◌∙◌, sym, refl, ap, subst, ℕ, zero, suc, ◌+◌, ◌*◌, ◌≤◌, ◌<◌, true, List, [], ◌∷◌, ◌++◌, map, length, take, drop, length-drop, Option, None, Some, arith}
 use Rattle.std.specs.Prelude.{nat_lt}
 use Rattle.std.specs.List.{list_all, range_with_len}

@@ -1,12 +1,12 @@
 -- Lines in a row, none of them refused.
-use Rattle.std.proofs.Common.{◌≡◌, ◌∙◌, sym, refl, ap, subst, ℕ, Bool, true, false, List, [], ◌∷◌, ◌++◌, map, None, Some, Result, Ok}
+use Rattle.std.proofs.Common.{◌≡◌, ◌∙◌, sym, refl, ap, subst, ℕ, List, [], ◌∷◌, ◌++◌, map, None, Some, Result, Ok}
 use Rattle.uac_script.specs.Phrase.{Phrase}
 use Rattle.uac_script.specs.Reading.{answer}
 use Rattle.uac_transcript.specs.Transcript.{Said}
-use Rattle.uac_bus.specs.World.{Step, World, done, refused, step, unless}
+use Rattle.uac_bus.specs.World.{Step, World, done, refused, step}
 use Rattle.uac_bus.specs.After.{After, after, and_then, said_step}
 
--- none of these lines is refused in a world, and this holds behind them
+-- none of these lines is refused in a world, and this holds after them
 pub record Leaves (a : After) (P : World → Type 0) : Type 0 where
   pub none_refused : a.refusal ≡ None
   pub holds : P a.world
@@ -39,7 +39,3 @@ module _ (ys : List (List ℕ)) (P Q : World → Type 0) (behind : (v : World) �
           let later = rest next (record { none_refused = h.none_refused; holds = h.holds }) in
           record { none_refused = later.none_refused; holds = later.holds }
       by (refused fault) rest h = absurd (let none : Some fault ≡ None = h.none_refused in cc)
-
-pub unless_true : (b : Bool) (rule : ℕ) (s : Step) → b ≡ true → unless b rule s ≡ s
-unless_true true rule s is = refl
-unless_true false rule s is = absurd (cc)

@@ -14,7 +14,7 @@ use Rattle.uac_device.specs.DeviceWorld as device
 use Rattle.uac_flow.specs.Streams.{OutStream, started_out}
 use Rattle.uac_mixer.specs.declared.link.When.{When}
 use Rattle.uac_mixer.specs.declared.link.When.TheVariants as when
-use Rattle.uac_script.specs.Phrase.{Loss}
+use Rattle.uac_script.specs.Phrase.{SaidMark}
 use Rattle.uac_streaming.specs.StreamingWorld.{StreamingWorld, followed, given_at, loses_report, numbers, place_of}
 use Rattle.uac_running.specs.RunningWorld.{RunningWorld, at_start, streaming_of, with_deviation, with_track}
 use Rattle.uac_running.specs.Transfers.{acts, breaks_before, transferred}
@@ -49,7 +49,7 @@ module _ (function : FunctionFields) (place : ℕ) where
   -- ---- microframes
 
   module _ (has : HasOne function place) where
-    behind : (losses : List Loss) (lost : Bool) (r : RunningWorld) (beat : Option Beat) (given : Given) → loses_report losses 1 ≡ lost
+    behind : (losses : List SaidMark) (lost : Bool) (r : RunningWorld) (beat : Option Beat) (given : Given) → loses_report losses 1 ≡ lost
         → Beats function 1 beat given (streaming_of r)
         → Beats function 1 (option_map next_beat beat) (given_behind lost (Some place) (option_map next_beat beat) given) (streaming_of (microframe losses r).world)
     behind losses lost r beat given is beats =
@@ -58,7 +58,7 @@ module _ (function : FunctionFields) (place : ℕ) where
         (microframe_beats function 1 has.among losses r beat given beats))
 
     -- so many microframes that lose no report, the last of which ends eight, so that a report came
-    pub all_come : (losses : List Loss) (count passed most : ℕ) (r : RunningWorld) → loses_report losses 1 ≡ false
+    pub all_come : (losses : List SaidMark) (count passed most : ℕ) (r : RunningWorld) → loses_report losses 1 ≡ false
         → (passed + suc count) % 8 ≡ 0 → IsPlaying passed most r → IsPlaying 0 0 (microframes losses (suc count) r).world
     unfolding microframes
     all_come losses zero passed most r comes due is = record {
@@ -76,7 +76,7 @@ module _ (function : FunctionFields) (place : ℕ) where
         })
 
     -- so many that lose no report
-    pub some_come : (losses : List Loss) (count passed most : ℕ) (r : RunningWorld) → loses_report losses 1 ≡ false
+    pub some_come : (losses : List SaidMark) (count passed most : ℕ) (r : RunningWorld) → loses_report losses 1 ≡ false
         → IsPlaying passed most r → IsPlaying (passed + count) most (microframes losses count r).world
     unfolding microframes
     some_come losses zero passed most r comes is =
@@ -91,7 +91,7 @@ module _ (function : FunctionFields) (place : ℕ) where
         }))
 
     -- so many that lose their reports, of the first 32
-    pub all_lost : (losses : List Loss) (count passed : ℕ) (r : RunningWorld) → loses_report losses 1 ≡ true → passed + count < 32
+    pub all_lost : (losses : List SaidMark) (count passed : ℕ) (r : RunningWorld) → loses_report losses 1 ≡ true → passed + count < 32
         → IsPlaying passed (passed / 8) r → IsPlaying (passed + count) ((passed + count) / 8) (microframes losses count r).world
     unfolding microframes
     all_lost losses zero passed r lost few is =
@@ -164,7 +164,7 @@ module _ (function : FunctionFields) (place : ℕ) where
     abbrev begun : Option StreamFields
     begun = stream_in_setting r.device.function r.device.controls 1 1
 
-    -- behind the setting the device is this, where it was done, and the streams follow
+    -- after the setting the device is this, where it was done, and the streams follow
     abbrev After : StreamingWorld → Type 0
     After w = (beat : Option Beat) × (given : Given) × Beats function 1 beat given w × IsWell place 0 0 beat given
 

@@ -3,12 +3,9 @@ use Rattle.std.proofs.Common.{◌≡◌, ◌∙◌, sym, refl, ap, subst, ℕ, s
 use Rattle.std.specs.Prelude.{nat_lt}
 use Rattle.std.specs.List.{list_all}
 use Rattle.std.proofs.lemmas.Bool.{and_from, and_parts, eqb-true, le-ltb}
+use Rattle.uac_bands.proofs.LookingBack.{keeps}
 use Rattle.uac_bands.proofs.Once.{own_number}
 use Rattle.uac_rate.specs.Steadiness.{Given, deviated, eight_streams, has_four_lost, is_slight, is_steady, latest_run, nothing_given, one_more, reported, restarted, run}
-
--- no start of a stream lost four reports in succession
-abbrev pub keeps : List (List Bool) → Bool
-keeps lists = list_all (λ reports. not (has_four_lost reports)) lists
 
 -- what was given is steady, and the stream at this place lost no more than so many reports since one came
 pub record IsKept (place most : ℕ) (g : Given) : Type 0 where

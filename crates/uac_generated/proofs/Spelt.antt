@@ -19,7 +19,7 @@ use Rattle.uac_edges.specs.Numerals.{natural, numeral}
 use Rattle.uac_edges.proofs.NumeralsLemmas.{decimal-natural}
 use Rattle.uac_script.specs.declared.line.MarkKind.TheVariants.{Out, Feedback}
 use Rattle.uac_script.specs.Words.{hex_of, words_of}
-use Rattle.uac_script.specs.Phrase.{Loss, Phrase, hisses, feeds, goes, controls, tracks, deviates, runs, reports, are_losses_in_range, is_in_range, is_within}
+use Rattle.uac_script.specs.Phrase.{SaidMark, Phrase, hisses, feeds, goes, controls, tracks, deviates, runs, reports, are_marks_in_range, is_in_range, is_within}
 use Rattle.uac_script.specs.Line.{IsRow, mark_word}
 use Rattle.uac_script.specs.Reading.{answer}
 use Rattle.uac_script.proofs.Answered.{says_only}
@@ -45,7 +45,7 @@ visible bytes all = at_each_passed IsVisible (λ b. nat_lt 32 b) bytes (λ b pas
 no_space : (word : List ℕ) → All IsVisible word → All (λ b. (b == 32) ≡ false) word
 no_space word all = at_each IsVisible (λ b. (b == 32) ≡ false) word (λ b more. ne_eqb b 32 (λ same. omega arith)) all
 
--- a word, and a space, and what stands behind it
+-- a word, and a space, and what stands after it
 then_words : (word rest : List ℕ) → All IsVisible word → words_of (word ++ 32 ∷ rest) ≡ word ∷ words_of rest
 then_words word rest all = slice_split_at (λ b. b == 32) word 32 rest (no_space word all) refl
 
@@ -181,10 +181,10 @@ deviation_said drawn below =
 
 -- ---- microframes
 
-abbrev pub no_report : Loss
+abbrev pub no_report : SaidMark
 no_report = record { letter = Feedback; place = pos 1 }
 
-abbrev pub no_packet : Loss
+abbrev pub no_packet : SaidMark
 no_packet = record { letter = Out; place = pos 1 }
 
 mark_is : codes "f1" ∷ [] ≡ map mark_word (no_report ∷ [])
@@ -211,7 +211,7 @@ unmarked_said count least most =
     (then_words (codes "m") (decimal count) (visible (codes "m") refl)
     ∙ ap (λ ws. codes "m" ∷ ws) (one_word (decimal count) (run_visible count most))
     ∙ ap (λ w. codes "m" ∷ w ∷ []) (counted count most))
-    (and_from (is_within (pos 1) (pos 8000) (pos count)) (are_losses_in_range []) (count_in_range count least most) refl))
+    (and_from (is_within (pos 1) (pos 8000) (pos count)) (are_marks_in_range []) (count_in_range count least most) refl))
 
 marked_words : (count : ℕ) (mark : List ℕ) → count ≤ 8000 → All IsVisible mark
     → words_of (run_line count (32 ∷ mark)) ≡ codes "m" ∷ numeral (pos count) ∷ mark ∷ []
@@ -224,13 +224,13 @@ pub unreported_said : (count : ℕ) → 1 ≤ count → count ≤ 8000 → answe
 unreported_said count least most =
     answers_row (run_line count (codes " f1")) (runs (pos count) (no_report ∷ []))
     (marked_words count (codes "f1") most (visible (codes "f1") refl) ∙ ap (λ ws. codes "m" ∷ numeral (pos count) ∷ ws) mark_is)
-    (and_from (is_within (pos 1) (pos 8000) (pos count)) (are_losses_in_range (no_report ∷ [])) (count_in_range count least most) refl)
+    (and_from (is_within (pos 1) (pos 8000) (pos count)) (are_marks_in_range (no_report ∷ [])) (count_in_range count least most) refl)
 
 pub unpacked_said : (count : ℕ) → 1 ≤ count → count ≤ 8000 → answer (run_line count (codes " o1")) ≡ Ok (runs (pos count) (no_packet ∷ []))
 unpacked_said count least most =
     answers_row (run_line count (codes " o1")) (runs (pos count) (no_packet ∷ []))
     (marked_words count (codes "o1") most (visible (codes "o1") refl) ∙ ap (λ ws. codes "m" ∷ numeral (pos count) ∷ ws) packet_mark_is)
-    (and_from (is_within (pos 1) (pos 8000) (pos count)) (are_losses_in_range (no_packet ∷ [])) (count_in_range count least most) refl)
+    (and_from (is_within (pos 1) (pos 8000) (pos count)) (are_marks_in_range (no_packet ∷ [])) (count_in_range count least most) refl)
 
 -- ---- the rates
 

@@ -1,8 +1,8 @@
 -- When a stream has its reports, and that a script which marks as many of them lost as the generated ones do stays steady.
-use Rattle.std.proofs.Common.{◌≡◌, sym, refl, subst, ℕ, suc, ◌+◌, ◌/◌, ◌%◌, ◌<◌, ◌==◌, ◌&&◌, if◌then◌else◌, Bool, true, false, Option, None, Some, arith, inl, inr}
+use Rattle.std.proofs.Common.{◌≡◌, sym, subst, ℕ, suc, ◌+◌, ◌/◌, ◌%◌, ◌<◌, ◌==◌, ◌&&◌, if◌then◌else◌, Bool, true, false, Option, None, Some, arith, inl, inr}
 use Rattle.std.specs.Prelude.{nat_lt}
 use Rattle.std.specs.Option.{option_map, option_map_or}
-use Rattle.std.proofs.lemmas.Bool.{and_from, cases_eq, eq-eqb, lt-ltb, ne_eqb}
+use Rattle.std.proofs.lemmas.Bool.{and_from, and_right, cases_eq, eq-eqb, lt-ltb, ne_eqb}
 use Rattle.uac_rate.specs.Steadiness.{Given, reported}
 use Rattle.uac_flow.specs.Streams.{OutStream}
 use Rattle.uac_streaming.specs.StreamingWorld.{given_at}
@@ -23,7 +23,7 @@ next_beat b = record b { microframes = b.microframes + 1 }
 abbrev pub is_told : Beat → Bool
 is_told b = nat_lt 0 b.microframes && b.microframes % b.period == 0
 
--- what is given behind a report of the stream of an interface, if one falls due
+-- what is given after a report of the stream of an interface, if one falls due
 abbrev pub told_at : Bool → Option ℕ → Bool → Given → Given
 told_at lost place told given = if told then given_at place (λ p. reported p lost) given else given
 
@@ -47,10 +47,6 @@ pub record IsWell (place passed most : ℕ) (beat : Option Beat) (given : Given)
 
 -- ---- whether a report falls due
 
-and_off : (a c : Bool) → c ≡ false → (a && c) ≡ false
-and_off true c off = off
-and_off false c off = refl
-
 told_on : (passed : ℕ) (b : Beat) → b.period ≡ 8 → b.microframes % 8 ≡ passed % 8 → (passed + 1) % 8 ≡ 0 → is_told (next_beat b) ≡ true
 told_on passed b eight timely due =
     rw eight (and_from (nat_lt 0 (b.microframes + 1)) ((b.microframes + 1) % 8 == 0) (lt-ltb 0 (b.microframes + 1) (omega arith))
@@ -58,7 +54,7 @@ told_on passed b eight timely due =
 
 untold_on : (passed : ℕ) (b : Beat) → b.period ≡ 8 → b.microframes % 8 ≡ passed % 8 → ((passed + 1) % 8 ≡ 0 → ⊥) → is_told (next_beat b) ≡ false
 untold_on passed b eight timely quiet =
-    rw eight (and_off (nat_lt 0 (b.microframes + 1)) ((b.microframes + 1) % 8 == 0) (ne_eqb ((b.microframes + 1) % 8) 0 (λ same. quiet (omega arith))))
+    rw eight (and_right (nat_lt 0 (b.microframes + 1)) ((b.microframes + 1) % 8 == 0) (ne_eqb ((b.microframes + 1) % 8) 0 (λ same. quiet (omega arith))))
 
 timely_on : (passed : ℕ) (b : Beat) → b.period ≡ 8 → b.microframes % 8 ≡ passed % 8 → IsTimely (passed + 1) (Some (next_beat b))
 timely_on passed b eight count = (eight, omega arith)
@@ -75,7 +71,7 @@ module _ (place : ℕ) where
       by true = at_most place 0 most (reported place false given) (omega arith) (report_came place most given is.kept)
       by false = is.kept
 
-  -- and one behind which it comes
+  -- and one after which it comes
   pub well_in : (passed most : ℕ) (beat : Option Beat) (given : Given) → (passed + 1) % 8 ≡ 0 → IsWell place passed most beat given
       → IsWell place 0 0 (option_map next_beat beat) (given_behind false (Some place) (option_map next_beat beat) given)
   well_in passed most None given due is = record { timely = tt; kept = is.kept }

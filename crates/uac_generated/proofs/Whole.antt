@@ -8,7 +8,7 @@ use Rattle.uac_pcm.specs.declared.tones.Tone.TheVariants.{Noise}
 use Rattle.uac_units.specs.Hearing.{Reading}
 use Rattle.uac_topology.specs.Function.{FunctionFields}
 use Rattle.uac_request.specs.Requests.{setup_of}
-use Rattle.uac_script.specs.Phrase.{Loss, Phrase, controls, deviates, goes, hisses, reports, runs, tracks}
+use Rattle.uac_script.specs.Phrase.{SaidMark, Phrase, controls, deviates, goes, hisses, reports, runs, tracks}
 use Rattle.uac_script.specs.Reading.{answer}
 use Rattle.uac_transcript.specs.Transcript.{Said}
 use Rattle.uac_running.specs.RunningWorld.{RunningWorld, at_start, has_domain, with_deviation, with_track}
@@ -16,6 +16,7 @@ use Rattle.uac_running.specs.Events.{microframes}
 use Rattle.uac_running.specs.Lines.{ready_line, report_lines}
 use Rattle.uac_running.specs.Transfers.{transfer, transferred}
 use Rattle.uac_bus.specs.World.{World, describing, done, finish_of, has_out, is_placed, running, silently, start, step, told}
+use Rattle.uac_bus.proofs.Stepping.{unless_holds}
 use Rattle.uac_steady.specs.Scripts.{behind_lines, is_steady_in}
 use Rattle.uac_gen.specs.Descriptor.{descriptor_of}
 use Rattle.uac_gen.specs.Generator.{behind_descriptor, deviation_line, draw, feed_lines, generated, group_lines, groups, next_x, rate_line, rest_line, run_line, setting_line, tone_line, unpacked_lines, unreported_lines}
@@ -23,7 +24,7 @@ use Rattle.uac_gen.specs.Script.{script_of}
 use Rattle.uac_generated.specs.Generated.{GeneratedScriptsAreDone, GeneratedScriptsAreScripts, GeneratedScriptsAreSteady, IsLineOfScript}
 use Rattle.uac_generated.proofs.Feeding.{all_fed, function_at, gone_is}
 use Rattle.uac_generated.proofs.Grammatical.{all_bytes, none_faulty}
-use Rattle.uac_generated.proofs.InRow.{Reaches, nothing, then_line, then_lines, unless_true}
+use Rattle.uac_generated.proofs.InRow.{Reaches, nothing, then_line, then_lines}
 use Rattle.uac_generated.proofs.Narrow.{IsNarrow, IsPrinted, all_few, size_of_few}
 use Rattle.uac_generated.proofs.OneStream.{the_stream, domains_are, has_its_out, has_one, streams_are, unpacked_placed, unreported_placed}
 use Rattle.uac_generated.proofs.Playing.{IsPlaying, all_come, all_lost, goes_off, rate_set, setting_set, some_come, starts, steady_now, tracks_on}
@@ -39,7 +40,7 @@ on_running : (P : RunningWorld → Type 0) (ys : List (List ℕ)) (Q : World →
 on_running P ys Q go (describing bytes meters) is = absurd is
 on_running P ys Q go (running r) is = go r is
 
--- one line, behind which this holds
+-- one line, after which this holds
 one_line : (text : List ℕ) (phrase : Phrase) (r next : RunningWorld) (lines : List Said) (Q : RunningWorld → Type 0) → answer text ≡ Ok phrase
     → step phrase (running r) ≡ done (running next) lines → Q next → Reaches (text ∷ []) (running r) (Is Q)
 one_line text phrase r next lines Q said is holds =
@@ -53,28 +54,28 @@ module _ (function : FunctionFields) (streams : function.streams ≡ the_stream 
   abbrev Between : World → Type 0
   Between = Is (Plays 0 0)
 
-  -- behind so many times eight microframes without reports
+  -- after so many times eight microframes without reports
   abbrev BehindEights : ℕ → RunningWorld → Type 0
   BehindEights eights = Plays (0 + 8 * eights) ((0 + 8 * eights) / 8)
 
   module _ (r : RunningWorld) (same : r.device.function ≡ function) where
-    runs_is : (count : ℕ) (losses : List Loss) → list_all (is_placed function.streams) losses ≡ true
+    runs_is : (count : ℕ) (losses : List SaidMark) → list_all (is_placed function.streams) losses ≡ true
         → step (runs (pos count) losses) (running r) ≡ done (running (microframes losses count r).world) (microframes losses count r).lines
     unfolding step
     runs_is count losses placed =
-        unless_true (list_all (is_placed r.device.function.streams) losses) 6 (told (microframes losses count r))
+        unless_holds (list_all (is_placed r.device.function.streams) losses) 6 (told (microframes losses count r))
         (ap (λ (f : FunctionFields). list_all (is_placed f.streams) losses) same ∙ placed)
 
     deviates_is : (millionths : ℤ) → step (deviates (pos 1) millionths) (running r) ≡ done (running (with_deviation 1 millionths r)) []
     unfolding step
     deviates_is millionths =
-        unless_true (has_domain r 1) 6 (silently (running (with_deviation 1 millionths r)))
+        unless_holds (has_domain r 1) 6 (silently (running (with_deviation 1 millionths r)))
         (ap (λ (f : FunctionFields). list_any (λ d. d == 1) f.domains) same ∙ ap (list_any (λ d. d == 1)) domains)
 
     tracks_is : (number : ℕ) → step (tracks (pos 1) (hisses (pos number))) (running r) ≡ done (running (with_track 1 (Noise number) r)) []
     unfolding step
     tracks_is number =
-        unless_true (has_out r.device.function.streams 1) 6 (silently (running (with_track 1 (Noise number) r)))
+        unless_holds (has_out r.device.function.streams 1) 6 (silently (running (with_track 1 (Noise number) r)))
         (ap (λ (f : FunctionFields). has_out f.streams 1) same ∙ has_its_out function streams)
 
   of_playing : (passed most : ℕ) (r : RunningWorld) → Plays passed most r → r.device.function ≡ function
@@ -141,7 +142,7 @@ module _ (function : FunctionFields) (streams : function.streams ≡ the_stream 
       (on_running (Plays 0 0) (groups count third) Between (λ v between. all_groups count third v between)) lines (running r)
       (group (draw 2001 first) (draw 4 second) (draw 2 third == 1) r (omega arith) (omega arith) is)
 
-  -- ---- the lines behind the descriptor's end
+  -- ---- the lines after the descriptor's end
 
   report : (r : RunningWorld) → Plays 0 0 r → Reaches (codes "q" ∷ []) (running r) Between
   unfolding step
@@ -172,7 +173,7 @@ module _ (function : FunctionFields) (streams : function.streams ≡ the_stream 
 
 -- ---- the whole script
 
--- behind it
+-- after it
 abbrev Ends : ℕ → World → Type 0
 Ends d = Is (IsPlaying (function_at d) 0 0 0)
 

@@ -8,7 +8,7 @@ use Rattle.uac_flow.specs.Streams.{OutStream, is_due, out_level}
 use Rattle.uac_host.specs.Calls.{with_samples}
 use Rattle.uac_host.specs.Calls as calls
 use Rattle.uac_device.specs.DeviceWorld.{Domain, either_due, fresh, is_due_in, step_in, target_of}
-use Rattle.uac_script.specs.Phrase.{Loss}
+use Rattle.uac_script.specs.Phrase.{SaidMark}
 use Rattle.uac_streaming.specs.StreamingWorld.{StreamingWorld, loses_out, loses_report, packet_to}
 use Rattle.uac_running.specs.RunningWorld.{RunningWorld, at_start, streaming_of, with_detail, with_samples_on, with_tone, with_track}
 use Rattle.uac_running.specs.Events.{microframe}
@@ -40,7 +40,7 @@ lost_is : (b : Bool) (k : ℕ) (w : StreamingWorld) → is_lost (packet_to b k w
 lost_is true k w = refl
 lost_is false k w = refl
 
-module _ (losses : List Loss) (r : RunningWorld) (pasts : Pasts) (band : RunInBand r)
+module _ (losses : List SaidMark) (r : RunningWorld) (pasts : Pasts) (band : RunInBand r)
     (steady : steadiness.is_steady (microframe losses r).world.given ≡ true) (trails : HaveTrails r pasts) where
   abbrev after : RunningWorld
   after = (microframe losses r).world

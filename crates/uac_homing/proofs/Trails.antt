@@ -23,7 +23,7 @@ use Rattle.uac_homing.proofs.Turns.{HasCome, come_on, each_more, length_more, pr
 
 -- ---- at the end of an interval
 
--- no step of its clock is behind the point
+-- no step of its clock is after the point
 no_steps : (l : Life) (target : ℕ) (p : Point) (b : IsBehind l target p) → passed l.out ≡ 0 → b.ticked.steps ≡ 0
 no_steps l target p b ended =
     let e = times_none (passed l.out) l.out.stream.nominal.e ended in
@@ -50,7 +50,7 @@ trail_at_end l target p past come b ended = record {
   tight = come.tight;
 }
 
--- and behind the report that falls due there
+-- and after the report that falls due there
 trail_behind : (m : Life) (lost : Bool) (target : ℕ) (q : Point) (past : Past) → Goes m lost target q (with_feedback lost m)
     → passed m.out ≡ 0
     → ((next : Point) → IsRobust m.out.stream.nominal 65 m.out.stream.service m.out.stream.period next

@@ -5,7 +5,8 @@ use Rattle.std.proofs.lemmas.List.Sums.{sum_by-append}
 use Rattle.uac_clock.specs.declared.values.Nominal.{Nominal}
 use Rattle.uac_rate.specs.Levels.{AreIntervals, HasBand, Interval, IsJustPrimed, IsRobust, IsTight, Mark, Point, aged, mark_after, mark_of}
 use Rattle.uac_rate.proofs.LevelsLemmas.{interval_tight, primed_tight, report_tight}
-use Rattle.uac_settle.specs.Settling.{Ends, IsIntervalEnd, IsServed, KeepsPackets, Served, Stretch, Turn, Turns}
+use Rattle.uac_settle.specs.Settling.{Ends, IsIntervalEnd, IsServed, KeepsPackets, Served, Stretch}
+use Rattle.uac_settle.proofs.TurnsLemmas.{turns_and}
 use Rattle.uac_bands.proofs.Numbers.{times_more}
 use Rattle.uac_homing.specs.Past.{Past, no_past, one_later}
 
@@ -23,13 +24,6 @@ sum_more xs x =
 
 pub length_more : {X : Type 0} (xs : List X) (x : X) → length (xs ++ x ∷ []) ≡ length xs + 1
 length_more xs x = length-append xs (x ∷ [])
-
--- one more turn
-turns_and : (values : Nominal) (service period : ℕ) (all : List Served) (served : Served) (p q r : Point) → Turns values service period all p q
-    → Turn values service period served q r → Turns values service period (all ++ served ∷ []) p r
-turns_and values service period [] served p q r same turn = (r, subst (λ (x : Point). Turn values service period served x r) (sym same) turn, refl)
-turns_and values service period (first ∷ later) served p q r turns turn =
-    (turns.0, turns.1, turns_and values service period later served turns.0 q r turns.2 turn)
 
 -- ---- up to the end of an interval
 

@@ -1,4 +1,4 @@
--- A stream to the device that loses no packet is close to its target: in a steady run from its priming on, and behind a lost packet once
+-- A stream to the device that loses no packet is close to its target: in a steady run from its priming on, and after a lost packet once
 -- it has settled (profile; feedback is that of USB 2.0, 5.12.4.2).
 use Rattle.std.specs.Prelude.{◌≡◌, ◌+◌, ◌*◌, ◌≤◌, ℕ, ℤ, Bool, true, List, length, sum, Some}
 use Rattle.std.specs.List.{All, AllByRecursion}
@@ -11,7 +11,7 @@ use Rattle.uac_units.specs.Hearing.{Reading}
 use Rattle.uac_topology.specs.Function.{FunctionFields}
 use Rattle.uac_request.specs.declared.setup.Setup.{Setup}
 use Rattle.uac_flow.specs.Streams.{OutStream}
-use Rattle.uac_script.specs.Phrase.{Loss}
+use Rattle.uac_script.specs.Phrase.{SaidMark}
 use Rattle.uac_transcript.specs.Transcript.{Said, says_level}
 use Rattle.uac_running.specs.RunningWorld.{RunningWorld, at_start, with_detail, with_deviation, with_samples_on, with_tone, with_track}
 use Rattle.uac_running.specs.Events.{microframe}
@@ -46,7 +46,7 @@ HaveTrails r pasts =
     (interface : ℕ) (l : Life) (target : ℕ) → life_of r interface ≡ Some l → l.out.target ≡ Some target
     → HasTrail l target (pasts interface)
 
--- a level that is told of a primed stream is within four frames of its target once the stream has settled behind its last lost packet;
+-- a level that is told of a primed stream is within four frames of its target once the stream has settled after its last lost packet;
 -- and within three where it lost none since it was primed
 pub record IsCloseLevel (r : RunningWorld) (pasts : Pasts) (interface level target : ℕ) (o : OutStream) : Type 0 where
   pub settled : settle_of o.stream.nominal ≤ (pasts interface).quiet → Within 4 level target
@@ -63,14 +63,14 @@ RunsStartTrailed =
     (descriptor : List ℕ) (function : FunctionFields) (meters : List Reading) (pasts : Pasts)
     → HaveTrails (at_start descriptor function meters) pasts
 
--- a microframe of a run in its bands that is steady behind it leaves it so, and each level that it tells is close
-pub record StaysTrailed (losses : List Loss) (r : RunningWorld) (pasts : Pasts) : Type 0 where
+-- a microframe of a run in its bands that is steady after it leaves it so, and each level that it tells is close
+pub record StaysTrailed (losses : List SaidMark) (r : RunningWorld) (pasts : Pasts) : Type 0 where
   pub stays : HaveTrails (microframe losses r).world (pasts_after losses r pasts)
   pub close : All (IsClose (microframe losses r).world (pasts_after losses r pasts)) (microframe losses r).lines
 
 abbrev pub MicroframesStayTrailed : Type 0
 MicroframesStayTrailed =
-    (losses : List Loss) (r : RunningWorld) (pasts : Pasts) → RunInBand r
+    (losses : List SaidMark) (r : RunningWorld) (pasts : Pasts) → RunInBand r
     → steadiness.is_steady (microframe losses r).world.given ≡ true → HaveTrails r pasts → StaysTrailed losses r pasts
 
 -- what else is asked of a run leaves it so

@@ -1,56 +1,16 @@
 -- The clock of an output terminal is a domain of its function.
-use Rattle.std.proofs.Common.{arith, ◌≡◌, ◌∙◌, sym, refl, ap, subst, ℕ, zero, suc, ◌<◌, ◌⊎◌, inl, inr, ◌==◌, ◌||◌, not, Bool, true, false, if◌then◌else◌, cond, List, [], ◌∷◌, length, get_or, filter, Option, Some, None}
-use Rattle.std.specs.List.{All, cons_option, filter_map, find, list_any, position_or_len}
-use Rattle.std.proofs.lemmas.Bool.{cases_lt, eqb-true, true≢false}
-use Rattle.std.proofs.lemmas.List.{get_or_past}
-use Rattle.std.proofs.lemmas.List.Elements.{All-head, All-tail}
-use Rattle.uac_entities.specs.Entities.{entities_of}
-use Rattle.uac_entities.specs.declared.entity.Entity.{Entity}
+use Rattle.std.proofs.Common.{◌≡◌, sym, refl, true}
+use Rattle.std.proofs.lemmas.Bool.{true≢false}
 use Rattle.uac_entities.specs.declared.entity.EntityKind.{EntityKind}
 use Rattle.uac_entities.specs.declared.entity.EntityKind.TheVariants as kind
 use Rattle.uac_entities.specs.declared.stream.StreamInterface.{StreamInterface}
-use Rattle.uac_topology_rules.specs.Clusters.{cluster_of, clustered}
-use Rattle.uac_topology_rules.specs.Domains.{clock_named, domains_of, each_once}
 use Rattle.uac_topology_rules.specs.Links.{is_terminal}
 use Rattle.uac_topology_rules.specs.Rules.{is_output}
-use Rattle.uac_topology_rules.specs.Table.{at, nothing, place_of, with_cluster}
 use Rattle.uac_topology.specs.Function.{FunctionFields}
 use Rattle.uac_topology.specs.Topology.{IsSoundFunction}
-use Rattle.uac_topology.proofs.Clustered.{clustered-at, length-clustered}
 use Rattle.uac_graph.specs.Meaning.{entity}
-use Rattle.uac_bands.proofs.Once.{Among, among_kept, own_number}
-
--- ---- the clocks of terminals are the domains
-
-among_more : (n : ℕ) (o : Option ℕ) (ns : List ℕ) → Among n ns → Among n (cons_option o ns)
-unfolding Among
-among_more n None ns there = there
-among_more n (Some m) ns there = inr there
-
-named_clock : (e : Entity) → is_terminal e.kind ≡ true → clock_named e ≡ Some e.clock
-unfolding clock_named
-named_clock e is = ap (λ (b : Bool). if b then Some e.clock else None) is
-
-first_named : (n : ℕ) (o : Option ℕ) (ns : List ℕ) → o ≡ Some n → Among n (cons_option o ns)
-unfolding Among
-first_named n None ns is = absurd (cc)
-first_named n (Some m) ns is = inl (let same : m ≡ n = cc in same)
-
-clocks_named : (es : List Entity) (i : ℕ) (d : Entity) → i < length es → is_terminal (get_or es i d).kind ≡ true
-    → Among (get_or es i d).clock (filter_map clock_named es)
-clocks_named [] i d below is = absurd (omega arith)
-clocks_named (e ∷ es) zero d below is = first_named e.clock (clock_named e) (filter_map clock_named es) (named_clock e is)
-clocks_named (e ∷ es) (suc i) d below is =
-    among_more (get_or es i d).clock (clock_named e) (filter_map clock_named es) (clocks_named es i d (omega arith) is)
-
-once_each : (c : ℕ) (ns : List ℕ) → Among c ns → Among c (each_once ns)
-unfolding Among each_once
-once_each c [] there = absurd there
-once_each c (n ∷ ns) there = elim there [ inl same ↦ inl same | inr later ↦ by (c == n) refl (once_each c ns later) ]
-  where
-    by : (b : Bool) → (c == n) ≡ b → Among c (each_once ns) → (n ≡ c) ⊎ Among c (filter (λ m. not (m == n)) (each_once ns))
-    by true same rest = inl (sym (eqb-true c n same))
-    by false other rest = inr (among_kept (λ m. not (m == n)) c (each_once ns) (ap not other) rest)
+use Rattle.uac_bands.proofs.Once.{Among}
+use Rattle.uac_bands.proofs.SoundStart.{clock_known}
 
 output_is_terminal : (k : EntityKind) → is_output k ≡ true → is_terminal k ≡ true
 output_is_terminal kind.ClockSource is = absurd (true≢false (sym is))
@@ -63,54 +23,6 @@ output_is_terminal kind.Selector is = absurd (true≢false (sym is))
 output_is_terminal kind.Feature is = absurd (true≢false (sym is))
 output_is_terminal kind.Effect is = absurd (true≢false (sym is))
 
-terminal_clock : (es : List Entity) (id : ℕ) → is_output (entity (clustered es) id).kind ≡ true
-    → Among (entity (clustered es) id).clock (domains_of es)
-unfolding entity at place_of domains_of
-terminal_clock es id is = elim (cases_lt (position_or_len (λ (e : Entity). e.id == id) (clustered es)) (length (clustered es))) [
-  | inl below ↦
-      (let i : ℕ = position_or_len (λ (e : Entity). e.id == id) (clustered es) in
-      let size : length (clustered es) ≡ length es = length-clustered es in
-      let within : i < length es = omega arith in
-      let there : get_or (clustered es) i nothing ≡ with_cluster (at es i) (cluster_of es i) = clustered-at es i nothing within in
-      let output : is_output (get_or es i nothing).kind ≡ true = sym (ap (λ (e : Entity). is_output e.kind) there) ∙ is in
-      let named = clocks_named es i nothing within (output_is_terminal (get_or es i nothing).kind output) in
-      subst (λ (c : ℕ). Among c (each_once (filter_map clock_named es))) (sym (ap (λ (e : Entity). e.clock) there))
-      (once_each (get_or es i nothing).clock (filter_map clock_named es) named))
-  | inr past ↦
-      absurd (let none : get_or (clustered es) (position_or_len (λ (e : Entity). e.id == id) (clustered es)) nothing ≡ nothing =
-      get_or_past (clustered es) (position_or_len (λ (e : Entity). e.id == id) (clustered es)) nothing past in
-      true≢false (sym is ∙ ap (λ (e : Entity). is_output e.kind) none))
-]
-
--- ---- a domain for each interface from the device
-
-pub any_among : (c : ℕ) (ns : List ℕ) → Among c ns → list_any (λ n. n == c) ns ≡ true
-unfolding Among
-any_among c [] there = absurd there
-any_among c (n ∷ ns) there = elim there [
-  | inl same ↦
-      ap (λ (b : Bool). b || list_any (λ (m : ℕ). m == c) ns) (subst (λ (m : ℕ). (n == m) ≡ true) same (own_number n))
-  | inr later ↦ either (n == c) (any_among c ns later)
-]
-  where
-    either : (b : Bool) → list_any (λ m. m == c) ns ≡ true → (b || list_any (λ m. m == c) ns) ≡ true
-    either true rest = refl
-    either false rest = rest
-
-pub found_stream : (P : StreamInterface → Type 0) (k : ℕ) (ss : List StreamInterface) (s : StreamInterface) → All P ss
-    → find (λ s. s.number == k) ss ≡ Some s → P s
-found_stream P k [] s all e = absurd (cc)
-found_stream P k (x ∷ xs) s all e = by (x.number == k) e (found_stream P k xs s (All-tail P x xs all))
-  where
-    by : (b : Bool) → cond b (Some x) (find (λ s. s.number == k) xs) ≡ Some s → (find (λ s. s.number == k) xs ≡ Some s → P s) → P s
-    by true found rest = let same : x ≡ s = cc in subst P same (All-head P x xs all)
-    by false found rest = rest found
-
-pub clock_known : (function : FunctionFields) → IsSoundFunction function → (s : StreamInterface)
+pub output_known : (function : FunctionFields) → IsSoundFunction function → (s : StreamInterface)
     → is_output (entity function.entities s.terminal).kind ≡ true → Among (entity function.entities s.terminal).clock function.domains
-clock_known function sound s output =
-    let es : List Entity = entities_of sound.0 in
-    let there = terminal_clock es s.terminal
-    (subst (λ (all : List Entity). is_output (entity all s.terminal).kind ≡ true) sound.2.entities output) in
-    subst (λ (all : List Entity). Among (entity all s.terminal).clock function.domains) (sym sound.2.entities)
-    (subst (λ (ds : List ℕ). Among (entity (clustered es) s.terminal).clock ds) (sym sound.2.domains) there)
+output_known function sound s output = clock_known is_output output_is_terminal refl function sound s output

@@ -1,9 +1,7 @@
 -- Streams from the device, one by one: what packets, ticks and ends of microframes make of their rings, and that none is full.
 pub mod Resting
 pub mod Ringing
-pub mod Hushed
 pub mod Overs
 pub mod Recorded
-pub mod Settled
 pub mod Clocked
 pub mod Transferring

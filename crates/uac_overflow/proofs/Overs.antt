@@ -1,22 +1,22 @@
 -- No line of a microframe tells of a ring that was full: by the packets to the device, and by the ticks of all domains.
-use Rattle.std.proofs.Common.{arith, ◌≡◌, ◌≢◌, ◌∙◌, sym, refl, ap, subst, ℕ, zero, suc, ◌+◌, ◌≤◌, ◌<◌, ◌==◌, ◌&&◌, nat_eq, Bool, true, false, if◌then◌else◌, cond, List, [], ◌∷◌, map, filter, Option, Some, None, inl, inr}
+use Rattle.std.proofs.Common.{arith, ◌≡◌, ◌≢◌, ◌∙◌, sym, refl, ap, subst, ℕ, zero, suc, ◌+◌, ◌≤◌, ◌<◌, ◌==◌, ◌&&◌, nat_eq, Bool, true, false, if◌then◌else◌, List, [], ◌∷◌, Option, Some, None, inl, inr}
 use Rattle.std.specs.List.{All, AllByRecursion, IsDistinct}
 use Rattle.std.specs.Option.{option_map_or}
+use Rattle.std.proofs.Math.Bool.{and-false}
 use Rattle.std.proofs.lemmas.Bool.{eqb-false, true≢false}
 use Rattle.std.proofs.lemmas.List.Elements.{All-append, All-cons, All-nil}
 use Rattle.std.proofs.lemmas.Map.Keys.{IsDistinct-head, IsDistinct-tail}
 use Rattle.uac_clock.specs.Ticks.{ticks_in}
-use Rattle.uac_entities.specs.declared.stream.StreamInterface.{StreamInterface}
 use Rattle.uac_topology.specs.Function.{FunctionFields}
 use Rattle.uac_flow.specs.Streams.{InStream, OutStream, arrival_of, is_due, is_full}
 use Rattle.uac_flow.specs.declared.arrival.Arrival.{Arrival}
 use Rattle.uac_flow.specs.declared.arrival.Arrival.TheVariants as arrivals
 use Rattle.uac_host.specs.HostWorld.{Track}
 use Rattle.uac_device.specs.DeviceWorld.{DeviceWorld, Domain, advanced, arrival_in, either_due, is_due_in, is_on, next_ticks, received}
-use Rattle.uac_script.specs.Phrase.{Loss}
-use Rattle.uac_transcript.specs.Transcript.{Said, says_over}
+use Rattle.uac_script.specs.Phrase.{SaidMark}
+use Rattle.uac_transcript.specs.Transcript.{Said, says_over, says_under}
 use Rattle.uac_streaming.specs.Telling.{at_rest}
-use Rattle.uac_streaming.specs.StreamingWorld.{StreamingWorld, finds_full, goes_out, is_out_due, loses_out, numbers, out_packets, out_turn, over_lines, packet_sent, packet_to, sent_lines}
+use Rattle.uac_streaming.specs.StreamingWorld.{StreamingWorld, all_settled, finds_empty, finds_full, goes_out, is_out_due, loses_out, numbers, out_packets, out_turn, over_lines, packet_sent, packet_to, sent_lines}
 use Rattle.uac_running.specs.RunningWorld.{RunningWorld, streaming_of}
 use Rattle.uac_running.specs.Events.{all_given, domain_microframe, domain_microframes, tick, tick_times}
 use Rattle.uac_bands.specs.Life.{Life}
@@ -26,29 +26,22 @@ use Rattle.uac_bands.proofs.Shown.{IsPlace, Place, Shows, if_false, out_other, p
 use Rattle.uac_bands.proofs.Lived.{opened, place_in}
 use Rattle.uac_bands.proofs.Banded.{never_over_full}
 use Rattle.uac_bands.proofs.SteadyRun.{steadily}
-use Rattle.uac_bands.proofs.Quiet.{numbered, turns_once_say}
+use Rattle.uac_bands.proofs.Quiet.{IsQuiet, domains_say, each_says, ends_say, numbered, out_turn_says, tick_says, ticks_say, turns_once_say}
 use Rattle.uac_overflow.proofs.Resting.{SendsNoneNow, advanced_sends_none, domain_sends_none, given_sends_none, tick_sends_none}
 use Rattle.uac_overflow.proofs.Ringing.{IsSpot, Rings, Spot, advanced_other, advanced_own, domain_elsewhere, domain_own, given_rings, has_room_left, on_clock_only, so_many, steps_on, tick_other, tick_own}
-use Rattle.uac_overflow.proofs.Hushed.{IsHushed, domains_hushed, out_turn_hushed, tick_hushed, ticks_hushed}
-
-and_false : (b : Bool) → (b && false) ≡ false
-and_false true = refl
-and_false false = refl
 
 module _ (k : ℕ) where
   -- it isn't said that the ring of this interface was full
   abbrev pub NotOver : Said → Type 0
   NotOver said = said ≢ says_over k
 
-  pub hushed : IsHushed NotOver
-  hushed = record {
+  pub quiet : IsQuiet NotOver
+  quiet = record {
     time = λ number same. cc;
     out = λ interface frames arrival same. cc;
     in_ = λ interface frames lost same. cc;
     frame = λ interface samples same. cc;
     played = λ terminal samples same. cc;
-    under = λ interface same. cc;
-    level = λ interface level target same. cc;
     feedback = λ interface value lost same. cc;
   }
 
@@ -67,10 +60,10 @@ module _ (k : ℕ) where
   own_overs arrivals.Lost room = All-nil NotOver
   own_overs arrivals.Over room = absurd (room refl)
 
-  other_packets : (detail : ℕ) (losses : List Loss) (n : ℕ) (w : StreamingWorld) → (k == n) ≡ false
+  other_packets : (detail : ℕ) (losses : List SaidMark) (n : ℕ) (w : StreamingWorld) → (k == n) ≡ false
       → All NotOver (out_turn detail losses n w).lines
   other_packets detail losses n w other =
-      out_turn_hushed NotOver hushed detail losses n w
+      out_turn_says NotOver quiet detail losses n w
       (λ due. other_overs n (arrival_in w.device n (packet_to (loses_out losses n) n w)) other)
 
   -- ---- where it runs no stream to the device
@@ -80,7 +73,7 @@ module _ (k : ℕ) where
   no_arrival w packet none over =
       let lost : arrivals.Lost ≡ arrivals.Over = sym (ap (λ (o : Option OutStream). option_map_or (arrival_of packet) o arrivals.Lost) none) ∙ over in cc
 
-  out_none : (detail : ℕ) (losses : List Loss) (n : ℕ) (w : StreamingWorld) → (k == n) ≡ false → w.device.outs k ≡ None
+  out_none : (detail : ℕ) (losses : List SaidMark) (n : ℕ) (w : StreamingWorld) → (k == n) ≡ false → w.device.outs k ≡ None
       → (out_turn detail losses n w).world.device.outs k ≡ None
   unfolding out_turn packet_sent received
   out_none detail losses n w other none = by (is_out_due w n)
@@ -91,51 +84,49 @@ module _ (k : ℕ) where
       by true = if_false (k == n) _ (w.device.outs k) other ∙ none
       by false = none
 
-  outs_none : (detail : ℕ) (losses : List Loss) (w : StreamingWorld) → w.device.outs k ≡ None → All NotOver (out_packets detail losses w).lines
+  outs_none : (detail : ℕ) (losses : List SaidMark) (w : StreamingWorld) → w.device.outs k ≡ None → All NotOver (out_packets detail losses w).lines
   unfolding out_packets
   outs_none detail losses w none =
       turns_once_say NotOver (out_turn detail losses) k (λ n v other. other_packets detail losses n v other) (λ v. v.device.outs k ≡ None)
       (λ n v other rests. out_none detail losses n v other rests)
-      (λ v rests. out_turn_hushed NotOver hushed detail losses k v
+      (λ v rests. out_turn_says NotOver quiet detail losses k v
       (λ due. own_overs (arrival_in v.device k (packet_to (loses_out losses k) k v))
       (no_arrival v.device (packet_to (loses_out losses k) k v) rests)))
       (numbers w.device.function) w (numbers_differ w.device.function) none
 
   -- ---- ticks
 
-  overs_not : (test : ℕ → Bool) → test k ≡ false → (ss : List StreamInterface)
-      → All NotOver (map (λ s. says_over s.number) (filter (λ s. test s.number) ss))
-  overs_not test fails [] = All-nil NotOver
-  overs_not test fails (s ∷ ss) = by (test s.number) refl (overs_not test fails ss)
-    where
-      by : (b : Bool) → test s.number ≡ b → All NotOver (map (λ x. says_over x.number) (filter (λ x. test x.number) ss))
-          → All NotOver (map (λ x. says_over x.number) (cond b (s ∷ filter (λ x. test x.number) ss) (filter (λ x. test x.number) ss)))
-      by true passes rest =
-          All-cons NotOver (says_over s.number) (map (λ x. says_over x.number) (filter (λ x. test x.number) ss))
-          (λ same. let number : s.number ≡ k = cc in true≢false (sym passes ∙ ap test number ∙ fails)) rest
-      by false fails_here rest = rest
+  -- where it isn't its ring
+  tick_not : (c : ℕ) (r : RunningWorld) → finds_full c (all_given c r) k ≡ false → All NotOver (tick c r).lines
+  tick_not c r fails =
+      tick_says NotOver quiet c r (each_says NotOver says_under (finds_empty c (all_given c r)) (λ n passes same. cc))
+      (each_says NotOver says_over (finds_full c (all_given c r)) (λ n passes same.
+      (let number : n ≡ k = cc in true≢false (sym passes ∙ ap (finds_full c (all_given c r)) number ∙ fails))))
+
+  -- and its levels are no such lines
+  pub ends_not : (detail : ℕ) (w : StreamingWorld) → All NotOver (all_settled detail w).lines
+  ends_not = ends_say NotOver quiet (λ interface level target same. cc)
 
   -- ---- where it runs no stream from the device
 
   none_tick : (c : ℕ) (r : RunningWorld) → SendsNoneNow k r → All NotOver (tick c r).lines
   none_tick c r none =
       let w : DeviceWorld = all_given c r in
-      tick_hushed NotOver hushed c r
-      (overs_not (finds_full c w)
-      (ap (λ (i : Option InStream). is_on w c k && option_map_or is_full i false) (given_sends_none k c r none) ∙ and_false (is_on w c k)))
+      tick_not c r
+      (ap (λ (i : Option InStream). is_on w c k && option_map_or is_full i false) (given_sends_none k c r none) ∙ and-false (is_on w c k))
 
   none_domain : (c : ℕ) (r : RunningWorld) → SendsNoneNow k r → All NotOver (domain_microframe c r).lines
   unfolding domain_microframe
   none_domain c r none =
-      ticks_hushed NotOver hushed (SendsNoneNow k) c (none_tick c) (tick_sends_none k c) (next_ticks c r.device)
+      ticks_say NotOver quiet (SendsNoneNow k) c (none_tick c) (tick_sends_none k c) (next_ticks c r.device)
       (record r { device = advanced c r.device }) (advanced_sends_none k c r none)
 
   pub none_domains : (clocks : List ℕ) (r : RunningWorld) → SendsNoneNow k r → All NotOver (domain_microframes clocks r).lines
-  none_domains clocks r none = domains_hushed NotOver hushed (SendsNoneNow k) none_domain (domain_sends_none k) clocks r none
+  none_domains clocks r none = domains_say NotOver quiet (SendsNoneNow k) none_domain (domain_sends_none k) clocks r none
 
 -- ---- where it runs one to it
 
-module _ (p : Place) (is : IsPlace p) (detail : ℕ) (losses : List Loss) (l : Life) (t : Track) where
+module _ (p : Place) (is : IsPlace p) (detail : ℕ) (losses : List SaidMark) (l : Life) (t : Track) where
   abbrev packet : Option (List ℕ)
   packet = if loses_out losses p.interface then None else Some (packet_at l.pace t)
 
@@ -159,12 +150,12 @@ module _ (p : Place) (is : IsPlace p) (detail : ℕ) (losses : List Loss) (l : L
   outs_room room w s =
       turns_once_say (NotOver p.interface) (out_turn detail losses) p.interface (λ n v other. other_packets p.interface detail losses n v other)
       (λ v. Shows p v l t) (λ n v other there. out_other p detail losses n v l t other there)
-      (λ v there. out_turn_hushed (NotOver p.interface) (hushed p.interface) detail losses p.interface v
+      (λ v there. out_turn_says (NotOver p.interface) (quiet p.interface) detail losses p.interface v
       (λ due. own_overs p.interface (arrival_in v.device p.interface (packet_to (loses_out losses p.interface) p.interface v))
       (λ over. room (sym (due_here v there) ∙ due) (sym (arrives v there) ∙ over))))
       (numbers w.device.function) w (numbers_differ w.device.function) s
 
-stream_room : (losses : List Loss) (r : RunningWorld) (k : ℕ) (l : Life) (d : Domain) → StreamInBand r k l d
+stream_room : (losses : List SaidMark) (r : RunningWorld) (k : ℕ) (l : Life) (d : Domain) → StreamInBand r k l d
     → All (NotOver k) (out_packets r.detail losses (streaming_of (numbered r))).lines
 stream_room losses r k l d stream = opened r k l d stream.runs (λ clock place steps is s.
     (let p : Place = place_in r k d clock place in
@@ -175,7 +166,7 @@ stream_room losses r k l d stream = opened r k l d stream.runs (λ clock place s
     (streaming_of (numbered r)) s))
 
 -- no packet to the device is without room
-pub outs_have_room : (losses : List Loss) (r : RunningWorld) → RunInBand r → (k : ℕ)
+pub outs_have_room : (losses : List SaidMark) (r : RunningWorld) → RunInBand r → (k : ℕ)
     → All (NotOver k) (out_packets r.detail losses (streaming_of (numbered r))).lines
 outs_have_room losses r band k = by (r.device.outs k) refl
   where
@@ -196,19 +187,17 @@ module _ (p : Spot) (spot : IsSpot p) (after : ℕ) where
   other_tick few steps c r other s =
       let w : DeviceWorld = all_given c r in
       let there = given_rings p spot after few steps c r s in
-      tick_hushed Not (hushed p.interface) c r
-      (overs_not p.interface (finds_full c w)
-      (ap (λ (b : Bool). b && option_map_or is_full (w.ins p.interface) false) (on_clock_only p spot w c there.function ∙ other)))
+      tick_not p.interface c r
+      (ap (λ (b : Bool). b && option_map_or is_full (w.ins p.interface) false) (on_clock_only p spot w c there.function ∙ other))
 
   own_tick : (few : ℕ) (steps : List ℕ) (r : RunningWorld) → few < 2048 → Rings p after few steps r.device → All Not (tick p.clock r).lines
   own_tick few steps r room s =
       let w : DeviceWorld = all_given p.clock r in
       let there = given_rings p spot after few steps p.clock r s in
-      tick_hushed Not (hushed p.interface) p.clock r
-      (overs_not p.interface (finds_full p.clock w)
+      tick_not p.interface p.clock r
       (ap (λ (i : Option InStream). is_on w p.clock p.interface && option_map_or is_full i false) there.in_
       ∙ ap (λ (b : Bool). is_on w p.clock p.interface && b) (has_room_left p.stream after few there.ring room there.is)
-      ∙ and_false (is_on w p.clock p.interface)))
+      ∙ and-false (is_on w p.clock p.interface))
 
   own_ticks : (few : ℕ) (steps : List ℕ) (count : ℕ) (r : RunningWorld) → few + count ≤ 2048 → Rings p after few steps r.device
       → All Not (tick_times count p.clock r).lines
@@ -229,7 +218,7 @@ module _ (p : Spot) (spot : IsSpot p) (after : ℕ) where
       → All Not (domain_microframe c r).lines
   unfolding domain_microframe
   other_domain few steps c r other s =
-      ticks_hushed Not (hushed p.interface) (λ v. Rings p after few steps v.device) c (λ v there. other_tick few steps c v other there)
+      ticks_say Not (quiet p.interface) (λ v. Rings p after few steps v.device) c (λ v there. other_tick few steps c v other there)
       (λ v there. tick_other p spot after few steps c v other there) (next_ticks c r.device) (record r { device = advanced c r.device })
       (advanced_other p spot after few steps c r.device other s)
 

@@ -1,10 +1,9 @@
--- A microframe of a sound run in its bands: what the rings of streams from the device hold behind it, and that none was full.
-use Rattle.std.proofs.Common.{arith, ◌≡◌, ◌∙◌, sym, refl, ap, subst, add-one, ℕ, ℤ, ◌+◌, ◌*◌, ◌/◌, ◌%◌, ◌≤◌, ◌<◌, ◌==◌, not, nat_eq, Bool, true, false, if◌then◌else◌, List, [], ◌∷◌, ◌++◌, sum, Option, Some, None}
+-- A microframe of a sound run in its bands: what the rings of streams from the device hold after it, and that none was full.
+use Rattle.std.proofs.Common.{arith, ◌≡◌, ◌∙◌, sym, refl, ap, subst, ℕ, ℤ, ◌+◌, ◌*◌, ◌/◌, ◌%◌, ◌≤◌, ◌<◌, ◌==◌, not, nat_eq, Bool, true, false, if◌then◌else◌, List, [], ◌∷◌, ◌++◌, sum, Option, Some, None}
 use Rattle.std.specs.List.{All, IsDistinct, find}
 use Rattle.std.specs.Option.{option_and_then, option_map, option_map_or}
 use Rattle.std.proofs.Math.Nat.{mul-le-mul_right}
 use Rattle.std.proofs.lemmas.Bool.{true≢false}
-use Rattle.std.proofs.lemmas.List.Elements.{All-head, All-tail}
 use Rattle.std.proofs.lemmas.Option.{option_and_then_some}
 use Rattle.uac_clock.specs.Nominal.{IsNominal, nominal_of, step_of}
 use Rattle.uac_clock.specs.Ticks.{ticks_in}
@@ -25,21 +24,22 @@ use Rattle.uac_alt.specs.declared.settings.InterfaceSetting.{InterfaceSetting}
 use Rattle.uac_flow.specs.Streams.{InStream, OutStream, in_level, is_due}
 use Rattle.uac_host.specs.Calls.{interface_in}
 use Rattle.uac_device.specs.DeviceWorld.{DeviceWorld, Domain}
-use Rattle.uac_script.specs.Phrase.{Loss}
+use Rattle.uac_script.specs.Phrase.{SaidMark}
 use Rattle.uac_streaming.specs.StreamingWorld.{all_settled, comes_in, goes_out, out_packets}
 use Rattle.uac_running.specs.RunningWorld.{RunningWorld, streaming_of, with_streaming}
 use Rattle.uac_running.specs.Events.{domain_microframes, ends_and_reports, microframe, packets_and_ticks}
 use Rattle.uac_bands.specs.Life.{clock_on, domain_on}
 use Rattle.uac_bands.specs.Run.{RunInBand}
 use Rattle.uac_bands.specs.Transfers.{IsSoundRun}
-use Rattle.uac_bands.proofs.Numbers.{placed_at}
+use Rattle.uac_bands.proofs.Numbers.{placed_at, times_more}
 use Rattle.uac_bands.proofs.Once.{Among, clock_among}
-use Rattle.uac_bands.proofs.Quiet.{fetched, numbered, ticked_on}
+use Rattle.uac_bands.proofs.Quiet.{fetched, microframe_says, numbered, ticked_on}
+use Rattle.uac_bands.proofs.Steady.{is_some_more}
+use Rattle.uac_bands.proofs.Transferred.{found_domain}
 use Rattle.uac_overflow.specs.Recording.{HoldsFew, IsRecorded, MicroframesStayRecorded, RingsHoldAnInterval}
 use Rattle.uac_overflow.proofs.Resting.{before_ticks_sends_none, microframe_sends_none}
 use Rattle.uac_overflow.proofs.Ringing.{IsSpot, Rings, Spot, domains_ring, ends, packets_in, packets_out, reports, step_at, steps_on}
-use Rattle.uac_overflow.proofs.Hushed.{microframe_hushed}
-use Rattle.uac_overflow.proofs.Overs.{NotOver, hushed, none_domains, outs_have_room, ticks_have_room}
+use Rattle.uac_overflow.proofs.Overs.{NotOver, ends_not, none_domains, outs_have_room, quiet, ticks_have_room}
 
 -- ---- numbers
 
@@ -59,7 +59,7 @@ few_ticks values steps step nominal slight =
     bounded : (ticks some before step hi : ℕ) → ticks ≡ (before + some) / 65536 → some ≡ step → (before + step) / 65536 ≤ 1 * hi → ticks ≤ hi
     bounded ticks some before step hi is same most = omega arith
 
--- what a ring holds behind so many microframes
+-- what a ring holds after so many microframes
 abbrev most_after : ℕ → ℕ → ℕ → ℕ
 most_after s hi n = (n % s + 1) * hi
 
@@ -67,25 +67,19 @@ most_after s hi n = (n % s + 1) * hi
 within_interval : (s hi n : ℕ) → IsInterval s → most_after s hi n ≤ s * hi
 within_interval s hi n serves = mul-le-mul_right hi (placed_at s n serves).next
 
-one_more_of : (n hi : ℕ) → (n + 1) * hi ≡ n * hi + hi
-one_more_of n hi = rw add-one (omega arith)
-
 -- from one microframe to the next: its packet takes all where it is due, and then come so many ticks
 after_ticks : (s hi n ticks : ℕ) (b : Bool) → IsInterval s → ((n + 1) % s == 0) ≡ b → ticks ≤ hi
     → (if b then 0 else most_after s hi n) + ticks ≤ most_after s hi (n + 1)
 after_ticks s hi n ticks true serves due few =
-    let more = one_more_of ((n + 1) % s) hi in
+    let more = times_more ((n + 1) % s) hi in
     omega arith
 after_ticks s hi n ticks false serves rests few =
     let at = placed_at s n serves in
-    let some : 0 < (n + 1) % s = positive ((n + 1) % s) rests in
+    let some : 0 < (n + 1) % s = is_some_more ((n + 1) % s) rests in
     let next : (n + 1) % s ≡ n % s + 1 = at.within some in
-    let more : ((n % s + 1) + 1) * hi ≡ (n % s + 1) * hi + hi = one_more_of (n % s + 1) hi in
+    let more : ((n % s + 1) + 1) * hi ≡ (n % s + 1) * hi + hi = times_more (n % s + 1) hi in
     subst (λ (m : ℕ). (n % s + 1) * hi + ticks ≤ (m + 1) * hi) (sym next) (sums ((n % s + 1) * hi) ticks hi (((n % s + 1) + 1) * hi) few more)
   where
-    positive : (m : ℕ) → (m == 0) ≡ false → 0 < m
-    positive m is = grind arith
-
     sums : (a ticks hi b : ℕ) → ticks ≤ hi → b ≡ a + hi → a + ticks ≤ b
     sums a ticks hi b few is = omega arith
 
@@ -99,15 +93,6 @@ far_below s hi n ticks false serves most few =
     omega (arith, within)
 
 -- ---- what is found
-
-found_domain : (P : Domain → Type 0) (clock : ℕ) (ds : List Domain) (d : Domain) → All P ds → find (λ d. d.clock == clock) ds ≡ Some d → P d
-found_domain P clock [] d all e = absurd (cc)
-found_domain P clock (x ∷ xs) d all e = by (x.clock == clock) e (found_domain P clock xs d (All-tail P x xs all))
-  where
-    by : (b : Bool) → (if b then Some x else find (λ d. d.clock == clock) xs) ≡ Some d
-        → (find (λ d. d.clock == clock) xs ≡ Some d → P d) → P d
-    by true found rest = let same : x ≡ d = cc in subst P same (All-head P x xs all)
-    by false found rest = rest found
 
 -- an interface carries a stream one way
 one_way : (function : FunctionFields) (k : ℕ) → comes_in function k ≡ true → goes_out function k ≡ true → ⊥
@@ -123,7 +108,7 @@ one_way function k comes goes = by (interface_in function k) comes goes
 
 -- ---- one stream from the device
 
-module _ (losses : List Loss) (r : RunningWorld) (band : RunInBand r) (sound : IsSoundRun r) (k : ℕ) (i : InStream) (d : Domain) (clock : ℕ)
+module _ (losses : List SaidMark) (r : RunningWorld) (band : RunInBand r) (sound : IsSoundRun r) (k : ℕ) (i : InStream) (d : Domain) (clock : ℕ)
     (there : r.device.ins k ≡ Some i) (rec : IsRecorded r k i d) (on_clock : clock_on r k ≡ Some clock)
     (found : find (λ d. d.clock == clock) r.device.domains ≡ Some d) where
   abbrev p : Spot
@@ -171,7 +156,7 @@ module _ (losses : List Loss) (r : RunningWorld) (band : RunInBand r) (sound : I
   slight : Within i.stream.nominal.e (step_at p) i.stream.nominal.f
   slight =
       subst (λ (o : Option Nominal). Within i.stream.nominal.e (option_map_or (λ values. step_of values d.deviation) o 0) i.stream.nominal.f) (sym rec.rate)
-      (slight_step i.stream.nominal d.deviation rec.nominal (found_domain (λ d. is_slight d.deviation ≡ true) clock r.device.domains d sound.slight found))
+      (slight_step i.stream.nominal d.deviation rec.nominal (found_domain (λ d. is_slight d.deviation ≡ true) clock r.device.domains d sound.slight found).0)
 
   some_ticks : ticks ≤ i.stream.nominal.hi
   some_ticks = few_ticks i.stream.nominal d.steps (step_at p) rec.nominal slight
@@ -186,7 +171,7 @@ module _ (losses : List Loss) (r : RunningWorld) (band : RunInBand r) (sound : I
       far_below i.stream.service i.stream.nominal.hi i.microframes ticks (is_due i.stream i.microframes) rec.serves
       (has_room i.stream.nominal rec.nominal).most some_ticks
 
-  -- behind its packets
+  -- after its packets
   came : Rings p i.microframes less d.steps (fetched losses r).device
   came =
       let v : RunningWorld = numbered r in
@@ -202,7 +187,7 @@ module _ (losses : List Loss) (r : RunningWorld) (band : RunInBand r) (sound : I
       subst (λ (f : FunctionFields). Among clock f.domains) (sym came.function)
       (subst (Among clock) band.ordered.clocks (clock_among clock r.device.domains d found))
 
-  -- behind its ticks
+  -- after its ticks
   ticked : Rings p i.microframes (less + ticks) (steps_on p d.steps) (ticked_on losses r).device
   unfolding packets_and_ticks
   ticked =
@@ -213,7 +198,7 @@ module _ (losses : List Loss) (r : RunningWorld) (band : RunInBand r) (sound : I
   ticks_quiet =
       ticks_have_room p spot i.microframes less d.steps room (fetched losses r).device.function.domains (fetched losses r) once clocked came
 
-  -- behind the microframe
+  -- after the microframe
   behind : Rings p (i.microframes + 1) (less + ticks) (steps_on p d.steps) (microframe losses r).world.device
   unfolding microframe ends_and_reports
   behind =
@@ -265,7 +250,9 @@ opened_in r k d on goes_on = option_and_then_some _ (clock_on r k) d on (λ cloc
 pub microframes_stay_recorded : MicroframesStayRecorded
 microframes_stay_recorded losses r band sound recorded = record {
   stays = λ k after now. stays k after now (r.device.ins k) refl;
-  no_over = λ j said below k. microframe_hushed (NotOver k) (hushed k) losses r (outs_have_room losses r band k) (ticks_quiet_at k (r.device.ins k) refl) j said below;
+  no_over = λ j said below k.
+      microframe_says (NotOver k) (quiet k) losses r (outs_have_room losses r band k) (ticks_quiet_at k (r.device.ins k) refl)
+      (ends_not k (ticked_on losses r).detail (streaming_of (ticked_on losses r))) j said below;
 }
   where
     stays : (k : ℕ) (after : InStream) → (microframe losses r).world.device.ins k ≡ Some after → (o : Option InStream) → r.device.ins k ≡ o

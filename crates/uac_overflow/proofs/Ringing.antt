@@ -1,11 +1,10 @@
 -- One stream from the device in a world, and what the turns of all interfaces, and the ticks of all domains, make of it.
-use Rattle.std.proofs.Common.{arith, ◌≡◌, ◌∙◌, sym, refl, ap, subst, ℕ, ℤ, zero, suc, ◌+◌, ◌-◌, ◌≤◌, ◌<◌, ◌==◌, ◌&&◌, Bool, true, false, if◌then◌else◌, nat_eq, List, [], ◌∷◌, ◌++◌, length, length-append, Option, Some, None}
+use Rattle.std.proofs.Common.{arith, ◌≡◌, ◌∙◌, sym, ap, subst, ℕ, ℤ, zero, suc, ◌+◌, ◌-◌, ◌≤◌, ◌<◌, ◌==◌, ◌&&◌, Bool, true, false, if◌then◌else◌, nat_eq, List, [], ◌∷◌, ◌++◌, length, length-append, Option, Some, None}
 use Rattle.std.specs.List.{All, IsDistinct, filter, find, fold}
 use Rattle.std.specs.Option.{option_and_then, option_map, option_map_or}
 use Rattle.std.proofs.Math.Nat.{min-eq_left}
 use Rattle.uac_clock.specs.Nominal.{nominal_of, step_of}
 use Rattle.uac_clock.specs.Ticks.{ticks_in}
-use Rattle.uac_entities.specs.declared.stream.StreamInterface.{StreamInterface}
 use Rattle.uac_topology.specs.Function.{FunctionFields}
 use Rattle.uac_store.specs.declared.keys.Key.{Key}
 use Rattle.uac_store.specs.Rates.{rate_of}
@@ -14,16 +13,17 @@ use Rattle.uac_alt.specs.Streams.{StreamFields}
 use Rattle.uac_alt.specs.declared.settings.InterfaceSetting.{InterfaceSetting}
 use Rattle.uac_flow.specs.Streams.{InStream, OutStream, after_packet, after_putting, after_sending, after_taking, after_ticks, in_level, is_due, is_full, sent_frames, settled_in, settled_out}
 use Rattle.uac_host.specs.Calls.{interface_in}
-use Rattle.uac_device.specs.DeviceWorld.{DeviceWorld, Domain, advanced, changed_at, changed_where, either_due, feedback_in, is_due_in, is_on, next_ticks, received, set_jack, settled, step_in, steps_with_next, ticked}
+use Rattle.uac_device.specs.DeviceWorld.{DeviceWorld, Domain, advanced, either_due, feedback_in, is_due_in, is_on, next_ticks, received, set_jack, settled, step_in, steps_with_next, ticked}
 use Rattle.uac_device.specs.DeviceWorld.{sent as device_sends}
-use Rattle.uac_script.specs.Phrase.{Loss}
+use Rattle.uac_script.specs.Phrase.{SaidMark}
 use Rattle.uac_streaming.specs.Telling.{at_rest}
 use Rattle.uac_streaming.specs.StreamingWorld.{StreamingWorld, all_reported, all_settled, comes_in, fetched_lines, in_packet_turn, in_packets, is_in_due, is_out_due, loses_in, loses_out, loses_report, numbers, out_packets, out_turn, packet_fetched, packet_sent, packet_to, report_lines, report_made, report_turn, sent_lines, settled_turn}
 use Rattle.uac_running.specs.declared.jacks.Jack.{Jack}
 use Rattle.uac_running.specs.RunningWorld.{RunningWorld}
 use Rattle.uac_running.specs.Events.{all_given, domain_microframe, domain_microframes, next_frame, tick, tick_times}
-use Rattle.uac_bands.proofs.Once.{Among, domain_other, domain_same, known_among, numbers_differ, own_number, row_once, turns_keep, turns_once}
+use Rattle.uac_bands.proofs.Once.{Among, domain_other, domain_same, known_among, none_at, none_where, numbers_differ, own_number, row_once, turns_keep, turns_once, where_false, where_true}
 use Rattle.uac_bands.proofs.Shown.{if_false, if_true}
+use Rattle.uac_bands.proofs.Ticked.{a_row, clock_only}
 use Rattle.uac_bands.proofs.Lived.{mapped}
 use Rattle.uac_overflow.proofs.Resting.{putting}
 
@@ -113,44 +113,13 @@ has_room_left s after few i room is = apart (in_level i) is.level
     apart : (n : ℕ) → n ≤ few → (n == 2048) ≡ false
     apart n low = grind arith
 
--- ---- streams of one domain
-
-where_true : (test : ℕ → Bool) (change : ℕ → InStream → InStream) (streams : ℕ → Option InStream) (k : ℕ) (i : InStream) → test k ≡ true
-    → streams k ≡ Some i → changed_where test change streams k ≡ Some (change k i)
-where_true test change streams k i passes there =
-    ap (option_map (λ s. if test k then change k s else s)) there ∙ ap (λ (b : Bool). Some (if b then change k i else i)) passes
-
-where_false : (test : ℕ → Bool) (change : ℕ → InStream → InStream) (streams : ℕ → Option InStream) (k : ℕ) (i : InStream) → test k ≡ false
-    → streams k ≡ Some i → changed_where test change streams k ≡ Some i
-where_false test change streams k i fails there =
-    ap (option_map (λ s. if test k then change k s else s)) there ∙ ap (λ (b : Bool). Some (if b then change k i else i)) fails
-
-none_where : (test : ℕ → Bool) (change : ℕ → OutStream → OutStream) (streams : ℕ → Option OutStream) (k : ℕ) → streams k ≡ None
-    → changed_where test change streams k ≡ None
-none_where test change streams k none = ap (option_map (λ s. if test k then change k s else s)) none
-
-none_at : (n k : ℕ) (change : OutStream → OutStream) (streams : ℕ → Option OutStream) → streams k ≡ None → changed_at n change streams k ≡ None
-none_at n k change streams none = by (k == n)
-  where
-    by : (b : Bool) → (if b then option_map change (streams k) else streams k) ≡ None
-    by true = ap (option_map change) none
-    by false = none
-
 -- the stream is of its clock's domain, and of no other
 pub on_clock_only : (p : Spot) → IsSpot p → (w : DeviceWorld) (c : ℕ) → w.function ≡ p.function → is_on w c p.interface ≡ (p.clock == c)
-on_clock_only p spot w c same =
-    ap (λ (f : FunctionFields). option_map_or (λ s. (entity f.entities s.terminal).clock == c) (find (λ s. s.number == p.interface) f.streams) false) same
-    ∙ by (interface_in p.function p.interface)
-    ∙ ap (λ (o : Option ℕ). option_map_or (λ n. n == c) o false) spot.on_clock
-  where
-    by : (o : Option StreamInterface) → option_map_or (λ s. (entity p.function.entities s.terminal).clock == c) o false
-        ≡ option_map_or (λ n. n == c) (option_map (λ s. (entity p.function.entities s.terminal).clock) o) false
-    by None = refl
-    by (Some s) = refl
+on_clock_only p spot = clock_only p.function p.interface p.clock spot.on_clock
 
 -- ---- turns
 
-module _ (p : Spot) (detail : ℕ) (losses : List Loss) (after few : ℕ) (steps : List ℕ) where
+module _ (p : Spot) (detail : ℕ) (losses : List SaidMark) (after few : ℕ) (steps : List ℕ) where
   out_any : (n : ℕ) (w : StreamingWorld) → Rings p after few steps w.device → Rings p after few steps (out_turn detail losses n w).world.device
   unfolding out_turn packet_sent received
   out_any n w s = by (is_out_due w n)
@@ -262,7 +231,7 @@ module _ (p : Spot) (detail : ℕ) (losses : List Loss) (after few : ℕ) (steps
 
 -- ---- all turns
 
-module _ (p : Spot) (spot : IsSpot p) (small : All (λ s. s.number < 256) p.function.streams) (detail : ℕ) (losses : List Loss) (after few : ℕ)
+module _ (p : Spot) (spot : IsSpot p) (small : All (λ s. s.number < 256) p.function.streams) (detail : ℕ) (losses : List SaidMark) (after few : ℕ)
     (steps : List ℕ) where
   among : (w : DeviceWorld) → Rings p after few steps w → Among p.interface (numbers w.function)
   among w s =
@@ -298,11 +267,6 @@ module _ (p : Spot) (spot : IsSpot p) (small : All (λ s. s.number < 256) p.func
       (numbers w.device.function) w s
 
 -- ---- ticks
-
-a_row : (clocks : List ℕ) (r : RunningWorld) → (domain_microframes clocks r).world ≡ fold (λ v c. (domain_microframe c v).world) r clocks
-unfolding domain_microframes
-a_row [] r = refl
-a_row (c ∷ cs) r = a_row cs (domain_microframe c r).world
 
 -- what its domain's clock gives
 abbrev pub step_at : Spot → ℕ

@@ -1,9 +1,10 @@
 -- A run starts recorded, and what is asked of it between microframes leaves it so, control transfers too.
-use Rattle.std.proofs.Common.{arith, ◌≡◌, ◌∙◌, sym, refl, ap, subst, ℕ, ◌≤◌, ◌==◌, ◌&&◌, ◌||◌, not, Bool, true, false, if◌then◌else◌, ℤ, List, [], ◌∷◌, map, Option, Some, None, is_some}
+use Rattle.std.proofs.Common.{arith, ◌≡◌, ◌∙◌, sym, refl, ap, subst, ℕ, ◌≤◌, ◌==◌, ◌&&◌, not, Bool, true, false, if◌then◌else◌, ℤ, List, map, Option, Some, None}
 use Rattle.std.specs.List.{find, list_any}
 use Rattle.std.specs.Option.{option_and_then, option_map, option_map_or}
-use Rattle.std.proofs.lemmas.Bool.{and_parts, eqb-true, true≢false}
+use Rattle.std.proofs.lemmas.Bool.{and_parts, eqb-true}
 use Rattle.uac_clock.specs.Nominal.{nominal_of}
+use Rattle.uac_rate.specs.Steadiness.{is_slight}
 use Rattle.uac_entities.specs.declared.entity.Entity.{Entity}
 use Rattle.uac_entities.specs.declared.stream.StreamInterface.{StreamInterface}
 use Rattle.uac_topology.specs.Function.{FunctionFields}
@@ -11,36 +12,31 @@ use Rattle.uac_store.specs.declared.keys.Key.{Key}
 use Rattle.uac_store.specs.Rates.{rate_of}
 use Rattle.uac_graph.specs.Meaning.{entity}
 use Rattle.uac_alt.specs.Streams.{StreamFields}
-use Rattle.uac_alt.specs.Settings.{setting_of, with_setting}
+use Rattle.uac_alt.specs.Settings.{setting_of}
 use Rattle.uac_alt.specs.declared.settings.InterfaceSetting.{InterfaceSetting}
-use Rattle.uac_alt.proofs.Changed.{setting_of_changed}
 use Rattle.uac_alt.proofs.Fitting.{interval_fits}
-use Rattle.uac_request.specs.Requests.{Held, after_request, held_by, reply_of}
 use Rattle.uac_request.specs.declared.setup.Setup.{Setup}
 use Rattle.uac_request.proofs.Lasting.{rates_stay}
 use Rattle.uac_flow.specs.Streams.{InStream, OutStream, started_in}
-use Rattle.uac_device.specs.DeviceWorld.{DeviceWorld, Domain, controlled, deviated, fresh, in_from, out_from, replaced_at, restarted, sets_interface, stream_in_setting, tells_done}
+use Rattle.uac_host.specs.Calls.{with_stream}
+use Rattle.uac_device.specs.DeviceWorld.{Domain, deviated, fresh, in_from, out_from, replaced_at, restarted, sets_interface, stream_in_setting}
 use Rattle.uac_device.specs.Linked.{IsOutput}
 use Rattle.uac_device.proofs.LinkedLemmas.{linked}
 use Rattle.uac_device.proofs.StreamsLemmas.{stream_fits}
-use Rattle.uac_mixer.specs.declared.link.When.{When}
-use Rattle.uac_mixer.specs.declared.link.When.TheVariants as when
-use Rattle.uac_mixer.specs.Transfers.{view_after}
-use Rattle.uac_mixer.specs.ViewWorld.{ViewWorld}
-use Rattle.uac_streaming.specs.StreamingWorld.{followed}
-use Rattle.uac_running.specs.RunningWorld.{RunningWorld, at_start, streaming_of, with_detail, with_deviation, with_samples_on, with_streaming, with_tone, with_track}
-use Rattle.uac_running.specs.Transfers.{acts, breaks_before, comes_back, transferred, with_break}
+use Rattle.uac_running.specs.RunningWorld.{RunningWorld, at_start, with_detail, with_deviation, with_samples_on, with_tone, with_track}
+use Rattle.uac_running.specs.Transfers.{with_break}
 use Rattle.uac_bands.specs.Life.{clock_on, domain_on}
 use Rattle.uac_bands.specs.Run.{RunInBand}
 use Rattle.uac_bands.specs.Transfers.{IsInSetting, IsSoundRun}
-use Rattle.uac_bands.proofs.Once.{own_number}
-use Rattle.uac_bands.proofs.Shown.{if_true}
 use Rattle.uac_bands.proofs.Asked.{asked_of, parts_of}
 use Rattle.uac_bands.proofs.Begun.{found_off, off, off_clock}
 use Rattle.uac_bands.proofs.SoundRuns.{known_clock}
+use Rattle.uac_bands.proofs.SoundStart.{any_among, found_stream}
+use Rattle.uac_bands.proofs.Requested.{after, asked_device, begun, done, given_then, held, seen, transferred_so}
+use Rattle.uac_bands.proofs.SoundTransfers.{other_setting, same_settings, setting_is, settings_are}
+use Rattle.uac_bands.proofs.Transferred.{controls_same, found_domain, running_by, some_of}
 use Rattle.uac_overflow.specs.Recording.{AreRecorded, CallsStayRecorded, IsRecorded, RunsStartRecorded, TransfersStayRecorded}
-use Rattle.uac_overflow.proofs.Settled.{controls_same, none_broken, other_setting, running_by, same_settings, set_settings}
-use Rattle.uac_overflow.proofs.Clocked.{any_among, clock_known, found_stream}
+use Rattle.uac_overflow.proofs.Clocked.{output_known}
 
 -- ---- the start
 
@@ -124,19 +120,6 @@ calls_stay_recorded r recorded = record {
 
 -- ---- a stream that starts
 
-some_of : {A : Type 0} (o : Option A) → is_some o ≡ true → (x : A) × (o ≡ Some x)
-some_of None is = absurd (true≢false (sym is))
-some_of (Some x) is = (x, refl)
-
-clock_of : (clock : ℕ) (ds : List Domain) (d : Domain) → find (λ d. d.clock == clock) ds ≡ Some d → d.clock ≡ clock
-clock_of clock [] d e = absurd (cc)
-clock_of clock (x ∷ xs) d e = by (x.clock == clock) refl e (clock_of clock xs d)
-  where
-    by : (b : Bool) → (x.clock == clock) ≡ b → (if b then Some x else find (λ d. d.clock == clock) xs) ≡ Some d
-        → (find (λ d. d.clock == clock) xs ≡ Some d → d.clock ≡ clock) → d.clock ≡ clock
-    by true is found rest = let same : x ≡ d = cc in ap (λ (e : Domain). e.clock) (sym same) ∙ eqb-true x.clock clock is
-    by false is found rest = rest found
-
 module _ (r : RunningWorld) (band : RunInBand r) (sound : IsSoundRun r) (k number : ℕ) (s : StreamFields)
     (is : stream_in_setting r.device.function r.device.controls k number ≡ Some s) (comes : s.out ≡ false) where
   -- its domain
@@ -153,7 +136,7 @@ module _ (r : RunningWorld) (band : RunInBand r) (sound : IsSoundRun r) (k numbe
       (subst (λ (n : ℕ). 1 ≤ n) fits.channels fits.some) in
       let output = found_stream (λ c. c.out ≡ false → IsOutput (entity function.entities c.terminal)) k function.streams carrier (linked function sound.sound).outputs there in
       let clock : ℕ = (entity function.entities carrier.terminal).clock in
-      let known = clock_known function sound.sound carrier (output goes some) in
+      let known = output_known function sound.sound carrier (output goes some) in
       some_of (find (λ (d : Domain). d.clock == clock) r.device.domains)
       (known_clock clock r.device.domains
       ∙ ap (list_any (λ (n : ℕ). n == clock)) band.ordered.clocks ∙ any_among clock function.domains known)
@@ -170,6 +153,7 @@ module _ (r : RunningWorld) (band : RunInBand r) (sound : IsSoundRun r) (k numbe
       let clock : ℕ = (entity function.entities asked.carrier.terminal).clock in
       let found = has_domain asked.carrier asked.there in
       let d : Domain = found.0 in
+      let here = found_domain (λ d. is_slight d.deviation ≡ true) clock r.device.domains d sound.slight found.1 in
       let on_clock : clock_on r k ≡ Some clock = ap (option_map (λ (c : StreamInterface). (entity function.entities c.terminal).clock)) asked.there in (
         d,
         record {
@@ -179,10 +163,10 @@ module _ (r : RunningWorld) (band : RunInBand r) (sound : IsSoundRun r) (k numbe
           nominal = fits.runs.rate;
           rate =
               ap (option_and_then nominal_of)
-              (rates d.clock ∙ ap (rate_of function.entities r.device.controls) (clock_of clock r.device.domains d found.1) ∙ asked.at)
+              (rates d.clock ∙ ap (rate_of function.entities r.device.controls) here.1 ∙ asked.at)
               ∙ parts.nominal;
           serves = fits.runs.serves;
-          fits = interval_fits function asked.rate k number s asked.of;
+          fits = interval_fits function asked.rate k number s sound.sound asked.of;
           gone = omega arith;
           few = omega arith;
         },
@@ -191,131 +175,67 @@ module _ (r : RunningWorld) (band : RunInBand r) (sound : IsSoundRun r) (k numbe
 -- ---- a request
 
 module _ (p : Setup) (bytes : List ℕ) (r : RunningWorld) (band : RunInBand r) (sound : IsSoundRun r) (recorded : AreRecorded r) where
-  abbrev held : Held
-  held = held_by r.device.controls r.device.settings
-
-  abbrev after : Held
-  after = after_request r.device.function held p bytes
-
-  abbrev begun : Option StreamFields
-  begun = stream_in_setting r.device.function r.device.controls p.index p.value
-
-  abbrev done : Bool
-  done = tells_done (reply_of r.device.function held p bytes)
-
-  abbrev asked_device : DeviceWorld
-  asked_device = record r.device { controls = after.controls; settings = after.settings }
-
   -- while a stream runs, no rate changes
   rates_last : (k : ℕ) → IsInSetting r k → (id : ℕ)
-      → rate_of r.device.function.entities after.controls id ≡ rate_of r.device.function.entities r.device.controls id
-  rates_last k set id = rates_stay r.device.function held p bytes sound.store (running_by r.device.settings k set.0 set.1 set.2) id
+      → rate_of r.device.function.entities (after p bytes r).controls id ≡ rate_of r.device.function.entities r.device.controls id
+  rates_last k set id = rates_stay r.device.function (held p bytes r) p bytes sound.store (running_by r.device.settings k set.0 set.1 set.2) id
 
-  acts_alone : (other : RunningWorld) → (sets_interface p && done) ≡ false → AreRecorded (record other { device = asked_device })
+  acts_alone : (other : RunningWorld) → (sets_interface p && done p bytes r) ≡ false → AreRecorded (record other { device = asked_device p bytes r })
   acts_alone other not_set k i there =
       let rec = recorded k i there in (
         rec.0,
-        stays_there r other after.controls after.settings r.device.outs r.device.ins k i rec.0 rec.1
-            (ap (λ (ss : List InterfaceSetting). setting_of ss k) (same_settings r.device.function held p bytes not_set))
+        stays_there r other (after p bytes r).controls (after p bytes r).settings r.device.outs r.device.ins k i rec.0 rec.1
+            (ap (λ (ss : List InterfaceSetting). setting_of ss k) (same_settings r.device.function (held p bytes r) p bytes not_set))
             (rates_last k rec.1.set rec.0.clock),
       )
 
-  module _ (other : RunningWorld) (set : (sets_interface p && done) ≡ true) where
+  module _ (other : RunningWorld) (set : (sets_interface p && done p bytes r) ≡ true) where
     abbrev outs_then : ℕ → Option OutStream
-    outs_then = replaced_at p.index (option_and_then out_from begun) r.device.outs
+    outs_then = replaced_at p.index (option_and_then out_from (begun p bytes r)) r.device.outs
 
     abbrev ins_then : ℕ → Option InStream
-    ins_then = replaced_at p.index (option_and_then in_from begun) r.device.ins
+    ins_then = replaced_at p.index (option_and_then in_from (begun p bytes r)) r.device.ins
 
     abbrev Then : ℕ → InStream → Type 0
-    Then k i = (d : Domain) × IsRecorded (changed r other after.controls after.settings outs_then ins_then) k i d
-
-    settings_are : after.settings ≡ with_setting r.device.settings p.index p.value
-    settings_are =
-        let both = and_parts (sets_interface p) done set in
-        set_settings r.device.function held p bytes both.0 (none_broken r.device.function held p bytes both.1)
+    Then k i = (d : Domain) × IsRecorded (changed r other (after p bytes r).controls (after p bytes r).settings outs_then ins_then) k i d
 
     elsewhere : (k : ℕ) (i : InStream) → (k == p.index) ≡ false → r.device.ins k ≡ Some i → Then k i
     elsewhere k i apart there =
         let rec = recorded k i there in (
           rec.0,
-          stays_there r other after.controls after.settings outs_then ins_then k i rec.0 rec.1
-              (ap (λ (ss : List InterfaceSetting). setting_of ss k) settings_are ∙ other_setting k p.index p.value r.device.settings apart)
+          stays_there r other (after p bytes r).controls (after p bytes r).settings outs_then ins_then k i rec.0 rec.1
+              (ap (λ (ss : List InterfaceSetting). setting_of ss k) (settings_are p bytes r set) ∙ other_setting k p.index p.value r.device.settings apart)
               (rates_last k rec.1.set rec.0.clock),
         )
 
-    here : (i : InStream) (b : Option StreamFields) → begun ≡ b → option_and_then in_from b ≡ Some i → Then p.index i
+    here : (i : InStream) (b : Option StreamFields) → begun p bytes r ≡ b → option_and_then in_from b ≡ Some i → Then p.index i
     here i None is there = absurd (cc)
     here i (Some s) is there = by s.out refl there
       where
-        asked_setting : setting_of after.settings p.index ≡ Some p.value
-        asked_setting =
-            let asked = asked_of r.device.function r.device.controls p.index p.value s is in
-            let known : is_some (setting_of r.device.settings p.index) ≡ true =
-            sound.settings p.index
-            ∙ ap (λ (o : Option StreamInterface). p.index == r.device.function.control_interface || is_some o) asked.there
-            ∙ either (p.index == r.device.function.control_interface) in
-            ap (λ (ss : List InterfaceSetting). setting_of ss p.index) settings_are
-            ∙ setting_of_changed r.device.settings p.index p.value p.index known
-            ∙ if_true (p.index == p.index) (Some p.value) (setting_of r.device.settings p.index) (own_number p.index)
-          where
-            either : (b : Bool) → (b || true) ≡ true
-            either true = refl
-            either false = refl
-
         by : (b : Bool) → s.out ≡ b → (if b then None else Some (started_in s)) ≡ Some i → Then p.index i
         by true goes none = absurd (cc)
         by false comes some =
             let same : started_in s ≡ i = cc in
-            let controls = controls_same r.device.function held p bytes (and_parts (sets_interface p) done set).0 in
+            let asked = asked_of r.device.function r.device.controls p.index p.value s is in
+            let setting = setting_is p bytes r set sound.settings asked.carrier asked.there in
+            let controls = controls_same r.device.function (held p bytes r) p bytes (and_parts (sets_interface p) (done p bytes r) set).0 in
             subst (Then p.index) same
-            (starts_there r band sound p.index p.value s is comes other after.controls after.settings outs_then ins_then asked_setting
+            (starts_there r band sound p.index p.value s is comes other (after p bytes r).controls (after p bytes r).settings outs_then ins_then setting
             (λ id. ap (λ (cs : List (Key × ℤ)). rate_of r.device.function.entities cs id) controls))
 
-    restarts : AreRecorded (record other { device = restarted p.index begun asked_device })
+    restarts : AreRecorded (record other { device = restarted p.index (begun p bytes r) (asked_device p bytes r) })
     unfolding restarted
     restarts k i there = by k i (k == p.index) refl there
       where
         by : (k : ℕ) (i : InStream) (b : Bool) → (k == p.index) ≡ b
-            → (if b then option_and_then in_from begun else r.device.ins k) ≡ Some i → Then k i
-        by k i true same there = subst (λ (n : ℕ). Then n i) (sym (eqb-true k p.index same)) (here i begun refl there)
+            → (if b then option_and_then in_from (begun p bytes r) else r.device.ins k) ≡ Some i → Then k i
+        by k i true same there = subst (λ (n : ℕ). Then n i) (sym (eqb-true k p.index same)) (here i (begun p bytes r) refl there)
         by k i false apart there = elsewhere k i apart there
 
 -- ---- a transfer
 
 pub transfers_stay_recorded : TransfersStayRecorded
-unfolding transferred followed controlled restarted
-transfers_stay_recorded p bytes r band sound recorded = by r.breaks
-  where
-    view : ViewWorld
-    view = view_after r.device.function.control_interface p bytes (comes_back p bytes r) r.view
-
-    begun_then : Option StreamFields
-    begun_then = stream_in_setting r.device.function r.device.controls p.index p.value
-
-    done_then : Bool
-    done_then = tells_done (reply_of r.device.function (held_by r.device.controls r.device.settings) p bytes)
-
-    asked_then : DeviceWorld
-    asked_then =
-        let after = after_request r.device.function (held_by r.device.controls r.device.settings) p bytes in
-        record r.device { controls = after.controls; settings = after.settings }
-
-    world : Bool → DeviceWorld → RunningWorld
-    world b device =
-        let s = record (streaming_of r) { device = device } in
-        record (with_streaming r (if b then followed p.index begun_then s else s)) { view = view; breaks = None }
-
-    acted : (b : Bool) → (sets_interface p && done_then) ≡ b → AreRecorded (world b (if b then restarted p.index begun_then asked_then else asked_then))
-    acted true is = restarts p bytes r band sound recorded (world true (restarted p.index begun_then asked_then)) is
-    acted false is = acts_alone p bytes r band sound recorded (world false asked_then) is
-
-    rests : (b : Bool) → AreRecorded (world (b && false) r.device)
-    rests true = carried r (world false r.device) recorded
-    rests false = carried r (world false r.device) recorded
-
-    by : (o : Option When)
-        → AreRecorded (world (sets_interface p && (not (breaks_before o) && done_then)) (acts o r.device (controlled p bytes r.device)))
-    by None = acted (sets_interface p && done_then) refl
-    by (Some when.Before) = rests (sets_interface p)
-    by (Some when.After) = acted (sets_interface p && done_then) refl
+transfers_stay_recorded p bytes r band sound recorded =
+    transferred_so p bytes r AreRecorded
+    (restarts p bytes r band sound recorded (record (seen p bytes r) { host = with_stream p.index (begun p bytes r) r.host; given = given_then p bytes r }))
+    (acts_alone p bytes r band sound recorded (seen p bytes r)) (carried r (seen p bytes r) recorded)

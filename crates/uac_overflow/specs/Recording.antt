@@ -13,7 +13,7 @@ use Rattle.uac_store.specs.Rates.{rate_of}
 use Rattle.uac_request.specs.declared.setup.Setup.{Setup}
 use Rattle.uac_flow.specs.Streams.{InStream, in_level}
 use Rattle.uac_device.specs.DeviceWorld.{Domain}
-use Rattle.uac_script.specs.Phrase.{Loss}
+use Rattle.uac_script.specs.Phrase.{SaidMark}
 use Rattle.uac_streaming.specs.StreamingWorld.{comes_in}
 use Rattle.uac_transcript.specs.Transcript.{Said, says_over}
 use Rattle.uac_running.specs.RunningWorld.{RunningWorld, at_start, with_detail, with_deviation, with_samples_on, with_tone, with_track}
@@ -63,13 +63,13 @@ RunsStartRecorded =
 
 -- a microframe of a sound run in its bands leaves it so, and tells of no ring that was full: neither of one from the device, nor of one
 -- to it that had no room for its packet
-pub record StaysRecorded (losses : List Loss) (r : RunningWorld) : Type 0 where
+pub record StaysRecorded (losses : List SaidMark) (r : RunningWorld) : Type 0 where
   pub stays : AreRecorded (microframe losses r).world
   pub no_over : All IsNoOver (microframe losses r).lines
 
 abbrev pub MicroframesStayRecorded : Type 0
 MicroframesStayRecorded =
-    (losses : List Loss) (r : RunningWorld) → RunInBand r → IsSoundRun r → AreRecorded r → StaysRecorded losses r
+    (losses : List SaidMark) (r : RunningWorld) → RunInBand r → IsSoundRun r → AreRecorded r → StaysRecorded losses r
 
 -- what else is asked of a run leaves it so
 pub record StaysRecordedBetween (r : RunningWorld) : Type 0 where

@@ -2,7 +2,7 @@
 ghost use Rattle.uac_overflow.specs.Recording.{RunsStartRecorded, MicroframesStayRecorded, CallsStayRecorded, TransfersStayRecorded};
 ghost use Rattle.uac_overflow.specs.Recording.{RingsHoldAnInterval};
 
-/// The rings of streams from the device hold at most what a service interval can bring, from the start on and behind each microframe,
+/// The rings of streams from the device hold at most what a service interval can bring, from the start on and after each microframe,
 /// control transfer and call of a sound run in its bands; and no microframe finds a ring without room.
 #[tactic(auto)]
 pub fn no_ring_overflows()

@@ -5,13 +5,12 @@ use Rattle.std.specs.List.{All}
 use Rattle.std.proofs.lemmas.List.Elements.{All-append, All-map, All-nil}
 use Rattle.uac_descriptor.specs.Reading.{AreBytes}
 use Rattle.uac_rate.specs.Steadiness.{is_steady}
-use Rattle.uac_script.specs.Phrase.{Loss}
+use Rattle.uac_script.specs.Phrase.{SaidMark}
 use Rattle.uac_running.specs.RunningWorld.{RunningWorld}
 use Rattle.uac_running.specs.Events.{microframe, microframes}
 use Rattle.uac_bus.specs.World.{World, describing, running}
 use Rattle.uac_bands.specs.Run.{RunInBand}
 use Rattle.uac_bands.specs.Transfers.{IsSoundRun}
-use Rattle.uac_bands.proofs.LookingBack.{looks_back}
 use Rattle.uac_bands.proofs.NearLevels.{tell_near}
 use Rattle.uac_bands.proofs.NoneEmpty.{find_none_empty}
 use Rattle.uac_bands.proofs.SoundRuns.{microframes_keep_sound}
@@ -19,6 +18,7 @@ use Rattle.uac_bands.proofs.SteadyRun.{keep_bands}
 use Rattle.uac_overflow.specs.Recording.{AreRecorded, CallsStayRecorded, MicroframesStayRecorded, RunsStartRecorded, TransfersStayRecorded}
 use Rattle.uac_homing.specs.Past.{Pasts, pasts_after}
 use Rattle.uac_homing.specs.Homing.{CallsStayTrailed, HaveTrails, MicroframesStayTrailed, RunsStartTrailed, TransfersStayTrailed}
+use Rattle.uac_steady.proofs.Steps.{microframes_before}
 use Rattle.uac_promises.specs.Watched.{Seen, microframes_seen, watched_in}
 use Rattle.uac_promises.specs.Promises.{IsKept}
 
@@ -44,28 +44,22 @@ abbrev pub IsGoodIn : World → Pasts → Type 0
 IsGoodIn (describing bytes meters) pasts = AreBytes bytes
 IsGoodIn (running r) pasts = IsGoodRun r pasts
 
--- so it is behind what was seen, and all that was seen is as promised
+-- so it is after what was seen, and all that was seen is as promised
 pub record LeavesKept (next : World) (seen : Seen) : Type 0 where
   pub good : IsGoodIn next seen.pasts
   pub kept : All IsKept seen.lines
 
 -- ---- microframes
 
-microframes_before : (losses : List Loss) (count : ℕ) (r : RunningWorld) → is_steady (microframes losses count r).world.given ≡ true
-    → is_steady r.given ≡ true
-unfolding microframes
-microframes_before losses zero r h = h
-microframes_before losses (suc count) r h = looks_back losses r (microframes_before losses count (microframe losses r).world h)
-
 module _ (laws : LawsOfSteps) where
   -- what is seen of one microframe
-  abbrev microframe_seen : List Loss → RunningWorld → Pasts → Seen
+  abbrev microframe_seen : List SaidMark → RunningWorld → Pasts → Seen
   microframe_seen losses r pasts = record {
     lines = map (watched_in (running (microframe losses r).world) (pasts_after losses r pasts)) (microframe losses r).lines;
     pasts = pasts_after losses r pasts;
   }
 
-  microframe_keeps : (losses : List Loss) (r : RunningWorld) (pasts : Pasts) → IsGoodRun r pasts
+  microframe_keeps : (losses : List SaidMark) (r : RunningWorld) (pasts : Pasts) → IsGoodRun r pasts
       → is_steady (microframe losses r).world.given ≡ true
       → LeavesKept (running (microframe losses r).world) (microframe_seen losses r pasts)
   microframe_keeps losses r pasts good steady =
@@ -84,7 +78,7 @@ module _ (laws : LawsOfSteps) where
             (λ k d h. record { no_under = full k d h; no_over = records.no_over k d h; near = near k d h; close = trails.close k d h });
       }
 
-  pub microframes_keep : (losses : List Loss) (count : ℕ) (r : RunningWorld) (pasts : Pasts) → IsGoodRun r pasts
+  pub microframes_keep : (losses : List SaidMark) (count : ℕ) (r : RunningWorld) (pasts : Pasts) → IsGoodRun r pasts
       → is_steady (microframes losses count r).world.given ≡ true
       → LeavesKept (running (microframes losses count r).world) (microframes_seen losses count r pasts)
   unfolding microframes microframes_seen

@@ -8,14 +8,14 @@ use Rattle.uac_units.specs.Hearing.{Reading}
 use Rattle.uac_script.specs.Phrase.{Phrase, feeds}
 use Rattle.uac_script.specs.Reading.{answer}
 use Rattle.uac_transcript.specs.Transcript.{Said}
-use Rattle.uac_bus.specs.World.{Step, World, describing, done, refused, running, start, step, step_describing}
+use Rattle.uac_bus.specs.World.{Step, World, describing, done, refused, running, start, step}
 use Rattle.uac_bus.specs.After.{After, after, and_then, said_step, with_one_more}
 use Rattle.uac_bus.proofs.AfterLemmas.{after_one_more}
 use Rattle.uac_bands.specs.Run.{IsNearLevel, IsNoUnder}
 use Rattle.uac_overflow.specs.Recording.{IsNoOver}
 use Rattle.uac_homing.specs.Past.{Pasts, no_pasts}
 use Rattle.uac_steady.specs.Scripts.{IsInBand, behind_lines, is_steady_in}
-use Rattle.uac_steady.proofs.Steps.{WasSteady, describing_looks_back, running_looks_back}
+use Rattle.uac_steady.proofs.Behind.{lines_look_back}
 use Rattle.uac_steady.proofs.Beginning.{feeds_bytes}
 use Rattle.uac_promises.specs.Watched.{Watch, and_then_seen, line_seen, microframes_of, watched}
 use Rattle.uac_promises.specs.Promises.{IsKept, IsRecordedIn, KeepsPromises, OneMoreLineIsKept, SteadyScriptsKeepPromises}
@@ -23,27 +23,6 @@ use Rattle.uac_promises.proofs.SeenLines.{lines_are_seen, said_in}
 use Rattle.uac_promises.proofs.GoodRuns.{IsGoodIn, LawsOfSteps}
 use Rattle.uac_promises.proofs.OneByOne.{KeepsAll, running_keeps_all}
 use Rattle.uac_promises.proofs.GoodBeginnings.{describing_keeps_all}
-
--- ---- looking back
-
-step_looks_back : (phrase : Phrase) (w : World) → WasSteady w (step phrase w)
-unfolding step
-step_looks_back phrase (describing bytes meters) = describing_looks_back bytes meters (step_describing bytes meters phrase)
-step_looks_back phrase (running r) = running_looks_back r phrase
-
-said_looks_back : (said : Result Phrase ℕ) (w : World) → WasSteady w (said_step said w)
-said_looks_back (Ok phrase) w = step_looks_back phrase w
-said_looks_back (Err rule) w = tt
-
-lines_look_back : (saids : List (Result Phrase ℕ)) (w : World) → is_steady_in (after saids w).world ≡ true → is_steady_in w ≡ true
-unfolding after
-lines_look_back [] w h = h
-lines_look_back (said ∷ saids) w h = by (said_step said w) (said_looks_back said w) (lines_look_back saids) h
-  where
-    by : (s : Step) → WasSteady w s → ((next : World) → is_steady_in (after saids next).world ≡ true → is_steady_in next ≡ true)
-        → is_steady_in (and_then s w (after saids)).world ≡ true → is_steady_in w ≡ true
-    by (done next lines) back rest steady = back (rest next steady)
-    by (refused fault) back rest steady = steady
 
 -- ---- lines in a row
 
@@ -70,7 +49,7 @@ TheRest saids =
     (next : World) (later : Pasts) → IsGoodIn next later → is_steady_in (after saids next).world ≡ true
     → LeavesAll (after saids next).world (watched saids next later).lines
 
--- a line, and those behind it
+-- a line, and those after it
 with_first : (saids : List (Result Phrase ℕ)) (w : World) (pasts : Pasts) → IsGoodIn w pasts
     → (phrase : Phrase) (s : Step) → KeepsAll (microframes_of phrase) w pasts s → TheRest saids
     → is_steady_in (and_then s w (after saids)).world ≡ true
@@ -125,7 +104,7 @@ all_printed P each texts shown keeps =
     (All-map P said_in (watched (map answer texts) (start shown) no_pasts).lines
     (All-weaker IsKept (λ watch. P watch.said) each (watched (map answer texts) (start shown) no_pasts).lines keeps.kept))
 
--- what holds of lines one behind the other holds of the later
+-- what holds of lines one after the other holds of the later
 latter : (P : Said → Type 0) (front back : List Said) → All P (front ++ back) → All P back
 latter P front back all = All-from_recursion P back (by front (recursion_from_All P (front ++ back) all))
   where

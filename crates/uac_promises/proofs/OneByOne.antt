@@ -1,4 +1,4 @@
--- A line done by a good running device, where what was given is steady behind it: the device is good behind it, and all that the line
+-- A line done by a good running device, where what was given is steady after it: the device is good after it, and all that the line
 -- printed is as promised.
 use Rattle.std.proofs.Common.{◌≡◌, refl, ℕ, ℤ, Bool, true, List, [], ◌∷◌, Option, None}
 use Rattle.std.specs.List.{All}
@@ -27,7 +27,7 @@ use Rattle.uac_promises.specs.Watched.{Microframes, line_seen, microframes_of}
 use Rattle.uac_promises.proofs.PlainLines.{IsPlain, one_plain, plain_lines_kept, report_plain}
 use Rattle.uac_promises.proofs.GoodRuns.{IsGoodIn, IsGoodRun, LawsOfSteps, LeavesKept, microframes_keep}
 
--- a line that was done leaves a good world and kept all promises, where what was given is steady behind it
+-- a line that was done leaves a good world and kept all promises, where what was given is steady after it
 abbrev pub KeepsAll : Option Microframes → World → Pasts → Step → Type 0
 KeepsAll m w pasts (done next lines) = is_steady_in next ≡ true → LeavesKept next (line_seen m w next lines pasts)
 KeepsAll m w pasts (refused fault) = Unit {0}

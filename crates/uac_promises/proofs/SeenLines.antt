@@ -1,7 +1,7 @@
 -- The lines that are seen are those that are printed.
 use Rattle.std.proofs.Common.{◌≡◌, refl, ap, ℕ, zero, suc, List, [], ◌∷◌, ◌++◌, map, Option, None, Some, Ok, Err}
 use Rattle.std.proofs.lemmas.List.{map-append}
-use Rattle.uac_script.specs.Phrase.{Loss, Phrase, runs}
+use Rattle.uac_script.specs.Phrase.{SaidMark, Phrase, runs}
 use Rattle.uac_units.specs.Hearing.{Reading}
 use Rattle.uac_transcript.specs.Transcript.{Said}
 use Rattle.uac_running.specs.RunningWorld.{RunningWorld}
@@ -28,7 +28,7 @@ both_seen front back xs ys e f = rw map-append (cc)
 
 -- ---- one line
 
-microframes_are_seen : (losses : List Loss) (count : ℕ) (r : RunningWorld) (pasts : Pasts)
+microframes_are_seen : (losses : List SaidMark) (count : ℕ) (r : RunningWorld) (pasts : Pasts)
     → map said_in (microframes_seen losses count r pasts).lines ≡ (microframes losses count r).lines
 unfolding microframes_seen microframes
 microframes_are_seen losses zero r pasts = refl

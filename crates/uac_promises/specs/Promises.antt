@@ -20,7 +20,7 @@ IsCloseIn (describing bytes meters) pasts said = Unit {0}
 IsCloseIn (running r) pasts said = IsClose r pasts said
 
 -- a printed line tells of no ring that was found empty, and of none that had no room; and if it tells a level of a primed stream, that is
--- within 130 frames of its target, within 4 once the stream has settled behind its last lost packet, and within 3 where it lost none since
+-- within 130 frames of its target, within 4 once the stream has settled after its last lost packet, and within 3 where it lost none since
 -- it was primed
 pub record IsKept (w : Watch) : Type 0 where
   pub no_under : IsNoUnder w.said
@@ -50,7 +50,7 @@ abbrev pub SteadyScriptsKeepPromises : Type 0
 SteadyScriptsKeepPromises =
     (texts : List (List ℕ)) (shown : List Reading) → is_steady_in (behind_lines texts shown).world ≡ true → KeepsPromises texts shown
 
--- what one line more prints, behind lines of which none was refused, in a world that is steady behind it
+-- what one line more prints, after lines of which none was refused, in a world that is steady after it
 pub record PrintsKept (lines : List Said) : Type 0 where
   pub no_under : All IsNoUnder lines
   pub no_over : All IsNoOver lines

@@ -1,7 +1,7 @@
 -- The lines that a script prints, each with the world in which it is printed, and with how long ago each stream was primed and lost a
 -- packet (profile).
 use Rattle.std.specs.Prelude.{ℕ, zero, suc, List, [], ◌∷◌, ◌++◌, map, Option, Some, None, Result, Ok, Err}
-use Rattle.uac_script.specs.Phrase.{Loss, Phrase, idle, feeds, goes, controls, gets, sets, shows, breaks, appends, tracks, jacks, deviates}
+use Rattle.uac_script.specs.Phrase.{SaidMark, Phrase, idle, feeds, goes, controls, gets, sets, shows, breaks, appends, tracks, jacks, deviates}
 use Rattle.uac_script.specs.Phrase.{runs, details, reports}
 use Rattle.uac_transcript.specs.Transcript.{Said}
 use Rattle.uac_running.specs.RunningWorld.{RunningWorld}
@@ -9,7 +9,7 @@ use Rattle.uac_running.specs.Events.{microframe}
 use Rattle.uac_bus.specs.World.{Step, World, describing, done, refused, running, size_of, step}
 use Rattle.uac_homing.specs.Past.{Pasts, pasts_after}
 
--- a printed line, the world behind the microframe or the line of the script that printed it, and the pasts of its streams there
+-- a printed line, the world after the microframe or the line of the script that printed it, and the pasts of its streams there
 pub record Watch : Type 0 where
   pub said : Said
   pub world : World
@@ -18,7 +18,7 @@ pub record Watch : Type 0 where
 abbrev pub watched_in : World → Pasts → Said → Watch
 watched_in w pasts said = record { said = said; world = w; pasts = pasts }
 
--- printed lines, and the pasts behind them
+-- printed lines, and the pasts after them
 pub record Seen : Type 0 where
   pub lines : List Watch
   pub pasts : Pasts
@@ -26,8 +26,8 @@ pub record Seen : Type 0 where
 abbrev pub seen_first : List Watch → Seen → Seen
 seen_first lines rest = record rest { lines = lines ++ rest.lines }
 
--- so many microframes with these losses: the lines of each with the world behind it
-unfoldable pub microframes_seen : List Loss → ℕ → RunningWorld → Pasts → Seen
+-- so many microframes with these losses: the lines of each with the world after it
+unfoldable pub microframes_seen : List SaidMark → ℕ → RunningWorld → Pasts → Seen
 microframes_seen losses zero r pasts = record { lines = []; pasts = pasts }
 microframes_seen losses (suc n) r pasts =
     let next = (microframe losses r).world in
@@ -37,7 +37,7 @@ microframes_seen losses (suc n) r pasts =
 -- the microframes for which a line of a script asks
 pub record Microframes : Type 0 where
   pub count : ℕ
-  pub losses : List Loss
+  pub losses : List SaidMark
 
 abbrev pub microframes_of : Phrase → Option Microframes
 microframes_of idle = None
@@ -63,7 +63,7 @@ line_seen None w next lines pasts = record { lines = map (watched_in next pasts)
 line_seen (Some m) (describing bytes meters) next lines pasts = record { lines = map (watched_in next pasts) lines; pasts = pasts }
 line_seen (Some m) (running r) next lines pasts = microframes_seen m.losses m.count r pasts
 
--- one line behind the other, up to the first that is refused
+-- one line after the other, up to the first that is refused
 abbrev pub and_then_seen : Step → Option Microframes → World → Pasts → (World → Pasts → Seen) → Seen
 and_then_seen (done next lines) m w pasts go =
     let first = line_seen m w next lines pasts in

@@ -35,7 +35,8 @@ use Rattle.uac_units.specs.Hearing.{Reading}
 use Rattle.uac_running.specs.RunningWorld.{at_start}
 use Rattle.uac_running.specs.Lines.{ready_line}
 use Rattle.uac_bus.specs.Description.{blocks_of, function_of}
-use Rattle.uac_bus.specs.World.{describing, done, fed, gone, if_no_fault, if_sound, running, silently, step_describing}
+use Rattle.uac_bus.specs.declared.fault.BusFault.{BusFault}
+use Rattle.uac_bus.specs.World.{Step, describing, done, fed, gone, if_no_fault, if_sound, refused, running, silently, step_describing}
 use Rattle.uac_bus.proofs.Described.{blocks_of_sentence}
 use Rattle.uac_bands.proofs.Begun.{runs_start_in_band}
 use Rattle.uac_bands.proofs.SoundStart.{runs_start_sound}
@@ -114,47 +115,56 @@ described bytes are whole sound =
 
 -- ---- lines
 
-fed_keeps : (bytes : List ℕ) (meters : List Reading) → AreBytes bytes → KeepsGood (fed bytes meters)
-unfolding fed
-fed_keeps bytes meters are = by (shown_fault bytes)
-  where
-    by : (o : Option GrammarFault) → KeepsGood (if_no_fault o (silently (describing bytes meters)))
-    by None = λ h. record { good = are; quiet = none_quiet }
-    by (Some fault) = tt
+-- what holds of the steps of a descriptor's lines: of bytes that stay bytes, of a device that starts, and of a refusal
+module _ (P : Phrase → Step → Type 0) (fails : (phrase : Phrase) (fault : BusFault) → P phrase (refused fault))
+    (bytes : List ℕ) (meters : List Reading) (rests : AreBytes bytes → P idle (silently (describing bytes meters)))
+    (grows : (more now : List ℕ) → AreBytes now → P (feeds more) (silently (describing now meters)))
+    (starts : (function : FunctionFields) → IsDescribed function
+    → P goes (done (running (at_start bytes function meters)) (ready_line function ∷ []))) where
+  fed_is : (more now : List ℕ) → AreBytes now → P (feeds more) (fed now meters)
+  unfolding fed
+  fed_is more now are = by (shown_fault now)
+    where
+      by : (o : Option GrammarFault) → P (feeds more) (if_no_fault o (silently (describing now meters)))
+      by None = grows more now are
+      by (Some fault) = fails (feeds more) _
 
-gone_keeps : (bytes : List ℕ) (meters : List Reading) → AreBytes bytes → KeepsGood (gone bytes meters)
-unfolding gone
-gone_keeps bytes meters are = by (first_fault bytes) refl (first_broken (blocks_of bytes)) refl
-  where
-    function : FunctionFields
-    function = function_of (blocks_of bytes)
+  gone_is : AreBytes bytes → P goes (gone bytes meters)
+  unfolding gone
+  gone_is are = by (first_fault bytes) refl (first_broken (blocks_of bytes)) refl
+    where
+      function : FunctionFields
+      function = function_of (blocks_of bytes)
 
-    by : (f : Option GrammarFault) → first_fault bytes ≡ f → (b : Option TopologyFault) → first_broken (blocks_of bytes) ≡ b
-        → KeepsGood (if_no_fault f (if_sound b (done (running (at_start bytes function meters)) (ready_line function ∷ []))))
-    by None whole None sound =
-        let is = described bytes are whole sound in
-        λ h. record {
-          good = (runs_start_in_band bytes function meters is.sound is.small, runs_start_sound bytes function meters is.sound);
-          quiet =
-              one_more (ready_line function) [] (record { no_under = λ k same. cc; near = λ k level target same. absurd (cc) }) none_quiet;
-        }
-    by None whole (Some fault) broken = tt
-    by (Some fault) at b is = tt
+      by : (f : Option GrammarFault) → first_fault bytes ≡ f → (b : Option TopologyFault) → first_broken (blocks_of bytes) ≡ b
+          → P goes (if_no_fault f (if_sound b (done (running (at_start bytes function meters)) (ready_line function ∷ []))))
+      by None whole None sound = starts function (described bytes are whole sound)
+      by None whole (Some fault) broken = fails goes _
+      by (Some fault) at b is = fails goes _
+
+  pub describing_is : (phrase : Phrase) → AreBytes bytes → ((more : List ℕ) → phrase ≡ feeds more → AreBytes more)
+      → P phrase (step_describing bytes meters phrase)
+  describing_is idle are feed = rests are
+  describing_is (feeds more) are feed = fed_is more (bytes ++ more) (appended_bytes bytes more are (feed more refl))
+  describing_is goes are feed = gone_is are
+  describing_is (controls setup sent) are feed = fails (controls setup sent) _
+  describing_is (gets name) are feed = fails (gets name) _
+  describing_is (sets name value) are feed = fails (sets name value) _
+  describing_is (shows name) are feed = fails (shows name) _
+  describing_is (breaks later) are feed = fails (breaks later) _
+  describing_is (appends number samples) are feed = fails (appends number samples) _
+  describing_is (tracks number voice) are feed = fails (tracks number voice) _
+  describing_is (jacks terminal voice) are feed = fails (jacks terminal voice) _
+  describing_is (deviates clock millionths) are feed = fails (deviates clock millionths) _
+  describing_is (runs count losses) are feed = fails (runs count losses) _
+  describing_is (details level) are feed = fails (details level) _
+  describing_is reports are feed = fails reports _
 
 pub describing_keeps : (bytes : List ℕ) (meters : List Reading) (phrase : Phrase) → AreBytes bytes
     → ((more : List ℕ) → phrase ≡ feeds more → AreBytes more) → KeepsGood (step_describing bytes meters phrase)
-describing_keeps bytes meters idle are feed = λ h. record { good = are; quiet = none_quiet }
-describing_keeps bytes meters (feeds more) are feed = fed_keeps (bytes ++ more) meters (appended_bytes bytes more are (feed more refl))
-describing_keeps bytes meters goes are feed = gone_keeps bytes meters are
-describing_keeps bytes meters (controls setup sent) are feed = tt
-describing_keeps bytes meters (gets name) are feed = tt
-describing_keeps bytes meters (sets name value) are feed = tt
-describing_keeps bytes meters (shows name) are feed = tt
-describing_keeps bytes meters (breaks later) are feed = tt
-describing_keeps bytes meters (appends number samples) are feed = tt
-describing_keeps bytes meters (tracks number voice) are feed = tt
-describing_keeps bytes meters (jacks terminal voice) are feed = tt
-describing_keeps bytes meters (deviates clock millionths) are feed = tt
-describing_keeps bytes meters (runs count losses) are feed = tt
-describing_keeps bytes meters (details level) are feed = tt
-describing_keeps bytes meters reports are feed = tt
+describing_keeps bytes meters =
+    describing_is (λ phrase s. KeepsGood s) (λ phrase fault. tt) bytes meters (λ are h. record { good = are; quiet = none_quiet })
+    (λ more now are h. record { good = are; quiet = none_quiet }) (λ function is h. record {
+      good = (runs_start_in_band bytes function meters is.sound is.small, runs_start_sound bytes function meters is.sound);
+      quiet = one_more (ready_line function) [] (record { no_under = λ k same. cc; near = λ k level target same. absurd (cc) }) none_quiet;
+    })

@@ -1,4 +1,4 @@
--- Lines in a row: what is steady behind them was so before each, and each keeps the device in its bands.
+-- Lines in a row: what is steady after them was so before each, and each keeps the device in its bands.
 use Rattle.std.proofs.Common.{◌≡◌, refl, ℕ, true, List, [], ◌∷◌, map, rules, Result, Ok, Err}
 use Rattle.uac_descriptor.specs.Reading.{AreBytes}
 use Rattle.uac_script.specs.Phrase.{Phrase, feeds}
@@ -12,12 +12,12 @@ use Rattle.uac_steady.proofs.Beginning.{describing_keeps, feeds_bytes}
 
 -- ---- one line
 
-step_looks_back : (phrase : Phrase) (w : World) → WasSteady w (step phrase w)
+pub step_looks_back : (phrase : Phrase) (w : World) → WasSteady w (step phrase w)
 unfolding step
 step_looks_back phrase (describing bytes meters) = describing_looks_back bytes meters (step_describing bytes meters phrase)
 step_looks_back phrase (running r) = running_looks_back r phrase
 
-said_looks_back : (said : Result Phrase ℕ) (w : World) → WasSteady w (said_step said w)
+pub said_looks_back : (said : Result Phrase ℕ) (w : World) → WasSteady w (said_step said w)
 said_looks_back (Ok phrase) w = step_looks_back phrase w
 said_looks_back (Err rule) w = tt
 
@@ -35,14 +35,13 @@ said_keeps text w good = by (answer text) refl
 
 -- ---- lines in a row
 
-lines_look_back : (texts : List (List ℕ)) (w : World) → is_steady_in (after (map answer texts) w).world ≡ true → is_steady_in w ≡ true
+pub lines_look_back : (saids : List (Result Phrase ℕ)) (w : World) → is_steady_in (after saids w).world ≡ true → is_steady_in w ≡ true
 unfolding after
 lines_look_back [] w h = h
-lines_look_back (text ∷ texts) w h = by (said_step (answer text) w) (said_looks_back (answer text) w) (lines_look_back texts) h
+lines_look_back (said ∷ saids) w h = by (said_step said w) (said_looks_back said w) (lines_look_back saids) h
   where
-    by : (s : Step) → WasSteady w s
-        → ((next : World) → is_steady_in (after (map answer texts) next).world ≡ true → is_steady_in next ≡ true)
-        → is_steady_in (and_then s w (after (map answer texts))).world ≡ true → is_steady_in w ≡ true
+    by : (s : Step) → WasSteady w s → ((next : World) → is_steady_in (after saids next).world ≡ true → is_steady_in next ≡ true)
+        → is_steady_in (and_then s w (after saids)).world ≡ true → is_steady_in w ≡ true
     by (done next lines) back rest steady = back (rest next steady)
     by (refused fault) back rest steady = steady
 
@@ -65,7 +64,7 @@ keep_bands_from (text ∷ texts) w good steady =
         → KeepsBands (after (map answer texts) next))
         → is_steady_in (and_then s w (after (map answer texts))).world ≡ true → KeepsBands (and_then s w (after (map answer texts)))
     by (done next lines) keeps rest h =
-        let leaves = keeps (lines_look_back texts next h) in
+        let leaves = keeps (lines_look_back (map answer texts) next h) in
         let later = rest next leaves.good h in
         quietly _ later.band
         (with_more lines (after (map answer texts) next).lines leaves.quiet (record { no_under = later.no_under; near = later.near }))

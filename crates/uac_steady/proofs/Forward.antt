@@ -1,4 +1,4 @@
--- A line done in a world whose running device is in its bands, where what was given is steady behind it: the device is in its bands behind
+-- A line done in a world whose running device is in its bands, where what was given is steady after it: the device is in its bands after
 -- it, and the line tells of no ring that was found empty, and of levels near their targets alone.
 use Rattle.std.proofs.Common.{◌≡◌, ℕ, zero, suc, true, false, List, [], ◌∷◌, ◌++◌, map, Bool, Option}
 use Rattle.std.specs.List.{All}
@@ -10,7 +10,7 @@ use Rattle.uac_device.specs.DeviceWorld.{Domain}
 use Rattle.uac_request.specs.Requests.{setup_of}
 use Rattle.uac_request.specs.declared.setup.Setup.{Setup}
 use Rattle.uac_mixer.specs.Elements.{fits_element}
-use Rattle.uac_script.specs.Phrase.{Loss, Phrase, idle, feeds, goes, controls, gets, sets, shows, breaks, appends, tracks, jacks, deviates, runs, details, reports}
+use Rattle.uac_script.specs.Phrase.{SaidMark, Phrase, idle, feeds, goes, controls, gets, sets, shows, breaks, appends, tracks, jacks, deviates, runs, details, reports}
 use Rattle.uac_transcript.specs.Transcript.{Said, Sight, Outcome, says_answer, says_view, says_meter, says_passed, says_renders, says_steady}
 use Rattle.uac_transcript.specs.declared.report.StreamCounts.{StreamCounts}
 use Rattle.uac_running.specs.RunningWorld.{RunningWorld, with_detail, with_deviation, with_samples_on, with_tone, with_track}
@@ -40,7 +40,7 @@ abbrev pub IsGood : World → Type 0
 IsGood (describing bytes meters) = AreBytes bytes
 IsGood (running r) = RunInBand r × IsSoundRun r
 
--- so it is behind a line where what was given is steady there
+-- so it is after a line where what was given is steady there
 pub record LeavesGood (next : World) (lines : List Said) : Type 0 where
   pub good : IsGood next
   pub quiet : AreQuiet lines
@@ -113,7 +113,7 @@ report_quiet r =
 
 -- ---- the running device
 
-sound_after : (losses : List Loss) (count : ℕ) (r : RunningWorld) → IsSoundRun r → IsSoundRun (microframes losses count r).world
+sound_after : (losses : List SaidMark) (count : ℕ) (r : RunningWorld) → IsSoundRun r → IsSoundRun (microframes losses count r).world
 unfolding microframes
 sound_after losses zero r sound = sound
 sound_after losses (suc count) r sound = sound_after losses count (microframe losses r).world (microframes_keep_sound losses r sound)
@@ -126,7 +126,7 @@ module _ (r : RunningWorld) (band : RunInBand r) (sound : IsSoundRun r) where
   silent : (next : RunningWorld) → RunInBand next → IsSoundRun next → LeavesGood (running next) []
   silent next banded sounds = record { good = (banded, sounds); quiet = none_quiet }
 
-  microframes_leave : (losses : List Loss) (count : ℕ) → is_steady (microframes losses count r).world.given ≡ true
+  microframes_leave : (losses : List SaidMark) (count : ℕ) → is_steady (microframes losses count r).world.given ≡ true
       → LeavesGood (running (microframes losses count r).world) (microframes losses count r).lines
   microframes_leave losses count steady =
       let stays = stay_steady losses count r band steady in

@@ -1,10 +1,10 @@
--- A line done where what was given is steady behind it: it was so before.
+-- A line done where what was given is steady after it: it was so before.
 use Rattle.std.proofs.Common.{◌≡◌, refl, ℕ, zero, suc, ℤ, length, Bool, true, false, List, Option, None, Some}
 use Rattle.uac_rate.specs.Steadiness.{is_steady}
 use Rattle.uac_request.specs.Requests.{setup_of}
 use Rattle.uac_mixer.specs.Elements.{fits_element}
 use Rattle.uac_mixer.specs.declared.element.Element.{Element}
-use Rattle.uac_script.specs.Phrase.{Loss, Phrase, Voice, idle, feeds, goes, controls, gets, sets, shows, breaks, appends, tracks, jacks, deviates, runs, details, reports}
+use Rattle.uac_script.specs.Phrase.{SaidMark, Phrase, SaidTone, idle, feeds, goes, controls, gets, sets, shows, breaks, appends, tracks, jacks, deviates, runs, details, reports}
 use Rattle.uac_units.specs.Hearing.{Reading}
 use Rattle.uac_running.specs.RunningWorld.{RunningWorld, with_detail, with_deviation, with_samples_on, with_tone, with_track}
 use Rattle.uac_running.specs.Events.{microframe, microframes}
@@ -44,26 +44,26 @@ module _ (r : RunningWorld) where
   abbrev pub framed : ℤ → List ℤ → Step
   framed number samples = unless (are_frames r.device.function (size_of number) (length samples)) 7 (appended number samples)
 
-  abbrev pub tracked : ℤ → Voice → Step
+  abbrev pub tracked : ℤ → SaidTone → Step
   tracked number voice = silently (running (with_track (size_of number) (tone_of voice) r))
 
-  abbrev pub toned : ℤ → Voice → Step
+  abbrev pub toned : ℤ → SaidTone → Step
   toned terminal voice = silently (running (with_tone (size_of terminal) (tone_of voice) r))
 
   abbrev pub off : ℤ → ℤ → Step
   off clock millionths = silently (running (with_deviation (size_of clock) millionths r))
 
-  abbrev pub gone_on : ℤ → List Loss → Step
+  abbrev pub gone_on : ℤ → List SaidMark → Step
   gone_on count losses = told (microframes losses (size_of count) r)
 
 -- ---- looking back
 
--- what is steady behind a line was so before it
+-- what is steady after a line was so before it
 abbrev pub WasSteady : World → Step → Type 0
 WasSteady w (done next lines) = is_steady_in next ≡ true → is_steady_in w ≡ true
 WasSteady w (refused fault) = Unit {0}
 
-microframes_before : (losses : List Loss) (count : ℕ) (r : RunningWorld) → is_steady (microframes losses count r).world.given ≡ true
+pub microframes_before : (losses : List SaidMark) (count : ℕ) (r : RunningWorld) → is_steady (microframes losses count r).world.given ≡ true
     → is_steady r.given ≡ true
 unfolding microframes
 microframes_before losses zero r h = h
