@@ -3,7 +3,7 @@ use Rattle.std.proofs.Common.{arith, ◌≡◌, ◌∙◌, sym, refl, ap, subst,
 use Rattle.std.specs.List.{AllByRecursion}
 use Rattle.std.proofs.lemmas.List.Sums.{sum_by-append}
 use Rattle.uac_clock.specs.declared.values.Nominal.{Nominal}
-use Rattle.uac_rate.specs.Levels.{AreIntervals, HasBand, Interval, IsJustPrimed, IsRobust, IsTight, Mark, Point, aged, mark_after, mark_of}
+use Rattle.uac_rate.specs.Levels.{AreIntervals, HasBand, Interval, IsJustPrimed, IsRobust, IsTight, Anchor, Point, aged, anchor_after, anchor_of}
 use Rattle.uac_rate.proofs.LevelsLemmas.{interval_tight, primed_tight, report_tight}
 use Rattle.uac_settle.specs.Settling.{Ends, IsIntervalEnd, IsServed, KeepsPackets, Served, Stretch}
 use Rattle.uac_settle.proofs.TurnsLemmas.{turns_and}
@@ -34,15 +34,15 @@ pub record HasCome (values : Nominal) (service period : ℕ) (past : Past) (poin
   pub keeps : KeepsPackets all
   pub since : past.quiet ≡ length all * service
   pub earlier : past.quiet ≤ past.primed
-  pub tight : past.primed ≡ past.quiet → (mark : Mark) × IsTight values period mark point
+  pub tight : past.primed ≡ past.quiet → (anchor : Anchor) × IsTight values period anchor point
 
 module _ (values : Nominal) (service period : ℕ) (report_lost : Bool) (facts : HasBand values 65) (intervals : AreIntervals service period) where
   -- the end of an interval keeps it tight
-  ends_tight : (mark : Mark) (q next : Point) → IsTight values period mark q → Ends values period report_lost q next
-      → (m : Mark) × IsTight values period m next
-  ends_tight mark q next tight (inl none) = subst (λ (x : Point). (m : Mark) × IsTight values period m x) (sym none.1) (mark, tight)
-  ends_tight mark q next tight (inr report) =
-      (mark_after report_lost mark q, report_tight values 65 service period report_lost mark q next facts intervals report tight)
+  ends_tight : (anchor : Anchor) (q next : Point) → IsTight values period anchor q → Ends values period report_lost q next
+      → (m : Anchor) × IsTight values period m next
+  ends_tight anchor q next tight (inl none) = subst (λ (x : Point). (m : Anchor) × IsTight values period m x) (sym none.1) (anchor, tight)
+  ends_tight anchor q next tight (inr report) =
+      (anchor_after report_lost anchor q, report_tight values 65 service period report_lost anchor q next facts intervals report tight)
 
   -- where its packet was lost, and where it was primed at that end, it begins there
   abbrev none_yet : (next : Point) → IsRobust values 65 service period next → IsIntervalEnd service period next
@@ -58,13 +58,13 @@ module _ (values : Nominal) (service period : ℕ) (report_lost : Bool) (facts :
     keeps = tt;
     since = omega arith;
     earlier = omega arith;
-    tight = λ same. ends_tight (mark_of q) q next (primed_tight values 65 service period q facts just) ends;
+    tight = λ same. ends_tight (anchor_of q) q next (primed_tight values 65 service period q facts just) ends;
   }
 
   -- an interval that goes from p to q, where its end leads to the next point
   pub come_on : (packet_lost : Bool) (past : Past) (all : List Served) (steps : List ℕ) (start p q next : Point)
       → Stretch values service period all start p → KeepsPackets all → past.quiet + 1 ≡ length all * service + service
-      → past.quiet ≤ past.primed → (past.primed ≡ past.quiet → (mark : Mark) × IsTight values period mark p)
+      → past.quiet ≤ past.primed → (past.primed ≡ past.quiet → (anchor : Anchor) × IsTight values period anchor p)
       → IsServed values service (record { steps = steps; packet_lost = packet_lost; report_lost = report_lost })
       → (i : Interval values service period packet_lost p q) → i.steps ≡ sum steps → IsRobust values 65 service period next
       → IsIntervalEnd service period next → Ends values period report_lost q next

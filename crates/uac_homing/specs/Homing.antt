@@ -2,7 +2,7 @@
 -- it has settled (profile; feedback is that of USB 2.0, 5.12.4.2).
 use Rattle.std.specs.Prelude.{◌≡◌, ◌+◌, ◌*◌, ◌≤◌, ℕ, ℤ, Bool, true, List, length, sum, Some}
 use Rattle.std.specs.List.{All, AllByRecursion}
-use Rattle.uac_rate.specs.Levels.{IsTight, Mark, Point, Within}
+use Rattle.uac_rate.specs.Levels.{IsTight, Anchor, Point, Within}
 use Rattle.uac_rate.specs.Steadiness.{is_slight}
 use Rattle.uac_rate.specs.Steadiness as steadiness
 use Rattle.uac_settle.specs.Settling.{KeepsPackets, Served, Stretch, settle_of}
@@ -38,7 +38,7 @@ pub record HasTrail (l : Life) (target : ℕ) (past : Past) : Type 0 where
   pub steps : behind.ticked.steps ≡ sum recent
   pub since : past.quiet ≡ length all * l.out.stream.service + passed l.out
   pub earlier : past.quiet ≤ past.primed
-  pub tight : past.primed ≡ past.quiet → (mark : Mark) × IsTight l.out.stream.nominal l.out.stream.period mark point
+  pub tight : past.primed ≡ past.quiet → (anchor : Anchor) × IsTight l.out.stream.nominal l.out.stream.period anchor point
 
 -- so it is for each primed stream of a run
 abbrev pub HaveTrails : RunningWorld → Pasts → Type 0

@@ -8,7 +8,7 @@ use Rattle.uac_clock.specs.declared.values.Nominal.{Nominal}
 use Rattle.uac_clock.specs.Nominal.{HasRoom, IsNominal, is_listed, values_of, nominal_of, step_of}
 use Rattle.uac_rate.specs.Reports.{report_of}
 use Rattle.uac_rate.specs.Steadiness.{is_slight}
-use Rattle.uac_rate.specs.Levels.{HasBand, IsInterval, AreIntervals, Point, Within, stored, owed, since, came_of, Interval, value_after, Reported, IsLow, IsHigh, IsTarget, IsCounted, IsRobust, Mark, mark_of, aged, mark_after, tight_bound, HasDrifted, IsTight, IsJustPrimed, IsPriming, Fills, Moment, IsHeld, FallsDue}
+use Rattle.uac_rate.specs.Levels.{HasBand, IsInterval, AreIntervals, Point, Within, stored, owed, since, came_of, Interval, value_after, Reported, IsLow, IsHigh, IsTarget, IsCounted, IsRobust, Anchor, anchor_of, aged, anchor_after, tight_bound, HasDrifted, IsTight, IsJustPrimed, IsPriming, Fills, Moment, IsHeld, FallsDue}
 
 -- an interval has 1 to 8 microframes
 pub interval_size : (n : ℕ) → IsInterval n → (1 ≤ n) × (n ≤ 8)
@@ -225,7 +225,7 @@ report_robust values band service period report_lost p q facts intervals r robus
       target = same_target service p.target q.target r.target_is robust.target;
     }
 
--- One half of the free formula: k and m are 64 together, and the value in force asks for no more than the mark's error, L frames for T.
+-- One half of the free formula: k and m are 64 together, and the value in force asks for no more than the anchor's error, L frames for T.
 free_half : (A B v f e m k L T h c : ℕ) → A + (65536 * T + c) + m * f ≤ B + (65536 * L + h) + m * v + m * e
     → v + 1024 * L ≤ f + 1024 * T → k + m ≡ 64
     → 64 * A + k * (65536 * T + c) + m * c ≤ 64 * B + k * (65536 * L + h) + m * h + 64 * (m * e)
@@ -239,7 +239,7 @@ free_half A B v f e m k L T h c drift asks both =
       shares : (x m k : ℕ) → k + m ≡ 64 → k * x + m * x ≡ 64 * x
       shares x m k both = let all : (k + m) * x ≡ 64 * x = ap (λ (n : ℕ). n * x) both in omega arith
 
--- so the error is as small as it was at the mark
+-- so the error is as small as it was at the anchor
 near_half : (A B v f e m k L T h c : ℕ) → A + (65536 * T + c) + m * f ≤ B + (65536 * L + h) + m * v + m * e
     → v + 1024 * L ≤ f + 1024 * T → k + m ≡ 64 → h < 65536 → 65536 * L + h ≤ (65536 * T + c) + (65535 + 64 * e)
     → A ≤ B + (65535 + 64 * e)
@@ -257,69 +257,69 @@ held_half A B v f e m S R D drift pulls start =
     let times : m * (v + e) ≤ m * f = mul-le-mul_left m pulls in
     omega arith
 
--- a tight stream is as near its target, remainders counted, as its mark was
-pub tight_near : (values : Nominal) (band period : ℕ) (mark : Mark) (p : Point) → HasBand values band → IsInterval period
-    → IsTight values period mark p → Within (tight_bound values) (stored p.level p.host) (owed p.target p.clock)
-tight_near values band period mark p facts reports tight = (above held.above, below held.below) where
-  held : IsHeldReport values p.target mark.level (report_of values p.target mark.level)
-  held = report_held values p.target mark.level (omega (arith, facts.below, facts.above))
+-- a tight stream is as near its target, remainders counted, as its anchor was
+pub tight_near : (values : Nominal) (band period : ℕ) (anchor : Anchor) (p : Point) → HasBand values band → IsInterval period
+    → IsTight values period anchor p → Within (tight_bound values) (stored p.level p.host) (owed p.target p.clock)
+tight_near values band period anchor p facts reports tight = (above held.above, below held.below) where
+  held : IsHeldReport values p.target anchor.level (report_of values p.target anchor.level)
+  held = report_held values p.target anchor.level (omega (arith, facts.below, facts.above))
 
-  left : (64 - mark.age) + mark.age ≡ 64
+  left : (64 - anchor.age) + anchor.age ≡ 64
   left = let short = not_long period p reports tight.counted in omega (arith, tight.age)
 
-  above : (report_of values p.target mark.level ≡ values.lo * 65536) ⊎ (report_of values p.target mark.level + 1024 * mark.level ≤ values.f + 1024 * p.target)
+  above : (report_of values p.target anchor.level ≡ values.lo * 65536) ⊎ (report_of values p.target anchor.level + 1024 * anchor.level ≤ values.f + 1024 * p.target)
       → stored p.level p.host ≤ owed p.target p.clock + tight_bound values
   above (inl least) =
-      held_half (stored p.level p.host) (owed p.target p.clock) p.value values.f values.e mark.age (owed p.target mark.clock)
-      (stored mark.level mark.host) (tight_bound values) (omega (arith, tight.drift)) (omega (arith, facts.below, tight.value)) tight.start.0
+      held_half (stored p.level p.host) (owed p.target p.clock) p.value values.f values.e anchor.age (owed p.target anchor.clock)
+      (stored anchor.level anchor.host) (tight_bound values) (omega (arith, tight.drift)) (omega (arith, facts.below, tight.value)) tight.start.0
   above (inr asks) =
-      near_half (stored p.level p.host) (owed p.target p.clock) p.value values.f values.e mark.age (64 - mark.age) mark.level p.target mark.host
-      mark.clock (omega (arith, tight.drift)) (omega (arith, tight.value)) left tight.host tight.start.0
+      near_half (stored p.level p.host) (owed p.target p.clock) p.value values.f values.e anchor.age (64 - anchor.age) anchor.level p.target anchor.host
+      anchor.clock (omega (arith, tight.drift)) (omega (arith, tight.value)) left tight.host tight.start.0
 
-  below : (report_of values p.target mark.level ≡ values.hi * 65536) ⊎ (values.f + 1024 * p.target ≤ report_of values p.target mark.level + 1024 * mark.level)
+  below : (report_of values p.target anchor.level ≡ values.hi * 65536) ⊎ (values.f + 1024 * p.target ≤ report_of values p.target anchor.level + 1024 * anchor.level)
       → owed p.target p.clock ≤ stored p.level p.host + tight_bound values
   below (inl greatest) =
-      held_half (owed p.target p.clock) (stored p.level p.host) values.f p.value values.e mark.age (stored mark.level mark.host)
-      (owed p.target mark.clock) (tight_bound values) (omega (arith, tight.drift)) (omega (arith, facts.above, tight.value)) tight.start.1
+      held_half (owed p.target p.clock) (stored p.level p.host) values.f p.value values.e anchor.age (stored anchor.level anchor.host)
+      (owed p.target anchor.clock) (tight_bound values) (omega (arith, tight.drift)) (omega (arith, facts.above, tight.value)) tight.start.1
   below (inr asks) =
-      near_half (owed p.target p.clock) (stored p.level p.host) values.f p.value values.e mark.age (64 - mark.age) p.target mark.level mark.clock
-      mark.host (omega (arith, tight.drift)) (omega (arith, tight.value)) left tight.clock tight.start.1
+      near_half (owed p.target p.clock) (stored p.level p.host) values.f p.value values.e anchor.age (64 - anchor.age) p.target anchor.level anchor.clock
+      anchor.host (omega (arith, tight.drift)) (omega (arith, tight.value)) left tight.clock tight.start.1
 
 -- the free formula
-pub free : (values : Nominal) (mark : Mark) (p : Point) → mark.age ≤ 64 → p.value + 1024 * mark.level ≡ values.f + 1024 * p.target
-    → HasDrifted values mark p
-    → Within (64 * (mark.age * values.e))
-    (64 * stored p.level p.host + (64 - mark.age) * owed p.target mark.clock + mark.age * mark.clock)
-    (64 * owed p.target p.clock + (64 - mark.age) * stored mark.level mark.host + mark.age * mark.host)
-free values mark p young asks drift =
-    let left : (64 - mark.age) + mark.age ≡ 64 = omega arith in (
-      free_half (stored p.level p.host) (owed p.target p.clock) p.value values.f values.e mark.age (64 - mark.age) mark.level p.target mark.host
-          mark.clock (omega arith) (omega arith) left,
-      free_half (owed p.target p.clock) (stored p.level p.host) values.f p.value values.e mark.age (64 - mark.age) p.target mark.level mark.clock
-          mark.host (omega arith) (omega arith) left,
+pub free : (values : Nominal) (anchor : Anchor) (p : Point) → anchor.age ≤ 64 → p.value + 1024 * anchor.level ≡ values.f + 1024 * p.target
+    → HasDrifted values anchor p
+    → Within (64 * (anchor.age * values.e))
+    (64 * stored p.level p.host + (64 - anchor.age) * owed p.target anchor.clock + anchor.age * anchor.clock)
+    (64 * owed p.target p.clock + (64 - anchor.age) * stored anchor.level anchor.host + anchor.age * anchor.host)
+free values anchor p young asks drift =
+    let left : (64 - anchor.age) + anchor.age ≡ 64 = omega arith in (
+      free_half (stored p.level p.host) (owed p.target p.clock) p.value values.f values.e anchor.age (64 - anchor.age) anchor.level p.target anchor.host
+          anchor.clock (omega arith) (omega arith) left,
+      free_half (owed p.target p.clock) (stored p.level p.host) values.f p.value values.e anchor.age (64 - anchor.age) p.target anchor.level anchor.clock
+          anchor.host (omega arith) (omega arith) left,
     )
 
-pub interval_tight : (values : Nominal) (service period : ℕ) (mark : Mark) (p q : Point) → Interval values service period false p q
-    → IsTight values period mark p → IsTight values period (aged service mark) q
-interval_tight values service period mark p q i tight =
+pub interval_tight : (values : Nominal) (service period : ℕ) (anchor : Anchor) (p q : Point) → Interval values service period false p q
+    → IsTight values period anchor p → IsTight values period (aged service anchor) q
+interval_tight values service period anchor p q i tight =
     let later = since_interval values service period false p q i in
-    let same : (mark.age + service) * q.value ≡ (mark.age + service) * p.value = ap (λ (n : ℕ). (mark.age + service) * n) i.value_is in
+    let same : (anchor.age + service) * q.value ≡ (anchor.age + service) * p.value = ap (λ (n : ℕ). (anchor.age + service) * n) i.value_is in
     let moved : stored q.level q.host + owed p.target p.clock + i.steps ≡ stored p.level p.host + owed q.target q.clock + service * p.value = omega arith in
     record {
       counted = interval_counted values service period false p q i tight.counted;
       host = tight.host;
       clock = tight.clock;
       start = (omega (arith, tight.start, i.target_is), omega (arith, tight.start, i.target_is));
-      value = i.value_is ∙ tight.value ∙ ap (λ (n : ℕ). report_of values n mark.level) (sym i.target_is);
+      value = i.value_is ∙ tight.value ∙ ap (λ (n : ℕ). report_of values n anchor.level) (sym i.target_is);
       age = omega (arith, tight.age);
       drift = (omega (arith, tight.drift, i.slight, i.target_is), omega (arith, tight.drift, i.slight, i.target_is));
     }
 
-pub report_tight : (values : Nominal) (band service period : ℕ) (report_lost : Bool) (mark : Mark) (p q : Point) → HasBand values band
-    → AreIntervals service period → Reported values period report_lost p q → IsTight values period mark p
-    → IsTight values period (mark_after report_lost mark p) q
-report_tight values band service period false mark p q facts intervals r tight =
-    let near = tight_near values band period mark p facts intervals.reports tight in
+pub report_tight : (values : Nominal) (band service period : ℕ) (report_lost : Bool) (anchor : Anchor) (p q : Point) → HasBand values band
+    → AreIntervals service period → Reported values period report_lost p q → IsTight values period anchor p
+    → IsTight values period (anchor_after report_lost anchor p) q
+report_tight values band service period false anchor p q facts intervals r tight =
+    let near = tight_near values band period anchor p facts intervals.reports tight in
     record {
       counted = report_counted values period false p q r tight.counted;
       host = tight.counted.host;
@@ -329,24 +329,24 @@ report_tight values band service period false mark p q facts intervals r tight =
       age = omega arith;
       drift = (omega (arith, r.level_is, r.host_is, r.clock_is), omega (arith, r.level_is, r.host_is, r.clock_is));
     }
-report_tight values band service period true mark p q facts intervals r tight =
+report_tight values band service period true anchor p q facts intervals r tight =
     let same = since_lost values period p q r in
-    let product : mark.age * q.value ≡ mark.age * p.value = ap (λ (n : ℕ). mark.age * n) r.value_is in
+    let product : anchor.age * q.value ≡ anchor.age * p.value = ap (λ (n : ℕ). anchor.age * n) r.value_is in
     record {
       counted = report_counted values period true p q r tight.counted;
       host = tight.host;
       clock = tight.clock;
       start = (omega (arith, tight.start, r.target_is), omega (arith, tight.start, r.target_is));
-      value = r.value_is ∙ tight.value ∙ ap (λ (n : ℕ). report_of values n mark.level) (sym r.target_is);
+      value = r.value_is ∙ tight.value ∙ ap (λ (n : ℕ). report_of values n anchor.level) (sym r.target_is);
       age = omega (arith, tight.age);
       drift = (omega (arith, tight.drift, r.level_is, r.host_is, r.clock_is, r.target_is), omega (arith, tight.drift, r.level_is, r.host_is, r.clock_is, r.target_is));
     }
 
 -- remainders are below a frame, so three frames hold the bound
-pub tight_within : (values : Nominal) (band period : ℕ) (mark : Mark) (p : Point) → HasBand values band → values.e ≤ 1572 → IsInterval period
-    → IsTight values period mark p → Within 3 p.level p.target
-tight_within values band period mark p facts slight reports tight =
-    let near = tight_near values band period mark p facts reports tight in
+pub tight_within : (values : Nominal) (band period : ℕ) (anchor : Anchor) (p : Point) → HasBand values band → values.e ≤ 1572 → IsInterval period
+    → IsTight values period anchor p → Within 3 p.level p.target
+tight_within values band period anchor p facts slight reports tight =
+    let near = tight_near values band period anchor p facts reports tight in
     (omega (arith, tight.counted.host, tight.counted.clock), omega (arith, tight.counted.host, tight.counted.clock))
 
 pub primed_robust : (values : Nominal) (band service period : ℕ) (p : Point) → HasBand values band
@@ -361,7 +361,7 @@ primed_robust values band service period p facts primed = record {
 }
 
 pub primed_tight : (values : Nominal) (band service period : ℕ) (p : Point) → HasBand values band
-    → IsJustPrimed values service period p → IsTight values period (mark_of p) p
+    → IsJustPrimed values service period p → IsTight values period (anchor_of p) p
 primed_tight values band service period p facts primed = record {
   counted = primed.counted;
   host = primed.counted.host;

@@ -5,8 +5,8 @@ use Rattle.uac_clock.specs.declared.values.Nominal.{Nominal}
 use Rattle.uac_clock.specs.Nominal.{IsNominal, HasRoom, step_of}
 use Rattle.uac_rate.specs.Packets.{frames_in_packet}
 use Rattle.uac_rate.specs.Steadiness.{is_slight}
-use Rattle.uac_rate.specs.Levels.{HasBand, AreIntervals, Point, Within, stored, owed, Interval, Reported, IsTarget, IsRobust, Mark, mark_of}
-use Rattle.uac_rate.specs.Levels.{aged, mark_after, HasDrifted, IsTight, IsJustPrimed, IsPriming, Fills, Moment, IsHeld, FallsDue}
+use Rattle.uac_rate.specs.Levels.{HasBand, AreIntervals, Point, Within, stored, owed, Interval, Reported, IsTarget, IsRobust, Anchor, anchor_of}
+use Rattle.uac_rate.specs.Levels.{aged, anchor_after, HasDrifted, IsTight, IsJustPrimed, IsPriming, Fills, Moment, IsHeld, FallsDue}
 
 -- each of the twelve rates has room, and a band of 65 frames
 abbrev pub RatesHaveBands : Type 0
@@ -64,28 +64,28 @@ ReportsKeepRobust =
     (values : Nominal) (band service period : ℕ) (report_lost : Bool) (p q : Point) → HasBand values band → AreIntervals service period
     → Reported values period report_lost p q → IsRobust values band service period p → IsRobust values band service period q
 
--- where the report of the mark isn't held at either end: in 64ths, each microframe since the mark takes one of its error, and leaves the
--- remainders of the mark and at most what the clock deviated
+-- where the report of the anchor isn't held at either end: in 64ths, each microframe since the anchor takes one of its error, and leaves the
+-- remainders of the anchor and at most what the clock deviated
 abbrev pub FreeFormula : Type 0
 FreeFormula =
-    (values : Nominal) (mark : Mark) (p : Point) → mark.age ≤ 64 → p.value + 1024 * mark.level ≡ values.f + 1024 * p.target
-    → HasDrifted values mark p
-    → Within (64 * (mark.age * values.e))
-    (64 * stored p.level p.host + (64 - mark.age) * owed p.target mark.clock + mark.age * mark.clock)
-    (64 * owed p.target p.clock + (64 - mark.age) * stored mark.level mark.host + mark.age * mark.host)
+    (values : Nominal) (anchor : Anchor) (p : Point) → anchor.age ≤ 64 → p.value + 1024 * anchor.level ≡ values.f + 1024 * p.target
+    → HasDrifted values anchor p
+    → Within (64 * (anchor.age * values.e))
+    (64 * stored p.level p.host + (64 - anchor.age) * owed p.target anchor.clock + anchor.age * anchor.clock)
+    (64 * owed p.target p.clock + (64 - anchor.age) * stored anchor.level anchor.host + anchor.age * anchor.host)
 
 -- an interval whose packet came keeps a tight stream tight
 abbrev pub IntervalsKeepTight : Type 0
 IntervalsKeepTight =
-    (values : Nominal) (service period : ℕ) (mark : Mark) (p q : Point) → Interval values service period false p q
-    → IsTight values period mark p → IsTight values period (aged service mark) q
+    (values : Nominal) (service period : ℕ) (anchor : Anchor) (p q : Point) → Interval values service period false p q
+    → IsTight values period anchor p → IsTight values period (aged service anchor) q
 
--- so does a report, whether it came, which makes a new mark, or was lost
+-- so does a report, whether it came, which makes a new anchor, or was lost
 abbrev pub ReportsKeepTight : Type 0
 ReportsKeepTight =
-    (values : Nominal) (band service period : ℕ) (report_lost : Bool) (mark : Mark) (p q : Point) → HasBand values band
-    → AreIntervals service period → Reported values period report_lost p q → IsTight values period mark p
-    → IsTight values period (mark_after report_lost mark p) q
+    (values : Nominal) (band service period : ℕ) (report_lost : Bool) (anchor : Anchor) (p q : Point) → HasBand values band
+    → AreIntervals service period → Reported values period report_lost p q → IsTight values period anchor p
+    → IsTight values period (anchor_after report_lost anchor p) q
 
 -- a robust stream is within 130 frames of its target at the end of an interval, and a tight one within 3
 abbrev pub RobustIsNear : Type 0
@@ -95,8 +95,8 @@ RobustIsNear =
 
 abbrev pub TightIsNear : Type 0
 TightIsNear =
-    (values : Nominal) (service period : ℕ) (mark : Mark) (p : Point) → HasRoom values → HasBand values 65 → AreIntervals service period
-    → IsTight values period mark p → Within 3 p.level p.target
+    (values : Nominal) (service period : ℕ) (anchor : Anchor) (p : Point) → HasRoom values → HasBand values 65 → AreIntervals service period
+    → IsTight values period anchor p → Within 3 p.level p.target
 
 -- what a primed ring holds at every moment
 abbrev pub RingsHoldEnough : Type 0
@@ -119,4 +119,4 @@ PrimedIsRobust =
 abbrev pub PrimedIsTight : Type 0
 PrimedIsTight =
     (values : Nominal) (band service period : ℕ) (p : Point) → HasBand values band → IsJustPrimed values service period p
-    → IsTight values period (mark_of p) p
+    → IsTight values period (anchor_of p) p

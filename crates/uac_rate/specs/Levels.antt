@@ -128,42 +128,42 @@ pub record IsRobust (values : Nominal) (band service period : ℕ) (p : Point) :
   pub target : IsTarget service p.target
 
 -- a stream as it stood at its last delivered report, or where it was primed if that was later, and the microframes since then
-pub record Mark : Type 0 where
+pub record Anchor : Type 0 where
   pub level : ℕ
   pub host : ℕ
   pub clock : ℕ
   pub age : ℕ
 
-abbrev pub mark_of : Point → Mark
-mark_of p = record { level = p.level; host = p.host; clock = p.clock; age = 0 }
+abbrev pub anchor_of : Point → Anchor
+anchor_of p = record { level = p.level; host = p.host; clock = p.clock; age = 0 }
 
-abbrev pub aged : ℕ → Mark → Mark
-aged service mark = record mark { age = mark.age + service }
+abbrev pub aged : ℕ → Anchor → Anchor
+aged service anchor = record anchor { age = anchor.age + service }
 
--- a report that comes is a new mark
-abbrev pub mark_after : Bool → Mark → Point → Mark
-mark_after false mark p = mark_of p
-mark_after true mark p = mark
+-- a report that comes is a new anchor
+abbrev pub anchor_after : Bool → Anchor → Point → Anchor
+anchor_after false anchor p = anchor_of p
+anchor_after true anchor p = anchor
 
--- how far a mark, or a point, may be off its target, remainders counted
+-- how far an anchor, or a point, may be off its target, remainders counted
 abbrev pub tight_bound : Nominal → ℕ
 tight_bound values = 65535 + 64 * values.e
 
--- since the mark the level moved by what the value in force is over the nominal one, but for what the clock deviated
-abbrev pub HasDrifted : Nominal → Mark → Point → Type 0
-HasDrifted values mark p =
-    Within (mark.age * values.e) (stored p.level p.host + owed p.target mark.clock + mark.age * values.f)
-    (owed p.target p.clock + stored mark.level mark.host + mark.age * p.value)
+-- since the anchor the level moved by what the value in force is over the nominal one, but for what the clock deviated
+abbrev pub HasDrifted : Nominal → Anchor → Point → Type 0
+HasDrifted values anchor p =
+    Within (anchor.age * values.e) (stored p.level p.host + owed p.target anchor.clock + anchor.age * values.f)
+    (owed p.target p.clock + stored anchor.level anchor.host + anchor.age * p.value)
 
--- the value in force is the report of the mark, which lies close to the target
-pub record IsTight (values : Nominal) (period : ℕ) (mark : Mark) (p : Point) : Type 0 where
+-- the value in force is the report of the anchor, which lies close to the target
+pub record IsTight (values : Nominal) (period : ℕ) (anchor : Anchor) (p : Point) : Type 0 where
   pub counted : IsCounted period p
-  pub host : mark.host < 65536
-  pub clock : mark.clock < 65536
-  pub start : Within (tight_bound values) (stored mark.level mark.host) (owed p.target mark.clock)
-  pub value : p.value ≡ report_of values p.target mark.level
-  pub age : mark.age ≤ since period p
-  pub drift : HasDrifted values mark p
+  pub host : anchor.host < 65536
+  pub clock : anchor.clock < 65536
+  pub start : Within (tight_bound values) (stored anchor.level anchor.host) (owed p.target anchor.clock)
+  pub value : p.value ≡ report_of values p.target anchor.level
+  pub age : anchor.age ≤ since period p
+  pub drift : HasDrifted values anchor p
 
 -- a stream that was primed just now; reports may have been lost while it was priming, and the nominal value is in force
 pub record IsJustPrimed (values : Nominal) (service period : ℕ) (p : Point) : Type 0 where

@@ -58,7 +58,7 @@ pub fn a_report_keeps_robust()
     ensures { ReportsKeepRobust }
 {}
 
-/// How the error at a mark goes home, as long as the report of the mark isn't held at either end.
+/// How the error at an anchor goes home, as long as the report of the anchor isn't held at either end.
 pub fn free_formula()
     ensures { FreeFormula }
 {}
@@ -68,7 +68,7 @@ pub fn an_interval_keeps_tight()
     ensures { IntervalsKeepTight }
 {}
 
-/// A feedback report keeps a tight stream tight, whether it came, which makes a new mark, or was lost.
+/// A feedback report keeps a tight stream tight, whether it came, which makes a new anchor, or was lost.
 pub fn a_report_keeps_tight()
     ensures { ReportsKeepTight }
 {}

@@ -7,7 +7,7 @@ use Rattle.std.specs.Int.{int_min, int_max}
 use Rattle.uac_clock.specs.declared.values.Nominal.{Nominal}
 use Rattle.uac_clock.specs.Nominal.{HasRoom}
 use Rattle.uac_rate.specs.Reports.{report_of}
-use Rattle.uac_rate.specs.Levels.{Point, stored, owed, Interval, Reported, IsCounted, Mark, mark_of, aged}
+use Rattle.uac_rate.specs.Levels.{Point, stored, owed, Interval, Reported, IsCounted, Anchor, anchor_of, aged}
 use Rattle.uac_rate.proofs.LevelsLemmas.{IsHeldReport, report_held}
 use Rattle.uac_settle.specs.Settling.{pull_of, left_of, Gap, error_of}
 
@@ -49,19 +49,19 @@ one_side A B v f e m L T h c pull drift (inr asks) young below slight least = fr
       let near = stays A B v f e m (64 - m) L T h c drift asks left below slight close in omega arith
 
 -- the law
-pub gap_home : (values : Nominal) (mark : Mark) (p : Point) → HasRoom values → Gap values mark p
+pub gap_home : (values : Nominal) (anchor : Anchor) (p : Point) → HasRoom values → Gap values anchor p
     → (stored p.level p.host ≤ owed p.target p.clock
-    + left_of (pull_of values) mark.age (stored mark.level mark.host - owed p.target mark.clock))
+    + left_of (pull_of values) anchor.age (stored anchor.level anchor.host - owed p.target anchor.clock))
     × (owed p.target p.clock ≤ stored p.level p.host
-    + left_of (pull_of values) mark.age (owed p.target mark.clock - stored mark.level mark.host))
-gap_home values mark p room gap = (
-  one_side (stored p.level p.host) (owed p.target p.clock) p.value values.f values.e mark.age mark.level p.target mark.host mark.clock
+    + left_of (pull_of values) anchor.age (owed p.target anchor.clock - stored anchor.level anchor.host))
+gap_home values anchor p room gap = (
+  one_side (stored p.level p.host) (owed p.target p.clock) p.value values.f values.e anchor.age anchor.level p.target anchor.host anchor.clock
       (pull_of values) (omega (arith, gap.drift)) (above held.above) gap.young gap.host slight least,
-  one_side (owed p.target p.clock) (stored p.level p.host) values.f p.value values.e mark.age p.target mark.level mark.clock mark.host
+  one_side (owed p.target p.clock) (stored p.level p.host) values.f p.value values.e anchor.age p.target anchor.level anchor.clock anchor.host
       (pull_of values) (omega (arith, gap.drift)) (below held.below) gap.young gap.clock slight least,
 ) where
-  held : IsHeldReport values p.target mark.level (report_of values p.target mark.level)
-  held = report_held values p.target mark.level (omega (arith, room.below, room.above))
+  held : IsHeldReport values p.target anchor.level (report_of values p.target anchor.level)
+  held = report_held values p.target anchor.level (omega (arith, room.below, room.above))
 
   slight : 65535 + 64 * values.e ≤ 262144
   slight = omega (arith, room.slight)
@@ -69,13 +69,13 @@ gap_home values mark p room gap = (
   least : pull_of values + values.e ≤ 4096
   least = omega (arith, room.slight)
 
-  above : (report_of values p.target mark.level ≡ values.lo * 65536) ⊎ (report_of values p.target mark.level + 1024 * mark.level ≤ values.f + 1024 * p.target)
-      → (p.value + values.e + pull_of values ≤ values.f) ⊎ (p.value + 1024 * mark.level ≤ values.f + 1024 * p.target)
+  above : (report_of values p.target anchor.level ≡ values.lo * 65536) ⊎ (report_of values p.target anchor.level + 1024 * anchor.level ≤ values.f + 1024 * p.target)
+      → (p.value + values.e + pull_of values ≤ values.f) ⊎ (p.value + 1024 * anchor.level ≤ values.f + 1024 * p.target)
   above (inl held) = inl (omega (arith, room.below, gap.value))
   above (inr asks) = inr (omega (arith, gap.value))
 
-  below : (report_of values p.target mark.level ≡ values.hi * 65536) ⊎ (values.f + 1024 * p.target ≤ report_of values p.target mark.level + 1024 * mark.level)
-      → (values.f + values.e + pull_of values ≤ p.value) ⊎ (values.f + 1024 * p.target ≤ p.value + 1024 * mark.level)
+  below : (report_of values p.target anchor.level ≡ values.hi * 65536) ⊎ (values.f + 1024 * p.target ≤ report_of values p.target anchor.level + 1024 * anchor.level)
+      → (values.f + values.e + pull_of values ≤ p.value) ⊎ (values.f + 1024 * p.target ≤ p.value + 1024 * anchor.level)
   below (inl held) = inl (omega (arith, room.above, gap.value))
   below (inr asks) = inr (omega (arith, gap.value))
 
@@ -87,24 +87,24 @@ over A B R S g high low = (omega (arith, ints, clamps), omega (arith, ints, clam
 error_is : (level target host clock : ℕ) → error_of level target host clock ≡ pos (65536 * level + host) -ℤ pos (65536 * target + clock)
 error_is level target host clock = omega (arith, ints)
 
-pub gap_over_integers : (values : Nominal) (mark : Mark) (p : Point) → HasRoom values → Gap values mark p
-    → (int_min (negsuc 262143) (error_of mark.level p.target mark.host mark.clock +ℤ pos (mark.age * pull_of values))
+pub gap_over_integers : (values : Nominal) (anchor : Anchor) (p : Point) → HasRoom values → Gap values anchor p
+    → (int_min (negsuc 262143) (error_of anchor.level p.target anchor.host anchor.clock +ℤ pos (anchor.age * pull_of values))
     ≤ℤ error_of p.level p.target p.host p.clock)
     × (error_of p.level p.target p.host p.clock
-    ≤ℤ int_max (pos 262144) (error_of mark.level p.target mark.host mark.clock -ℤ pos (mark.age * pull_of values)))
-gap_over_integers values mark p room gap =
-    let home = gap_home values mark p room gap in
-    let first = error_is mark.level p.target mark.host mark.clock in
+    ≤ℤ int_max (pos 262144) (error_of anchor.level p.target anchor.host anchor.clock -ℤ pos (anchor.age * pull_of values)))
+gap_over_integers values anchor p room gap =
+    let home = gap_home values anchor p room gap in
+    let first = error_is anchor.level p.target anchor.host anchor.clock in
     let last = error_is p.level p.target p.host p.clock in
-    let all = over (stored p.level p.host) (owed p.target p.clock) (stored mark.level mark.host) (owed p.target mark.clock)
-    (mark.age * pull_of values) home.0 home.1 in
-    subst (λ (x : ℤ). (int_min (negsuc 262143) (x +ℤ pos (mark.age * pull_of values)) ≤ℤ error_of p.level p.target p.host p.clock)
-    × (error_of p.level p.target p.host p.clock ≤ℤ int_max (pos 262144) (x -ℤ pos (mark.age * pull_of values)))) (sym first)
-    (subst (λ (y : ℤ). (int_min (negsuc 262143) ((pos (stored mark.level mark.host) -ℤ pos (owed p.target mark.clock)) +ℤ pos (mark.age * pull_of values)) ≤ℤ y)
-    × (y ≤ℤ int_max (pos 262144) ((pos (stored mark.level mark.host) -ℤ pos (owed p.target mark.clock)) -ℤ pos (mark.age * pull_of values)))) (sym last) all)
+    let all = over (stored p.level p.host) (owed p.target p.clock) (stored anchor.level anchor.host) (owed p.target anchor.clock)
+    (anchor.age * pull_of values) home.0 home.1 in
+    subst (λ (x : ℤ). (int_min (negsuc 262143) (x +ℤ pos (anchor.age * pull_of values)) ≤ℤ error_of p.level p.target p.host p.clock)
+    × (error_of p.level p.target p.host p.clock ≤ℤ int_max (pos 262144) (x -ℤ pos (anchor.age * pull_of values)))) (sym first)
+    (subst (λ (y : ℤ). (int_min (negsuc 262143) ((pos (stored anchor.level anchor.host) -ℤ pos (owed p.target anchor.clock)) +ℤ pos (anchor.age * pull_of values)) ≤ℤ y)
+    × (y ≤ℤ int_max (pos 262144) ((pos (stored anchor.level anchor.host) -ℤ pos (owed p.target anchor.clock)) -ℤ pos (anchor.age * pull_of values)))) (sym last) all)
 
 -- a gap begins
-pub gap_begins : (values : Nominal) (period : ℕ) (p q : Point) → Reported values period false p q → IsCounted period p → Gap values (mark_of q) q
+pub gap_begins : (values : Nominal) (period : ℕ) (p q : Point) → Reported values period false p q → IsCounted period p → Gap values (anchor_of q) q
 gap_begins values period p q r counted = record {
   host = omega (arith, counted.host, r.host_is);
   clock = omega (arith, counted.clock, r.clock_is);
@@ -114,26 +114,26 @@ gap_begins values period p q r counted = record {
 }
 
 -- and goes on
-pub gap_interval : (values : Nominal) (service period : ℕ) (mark : Mark) (p q : Point) → Interval values service period false p q
-    → mark.age + service ≤ 32 → Gap values mark p → Gap values (aged service mark) q
-gap_interval values service period mark p q i young gap =
-    let same : (mark.age + service) * q.value ≡ (mark.age + service) * p.value = ap (λ (n : ℕ). (mark.age + service) * n) i.value_is in
+pub gap_interval : (values : Nominal) (service period : ℕ) (anchor : Anchor) (p q : Point) → Interval values service period false p q
+    → anchor.age + service ≤ 32 → Gap values anchor p → Gap values (aged service anchor) q
+gap_interval values service period anchor p q i young gap =
+    let same : (anchor.age + service) * q.value ≡ (anchor.age + service) * p.value = ap (λ (n : ℕ). (anchor.age + service) * n) i.value_is in
     let moved : stored q.level q.host + owed p.target p.clock + i.steps ≡ stored p.level p.host + owed q.target q.clock + service * p.value = omega arith in
     record {
       host = gap.host;
       clock = gap.clock;
-      value = i.value_is ∙ gap.value ∙ ap (λ (n : ℕ). report_of values n mark.level) (sym i.target_is);
+      value = i.value_is ∙ gap.value ∙ ap (λ (n : ℕ). report_of values n anchor.level) (sym i.target_is);
       young = young;
       drift = (omega (arith, gap.drift, i.slight, i.target_is), omega (arith, gap.drift, i.slight, i.target_is));
     }
 
-pub gap_lost_report : (values : Nominal) (period : ℕ) (mark : Mark) (p q : Point) → Reported values period true p q → Gap values mark p → Gap values mark q
-gap_lost_report values period mark p q r gap =
-    let product : mark.age * q.value ≡ mark.age * p.value = ap (λ (n : ℕ). mark.age * n) r.value_is in
+pub gap_lost_report : (values : Nominal) (period : ℕ) (anchor : Anchor) (p q : Point) → Reported values period true p q → Gap values anchor p → Gap values anchor q
+gap_lost_report values period anchor p q r gap =
+    let product : anchor.age * q.value ≡ anchor.age * p.value = ap (λ (n : ℕ). anchor.age * n) r.value_is in
     record {
       host = gap.host;
       clock = gap.clock;
-      value = r.value_is ∙ gap.value ∙ ap (λ (n : ℕ). report_of values n mark.level) (sym r.target_is);
+      value = r.value_is ∙ gap.value ∙ ap (λ (n : ℕ). report_of values n anchor.level) (sym r.target_is);
       young = gap.young;
       drift = (
         omega (arith, gap.drift, r.level_is, r.host_is, r.clock_is, r.target_is),

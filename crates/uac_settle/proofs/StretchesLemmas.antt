@@ -5,20 +5,20 @@ use Rattle.std.proofs.lemmas.Grind.{div_ceil_times}
 use Rattle.std.specs.Int.{div_ceil}
 use Rattle.uac_clock.specs.declared.values.Nominal.{Nominal}
 use Rattle.uac_clock.specs.Nominal.{HasRoom}
-use Rattle.uac_rate.specs.Levels.{HasBand, AreIntervals, Point, Within, stored, owed, since, Interval, Reported, IsRobust, Mark, mark_of, aged}
+use Rattle.uac_rate.specs.Levels.{HasBand, AreIntervals, Point, Within, stored, owed, since, Interval, Reported, IsRobust, Anchor, anchor_of, aged}
 use Rattle.uac_rate.proofs.LevelsLemmas.{interval_robust, report_robust, robust_near, not_long}
 use Rattle.uac_settle.specs.Settling.{pull_of, four_frames, farthest, settle_of, Gap, left_of, Served, Ends, Turn, Turns, KeepsPackets, SettlesWithin}
 use Rattle.uac_settle.proofs.GapsLemmas.{gap_home, gap_begins, gap_interval, gap_lost_report}
 
--- a report came: so many microframes passed from the first one that came to the last one, the mark, whose error is what they left
+-- a report came: so many microframes passed from the first one that came to the last one, the anchor, whose error is what they left
 record Came (values : Nominal) (period microframes : ℕ) (p : Point) : Type 0 where
   passed : ℕ
-  mark : Mark
-  gap : Gap values mark p
-  above : stored mark.level mark.host ≤ owed p.target mark.clock + left_of (pull_of values) passed farthest
-  below : owed p.target mark.clock ≤ stored mark.level mark.host + left_of (pull_of values) passed farthest
-  age : mark.age ≤ since period p
-  time : microframes ≤ 32 + passed + mark.age
+  anchor : Anchor
+  gap : Gap values anchor p
+  above : stored anchor.level anchor.host ≤ owed p.target anchor.clock + left_of (pull_of values) passed farthest
+  below : owed p.target anchor.clock ≤ stored anchor.level anchor.host + left_of (pull_of values) passed farthest
+  age : anchor.age ≤ since period p
+  time : microframes ≤ 32 + passed + anchor.age
 
 -- so many microframes after the start: no report came yet, or one did
 abbrev Progress : Nominal → ℕ → ℕ → Point → Type 0
@@ -45,8 +45,8 @@ interval_goes values service period microframes p q intervals i robust (inr came
     let short = not_long period q intervals.reports robust.counted in
     inr (record {
       passed = came.passed;
-      mark = aged service came.mark;
-      gap = gap_interval values service period came.mark p q i (omega (arith, came.age)) came.gap;
+      anchor = aged service came.anchor;
+      gap = gap_interval values service period came.anchor p q i (omega (arith, came.age)) came.gap;
       above = omega (arith, came.above, i.target_is);
       below = omega (arith, came.below, i.target_is);
       age = omega (arith, came.age);
@@ -61,7 +61,7 @@ report_goes values service period microframes false p q room intervals r robust 
     let near = robust_near values 65 service period p intervals.reports robust in
     inr (record {
       passed = 0;
-      mark = mark_of q;
+      anchor = anchor_of q;
       gap = gap_begins values period p q r robust.counted;
       above = omega (arith, near, robust.counted.host, r.level_is, r.target_is, r.host_is, r.clock_is);
       below = omega (arith, near, robust.counted.clock, r.level_is, r.target_is, r.host_is, r.clock_is);
@@ -69,14 +69,14 @@ report_goes values service period microframes false p q room intervals r robust 
       time = omega arith;
     })
 report_goes values service period microframes false p q room intervals r robust (inr came) =
-    let home = gap_home values came.mark p room came.gap in
-    let high = both_gaps (stored p.level p.host) (owed p.target p.clock) (stored came.mark.level came.mark.host) (owed p.target came.mark.clock)
-    came.passed came.mark.age (pull_of values) farthest home.0 came.above in
-    let low = both_gaps (owed p.target p.clock) (stored p.level p.host) (owed p.target came.mark.clock) (stored came.mark.level came.mark.host)
-    came.passed came.mark.age (pull_of values) farthest home.1 came.below in
+    let home = gap_home values came.anchor p room came.gap in
+    let high = both_gaps (stored p.level p.host) (owed p.target p.clock) (stored came.anchor.level came.anchor.host) (owed p.target came.anchor.clock)
+    came.passed came.anchor.age (pull_of values) farthest home.0 came.above in
+    let low = both_gaps (owed p.target p.clock) (stored p.level p.host) (owed p.target came.anchor.clock) (stored came.anchor.level came.anchor.host)
+    came.passed came.anchor.age (pull_of values) farthest home.1 came.below in
     inr (record {
-      passed = came.passed + came.mark.age;
-      mark = mark_of q;
+      passed = came.passed + came.anchor.age;
+      anchor = anchor_of q;
       gap = gap_begins values period p q r robust.counted;
       above = omega (arith, high, r.level_is, r.target_is, r.host_is, r.clock_is);
       below = omega (arith, low, r.level_is, r.target_is, r.host_is, r.clock_is);
@@ -89,8 +89,8 @@ report_goes values service period microframes true p q room intervals r robust (
     let same = no_sooner values period p q r in
     inr (record {
       passed = came.passed;
-      mark = came.mark;
-      gap = gap_lost_report values period came.mark p q r came.gap;
+      anchor = came.anchor;
+      gap = gap_lost_report values period came.anchor p q r came.gap;
       above = omega (arith, came.above, r.target_is);
       below = omega (arith, came.below, r.target_is);
       age = omega (arith, came.age);
@@ -153,7 +153,7 @@ home values service period microframes p room intervals long goes = from goes.pr
   from (inr came) =
       let gone : farthest - four_frames ≤ came.passed * pull_of values =
       enough (farthest - four_frames) (pull_of values) came.passed some (omega (arith, short, came.time, came.age)) in
-      let at_end = gap_home values came.mark p room came.gap in
+      let at_end = gap_home values came.anchor p room came.gap in
       (omega (arith, at_end, came.above, goes.robust.counted.clock), omega (arith, at_end, came.below, goes.robust.counted.host))
 
 pub stretch_settles : (values : Nominal) → HasRoom values → HasBand values 65 → SettlesWithin values (settle_of values)

@@ -3,43 +3,43 @@ use Rattle.std.specs.Prelude.{◌≡◌, ℕ, ◌+◌, ◌-◌, ◌*◌, ◌%◌
 use Rattle.std.specs.Int.{int_min, int_max}
 use Rattle.uac_clock.specs.declared.values.Nominal.{Nominal}
 use Rattle.uac_clock.specs.Nominal.{HasRoom}
-use Rattle.uac_rate.specs.Levels.{HasBand, AreIntervals, Point, stored, owed, Interval, Reported, IsCounted, Mark, mark_of, aged}
+use Rattle.uac_rate.specs.Levels.{HasBand, AreIntervals, Point, stored, owed, Interval, Reported, IsCounted, Anchor, anchor_of, aged}
 use Rattle.uac_settle.specs.Settling.{pull_of, settle_of, Gap, left_of, error_of, Served, IsServed, IsIntervalEnd, Stretch, SettlesWithin}
 
 -- a gap takes its microframes' pull off an error above four frames, and an error of at most four frames stays so: too full, or too
 -- empty. An error that lies the other way counts as 0 in either half
 abbrev pub GapsGoHome : Type 0
 GapsGoHome =
-    (values : Nominal) (mark : Mark) (p : Point) → HasRoom values → Gap values mark p
+    (values : Nominal) (anchor : Anchor) (p : Point) → HasRoom values → Gap values anchor p
     → (stored p.level p.host ≤ owed p.target p.clock
-    + left_of (pull_of values) mark.age (stored mark.level mark.host - owed p.target mark.clock))
+    + left_of (pull_of values) anchor.age (stored anchor.level anchor.host - owed p.target anchor.clock))
     × (owed p.target p.clock ≤ stored p.level p.host
-    + left_of (pull_of values) mark.age (owed p.target mark.clock - stored mark.level mark.host))
+    + left_of (pull_of values) anchor.age (owed p.target anchor.clock - stored anchor.level anchor.host))
 
--- the same over the integers, by the error at the mark and at the point
+-- the same over the integers, by the error at the anchor and at the point
 abbrev pub GapsOverIntegers : Type 0
 GapsOverIntegers =
-    (values : Nominal) (mark : Mark) (p : Point) → HasRoom values → Gap values mark p
-    → let first = error_of mark.level p.target mark.host mark.clock in
+    (values : Nominal) (anchor : Anchor) (p : Point) → HasRoom values → Gap values anchor p
+    → let first = error_of anchor.level p.target anchor.host anchor.clock in
     let last = error_of p.level p.target p.host p.clock in
-    let pulled = pos (mark.age * pull_of values) in
+    let pulled = pos (anchor.age * pull_of values) in
     (int_min (negsuc 262143) (first +ℤ pulled) ≤ℤ last) × (last ≤ℤ int_max (pos 262144) (first -ℤ pulled))
 
 -- a gap begins at a report that came
 abbrev pub GapsBegin : Type 0
 GapsBegin =
-    (values : Nominal) (period : ℕ) (p q : Point) → Reported values period false p q → IsCounted period p → Gap values (mark_of q) q
+    (values : Nominal) (period : ℕ) (p q : Point) → Reported values period false p q → IsCounted period p → Gap values (anchor_of q) q
 
 -- an interval whose packet came goes on with it, up to 32 microframes
 abbrev pub IntervalsGoOn : Type 0
 IntervalsGoOn =
-    (values : Nominal) (service period : ℕ) (mark : Mark) (p q : Point) → Interval values service period false p q → mark.age + service ≤ 32
-    → Gap values mark p → Gap values (aged service mark) q
+    (values : Nominal) (service period : ℕ) (anchor : Anchor) (p q : Point) → Interval values service period false p q → anchor.age + service ≤ 32
+    → Gap values anchor p → Gap values (aged service anchor) q
 
 -- so does a report that was lost
 abbrev pub LostReportsGoOn : Type 0
 LostReportsGoOn =
-    (values : Nominal) (period : ℕ) (mark : Mark) (p q : Point) → Reported values period true p q → Gap values mark p → Gap values mark q
+    (values : Nominal) (period : ℕ) (anchor : Anchor) (p q : Point) → Reported values period true p q → Gap values anchor p → Gap values anchor q
 
 -- gaps one after the other take every stretch home
 abbrev pub StretchesSettle : Type 0

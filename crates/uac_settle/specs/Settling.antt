@@ -8,7 +8,7 @@ use Rattle.std.specs.Option.{option_map}
 use Rattle.uac_clock.specs.declared.values.Nominal.{Nominal}
 use Rattle.uac_clock.specs.Nominal.{nominal_of}
 use Rattle.uac_rate.specs.Reports.{report_of}
-use Rattle.uac_rate.specs.Levels.{AreIntervals, Point, Within, Interval, Reported, IsRobust, Mark, HasDrifted}
+use Rattle.uac_rate.specs.Levels.{AreIntervals, Point, Within, Interval, Reported, IsRobust, Anchor, HasDrifted}
 
 -- what a microframe takes home at least, whatever the clock deviates, where the last report saw the level off by four frames or more: such
 -- a report is the least packet, the greatest packet, or off the nominal value by four times 1,024
@@ -30,14 +30,14 @@ settle_of values = 64 + div_ceil (farthest - four_frames) (pull_of values)
 abbrev pub bound_of : ℕ → Option ℕ
 bound_of hertz = option_map settle_of (nominal_of hertz)
 
--- a part of a stream from a report that came, the mark, to a point at most 32 microframes later, with no other report that came and no
+-- a part of a stream from a report that came, the anchor, to a point at most 32 microframes later, with no other report that came and no
 -- lost packet between them
-pub record Gap (values : Nominal) (mark : Mark) (p : Point) : Type 0 where
-  pub host : mark.host < 65536
-  pub clock : mark.clock < 65536
-  pub value : p.value ≡ report_of values p.target mark.level
-  pub young : mark.age ≤ 32
-  pub drift : HasDrifted values mark p
+pub record Gap (values : Nominal) (anchor : Anchor) (p : Point) : Type 0 where
+  pub host : anchor.host < 65536
+  pub clock : anchor.clock < 65536
+  pub value : p.value ≡ report_of values p.target anchor.level
+  pub young : anchor.age ≤ 32
+  pub drift : HasDrifted values anchor p
 
 -- what may be left of an error after so many microframes
 abbrev pub left_of : ℕ → ℕ → ℕ → ℕ

@@ -5,5 +5,5 @@ use Rattle.uac_rate.proofs.laws.levels_stay_near.Goals as goal
 pub returns : goal.returns
 returns c = record {
   robust = λ values service period p intervals robust. let near = robust_near values 65 service period p intervals.reports robust in (omega arith, omega arith);
-  tight = λ values service period mark p room facts intervals tight. tight_within values 65 period mark p facts room.slight intervals.reports tight;
+  tight = λ values service period anchor p room facts intervals tight. tight_within values 65 period anchor p facts room.slight intervals.reports tight;
 }
