@@ -45,7 +45,16 @@ fn entity_of(alloc: Global, block: &Block) -> Result<Option<Entity>, NoMemory>
         Block::Selector(s) => Ok(Some(selector(alloc, s)?)),
         Block::Feature(f) => Ok(Some(feature(alloc, f)?)),
         Block::Effect(e) => Ok(Some(effect(alloc, e)?)),
-        _ => Ok(None),
+        Block::Configuration(_)
+        | Block::Association(_)
+        | Block::Interface(_)
+        | Block::Endpoint(_)
+        | Block::Header(_)
+        | Block::General(_)
+        | Block::TypeOne(_)
+        | Block::Extra(_)
+        | Block::ClassEndpoint(_)
+        | Block::Foreign(_) => Ok(None),
     }
 }
 

@@ -106,7 +106,7 @@ fn list_end(listing: Listing) -> Option<u32>
 {
     match listing {
         Listing::Open(end) => Some(end),
-        _ => None,
+        Listing::Awaited | Listing::Closed => None,
     }
 }
 
@@ -189,24 +189,17 @@ fn comes_again(stage: Stage, letter: Letter) -> bool
 fn is_before_association(stage: Stage) -> bool
     ensures { result ≡ is_before_association stage }
 {
-    match stage {
-        Stage::Start => true,
-        Stage::Due => true,
-        Stage::Opening => true,
-        Stage::Before => true,
-        _ => false,
-    }
+    matches!(
+        stage,
+        Stage::Start | Stage::Due | Stage::Opening | Stage::Before
+    )
 }
 
 /// The configuration is due.
 fn is_due(stage: Stage) -> bool
     ensures { result ≡ is_due stage }
 {
-    match stage {
-        Stage::Start => true,
-        Stage::Due => true,
-        _ => false,
-    }
+    matches!(stage, Stage::Start | Stage::Due)
 }
 
 /// The control interface is due.
@@ -241,26 +234,25 @@ fn is_listing(stage: Stage) -> bool
 fn may_end(stage: Stage) -> bool
     ensures { result ≡ may_end stage }
 {
-    match stage {
-        Stage::Start => false,
-        Stage::Due => false,
-        Stage::Opening => false,
-        Stage::Before => false,
-        Stage::Announced => false,
-        Stage::Headless => false,
-        _ => true,
-    }
+    !matches!(
+        stage,
+        Stage::Start
+            | Stage::Due
+            | Stage::Opening
+            | Stage::Before
+            | Stage::Announced
+            | Stage::Headless
+    )
 }
 
 /// A control interface or a streaming one.
 pub(crate) fn is_audio_interface(letter: Letter) -> bool
     ensures { result ≡ is_audio_interface letter }
 {
-    match letter {
-        Letter::ControlInterface => true,
-        Letter::StreamingInterface => true,
-        _ => false,
-    }
+    matches!(
+        letter,
+        Letter::ControlInterface | Letter::StreamingInterface
+    )
 }
 
 pub(crate) fn is_control(letter: Letter) -> bool

@@ -96,8 +96,20 @@ fn begin_part(letter: Letter) -> Option<Stage>
 {
     match letter {
         Letter::StreamingInterface => Some(Stage::Setting),
-        Letter::ForeignAssociation => Some(Stage::Behind),
-        Letter::ForeignInterface => Some(Stage::Behind),
-        _ => None,
+        Letter::ForeignAssociation | Letter::ForeignInterface => Some(Stage::Behind),
+        Letter::Device
+        | Letter::Configuration
+        | Letter::AudioAssociation
+        | Letter::ControlInterface
+        | Letter::Endpoint
+        | Letter::Header
+        | Letter::Entity
+        | Letter::General
+        | Letter::TypeOne
+        | Letter::Extra
+        | Letter::ClassEndpoint
+        | Letter::Other
+        | Letter::Stray
+        | Letter::UnknownSubtype => None,
     }
 }

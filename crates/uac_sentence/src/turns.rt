@@ -31,11 +31,7 @@ pub fn end_after(end: Option<u32>, place: u32, block: &Block) -> Option<u32>
 pub fn is_listed(letter: Letter) -> bool
     ensures { result ≡ is_listed letter }
 {
-    match letter {
-        Letter::Entity => true,
-        Letter::UnknownSubtype => true,
-        _ => false,
-    }
+    matches!(letter, Letter::Entity | Letter::UnknownSubtype)
 }
 
 /// How far the list of entities has come after a block.

@@ -39,7 +39,12 @@ pub fn has_wrong_value(context: Context, block: &Block) -> bool
             first_is_barred(general.controls as u32) || second_is_barred(general.controls as u32)
         }
         Block::TypeOne(format) => is_no_format(format),
-        _ => false,
+        Block::Configuration(_)
+        | Block::Association(_)
+        | Block::Interface(_)
+        | Block::Extra(_)
+        | Block::ClassEndpoint(_)
+        | Block::Foreign(_) => false,
     }
 }
 
