@@ -1,12 +1,10 @@
 -- A sample that was cut, and its word.
 use Rattle.std.proofs.Common.{◌≡◌, ℕ, zero, suc, ◌+◌, ◌-◌, ◌*◌, ◌/◌, ◌^◌, ◌<◌, ◌≤◌, ℤ, pos, negsuc, ◌*ℤ◌, FitsSigned, to_z, of_z, w32, take, List, [], ◌++◌, arith, ap, ◌∙◌, sym, refl}
-use Rattle.std.proofs.lemmas.Int.{to_z-of_z}
 use Rattle.std.proofs.Math.Nat.{mod-eq_of_lt, mod-lt, pow-suc, mul-lt-mul_of_pos_right}
 use Rattle.std.proofs.lemmas.List.{append-nil}
 use Rattle.std.proofs.lemmas.Nat.{pow_pos, pow-add}
 use Rattle.byteorder.specs.Endian.{little_bytes, little_number}
-use Rattle.byteorder.specs.Numbers.{little_number-reads_back, length-bytes_low_first}
-use Rattle.std.proofs.Math.Seq.{take-append_seam}
+use Rattle.byteorder.specs.Numbers.{little_number-reads_back}
 use Rattle.uac_pcm.specs.Words.{floor_of, modulo, wrap, cut, word_of, sample_of_word}
 use Rattle.uac_pcm.proofs.Wrapping.{int_wrap-pos}
 use Rattle.uac_pcm.proofs.Rounding.{fits-rounded, top_bits, finer_multiple, multiple_comes_back}

@@ -1,6 +1,6 @@
 -- Frames in a row, and the frames of bytes.
-use Rattle.std.proofs.Common.{◌≡◌, ℕ, zero, suc, ◌+◌, ◌-◌, ◌*◌, ◌/◌, ◌<◌, ◌≤◌, ℤ, List, [], ◌∷◌, ◌++◌, length, get_or, take, drop, map, slice_get, Some, arith, ap, ◌∙◌, sym, refl, append_assoc, length-append, zero-add}
-use Rattle.std.proofs.Math.Nat.{suc-mul, zero-mul, mul-le-mul_right, div-mul-le_self, mul-pos}
+use Rattle.std.proofs.Common.{add-one, ◌≡◌, ℕ, zero, suc, ◌+◌, ◌-◌, ◌*◌, ◌/◌, ◌<◌, ◌≤◌, ℤ, List, [], ◌∷◌, ◌++◌, length, get_or, take, drop, map, slice_get, Some, arith, ap, ◌∙◌, sym, refl, append_assoc, length-append, zero-add}
+use Rattle.std.proofs.Math.Nat.{add-div_left, div-eq_of_lt, suc-mul, zero-mul, mul-le-mul_right, div-mul-le_self, mul-pos}
 use Rattle.std.proofs.Math.Seq.{take-append_seam, drop-append_seam, drop-nil}
 use Rattle.std.specs.List.{All}
 use Rattle.std.specs.Option.{option_map}
@@ -149,6 +149,28 @@ pub length-unpacked : (count size resolution : ℕ) (bytes : List ℕ) → lengt
 length-unpacked count size resolution bytes =
     length-map (first_chunks (count * size) (whole_frames count size bytes) bytes) (frame_of_bytes count size resolution)
     ∙ length-first_chunks (count * size) (whole_frames count size bytes) bytes
+
+-- bytes that begin with those of a frame
+pub unpacked_first : (count size resolution : ℕ) (bytes front rest : List ℕ) → 0 < count * size → bytes ≡ front ++ rest → length front ≡ count * size
+    → unpacked count size resolution bytes ≡ frame_of_bytes count size resolution front ∷ unpacked count size resolution rest
+unpacked_first count size resolution bytes front rest some split whole =
+    let width : ℕ = count * size in
+    let lengths : length bytes ≡ width + length rest =
+    ap length split ∙ length-append front rest ∙ ap (λ (n : ℕ). n + length rest) whole in
+    let many : whole_frames count size bytes ≡ suc (whole_frames count size rest) =
+    ap (λ (n : ℕ). n / width) lengths ∙ add-div_left (length rest) some ∙ rw add-one refl in
+    let first : take width bytes ≡ front = ap (take width) split ∙ take_front width front rest whole in
+    let others : drop width bytes ≡ rest = ap (drop width) split ∙ drop_front width front rest whole in
+    ap (λ (n : ℕ). map (frame_of_bytes count size resolution) (first_chunks width n bytes)) many
+    ∙ ap (λ (bs : List ℕ). frame_of_bytes count size resolution bs
+    ∷ map (frame_of_bytes count size resolution) (first_chunks width (whole_frames count size rest) (drop width bytes))) first
+    ∙ ap (λ (bs : List ℕ). frame_of_bytes count size resolution front
+    ∷ map (frame_of_bytes count size resolution) (first_chunks width (whole_frames count size rest) bs)) others
+
+-- bytes that are too few for a frame
+pub unpacked_short : (count size resolution : ℕ) (bytes : List ℕ) → length bytes < count * size → unpacked count size resolution bytes ≡ []
+unpacked_short count size resolution bytes short =
+    ap (λ (n : ℕ). map (frame_of_bytes count size resolution) (first_chunks (count * size) n bytes)) (div-eq_of_lt short)
 
 -- each frame that is read has a sample for each channel
 pub unpacked-even : (count size resolution : ℕ) (bytes : List ℕ) → All (λ samples. length samples ≡ count) (unpacked count size resolution bytes)

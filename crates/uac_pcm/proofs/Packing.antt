@@ -1,9 +1,9 @@
 -- The bytes of a frame, and the samples of its bytes.
-use Rattle.std.proofs.Common.{◌≡◌, ℕ, zero, suc, ◌+◌, ◌*◌, ◌<◌, ◌≤◌, ℤ, FitsSigned, w32, List, [], ◌∷◌, ◌++◌, length, get_or, take, drop, map, arith, ap, ◌∙◌, sym, refl, Result, Ok, Err, true, is_ok, OnOk, append_assoc, length-append, zero-add}
-use Rattle.std.proofs.Math.Nat.{suc-mul, zero-mul, min-eq_left}
+use Rattle.std.proofs.Common.{add-one, ◌≡◌, ℕ, zero, suc, ◌+◌, ◌*◌, ◌<◌, ◌≤◌, ℤ, FitsSigned, w32, List, [], ◌∷◌, ◌++◌, length, take, drop, set, map, arith, ap, ◌∙◌, sym, refl, Result, Ok, Err, true, is_ok, OnOk, append_assoc, length-append}
+use Rattle.std.proofs.Math.Nat.{suc-mul, zero-mul}
 use Rattle.std.proofs.Math.Seq.{take-append_seam, drop-append_seam}
 use Rattle.std.specs.List.{All}
-use Rattle.std.proofs.lemmas.List.{append-nil, flat_map_more, take_more, length-take}
+use Rattle.std.proofs.lemmas.List.{drop-drop, take_more_set}
 use Rattle.byteorder.specs.Numbers.{length-bytes_low_first}
 use Rattle.uac_pcm.specs.Words.{cut, word_of, sample_of_word}
 use Rattle.uac_pcm.proofs.Cutting.{sample_of_word-word_of}
@@ -27,93 +27,31 @@ pub where_ok : {T E P : Type 0} (r : Result T E) → is_ok r ≡ true → OnOk r
 where_ok (Ok x) h p = p
 where_ok (Err e) h p = cc
 
--- one more word
-pub bytes_of_frame_more : (size resolution : ℕ) (old now new word : List ℕ) (samples : List ℤ) (i : ℕ) (d : ℤ) → i < length samples
-    → now ≡ old ++ bytes_of_frame size resolution (take i samples) → new ≡ now ++ word → word ≡ word_of size resolution (get_or samples i d)
-    → new ≡ old ++ bytes_of_frame size resolution (take (i + 1) samples)
-bytes_of_frame_more size resolution old now new word samples i d inside before appended is_word =
-    appended
-    ∙ ap (λ (bs : List ℕ). bs ++ word) before
-    ∙ ap (λ (w : List ℕ). (old ++ bytes_of_frame size resolution (take i samples)) ++ w) is_word
-    ∙ flat_map_more (word_of size resolution) old (take i samples) (get_or samples i d)
-    ∙ ap (λ (xs : List ℤ). old ++ bytes_of_frame size resolution xs) (sym (take_more samples i d inside))
+-- one more sample of the bytes
+pub frame_of_bytes_more : (count size resolution : ℕ) (bytes : List ℕ)
+    → frame_of_bytes (count + 1) size resolution bytes
+    ≡ frame_of_bytes count size resolution bytes ++ sample_of_word size resolution (take size (drop (count * size) bytes)) ∷ []
+frame_of_bytes_more count size resolution bytes = rw add-one (along count bytes) where
+  along : (k : ℕ) (bs : List ℕ) → frame_of_bytes (suc k) size resolution bs
+      ≡ frame_of_bytes k size resolution bs ++ sample_of_word size resolution (take size (drop (k * size) bs)) ∷ []
+  along zero bs = ap (λ (n : ℕ). sample_of_word size resolution (take size (drop n bs)) ∷ []) (sym (zero-mul size))
+  along (suc k) bs =
+      let step : k * size + size ≡ suc k * size = sym (suc-mul k size) in
+      let further : drop (k * size) (drop size bs) ≡ drop (suc k * size) bs =
+      drop-drop (k * size) size bs ∙ ap (λ (n : ℕ). drop n bs) (omega arith) in
+      ap (λ (xs : List ℤ). sample_of_word size resolution (take size bs) ∷ xs) (along k (drop size bs))
+      ∙ ap (λ (ws : List ℕ). frame_of_bytes (suc k) size resolution bs ++ sample_of_word size resolution (take size ws) ∷ []) further
 
--- the length so far
-pub length_so_far : (size resolution : ℕ) (old now : List ℕ) (samples : List ℤ) (i : ℕ) → i ≤ length samples
-    → now ≡ old ++ bytes_of_frame size resolution (take i samples) → length now ≡ length old + i * size
-length_so_far size resolution old now samples i inside before =
-    ap length before
-    ∙ length-append old (bytes_of_frame size resolution (take i samples))
-    ∙ ap (λ (n : ℕ). length old + n) (length-bytes_of_frame size resolution (take i samples) ∙ ap (λ (n : ℕ). n * size) (length-take i samples ∙ min-eq_left inside))
-
--- how far the samples of the bytes have come: so many are left, in the rest of the bytes
-pub record IsUnpacking (count size resolution : ℕ) (bytes rest : List ℕ) (samples : List ℤ) : Type 0 where
-  pub left : ℕ
-  pub counted : length samples + left ≡ count
-  pub room : length rest ≡ left * size
-  pub told : samples ++ frame_of_bytes left size resolution rest ≡ frame_of_bytes count size resolution bytes
-
--- at the start
-pub unpacking_none : (count size resolution : ℕ) (bytes rest : List ℕ) (samples : List ℤ) → length bytes ≡ count * size → samples ≡ [] → rest ≡ bytes
-    → IsUnpacking count size resolution bytes rest samples
-unpacking_none count size resolution bytes rest samples whole empty same =
-    record {
-      left = count;
-      counted = ap (λ (xs : List ℤ). length xs + count) empty ∙ zero-add count;
-      room = ap length same ∙ whole;
-      told = ap (λ (xs : List ℤ). xs ++ frame_of_bytes count size resolution rest) empty ∙ ap (frame_of_bytes count size resolution) same;
-    }
-
--- where a word is left, a sample is
-pub unpacking_inside : (count size resolution : ℕ) (bytes rest : List ℕ) (samples : List ℤ) → 0 < length rest
-    → IsUnpacking count size resolution bytes rest samples → length samples < count
-unpacking_inside count size resolution bytes rest samples some u = from u.left u.counted u.room where
-  from : (left : ℕ) → length samples + left ≡ count → length rest ≡ left * size → length samples < count
-  from zero counted room = absurd (omega (arith, zero-mul size))
-  from (suc k) counted room = omega arith
-
--- one more word
-pub unpacking_more : (count size resolution : ℕ) (bytes rest word rest' : List ℕ) (samples samples' : List ℤ) (sample : ℤ) → 0 < size
-    → rest ≡ word ++ rest' → length word ≡ size → sample ≡ sample_of_word size resolution word → samples' ≡ samples ++ sample ∷ []
-    → IsUnpacking count size resolution bytes rest samples → IsUnpacking count size resolution bytes rest' samples'
-unpacking_more count size resolution bytes rest word rest' samples samples' sample some split whole is_sample pushed u =
-    from u.left u.counted u.room u.told where
-      front : take size rest ≡ word
-      front = ap (λ (n : ℕ). take n rest) (sym whole) ∙ ap (take (length word)) split ∙ take-append_seam word rest'
-
-      back : drop size rest ≡ rest'
-      back = ap (λ (n : ℕ). drop n rest) (sym whole) ∙ ap (drop (length word)) split ∙ drop-append_seam word rest'
-
-      lengths : length rest ≡ size + length rest'
-      lengths = ap length split ∙ length-append word rest' ∙ ap (λ (n : ℕ). n + length rest') whole
-
-      longer : length samples' ≡ length samples + 1
-      longer = ap length pushed ∙ length-append samples (sample ∷ [])
-
-      from : (left : ℕ) → length samples + left ≡ count → length rest ≡ left * size
-          → samples ++ frame_of_bytes left size resolution rest ≡ frame_of_bytes count size resolution bytes → IsUnpacking count size resolution bytes rest' samples'
-      from zero counted room told = absurd (omega (arith, zero-mul size, lengths))
-      from (suc k) counted room told = record {
-        left = k;
-        counted = omega (arith, longer);
-        room = omega (arith, suc-mul k size, lengths);
-        told =
-            ap (λ (xs : List ℤ). xs ++ frame_of_bytes k size resolution rest') pushed
-            ∙ append_assoc samples (sample ∷ []) (frame_of_bytes k size resolution rest')
-            ∙ ap (λ (x : ℤ). samples ++ x ∷ frame_of_bytes k size resolution rest') (is_sample ∙ ap (sample_of_word size resolution) (sym front))
-            ∙ ap (λ (bs : List ℕ). samples ++ sample_of_word size resolution (take size rest) ∷ frame_of_bytes k size resolution bs) (sym back)
-            ∙ told;
-      }
-
--- at the end
-pub unpacking_all : (count size resolution : ℕ) (bytes rest : List ℕ) (samples : List ℤ) → length rest < size
-    → IsUnpacking count size resolution bytes rest samples → (samples ≡ frame_of_bytes count size resolution bytes) × (length samples ≡ count)
-unpacking_all count size resolution bytes rest samples short u = from u.left u.counted u.room u.told where
-  from : (left : ℕ) → length samples + left ≡ count → length rest ≡ left * size
-      → samples ++ frame_of_bytes left size resolution rest ≡ frame_of_bytes count size resolution bytes
-      → (samples ≡ frame_of_bytes count size resolution bytes) × (length samples ≡ count)
-  from zero counted room told = (sym (append-nil samples) ∙ told, omega arith)
-  from (suc k) counted room told = absurd (omega (arith, suc-mul k size))
+-- a sample that is read into its place
+pub sample_read : (size resolution place : ℕ) (words word : List ℕ) (samples : List ℤ) (sample : ℤ) → place < length samples
+    → take place samples ≡ frame_of_bytes place size resolution words → word ≡ take size (drop (place * size) words)
+    → sample ≡ sample_of_word size resolution word
+    → take (place + 1) (set samples place sample) ≡ frame_of_bytes (place + 1) size resolution words
+sample_read size resolution place words word samples sample inside so_far cutting read =
+    take_more_set samples place sample inside
+    ∙ ap (λ (xs : List ℤ). xs ++ sample ∷ []) so_far
+    ∙ ap (λ (z : ℤ). frame_of_bytes place size resolution words ++ z ∷ []) (read ∙ ap (sample_of_word size resolution) cutting)
+    ∙ sym (frame_of_bytes_more place size resolution words)
 
 -- the bytes of a frame, whatever stands after them, hold its samples, cut
 pub frame_of_bytes-bytes_of_frame : (size resolution : ℕ) (samples : List ℤ) (rest : List ℕ) → size ≤ 4 → 1 ≤ resolution → resolution ≤ 8 * size

@@ -1,8 +1,8 @@
 -- Signed numbers rounded down to a multiple of a unit.
-use Rattle.std.proofs.Common.{◌≡◌, ℕ, zero, suc, ◌+◌, ◌-◌, ◌*◌, ◌/◌, ◌%◌, ◌<◌, ◌≤◌, ℤ, pos, negsuc, ◌*ℤ◌, neg_ℤ, FitsSigned, to_z, of_z, w32, arith, ap, ◌∙◌, sym, refl}
+use Rattle.std.proofs.Common.{◌≡◌, ℕ, zero, suc, ◌+◌, ◌-◌, ◌*◌, ◌/◌, ◌%◌, ◌<◌, ◌≤◌, ℤ, pos, negsuc, ◌*ℤ◌, neg_ℤ, FitsSigned, to_z, of_z, w32, arith, ap, ◌∙◌, sym}
 use Rattle.std.proofs.Math.Nat.{add-mul, div-mul-le_self, div-add-mod', mod-eq_of_lt, mod-lt, mul-le-mul_right, mul_assoc, mul-div_cancel, mul-pos, suc-mul, le-mul_of_pos_right}
 use Rattle.std.proofs.lemmas.Int.{to_z_pos, to_z-of_z}
-use Rattle.std.proofs.lemmas.Nat.{div_below, div-mul-add, mod-mul-add}
+use Rattle.std.proofs.lemmas.Nat.{div_below, div-mul-add}
 use lib.Signed.{shr_z}
 use Rattle.uac_pcm.specs.Words.{floor_of, modulo}
 

@@ -1,12 +1,18 @@
 //! How frames stand in packets.
-ghost use Rattle.std.specs.Prelude.{◌≡◌, ◌↔◌, ◌<◌, ◌≤◌, ◌+◌, ◌*◌, ℤ, List, [], ◌∷◌, ◌++◌, length, slice_get, Some, IsTrue, IsSome, IfSome};
+ghost use Rattle.std.specs.Prelude.{◌≡◌, ◌↔◌, ◌<◌, ◌≤◌, ◌+◌, ◌*◌, ℤ, List, [], ◌∷◌, ◌++◌, length, take, drop, slice_get, Some, IsTrue, IsSome, IfSome};
 ghost use Rattle.std.specs.Bool.{OnTrue, OnFalse};
 ghost use Rattle.arrayvec.specs.ArrayVec.{array_vec_len};
 ghost use Rattle.uac_pcm.specs.Frames.{IsFormat, bytes_of_frame, frame_of_bytes};
 ghost use Rattle.uac_pcm.specs.Packets.{packed, unpacked, whole_frames};
 
-use crate::words::{put_word, sample_of};
+use crate::words::{read_words, write_words};
 use crate::{Frame, Packet};
+
+/// A zero for each byte of the longest frame.
+const ZEROS: [u8; 128] = [0; 128];
+
+/// A zero for each channel of the widest frame.
+const SILENCE: [i32; 32] = [0; 32];
 
 /// A format of Type I PCM: how many channels, bytes for each sample, and bits of them that are used.
 ///
@@ -58,15 +64,42 @@ impl Format {
         ensures len { OnTrue result (array_vec_len packet.new ≡ array_vec_len packet.old + self.now.channels * self.now.subslot) }
         ensures full { OnFalse result (packet.new ≡ packet.old) }
     {
-        if packet.remaining_capacity() < self.frame_bytes() {
-            return false;
+        let start = packet.len();
+        match packet.try_extend_from_slice(&ZEROS[..self.frame_bytes()]) {
+            Ok(()) => {}
+            Err(_) => return false,
         }
-        let size = usize::from(self.subslot);
-        for sample in frame.as_slice() {
-            // There is room for the whole frame, so each word fits.
-            put_word(packet, *sample, size, self.bits);
-        }
+        self.write_at(frame, packet, start);
         true
+    }
+
+    /// Writes the frame's bytes over so many of the packet, from a place on.
+    pub fn write_at(&self, frame: &Frame, packet: &mut Packet, start: usize)
+        requires channels { array_vec_len frame.now ≡ self.now.channels }
+        requires room { start + self.now.channels * self.now.subslot ≤ array_vec_len packet.old }
+        ensures written { packet.new.items ≡ take start packet.old.items ++ (bytes_of_frame self.now.subslot self.now.bits frame.now.items
+            ++ drop (start + self.now.channels * self.now.subslot) packet.old.items) }
+        ensures len { array_vec_len packet.new ≡ array_vec_len packet.old }
+    {
+        let bytes = packet.as_mut_slice();
+        let end = start + self.frame_bytes();
+        self.write(frame, &mut bytes[start..end]);
+    }
+
+    // Writes the frame's bytes over so many others.
+    fn write(&self, frame: &Frame, bytes: &mut [u8])
+        requires channels { array_vec_len frame.now ≡ self.now.channels }
+        requires sized { length bytes.old ≡ self.now.channels * self.now.subslot }
+        ensures { bytes.new ≡ bytes_of_frame self.now.subslot self.now.bits frame.now.items }
+    {
+        let samples = frame.as_slice();
+        // Each size of a word has a loop of its own.
+        match self.subslot {
+            1 => write_words::<1>(samples, self.bits, bytes),
+            2 => write_words::<2>(samples, self.bits, bytes),
+            3 => write_words::<3>(samples, self.bits, bytes),
+            _ => write_words::<4>(samples, self.bits, bytes),
+        }
     }
 
     /// Makes `frame` the samples of these bytes, which are one frame's.
@@ -75,10 +108,26 @@ impl Format {
         ensures samples { frame.new.items ≡ frame_of_bytes self.now.channels self.now.subslot self.now.bits bytes.now }
         ensures len { array_vec_len frame.new ≡ self.now.channels }
     {
-        frame.clear();
-        let size = usize::from(self.subslot);
-        for word in bytes.chunks_exact(size) {
-            frame.push(sample_of(word, size, self.bits));
+        let channels = usize::from(self.channels);
+        if frame.len() != channels {
+            frame.clear();
+            let _ = frame.try_extend_from_slice(&SILENCE[..channels]);
+        }
+        self.read(bytes, frame.as_mut_slice());
+    }
+
+    // Writes the samples of these bytes, which are one frame's, over so many others.
+    fn read(&self, bytes: &[u8], samples: &mut [i32])
+        requires channels { length samples.old ≡ self.now.channels }
+        requires whole { length bytes.now ≡ self.now.channels * self.now.subslot }
+        ensures { samples.new ≡ frame_of_bytes self.now.channels self.now.subslot self.now.bits bytes.now }
+    {
+        // Each size of a word has a loop of its own.
+        match self.subslot {
+            1 => read_words::<1>(bytes, self.bits, samples),
+            2 => read_words::<2>(bytes, self.bits, samples),
+            3 => read_words::<3>(bytes, self.bits, samples),
+            _ => read_words::<4>(bytes, self.bits, samples),
         }
     }
 
