@@ -35,10 +35,7 @@ pub fn domains_of(alloc: Global, entities: &[Entity]) -> Result<Domains, NoMemor
     let mut counts = Vec::new(alloc);
     for entity in entities {
         note(entity, &mut clocks)?;
-        match counts.push(clocks.len()) {
-            Ok(()) => {}
-            Err(_) => return Err(NoMemory),
-        }
+        counts.push(clocks.len())?;
     }
     Ok(Domains { clocks, counts })
 }

@@ -16,10 +16,7 @@ pub(crate) fn signal_graph(alloc: Global, table: &EntityTable) -> Result<Vec<Lin
     let mut graph = Vec::new(alloc);
     for entity in table.as_slice() {
         let links = links_to(alloc, table, signal_sources(entity))?;
-        match graph.push(links) {
-            Ok(()) => {}
-            Err(_) => return Err(NoMemory),
-        }
+        graph.push(links)?;
     }
     Ok(graph)
 }
@@ -31,10 +28,7 @@ pub(crate) fn clock_graph(alloc: Global, table: &EntityTable) -> Result<Vec<Link
     let mut graph = Vec::new(alloc);
     for entity in table.as_slice() {
         let links = links_to(alloc, table, clock_sources(entity))?;
-        match graph.push(links) {
-            Ok(()) => {}
-            Err(_) => return Err(NoMemory),
-        }
+        graph.push(links)?;
     }
     Ok(graph)
 }
@@ -45,10 +39,7 @@ fn links_to(alloc: Global, table: &EntityTable, ids: &[u8]) -> Result<Links, NoM
 {
     let mut links = Links::new(alloc);
     for id in ids {
-        match links.push(table.place_of(*id)) {
-            Ok(()) => {}
-            Err(_) => return Err(NoMemory),
-        }
+        links.push(table.place_of(*id))?;
     }
     Ok(links)
 }

@@ -60,10 +60,7 @@ fn no_clusters(alloc: Global, count: usize) -> Result<Vec<Cluster>, NoMemory>
 {
     let mut clusters = Vec::new(alloc);
     for _each in 0..count {
-        match clusters.push(NO_CLUSTER) {
-            Ok(()) => {}
-            Err(_) => return Err(NoMemory),
-        }
+        clusters.push(NO_CLUSTER)?;
     }
     Ok(clusters)
 }
@@ -132,10 +129,7 @@ fn no_clocks(alloc: Global, count: usize) -> Result<Vec<Behind>, NoMemory>
 {
     let mut list = Vec::new(alloc);
     for _each in 0..count {
-        match list.push(Behind::Nothing) {
-            Ok(()) => {}
-            Err(_) => return Err(NoMemory),
-        }
+        list.push(Behind::Nothing)?;
     }
     Ok(list)
 }

@@ -114,10 +114,7 @@ fn places_of(alloc: Global, entities: &[Entity]) -> Result<IndexMap<u8, usize>, 
         if places.contains_key(&entity.id) {
             continue;
         }
-        match places.insert(entity.id, place) {
-            Ok(_) => {}
-            Err(_) => return Err(NoMemory),
-        }
+        places.insert(entity.id, place)?;
     }
     Ok(places)
 }

@@ -13,7 +13,7 @@ loop-entity-preserved c =
     let clocks = c.note.new.clocks in
     let count : c.len.result ≡ length clocks.items = omega (arith, c.len.ensures, clocks.ok.0) in
     let pushed : c.push.new.self.items ≡ l.counts.items ++ length clocks.items ∷ [] =
-    c.in-Ok.ensures.items ∙ ap (λ (n : ℕ). l.counts.items ++ n ∷ []) count in
+    c.in_ok-push.ensures.items ∙ ap (λ (n : ℕ). l.counts.items ++ n ∷ []) count in
     subst (λ (ns : List ℕ). IsDomains (take (l.entity-index + 1) es) clocks.items ns) (sym pushed)
     (domains_more es l.entity-index c.entity-item.result l.clocks.items l.counts.items clocks.items c.loop-entity-test.true c.entity-item.is
     c.in_ok-note.ensures l.invariant)

@@ -15,4 +15,4 @@ loop-place-preserved-then-contains_key c =
 pub loop-place-preserved : goal.loop-place-preserved
 loop-place-preserved c =
     table_more c.args.entities.now c.loop-place.place c.index-entities-place.result c.loop-place.places c.insert.new.self c.loop-place-test.true
-    c.index-entities-place.is c.if-contains_key.ensures c.in-Ok.ensures.updates.0 c.loop-place.invariant
+    c.index-entities-place.is c.if-contains_key.ensures c.in_ok-insert.ensures.updates.0 c.loop-place.invariant
