@@ -54,10 +54,9 @@ impl ByteList {
         ensures copied { IfOk result (λ list. list ≡ bytes.now) }
         ensures few { length bytes.now ≤ FEW → IsOk result }
     {
-        let Ok(items) = SmallVec::from_slice(alloc, bytes) else {
-            return Err(NoMemory);
-        };
-        Ok(ByteList { items })
+        Ok(ByteList {
+            items: SmallVec::from_slice(alloc, bytes)?,
+        })
     }
 
     /// The bytes, lent.
@@ -72,10 +71,8 @@ impl ByteList {
         ensures appended { OnOk result (self.new ≡ self.old ++ more.now) }
         ensures unchanged { OnErr result (self.new ≡ self.old) }
     {
-        match self.items.extend_from_slice(more) {
-            Ok(()) => Ok(()),
-            Err(_) => Err(NoMemory),
-        }
+        self.items.extend_from_slice(more)?;
+        Ok(())
     }
 }
 

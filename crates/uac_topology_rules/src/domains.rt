@@ -48,10 +48,8 @@ fn note(entity: &Entity, clocks: &mut Vec<u8>) -> Result<(), NoMemory>
     if !names_new(clocks.as_slice(), entity) {
         return Ok(());
     }
-    match clocks.push(entity.clock) {
-        Ok(()) => Ok(()),
-        Err(_) => Err(NoMemory),
-    }
+    clocks.push(entity.clock)?;
+    Ok(())
 }
 
 // Whether the entity names a clock that is none of these.

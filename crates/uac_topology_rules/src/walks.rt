@@ -45,10 +45,7 @@ fn ordered(alloc: Global, graph: &[Links]) -> Result<Vec<usize>, NoMemory>
     requires { IsClosed graph.now }
     ensures { IfOk result (λ order. IsOrder graph.now order.items) }
 {
-    match sources_first(alloc, graph) {
-        Ok(order) => Ok(order),
-        Err(_) => Err(NoMemory),
-    }
+    Ok(sources_first(alloc, graph)?)
 }
 
 // The first entity from which links come round.
