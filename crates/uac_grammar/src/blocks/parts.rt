@@ -33,10 +33,7 @@ pub(super) fn words_of(alloc: Global, bytes: &[u8], count: usize) -> Result<Word
 {
     let mut words = Vec::new(alloc);
     for i in 0..count {
-        match words.push(four_at(bytes, 4 * i)) {
-            Ok(()) => {},
-            Err(_) => return Err(NoMemory),
-        }
+        words.push(four_at(bytes, 4 * i))?;
     }
     Ok(WordList::from_vec(words))
 }
