@@ -21,7 +21,7 @@ impl Hash for Key {
 
     ghost respects_eq = { Prim.search (hashing, rules) };
 
-    // In one write: a tick looks up several keys.
+    // In one write: one is cheaper than three.
     fn hash<H: Hasher>(&self, state: &mut H) {
         state.write(&[self.entity, self.selector, self.channel]);
     }

@@ -68,10 +68,7 @@ fn add_channels(
             selector,
             channel: channel as u8,
         };
-        match values.insert(key, start_of(entity, pins, channel)) {
-            Ok(_) => {}
-            Err(_) => return Err(NoMemory),
-        }
+        values.insert(key, start_of(entity, pins, channel))?;
     }
     Ok(())
 }
@@ -125,10 +122,7 @@ fn pins_of(alloc: Global, function: &Function, entity: &Entity) -> Result<Vec<u8
 {
     let mut pins = Vec::new(alloc);
     for id in entity.sources.as_slice() {
-        match pins.push(channels_of(function, *id)) {
-            Ok(()) => {}
-            Err(_) => return Err(NoMemory),
-        }
+        pins.push(channels_of(function, *id))?;
     }
     Ok(pins)
 }

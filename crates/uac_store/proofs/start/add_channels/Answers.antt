@@ -9,7 +9,7 @@ loop-channel-init c = no_channels _ _ _ _
 pub loop-channel-preserved : goal.loop-channel-preserved
 loop-channel-preserved c =
     let fits : FitsSigned w32 c.start_of.result = search rules in
-    c.in-Ok.ensures.entries
+    c.in_ok-insert.ensures.entries
     ∙ channel_more _ _ _ _ _ c.loop-channel.values _ _ c.requires.absent c.requires.pins (to_z-of_z w32 c.start_of.result fits ∙ c.start_of.ensures) c.loop-channel.invariant
 
 pub start_of-requires : goal.start_of-requires
