@@ -41,10 +41,7 @@ impl Host {
     {
         let mut lanes = Vec::new(alloc);
         for stream in function.streams() {
-            match lanes.push(Lane::resting(alloc, stream.number)) {
-                Ok(()) => {}
-                Err(_) => return Err(NoMemory),
-            }
+            lanes.push(Lane::resting(alloc, stream.number))?;
         }
         Ok(Host { lanes })
     }

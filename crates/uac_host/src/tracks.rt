@@ -50,13 +50,9 @@ impl Track {
         ensures appended { OnOk result (self.new ≡ record self.old { samples = self.old.samples ++ samples.now }) }
         ensures unchanged { OnErr result (self.new ≡ self.old) }
     {
-        match self.samples.reserve(samples.len()) {
-            Ok(()) => {
-                push_all(&mut self.samples, samples);
-                Ok(())
-            }
-            Err(_) => Err(NoMemory),
-        }
+        self.samples.reserve(samples.len())?;
+        push_all(&mut self.samples, samples);
+        Ok(())
     }
 
     /// Another tone follows what waits, from its first frame.
