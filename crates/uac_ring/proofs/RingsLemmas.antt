@@ -1,8 +1,8 @@
 -- The oldest frame of a ring is the first that came and is not gone.
-use Rattle.std.proofs.Common.{◌≡◌, ℕ, zero, suc, ◌+◌, ◌≤◌, ℤ, List, [], ◌∷◌, length, drop, map, slice_get, Option, Some, None, OnSome, option_copied, Bor, arith, ap, ◌∙◌, sym, refl}
+use Rattle.std.proofs.Common.{◌≡◌, ℕ, zero, suc, ◌+◌, ◌-◌, ◌<◌, ◌≤◌, ℤ, List, [], ◌∷◌, ◌++◌, length, drop, map, set, slice_get, Option, Some, None, OnSome, option_copied, Bor, arith, ap, ◌∙◌, sym, refl}
 use Rattle.std.specs.Option.{option_map}
-use Rattle.std.proofs.lemmas.List.{length-drop}
-use Rattle.std.proofs.lemmas.Option.{slice_get_past}
+use Rattle.std.proofs.lemmas.List.{drop-drop, drop-map, get_or_at, length-append, length-drop, length-map, map-set, set_at}
+use Rattle.std.proofs.lemmas.Option.{same_Some, slice_get-get_or, slice_get-map, slice_get_past}
 use Rattle.uac_ring.specs.Rings.{Holds}
 
 -- the element at a place, where the list from there on is known
@@ -42,3 +42,46 @@ taken {X = X} v (y ∷ ys) left (Some x) ring came gone seen is_oldest others he
 pub lent : {X : Type 0} (v : X → List ℤ) (oldest : Option (Bor X)) → option_map (λ x. v x.now) oldest ≡ option_map v (option_copied oldest)
 lent v None = refl
 lent v (Some x) = refl
+
+-- where the newest frame lies
+pub newest_place : {X : Type 0} (v : X → List ℤ) (items : List X) (older : List (List ℤ)) (newest : List ℤ) → map v items ≡ older ++ newest ∷ []
+    → length items ≡ length older + 1
+newest_place v items older newest seen = sym (length-map items v) ∙ ap length seen ∙ length-append older (newest ∷ [])
+
+-- the newest frame
+pub newest_seen : {X : Type 0} (v : X → List ℤ) (items : List X) (older : List (List ℤ)) (frame : List ℤ) (newest : X) (last : ℕ)
+    → map v items ≡ older ++ frame ∷ [] → last ≡ length items - 1 → slice_get items last ≡ Some newest → v newest ≡ frame
+newest_seen v items older frame newest last seen is_last there =
+    let long = newest_place v items older frame seen in
+    let place : length older ≡ last = omega arith in
+    let inside : last < length (older ++ frame ∷ []) = omega (arith, length-append older (frame ∷ [])) in
+    same_Some (v newest) frame (
+    sym (ap (option_map v) there)
+    ∙ sym (slice_get-map v items last)
+    ∙ ap (λ (fs : List (List ℤ)). slice_get fs last) seen
+    ∙ slice_get-get_or (older ++ frame ∷ []) last frame inside
+    ∙ ap (λ (f : List ℤ). Some f) (get_or_at older frame [] frame last place)
+    )
+
+-- and another in its place
+pub newest_turned : {X : Type 0} (v : X → List ℤ) (items : List X) (older : List (List ℤ)) (frame : List ℤ) (turned : X) (last : ℕ)
+    → map v items ≡ older ++ frame ∷ [] → last ≡ length items - 1 → map v (set items last turned) ≡ older ++ v turned ∷ []
+newest_turned v items older frame turned last seen is_last =
+    let long = newest_place v items older frame seen in
+    let place : length older ≡ last = omega arith in
+    map-set v items last turned
+    ∙ ap (λ (fs : List (List ℤ)). set fs last (v turned)) seen
+    ∙ set_at older frame [] (v turned) last place
+
+-- a ring that lets its oldest frame go
+pub let_go : {X : Type 0} (v : X → List ℤ) (items left : List X) (ring came : List (List ℤ)) (kept gone : ℕ) → map v items ≡ ring
+    → kept ≡ length items - 1 → left ≡ drop (length items - kept) items → Holds came gone ring → gone < length came → Holds came (gone + 1) (map v left)
+let_go {X = X} v items left ring came kept gone seen is_kept others held further =
+    let level : length items ≡ length came - gone = sym (length-map items v) ∙ ap length (seen ∙ held.1) ∙ length-drop gone came in
+    let one : length items - kept ≡ 1 = omega arith in (
+      omega arith,
+      ap (λ (xs : List X). map v xs) (others ∙ ap (λ (n : ℕ). drop n items) one)
+          ∙ sym (drop-map v 1 items)
+          ∙ ap (drop 1) (seen ∙ held.1)
+          ∙ drop-drop 1 gone came,
+    )

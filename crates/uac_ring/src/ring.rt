@@ -1,5 +1,5 @@
 // A bounded queue of frames over a circular buffer.
-ghost use Rattle.std.specs.Prelude.{◌≡◌, ◌↔◌, ◌≤◌, ◌<◌, ◌+◌, ℕ, ℤ, List, [], ◌∷◌, ◌++◌, length, drop, slice_get, IsNone, IsErr, IfOk};
+ghost use Rattle.std.specs.Prelude.{◌≡◌, ◌↔◌, ◌≤◌, ◌<◌, ◌+◌, ℕ, ℤ, List, [], ◌∷◌, ◌++◌, length, drop, map, slice_get, IsNone, IsErr, IfOk};
 ghost use Rattle.std.specs.Prelude.{OnSome, OnOk, OnErr};
 ghost use Rattle.std.specs.Option.{option_map};
 ghost use Rattle.uac_ring.specs.Rings.{Holds, ring_frames};
@@ -56,10 +56,12 @@ impl Ring {
         ensures holds { (came : List (List ℤ)) (gone : ℕ) → Holds came gone self.old
             → OnOk result (Holds (came ++ frame.now.items ∷ []) gone self.new) }
     {
-        match self.frames.try_push_back(copy_of(frame)) {
-            Ok(()) => Ok(()),
-            Err(_) => Err(Full),
+        match self.frames.try_push_back(ArrayVec::new()) {
+            Ok(()) => {}
+            Err(_) => return Err(Full),
         }
+        fill_newest(&mut self.frames, frame);
+        Ok(())
     }
 
     /// Takes the oldest frame out; None exactly where there is none.
@@ -89,7 +91,8 @@ impl Ring {
         ensures holds { (came : List (List ℤ)) (gone : ℕ) → Holds came gone self.old → gone < length came
             → Holds came (gone + 1) self.new }
     {
-        let _oldest = self.take();
+        let level = self.frames.len();
+        self.frames.truncate_front(level.saturating_sub(1));
     }
 
     /// The number of frames that the ring holds.
@@ -109,12 +112,15 @@ impl Ring {
     }
 }
 
-// The same samples once more.
-fn copy_of(frame: &Frame) -> Frame
-    ensures { result.items ≡ frame.now.items }
+// Gives the newest frame, which is empty, these samples.
+fn fill_newest(frames: &mut HeapCircularBuffer<Frame>, frame: &Frame)
+    ensures filled { (older : List (List ℤ)) → map (λ f. f.items) frames.old.items ≡ older ++ [] ∷ []
+        → map (λ f. f.items) frames.new.items ≡ older ++ frame.now.items ∷ [] }
+    ensures capacity { frames.new.capacity ≡ frames.old.capacity }
 {
-    let mut copy: Frame = ArrayVec::new();
-    // A frame has room for the samples of a frame.
-    let _ = copy.try_extend_from_slice(frame.as_slice());
-    copy
+    let last = frames.len().saturating_sub(1);
+    if let Some(newest) = frames.get_mut(last) {
+        // A frame has room for the samples of a frame.
+        let _ = newest.try_extend_from_slice(frame.as_slice());
+    }
 }
