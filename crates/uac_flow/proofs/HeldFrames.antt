@@ -43,18 +43,19 @@ put_there (Ok u) P level full room put = put
 put_there (Err e) P level full room put =
     let is_full : level ≡ ring_frames = full.0 refl in absurd (omega arith)
 
--- the frames of a packet that lie in a ring, and one more
-pub put_further : {T E : Type 0} (r : Result T E) (n : ℕ) (before ring after frames : List (List ℤ)) (frame : List ℤ) → ring ≡ before ++ take n frames
-    → length before + length frames ≤ ring_frames → slice_get frames n ≡ Some frame → IsErr r ↔ (length ring ≡ ring_frames) → OnOk r (after ≡ ring ++ frame ∷ [])
-    → after ≡ before ++ take (n + 1) frames
-put_further r n before ring after frames frame so_far fits there full put =
-    let inside : n < length frames = slice_get_within frames n frame there in
-    let level : length ring ≡ length before + length (take n frames) = ap length so_far ∙ length-append before (take n frames) in
-    let room : length ring < ring_frames = omega (arith, length-take n frames) in
-    put_there r (after ≡ ring ++ frame ∷ []) (length ring) full room put
-    ∙ ap (λ (r : List (List ℤ)). r ++ frame ∷ []) so_far
-    ∙ append_assoc before (take n frames) (frame ∷ [])
-    ∙ ap (λ (r : List (List ℤ)). before ++ r) (sym (one_more n frames frame there))
+-- the first of the frames that are left of a packet goes into a ring that has room for all of them
+pub put_next : {T E : Type 0} (r : Result T E) (before ring after left others frames : List (List ℤ)) (frame : List ℤ) → left ≡ frame ∷ others
+    → length before + length frames ≤ ring_frames → ring ++ left ≡ before ++ frames → IsErr r ↔ (length ring ≡ ring_frames)
+    → OnOk r (after ≡ ring ++ frame ∷ []) → after ++ others ≡ before ++ frames
+put_next r before ring after left others frames frame first fits so_far full put =
+    let all : length ring + length left ≡ length before + length frames =
+    sym (length-append ring left) ∙ ap length so_far ∙ length-append before frames in
+    let some : length left ≡ suc (length others) = ap length first in
+    let room : length ring < ring_frames = omega arith in
+    ap (λ (r : List (List ℤ)). r ++ others) (put_there r (after ≡ ring ++ frame ∷ []) (length ring) full room put)
+    ∙ append_assoc ring (frame ∷ []) others
+    ∙ ap (λ (fs : List (List ℤ)). ring ++ fs) (sym first)
+    ∙ so_far
 
 -- and one more frame of zeros
 pub zero_further : {T E : Type 0} (r : Result T E) (n count : ℕ) (before ring after : List (List ℤ)) (frame silence : List ℤ)

@@ -15,8 +15,8 @@ pub(crate) fn put_frames(ring: &mut Ring, format: &Format, packet: &Packet)
     ensures frames { AreFrames format.now.channels ring.old → AreFrames format.now.channels ring.new }
 {
     let mut frame: Frame = ArrayVec::new();
-    for number in 0..format.frames_in(packet) {
-        let _ = format.frame_at(packet, number, &mut frame);
+    for bytes in packet.as_slice().chunks_exact(format.frame_bytes()) {
+        format.unpack(bytes, &mut frame);
         let _ = ring.put(&frame);
     }
 }

@@ -1,7 +1,12 @@
-use Rattle.std.proofs.Common.{◌≡◌, ◌++◌, take}
+use Rattle.std.proofs.Common.{◌≡◌, ◌++◌, ◌*◌}
+use Rattle.std.specs.Slice.Iter.{chunks_exact_rest, chunks_exact_size}
 use Rattle.uac_pcm.specs.Packets.{unpacked}
 use Rattle.uac_flow.proofs.frames.put_frames.Given as goal
 
-abbrev pub invariant-loop-number : goal.invariant-loop-number
-invariant-loop-number l =
-    l.ring ≡ l.initial.ring ++ take l.number (unpacked l.format.channels l.format.subslot l.format.bits l.packet.items)
+abbrev pub invariant-loop-bytes : goal.invariant-loop-bytes
+invariant-loop-bytes l =
+    (goal.iterator-loop-bytes).can_next l.bytes-iterator ×
+    (goal.iterator-loop-bytes).is_finite l.bytes-iterator ×
+    (chunks_exact_size l.bytes-iterator ≡ l.format.channels * l.format.subslot) ×
+    (l.ring ++ unpacked l.format.channels l.format.subslot l.format.bits (chunks_exact_rest l.bytes-iterator)
+    ≡ l.initial.ring ++ unpacked l.format.channels l.format.subslot l.format.bits l.packet.items)
