@@ -1,13 +1,13 @@
 -- The frames of a ring as frames come and go.
-use Rattle.std.proofs.Common.{◌≡◌, ◌∙◌, sym, refl, ap, subst, arith, ℕ, zero, suc, ◌+◌, ◌-◌, ◌*◌, ◌<◌, ◌≤◌, ℤ, List, [], ◌∷◌, ◌++◌, length, take, drop, slice_get, Some, Result, Ok, Err, IsErr, OnOk, ◌↔◌, Bool, IsTrue, OnErr, replicate, add-one, append_assoc, length-append}
-use Rattle.std.specs.Bool.{OnTrue}
-use Rattle.std.proofs.Math.Nat.{mul-le-mul_right, suc-mul}
-use Rattle.std.proofs.lemmas.Bool.{OnTrue_at}
-use Rattle.std.proofs.lemmas.List.{drop-append-le, length-drop, length-replicate, length-take, replicate-append-replicate}
-use Rattle.std.proofs.lemmas.List.Elements.{All-push, All-take}
-use Rattle.std.proofs.lemmas.Option.{slice_get_within}
+use Rattle.std.proofs.Common.{◌≡◌, ◌∙◌, sym, refl, ap, subst, arith, ℕ, zero, suc, ◌+◌, ◌-◌, ◌*◌, ◌<◌, ◌≤◌, ℤ, List, [], ◌∷◌, ◌++◌, length, take, drop, slice_get, Some, Result, Ok, Err, IsErr, OnOk, ◌↔◌, OnErr, replicate, add-one, append_assoc, length-append}
+use Rattle.std.proofs.Math.Nat.{suc-mul}
+use Rattle.std.proofs.lemmas.List.{drop-append-le, flat_map_more, length-drop, length-replicate, length-take-le, replicate-append-replicate, take_at}
+use Rattle.std.proofs.lemmas.List.Elements.{All-push}
+use Rattle.std.proofs.lemmas.Option.{get_or_from_slice_get, slice_get_within}
+use Rattle.uac_pcm.specs.Frames.{bytes_of_frame}
 use Rattle.uac_pcm.specs.Packets.{packed}
-use Rattle.uac_pcm.proofs.PacketsLemmas.{drop-drop, length-packed}
+use Rattle.uac_pcm.proofs.Packing.{length-bytes_of_frame}
+use Rattle.uac_pcm.proofs.PacketsLemmas.{drop-drop}
 use Rattle.uac_ring.specs.Rings.{Holds, ring_frames}
 use Rattle.uac_flow.specs.Flows.{AreFrames}
 
@@ -84,20 +84,23 @@ oldest_at zero frames = refl
 oldest_at (suc n) [] = refl
 oldest_at (suc n) (f ∷ fs) = oldest_at n fs
 
--- the frames that a packet has, and one more
-pub packed_further : (channels size bits n count : ℕ) (frames : List (List ℤ)) (frame : List ℤ) (fitted : Bool) (old new : List ℕ) → AreFrames channels frames
-    → count ≤ length frames → n < count → count * (channels * size) ≤ 3072 → Some frame ≡ slice_get (drop n frames) 0 → old ≡ packed size bits (take n frames)
-    → IsTrue fitted ↔ (length old + channels * size ≤ 3072)
-    → ((fs : List (List ℤ)) → old ≡ packed size bits fs → OnTrue fitted (new ≡ packed size bits (fs ++ frame ∷ [])))
-    → new ≡ packed size bits (take (n + 1) frames)
-packed_further channels size bits n count frames frame fitted old new whole there inside fits oldest so_far room appended =
-    let width : ℕ = channels * size in
-    let bytes : length old ≡ length (take n frames) * width =
-    ap length so_far ∙ length-packed channels size bits (take n frames) (All-take (λ (f : List ℤ). length f ≡ channels) n frames whole) in
-    let many : length (take n frames) ≡ n = omega (arith, length-take n frames) in
-    let so_many : length old ≡ n * width = bytes ∙ ap (λ (m : ℕ). m * width) many in
-    let step : suc n * width ≡ n * width + width = suc-mul n width in
-    let rest : suc n * width ≤ count * width = mul-le-mul_right width (omega arith) in
-    let has_room : length old + width ≤ 3072 = omega arith in
-    OnTrue_at (room.1 has_room) (appended (take n frames) so_far)
-    ∙ ap (packed size bits) (sym (one_more n frames frame (sym (oldest_at n frames) ∙ sym oldest)))
+-- the frames whose bytes a packet has, and one more
+pub packed_further : (channels size bits start n : ℕ) (frames : List (List ℤ)) (frame : List ℤ) (old new rest : List ℕ) → AreFrames channels frames
+    → start ≡ n * (channels * size) → start ≤ length old → Some frame ≡ slice_get (drop n frames) 0 → take start old ≡ packed size bits (take n frames)
+    → new ≡ take start old ++ (bytes_of_frame size bits frame ++ rest)
+    → take ((n + 1) * (channels * size)) new ≡ packed size bits (take (n + 1) frames)
+packed_further channels size bits start n frames frame old new rest whole is_start inside oldest so_far written =
+    let bytes : List ℕ = bytes_of_frame size bits frame in
+    let front : List ℕ = take start old in
+    let there : slice_get frames n ≡ Some frame = sym (oldest_at n frames) ∙ sym oldest in
+    let wide : length frame ≡ channels =
+    ap length (sym (get_or_from_slice_get frames n frame frame there)) ∙ whole n frame (slice_get_within frames n frame there) in
+    let width : length bytes ≡ channels * size = length-bytes_of_frame size bits frame ∙ ap (λ (m : ℕ). m * size) wide in
+    let step : (n + 1) * (channels * size) ≡ n * (channels * size) + channels * size = rw add-one (suc-mul n (channels * size)) in
+    let many : length (front ++ bytes) ≡ (n + 1) * (channels * size) =
+    length-append front bytes ∙ omega (arith, length-take-le start old inside) in
+    ap (take ((n + 1) * (channels * size))) (written ∙ sym (append_assoc front bytes rest))
+    ∙ take_at (front ++ bytes) rest ((n + 1) * (channels * size)) many
+    ∙ ap (λ (bs : List ℕ). bs ++ bytes) so_far
+    ∙ flat_map_more (bytes_of_frame size bits) [] (take n frames) frame
+    ∙ ap (packed size bits) (sym (one_more n frames frame there))

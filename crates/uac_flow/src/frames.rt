@@ -45,7 +45,7 @@ fn silent(channels: u8) -> Frame
     frame
 }
 
-/// Moves the oldest frames of a ring, so many, into a packet that is emptied before.
+/// Moves the oldest frames of a ring, so many, into a packet, in place of what is there.
 pub(crate) fn take_frames(ring: &mut Ring, format: &Format, count: u32, packet: &mut Packet)
     requires there { count ≤ length ring.old }
     requires frames { AreFrames format.now.channels ring.old }
@@ -53,11 +53,23 @@ pub(crate) fn take_frames(ring: &mut Ring, format: &Format, count: u32, packet: 
     ensures packet { packet.new.items ≡ packed format.now.subslot format.now.bits (take count ring.old) }
     ensures ring { ring.new ≡ drop count ring.old }
 {
-    packet.clear();
-    for _each in 0..count {
+    let size = format.frame_bytes();
+    resize(packet, count as usize * size);
+    for number in 0..count as usize {
         if let Some(frame) = ring.front() {
-            let _ = format.pack(frame, packet);
+            format.write_at(frame, packet, number * size);
         }
         ring.drop_front();
+    }
+}
+
+// Gives a packet so many bytes, whatever they are.
+fn resize(packet: &mut Packet, len: usize)
+    requires { len ≤ 3072 }
+    ensures { length packet.new.items ≡ len }
+{
+    packet.truncate(len);
+    for _each in packet.len()..len {
+        packet.push(0);
     }
 }

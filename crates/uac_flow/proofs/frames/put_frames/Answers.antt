@@ -1,11 +1,10 @@
 -- There is room for each frame, since there is for all that are left.
-use Rattle.std.proofs.Common.{◌≡◌, ◌∙◌, ◌≤◌, ◌<◌, ◌+◌, ◌*◌, ◌++◌, [], ◌∷◌, ℕ, ℤ, List, length, ap, arith, subst, sym}
+use Rattle.std.proofs.Common.{◌≡◌, ◌∙◌, ◌≤◌, ◌<◌, ◌+◌, ◌*◌, ◌++◌, ◌∷◌, ℕ, ℤ, List, length, ap, arith, subst, sym}
 use Rattle.std.proofs.lemmas.List.{append-nil}
 use Rattle.std.proofs.lemmas.List.Elements.{All-append}
 use Rattle.std.specs.declared.slice.ChunksExact.{ChunksExact}
 use Rattle.std.specs.Slice.Iter.{chunks_exact_rest, chunks_exact_size}
-use Rattle.uac_pcm.specs.Frames.{frame_of_bytes}
-use Rattle.uac_pcm.specs.Packets.{unpacked, whole_frames}
+use Rattle.uac_pcm.specs.Packets.{unpacked}
 use Rattle.uac_pcm.proofs.PacketsLemmas.{frame_bytes-pos, length-unpacked, unpacked-even, unpacked_first, unpacked_short}
 use Rattle.uac_ring.specs.Rings.{ring_frames}
 use Rattle.uac_flow.specs.Flows.{AreFrames}
