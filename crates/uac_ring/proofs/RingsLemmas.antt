@@ -43,35 +43,26 @@ pub lent : {X : Type 0} (v : X → List ℤ) (oldest : Option (Bor X)) → optio
 lent v None = refl
 lent v (Some x) = refl
 
--- where the newest frame lies
-pub newest_place : {X : Type 0} (v : X → List ℤ) (items : List X) (older : List (List ℤ)) (newest : List ℤ) → map v items ≡ older ++ newest ∷ []
-    → length items ≡ length older + 1
-newest_place v items older newest seen = sym (length-map items v) ∙ ap length seen ∙ length-append older (newest ∷ [])
-
 -- the newest frame
-pub newest_seen : {X : Type 0} (v : X → List ℤ) (items : List X) (older : List (List ℤ)) (frame : List ℤ) (newest : X) (last : ℕ)
-    → map v items ≡ older ++ frame ∷ [] → last ≡ length items - 1 → slice_get items last ≡ Some newest → v newest ≡ frame
-newest_seen v items older frame newest last seen is_last there =
-    let long = newest_place v items older frame seen in
-    let place : length older ≡ last = omega arith in
-    let inside : last < length (older ++ frame ∷ []) = omega (arith, length-append older (frame ∷ [])) in
+pub newest_seen : {X : Type 0} (v : X → List ℤ) (items : List X) (older : List (List ℤ)) (frame : List ℤ) (newest : X) (place : ℕ)
+    → map v items ≡ older ++ frame ∷ [] → place ≡ length older → slice_get items place ≡ Some newest → v newest ≡ frame
+newest_seen v items older frame newest place seen is_last there =
+    let inside : place < length (older ++ frame ∷ []) = omega (arith, length-append older (frame ∷ [])) in
     same_Some (v newest) frame (
     sym (ap (option_map v) there)
-    ∙ sym (slice_get-map v items last)
-    ∙ ap (λ (fs : List (List ℤ)). slice_get fs last) seen
-    ∙ slice_get-get_or (older ++ frame ∷ []) last frame inside
-    ∙ ap (λ (f : List ℤ). Some f) (get_or_at older frame [] frame last place)
+    ∙ sym (slice_get-map v items place)
+    ∙ ap (λ (fs : List (List ℤ)). slice_get fs place) seen
+    ∙ slice_get-get_or (older ++ frame ∷ []) place frame inside
+    ∙ ap (λ (f : List ℤ). Some f) (get_or_at older frame [] frame place (sym is_last))
     )
 
 -- and another in its place
-pub newest_turned : {X : Type 0} (v : X → List ℤ) (items : List X) (older : List (List ℤ)) (frame : List ℤ) (turned : X) (last : ℕ)
-    → map v items ≡ older ++ frame ∷ [] → last ≡ length items - 1 → map v (set items last turned) ≡ older ++ v turned ∷ []
-newest_turned v items older frame turned last seen is_last =
-    let long = newest_place v items older frame seen in
-    let place : length older ≡ last = omega arith in
-    map-set v items last turned
-    ∙ ap (λ (fs : List (List ℤ)). set fs last (v turned)) seen
-    ∙ set_at older frame [] (v turned) last place
+pub newest_turned : {X : Type 0} (v : X → List ℤ) (items : List X) (older : List (List ℤ)) (frame : List ℤ) (turned : X) (place : ℕ)
+    → map v items ≡ older ++ frame ∷ [] → place ≡ length older → map v (set items place turned) ≡ older ++ v turned ∷ []
+newest_turned v items older frame turned place seen is_last =
+    map-set v items place turned
+    ∙ ap (λ (fs : List (List ℤ)). set fs place (v turned)) seen
+    ∙ set_at older frame [] (v turned) place (sym is_last)
 
 -- a ring that lets its oldest frame go
 pub let_go : {X : Type 0} (v : X → List ℤ) (items left : List X) (ring came : List (List ℤ)) (kept gone : ℕ) → map v items ≡ ring

@@ -56,11 +56,12 @@ impl Ring {
         ensures holds { (came : List (List ℤ)) (gone : ℕ) → Holds came gone self.old
             → OnOk result (Holds (came ++ frame.now.items ∷ []) gone self.new) }
     {
+        let level = self.frames.len();
         match self.frames.try_push_back(ArrayVec::new()) {
             Ok(()) => {}
             Err(_) => return Err(Full),
         }
-        fill_newest(&mut self.frames, frame);
+        fill(&mut self.frames, level, frame);
         Ok(())
     }
 
@@ -92,7 +93,10 @@ impl Ring {
             → Holds came (gone + 1) self.new }
     {
         let level = self.frames.len();
-        self.frames.truncate_front(level.saturating_sub(1));
+        if level == 0 {
+            return;
+        }
+        self.frames.truncate_front(level - 1);
     }
 
     /// The number of frames that the ring holds.
@@ -112,14 +116,13 @@ impl Ring {
     }
 }
 
-// Gives the newest frame, which is empty, these samples.
-fn fill_newest(frames: &mut HeapCircularBuffer<Frame>, frame: &Frame)
-    ensures filled { (older : List (List ℤ)) → map (λ f. f.items) frames.old.items ≡ older ++ [] ∷ []
+// Gives the frame at a place, which is the newest and empty, these samples.
+fn fill(frames: &mut HeapCircularBuffer<Frame>, place: usize, frame: &Frame)
+    ensures filled { (older : List (List ℤ)) → map (λ f. f.items) frames.old.items ≡ older ++ [] ∷ [] → place ≡ length older
         → map (λ f. f.items) frames.new.items ≡ older ++ frame.now.items ∷ [] }
     ensures capacity { frames.new.capacity ≡ frames.old.capacity }
 {
-    let last = frames.len().saturating_sub(1);
-    if let Some(newest) = frames.get_mut(last) {
+    if let Some(newest) = frames.get_mut(place) {
         // A frame has room for the samples of a frame.
         let _ = newest.try_extend_from_slice(frame.as_slice());
     }
