@@ -1,7 +1,7 @@
 -- The oldest frame of a ring is the first that came and is not gone.
-use Rattle.std.proofs.Common.{◌≡◌, ℕ, zero, suc, ◌+◌, ◌-◌, ◌<◌, ◌≤◌, ℤ, List, [], ◌∷◌, ◌++◌, length, drop, map, set, slice_get, Option, Some, None, OnSome, option_copied, Bor, arith, ap, ◌∙◌, sym, refl}
+use Rattle.std.proofs.Common.{◌≡◌, ℕ, zero, suc, ◌+◌, ◌<◌, ◌≤◌, ℤ, List, [], ◌∷◌, ◌++◌, length, drop, map, set, slice_get, Option, Some, None, OnSome, option_copied, Bor, arith, ap, ◌∙◌, sym, refl}
 use Rattle.std.specs.Option.{option_map}
-use Rattle.std.proofs.lemmas.List.{drop-drop, drop-map, get_or_at, length-append, length-drop, length-map, map-set, set_at}
+use Rattle.std.proofs.lemmas.List.{get_or_at, length-append, length-drop, map-set, set_at}
 use Rattle.std.proofs.lemmas.Option.{same_Some, slice_get-get_or, slice_get-map, slice_get_past}
 use Rattle.uac_ring.specs.Rings.{Holds}
 
@@ -63,16 +63,3 @@ newest_turned v items older frame turned place seen is_last =
     map-set v items place turned
     ∙ ap (λ (fs : List (List ℤ)). set fs place (v turned)) seen
     ∙ set_at older frame [] (v turned) place (sym is_last)
-
--- a ring that lets its oldest frame go
-pub let_go : {X : Type 0} (v : X → List ℤ) (items left : List X) (ring came : List (List ℤ)) (kept gone : ℕ) → map v items ≡ ring
-    → kept ≡ length items - 1 → left ≡ drop (length items - kept) items → Holds came gone ring → gone < length came → Holds came (gone + 1) (map v left)
-let_go {X = X} v items left ring came kept gone seen is_kept others held further =
-    let level : length items ≡ length came - gone = sym (length-map items v) ∙ ap length (seen ∙ held.1) ∙ length-drop gone came in
-    let one : length items - kept ≡ 1 = omega arith in (
-      omega arith,
-      ap (λ (xs : List X). map v xs) (others ∙ ap (λ (n : ℕ). drop n items) one)
-          ∙ sym (drop-map v 1 items)
-          ∙ ap (drop 1) (seen ∙ held.1)
-          ∙ drop-drop 1 gone came,
-    )

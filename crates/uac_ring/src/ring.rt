@@ -92,11 +92,7 @@ impl Ring {
         ensures holds { (came : List (List ℤ)) (gone : ℕ) → Holds came gone self.old → gone < length came
             → Holds came (gone + 1) self.new }
     {
-        let level = self.frames.len();
-        if level == 0 {
-            return;
-        }
-        self.frames.truncate_front(level - 1);
+        let _oldest = self.take();
     }
 
     /// The number of frames that the ring holds.
