@@ -1,5 +1,5 @@
 -- What units are asked, from the table of their entities.
-use Rattle.std.proofs.Common.{◌≡◌, ◌≢◌, ◌∙◌, sym, ap, subst, arith, ℕ, ◌+◌, ◌<◌, ◌≤◌, false, Bool, if◌then◌else◌, not, ℤ, pos, List, [], ◌∷◌, ◌++◌, Some, None, length, get_or, map, set, sum, inl, inr, refl, unwrap_or, eqb, ◌/◌, ◌%◌}
+use Rattle.std.proofs.Common.{◌≡◌, ◌∙◌, sym, ap, subst, arith, ℕ, ◌+◌, ◌<◌, ◌≤◌, false, if◌then◌else◌, not, ℤ, pos, List, [], ◌∷◌, ◌++◌, Some, None, length, get_or, set, sum, inl, inr, refl, unwrap_or, eqb, ◌/◌, ◌%◌}
 use Rattle.std.specs.List.{All}
 use Rattle.std.specs.Ordering.{int_eq}
 use Rattle.std.specs.List.{range_with_len}
@@ -19,9 +19,6 @@ use Rattle.uac_units.specs.declared.jobs.UnitKind.TheVariants as unit
 use Rattle.uac_graph.specs.Controls.{Controls, control_value, feature_gain, pin_of, volume_gain}
 use Rattle.uac_graph.specs.Fitness.{FitsPins, IsSignalGraph}
 use Rattle.uac_graph.specs.Jobs.{AreFirstJobs, AreJobs, AreSameBut, HasJob, IsAskable, IsJob, gain_at, gain_count, pin_at, unit_of}
-use Rattle.uac_graph.specs.Meaning.{entity}
-use Rattle.uac_graph.proofs.Links.{entity_past, place_or_none}
-use Rattle.uac_graph.proofs.Lookups.{id_at}
 use Rattle.uac_graph.proofs.Rendered.{few_pins, range_same}
 
 -- ---- one job

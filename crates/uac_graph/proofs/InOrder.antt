@@ -15,7 +15,7 @@ use Rattle.uac_store.specs.Controls.{pins_of}
 use Rattle.uac_units.specs.Rendering.{in_a_row}
 use Rattle.uac_graph.specs.Controls.{Controls}
 use Rattle.uac_graph.specs.Fitness.{IsSignalGraph}
-use Rattle.uac_graph.specs.Jobs.{AreJobs, FitsFrames, HasJob}
+use Rattle.uac_graph.specs.Jobs.{FitsFrames, HasJob}
 use Rattle.uac_units.specs.declared.jobs.Job.{Job}
 use Rattle.uac_graph.specs.Meaning.{entity, frame_of, meaning, samples_by}
 use Rattle.uac_graph.specs.Needs.{depended}
@@ -208,11 +208,3 @@ fitting_at entities controls e old new fitting there set =
 -- the orders that the graph keeps are those of its entities
 pub order_for : (entities table : List Entity) (kept lent : List Order) → table ≡ entities → lent ≡ kept → AreOrders table kept → AreOrders entities lent
 order_for entities table kept lent same own orders = subst (λ (es : List Entity). AreOrders es lent) same (subst (AreOrders table) (sym own) orders)
-
--- the job at the next place is that of the entity there
-pub job_here : (entities : List Entity) (controls : Controls) (jobs : List Job) (job : Job) (i : ℕ) (places : List ℕ) → IsOrder entities places → AreJobs entities controls jobs
-    → i < length places → ((d : Job) → job ≡ get_or jobs (get_or places i 0) d)
-    → HasJob controls (at entities (get_or places i 0)) (sum (pins_of entities (at entities (get_or places i 0)))) job
-job_here entities controls jobs job i places order are below here =
-    let place = get_or places i 0 in
-    subst (HasJob controls (at entities place) (sum (pins_of entities (at entities place)))) (sym (here job)) (are.each place job (order.inside i 0 below))

@@ -17,3 +17,5 @@ pub mod Worked
 pub mod Apart
 pub mod Ordering
 pub mod Asking
+pub mod Copying
+pub mod CarriedOut

@@ -17,7 +17,7 @@ use Rattle.uac_topology_rules.proofs.TableSteps.{at_read}
 use Rattle.uac_graph.specs.Fitness.{IsSignalGraph}
 use Rattle.uac_graph.specs.Meaning.{entity}
 use Rattle.uac_graph.specs.Needs.{depended, is_end, reaches}
-use Rattle.uac_graph.specs.Orders.{AreOrders, IsOrder, IsOrderOf, holds}
+use Rattle.uac_graph.specs.Orders.{AreOrders, IsKept, IsOrder, IsOrderOf, holds}
 use Rattle.uac_graph.specs.declared.orders.Order.{Order}
 use Rattle.uac_graph.proofs.Apart.{apart_more}
 use Rattle.uac_graph.proofs.Lookups.{id_at}
@@ -213,17 +213,13 @@ passed_more slice orders i e below item here before =
     (subst (λ (f : Entity). is_output f.kind ≡ true → list_any (λ o. o.domain == f.clock) orders ≡ true) (at_read slice i e below item) here)
 
 -- no orders
-pub each_none : (entities : List Entity) (orders : List Order) → orders ≡ [] → All (λ o. IsOrderOf entities o.domain o.places.items) orders
-each_none entities orders none =
-    subst (All (λ (o : Order). IsOrderOf entities o.domain o.places.items)) (sym none) (All-nil (λ (o : Order). IsOrderOf entities o.domain o.places.items))
+pub each_none : (entities : List Entity) (orders : List Order) → orders ≡ [] → All (IsKept entities) orders
+each_none entities orders none = subst (All (IsKept entities)) (sym none) (All-nil (IsKept entities))
 
 -- with one order more
-pub each_more : (entities : List Entity) (old new : List Order) (o : Order) → new ≡ old ++ o ∷ []
-    → All (λ p. IsOrderOf entities p.domain p.places.items) old → IsOrderOf entities o.domain o.places.items
-    → All (λ p. IsOrderOf entities p.domain p.places.items) new
-each_more entities old new o pushed before here =
-    subst (All (λ (p : Order). IsOrderOf entities p.domain p.places.items)) (sym pushed)
-    (All-push (λ (p : Order). IsOrderOf entities p.domain p.places.items) old o before here)
+pub each_more : (entities : List Entity) (old new : List Order) (o : Order) → new ≡ old ++ o ∷ [] → All (IsKept entities) old → IsKept entities o
+    → All (IsKept entities) new
+each_more entities old new o pushed before here = subst (All (IsKept entities)) (sym pushed) (All-push (IsKept entities) old o before here)
 
 pub known_more : (slice : List Entity) (old new : List Order) (o : Order) (i : ℕ) → new ≡ old ++ o ∷ []
     → ((k : ℕ) → k < i → is_output (at slice k).kind ≡ true → list_any (λ p. p.domain == (at slice k).clock) old ≡ true)
@@ -240,7 +236,7 @@ known_last old new o domain pushed same =
 
 -- all entities
 pub orders_all : (entities slice : List Entity) (orders : List Order) (i : ℕ) → slice ≡ entities → length slice ≤ i
-    → All (λ o. IsOrderOf entities o.domain o.places.items) orders
+    → All (IsKept entities) orders
     → ((k : ℕ) → k < i → is_output (at slice k).kind ≡ true → list_any (λ o. o.domain == (at slice k).clock) orders ≡ true)
     → AreOrders entities orders
 unfolding depended at
@@ -264,13 +260,10 @@ orders_all entities slice orders i same past each passed = record {
         by_kind true true o s =
             absurd (let clash : true ≡ false = sym (known o) ∙ ap (λ (d : ℕ). list_any (λ p. p.domain == d) os) (eqb-true e.clock domain s) ∙ none in cc)
 
--- the order of a domain that has one
-pub order_at : (entities : List Entity) (orders : List Order) (i domain : ℕ) (o : Order) (places : List ℕ) → i < length orders → o ≡ get_or orders i o
-    → o.domain ≡ domain → places ≡ o.places.items → AreOrders entities orders → IsOrderOf entities domain places
-order_at entities orders i domain o places below item same own are =
-    subst (λ (d : ℕ). IsOrderOf entities d places) same
-    (subst (IsOrderOf entities o.domain) (sym own)
-    (subst (λ (p : Order). IsOrderOf entities p.domain p.places.items) (sym item) (are.each i o below)))
+-- the order at a place among those that are kept
+pub order_at : (entities : List Entity) (orders : List Order) (i : ℕ) (o : Order) → i < length orders → o ≡ get_or orders i o → AreOrders entities orders
+    → IsKept entities o
+order_at entities orders i o below item are = subst (IsKept entities) (sym item) (are.each i o below)
 
 -- the order of a domain that has none
 pub order_of_none : (entities : List Entity) (orders : List Order) (domain i : ℕ) (places : List ℕ) → length orders ≤ i → list_any (λ o. o.domain == domain) (take i orders) ≡ false

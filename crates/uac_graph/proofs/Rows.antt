@@ -1,45 +1,9 @@
 -- Frames in a row.
-use Rattle.std.proofs.Common.{
-  ◌≡◌,
-  ◌∙◌,
-  sym,
-  ap,
-  refl,
-  arith,
-  ℕ,
-  ◌+◌,
-  ◌<◌,
-  ◌≤◌,
-  ℤ,
-  List,
-  [],
-  ◌∷◌,
-  ◌++◌,
-  length,
-  get_or,
-  map,
-  take,
-  drop,
-  append_assoc,
-  sum,
-  Result,
-  Ok,
-  Err,
-  Option,
-  Some,
-  None,
-  Bool,
-  eqb,
-  if◌then◌else◌,
-  inl,
-  inr,
-  length-append,
-}
+use Rattle.std.proofs.Common.{◌≡◌, ◌∙◌, sym, ap, refl, arith, ℕ, ◌+◌, ◌<◌, ◌≤◌, ℤ, List, [], ◌∷◌, ◌++◌, length, get_or, map, take, drop, append_assoc, sum, Option, Some, None, Bool, eqb, if◌then◌else◌, inl, inr, length-append}
 use Rattle.std.specs.List.{sum_by}
 use Rattle.std.proofs.lemmas.List.{map_more, map-append}
 use Rattle.std.proofs.lemmas.List.{take-append-drop, append-nil}
 use Rattle.std.proofs.lemmas.List.Sums.{sum_by-cons, sum-map}
-use Rattle.std.specs.Result.{IsOk, OnOk}
 use Rattle.std.specs.Option.{option_map}
 use Rattle.std.proofs.lemmas.Bool.{cases_eq, eq-eqb, ne_eqb}
 use Rattle.std.proofs.lemmas.Option.{same_Some}

@@ -1,10 +1,14 @@
 -- Frames in a row, read by id.
-use Rattle.std.proofs.Common.{◌≡◌, ◌∙◌, sym, refl, ap, arith, ℕ, suc, zero, ◌+◌, ◌<◌, Bool, cond, eqb, if◌then◌else◌, ℤ, List, [], ◌∷◌, Option, Some, None, length, get_or, map, set, replicate, inl, inr}
+use Rattle.std.proofs.Common.{◌≡◌, ◌∙◌, sym, refl, ap, arith, ℕ, suc, zero, ◌+◌, ◌<◌, Bool, cond, eqb, if◌then◌else◌, ℤ, List, [], ◌∷◌, ◌++◌, Option, Some, None, length, length-append, get_or, map, set, replicate, inl, inr, unwrap_or}
 use Rattle.std.specs.Option.{option_map}
 use Rattle.std.proofs.lemmas.Bool.{cases_eq, eq-eqb, ne_eqb}
 use Rattle.std.proofs.lemmas.List.{get_or_default, get_or-set_same, get_or-set_other}
-use Rattle.uac_graph.specs.Rows.{frames_in, numbered}
-use Rattle.uac_graph.specs.Wiring.{frame_on}
+use Rattle.std.proofs.lemmas.List.{set-append_left, set-append_right}
+use Rattle.std.proofs.Math.ListN.{get_or-append}
+use Rattle.std.proofs.Math.Seq.{get_or-append_right}
+use Rattle.uac_graph.specs.Rows.{frames_in, numbered, passed}
+use Rattle.uac_graph.specs.Wiring.{frame_on, samples_on}
+use Rattle.uac_graph.proofs.Rows.{no_samples}
 
 -- a number before the first place
 numbered_before : (row : List (Option (List ℤ))) (n id : ℕ) → id < n → frame_on (numbered n row) id ≡ None
@@ -82,3 +86,53 @@ frames_none read n id = frame_seen read (replicate n None) id ∙ along n id
 pub stands_at : {X : Type 0} (row : List (Option X)) (id : ℕ) (o : Option X) (count : ℕ) → length row ≡ count → id < count → o ≡ get_or row id o
     → get_or row id None ≡ o
 stands_at row id o count sized below is = get_or_default row id None o (omega (arith, sized)) ∙ sym is
+
+-- a frame passed on to a later place, in the parts of a row, whatever stands in for what isn't there
+pub passed_back : {X : Type 0} (row front back : List (Option X)) (from to : ℕ) (c d place : Option X) → row ≡ front ++ back → length front ≡ to → from < to
+    → to < length row → place ≡ passed (get_or front from c) (get_or back 0 d)
+    → front ++ set back 0 place ≡ set row to (passed (get_or row from None) (get_or row to None))
+passed_back row front back from to c d place parts sized before inside is =
+    let own : get_or row from None ≡ get_or front from c =
+    ap (λ r. get_or r from None) parts ∙ get_or-append front back None from (omega (arith, sized, before)) ∙ get_or_default front from None c (omega (arith, sized, before)) in
+    let there : get_or row to None ≡ get_or back 0 d =
+    ap (λ r. get_or r to None) parts ∙ get_or-append_right front back to None (omega (arith, sized)) ∙ ap (λ n. get_or back n None) (omega (arith, sized))
+    ∙ get_or_default back 0 None d (omega (arith, sized, inside, ap length parts, length-append front back)) in
+    ap (λ (n : ℕ). front ++ set back n place) (omega arith)
+    ∙ sym (set-append_right front back to to place sized (omega arith))
+    ∙ ap (λ r. set r to place) (sym parts)
+    ∙ ap (set row to) (is ∙ ap (λ o. passed o (get_or back 0 d)) (sym own) ∙ ap (passed (get_or row from None)) (sym there))
+
+-- or to an earlier one
+pub passed_front : {X : Type 0} (row front back : List (Option X)) (from to : ℕ) (c d place : Option X) → row ≡ front ++ back → length front ≡ from → to < from
+    → from < length row → place ≡ passed (get_or back 0 c) (get_or front to d)
+    → set front to place ++ back ≡ set row to (passed (get_or row from None) (get_or row to None))
+passed_front row front back from to c d place parts sized before inside is =
+    let own : get_or row from None ≡ get_or back 0 c =
+    ap (λ r. get_or r from None) parts ∙ get_or-append_right front back from None (omega (arith, sized)) ∙ ap (λ n. get_or back n None) (omega (arith, sized))
+    ∙ get_or_default back 0 None c (omega (arith, sized, inside, ap length parts, length-append front back)) in
+    let there : get_or row to None ≡ get_or front to d =
+    ap (λ r. get_or r to None) parts ∙ get_or-append front back None to (omega (arith, sized, before)) ∙ get_or_default front to None d (omega (arith, sized, before)) in
+    sym (set-append_left front back to place (omega (arith, sized, before)))
+    ∙ ap (λ r. set r to place) (sym parts)
+    ∙ ap (set row to) (is ∙ ap (λ o. passed o (get_or front to d)) (sym own) ∙ ap (passed (get_or row from None)) (sym there))
+
+-- what is read where a frame was passed on
+pub passed_seen : {X : Type 0} (read : X → List ℤ) (row new : List (Option X)) (from to : ℕ) → to < length row
+    → new ≡ set row to (passed (get_or row from None) (get_or row to None))
+    → option_map length (frame_on (frames_in (map (option_map read) row)) to) ≡ Some (length (samples_on (frames_in (map (option_map read) row)) from))
+    → (k : ℕ) → frame_on (frames_in (map (option_map read) new)) k
+    ≡ (if eqb to k then Some (samples_on (frames_in (map (option_map read) row)) from) else frame_on (frames_in (map (option_map read) row)) k)
+passed_seen {X = X} read row new from to inside is there k =
+    let frames = frames_in (map (option_map read) row) in
+    place_written read row new to (passed (get_or row from None) (get_or row to None)) inside is k
+    ∙ ap (λ (o : Option (List ℤ)). if eqb to k then o else frame_on frames k)
+    (by (get_or row from None) (get_or row to None)
+    (ap (option_map length) (sym (frame_seen read row to)) ∙ there ∙ ap (λ o. Some (length (unwrap_or o []))) (frame_seen read row from))
+    ∙ ap (λ o. Some (unwrap_or o [])) (sym (frame_seen read row from)))
+  where
+    by : (source held : Option X) → option_map length (option_map read held) ≡ Some (length (unwrap_or (option_map read source) []))
+        → option_map read (passed source held) ≡ Some (unwrap_or (option_map read source) [])
+    by (Some frame) (Some held) e = refl
+    by (Some frame) None e = absurd (cc)
+    by None (Some held) e = no_samples (Some (read held)) 0 e refl
+    by None None e = absurd (cc)

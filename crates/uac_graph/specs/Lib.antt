@@ -9,4 +9,5 @@ pub mod Fitness
 -- What the contracts below them cite: steps of the code, no part of what is promised.
 pub mod Rows
 pub mod Jobs
+pub mod Tasks
 pub mod Orders

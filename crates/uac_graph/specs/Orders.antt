@@ -11,6 +11,7 @@ use Rattle.uac_graph.specs.Meaning.{frame_of}
 use Rattle.uac_graph.specs.Needs.{depended}
 use Rattle.uac_graph.specs.Wiring.{Frames, frame_on, samples_on}
 use Rattle.uac_graph.specs.declared.orders.Order.{Order}
+use Rattle.uac_graph.specs.Tasks.{task_of}
 
 -- the entity with an id stands at one of these places
 abbrev pub holds : List Entity → List ℕ → ℕ → Bool
@@ -29,9 +30,14 @@ pub record IsOrderOf (entities : List Entity) (domain : ℕ) (places : List ℕ)
   pub order : IsOrder entities places
   pub all : (id : ℕ) → holds entities places id ≡ depended entities domain id
 
+-- the order of its domain, and what is done at its places
+pub record IsKept (entities : List Entity) (order : Order) : Type 0 where
+  pub order_of : IsOrderOf entities order.domain order.places.items
+  pub tasks_of : order.tasks.items ≡ map (task_of entities) order.places.items
+
 -- an order for each domain that has an output terminal
 pub record AreOrders (entities : List Entity) (orders : List Order) : Type 0 where
-  pub each : All (λ o. IsOrderOf entities o.domain o.places.items) orders
+  pub each : All (IsKept entities) orders
   pub others : (domain : ℕ) → list_any (λ o. o.domain == domain) orders ≡ false → (id : ℕ) → depended entities domain id ≡ false
 
 -- the frame on a wire once the entity at a place was rendered, from those on the wires of its sources. An input terminal has its frame

@@ -11,3 +11,9 @@ numbered n (Some frame ∷ row) = (n, frame) ∷ numbered (suc n) row
 -- the same from 0 on
 abbrev pub frames_in : List (Option (List ℤ)) → Frames
 frames_in row = numbered 0 row
+
+-- what stands at a place that is to have another's frame: that frame, where there is one at both
+abbrev pub passed : {X : Type 0} → Option X → Option X → Option X
+passed (Some frame) (Some held) = Some frame
+passed (Some frame) None = None
+passed None place = place

@@ -1,14 +1,15 @@
 // Frames by the ids of their entities.
-ghost use Rattle.std.specs.Prelude.{◌≡◌, ◌==◌, ◌≤◌, ◌<◌, ◌+◌, ◌^◌, ℕ, if◌then◌else◌, Some, None, IfOk, List, length, map, replicate, pos};
+ghost use Rattle.std.specs.Prelude.{◌≡◌, ◌==◌, ◌≤◌, ◌<◌, ◌+◌, ◌^◌, ℕ, if◌then◌else◌, Some, None, IfOk, List, length, get_or, map, replicate, set, pos};
 ghost use Rattle.uac_entities.specs.declared.entity.Entity.{Entity};
 ghost use Rattle.std.specs.Option.{option_map};
 ghost use Rattle.uac_units.specs.Rendering.{FitsKind, rendered};
 ghost use Rattle.uac_graph.specs.Fitness.{IsSignalGraph};
-ghost use Rattle.uac_graph.specs.Rows.{frames_in};
-ghost use Rattle.uac_graph.specs.Wiring.{AreSilent, AreWiresOf, frame_on};
+ghost use Rattle.uac_graph.specs.Rows.{frames_in, passed};
+ghost use Rattle.uac_graph.specs.Wiring.{AreSilent, AreWiresOf, frame_on, samples_on};
 
 use crate::frames::silent;
-use arrayvec::ArrayVec;
+use crate::jobs::gather_one;
+use crate::samples::{hush, refill};
 use std::alloc::Global;
 use std::marker::Model;
 use uac_descriptor::NoMemory;
@@ -99,6 +100,37 @@ impl FrameTable {
         }
     }
 
+    /// Renders a job over the frame of a source onto that of an entity, once, with this unit. In `pins` lie its inputs.
+    pub(crate) fn render_over(
+        &mut self,
+        id: u8,
+        source: u8,
+        unit: &dyn Unit,
+        job: &Job,
+        pins: &mut Pins,
+        steps: &mut Steps,
+    )
+        requires few { length (samples_on self.old source) ≤ 256 }
+        requires fits { FitsKind (kind_of unit.now) job.now (samples_on self.old source) }
+        requires there { option_map length (frame_on self.old id) ≡ Some job.now.outputs }
+        requires room { steps.old + 1 < 2 ^ 64 }
+        ensures frames { (k : ℕ) → frame_on self.new k ≡ (if id == k
+            then Some (rendered (kind_of unit.now) job.now (samples_on self.old source))
+            else frame_on self.old k) }
+        ensures counted { steps.new ≡ steps.old + 1 }
+    {
+        gather_one(pins, self, source);
+        self.render(id, unit, job, pins, steps);
+    }
+
+    /// Puts a copy of a source's frame in the place of another.
+    pub(crate) fn pass(&mut self, from: u8, to: u8)
+        requires { option_map length (frame_on self.old to) ≡ Some (length (samples_on self.old from)) }
+        ensures { (k : ℕ) → frame_on self.new k ≡ (if to == k then Some (samples_on self.old from) else frame_on self.old k) }
+    {
+        pass_in(self.row.as_mut_slice(), from as usize, to as usize);
+    }
+
     /// Puts these samples onto the frame of an entity.
     pub(crate) fn pass_on(&mut self, id: u8, samples: &Pins)
         requires few { length samples.now.items ≤ 32 }
@@ -111,24 +143,30 @@ impl FrameTable {
     }
 }
 
-/// Makes a list of samples these. Where it has as many they are written over them.
-pub(crate) fn refill<const MOST: usize>(list: &mut ArrayVec<i32, MOST>, samples: &[i32])
-    requires { length samples.now ≤ MOST }
-    ensures { list.new.items ≡ samples.now }
+// Makes the frame at one place of a row that at another, where there is one at both.
+fn pass_in(row: &mut [Option<Frame>], from: usize, to: usize)
+    requires from { from < length row.old }
+    requires to { to < length row.old }
+    ensures { row.new ≡ set row.old to (passed (get_or row.old from None) (get_or row.old to None)) }
 {
-    if list.len() == samples.len() {
-        list.as_mut_slice().copy_from_slice(samples);
-    } else {
-        list.clear();
-        let _ = list.try_extend_from_slice(samples);
+    if from < to {
+        let (front, back) = row.split_at_mut(to);
+        pass_frame(&front[from], &mut back[0]);
+    } else if to < from {
+        let (front, back) = row.split_at_mut(from);
+        pass_frame(&back[0], &mut front[to]);
     }
 }
 
-// Makes all samples of a frame zero.
-fn hush(frame: &mut Frame)
-    ensures { frame.new.items ≡ replicate (length frame.old.items) (pos 0) }
+// Makes a frame another, where both are there.
+fn pass_frame(source: &Option<Frame>, place: &mut Option<Frame>)
+    ensures { place.new ≡ passed source.now place.old }
 {
-    frame.as_mut_slice().fill(0);
+    if let Some(frame) = source {
+        if let Some(held) = place {
+            refill(held, frame.as_slice());
+        }
+    }
 }
 
 // Silence for each of these entities that isn't a clock.

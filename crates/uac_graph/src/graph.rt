@@ -5,15 +5,18 @@ ghost use Rattle.uac_topology_rules.specs.Table.{at};
 ghost use Rattle.uac_units.specs.Fitting.{IsFitted};
 ghost use Rattle.uac_store.specs.Controls.{pins_of};
 ghost use Rattle.uac_graph.specs.Controls.{Controls, held_in};
+ghost use Rattle.uac_graph.specs.Fitness.{IsSignalGraph};
 ghost use Rattle.uac_graph.specs.Jobs.{AreJobs, AreSameBut, HasJob};
 ghost use Rattle.uac_graph.specs.Needs.{depended, needed, unit_count};
-ghost use Rattle.uac_graph.specs.Orders.{frame_after};
+ghost use Rattle.uac_graph.specs.Orders.{IsKept, frame_after};
+ghost use Rattle.uac_graph.specs.Tasks.{work_of};
 ghost use Rattle.uac_graph.specs.Wiring.{AreRendered, AreWiresOf, frame_on, samples_on};
 
 use crate::copies::copies_of;
 use crate::job_table::Jobs;
 use crate::jobs::{ask, no_job};
-use crate::orders::{Order, orders_of, places_for};
+use crate::orders::{Order, order_for, orders_of, places_for};
+use crate::tasks::{Task, Work};
 use crate::wires::Wires;
 use std::alloc::Global;
 use std::marker::Model;
@@ -131,8 +134,52 @@ impl Graph {
         ensures fitting { AreWiresOf self.now wires.new }
         ensures once { steps.new ≡ steps.old + length (needed self.now domain) }
     {
-        for place in places_for(&self.orders, domain) {
-            self.render_by(*place, jobs.at(*place), rack, wires, steps);
+        match order_for(&self.orders, domain) {
+            Some(order) => self.follow(order, jobs, rack, wires, steps),
+            None => {}
+        }
+    }
+
+    // Does what is done at the places of an order, one after the other.
+    fn follow(&self, order: &Order, jobs: &Jobs, rack: &Rack, wires: &mut Wires, steps: &mut Steps)
+        requires rack { IsFitted (λ v x. (⟦<dyn Unit as Unit>⟧ v).kind_of x) rack.now }
+        requires sound { IsSignalGraph self.now }
+        requires order { IsKept self.now order.now }
+        requires jobs { (controls : Controls) × AreJobs self.now controls jobs.now }
+        requires wires { AreWiresOf self.now wires.old }
+        requires room { steps.old + length (needed self.now order.now.domain) < 2 ^ 64 }
+        ensures rendered { (controls : Controls) → AreJobs self.now controls jobs.now
+            → AreRendered self.now controls (samples_on wires.old) (depended self.now order.now.domain) wires.old wires.new }
+        ensures fitting { AreWiresOf self.now wires.new }
+        ensures once { steps.new ≡ steps.old + length (needed self.now order.now.domain) }
+    {
+        for at in 0..order.tasks.len() {
+            self.carry_out(&order.tasks[at], jobs, rack, wires, steps);
+        }
+    }
+
+    // Does what is done at one place, where the sources of its entity are rendered.
+    fn carry_out(&self, task: &Task, jobs: &Jobs, rack: &Rack, wires: &mut Wires, steps: &mut Steps)
+        requires rack { IsFitted (λ v x. (⟦<dyn Unit as Unit>⟧ v).kind_of x) rack.now }
+        requires sound { IsSignalGraph self.now }
+        requires task { task.now.work ≡ work_of (at self.now task.now.place) }
+        requires inside { task.now.place < length self.now }
+        requires signal { is_clock (at self.now task.now.place).kind ≡ false }
+        requires jobs { (controls : Controls) × AreJobs self.now controls jobs.now }
+        requires wires { AreWiresOf self.now wires.old }
+        requires room { steps.old + unit_count (at self.now task.now.place).kind < 2 ^ 64 }
+        ensures rendered { (controls : Controls) → AreJobs self.now controls jobs.now
+            → (id : ℕ) → frame_on wires.new id ≡ frame_after self.now controls task.now.place wires.old id }
+        ensures fitting { AreWiresOf self.now wires.new }
+        ensures counted { steps.new ≡ steps.old + unit_count (at self.now task.now.place).kind }
+    {
+        match task.work {
+            Work::Nothing => {}
+            Work::Pass { from, to } => wires.pass(from, to),
+            Work::Render { kind, source, id } => {
+                wires.render_one(id, source, rack.unit(kind), jobs.at(task.place), steps);
+            }
+            Work::Ask => self.render_by(task.place, jobs.at(task.place), rack, wires, steps),
         }
     }
 

@@ -14,7 +14,8 @@ ghost use Rattle.uac_graph.specs.Needs as needs;
 ghost use Rattle.uac_graph.specs.Wiring.{samples_on};
 
 use crate::controls::{chosen_pin, feature_gain, node_gain};
-use crate::frame_table::{FrameTable, refill};
+use crate::frame_table::FrameTable;
+use crate::samples::{refill, write_over};
 use arrayvec::ArrayVec;
 use uac_entities::{Entity, EntityKind};
 use uac_store::Store;
@@ -191,8 +192,8 @@ pub(crate) fn gather(pins: &mut Pins, frames: &FrameTable, sources: &[u8])
     }
 }
 
-// Makes `pins` the channels of an entity's frame.
-fn gather_one(pins: &mut Pins, frames: &FrameTable, source: u8)
+/// Makes `pins` the channels of an entity's frame.
+pub(crate) fn gather_one(pins: &mut Pins, frames: &FrameTable, source: u8)
     requires { length (samples_on frames.now source) ≤ 256 }
     ensures { pins.new.items ≡ samples_on frames.now source }
 {
@@ -226,7 +227,7 @@ fn write(pins: &mut Pins, from: usize, samples: &[i32]) -> usize
 {
     let end = from + samples.len();
     if end <= pins.len() {
-        pins.as_mut_slice()[from..end].copy_from_slice(samples);
+        write_over(&mut pins.as_mut_slice()[from..end], samples);
     } else {
         pins.truncate(from);
         let _ = pins.try_extend_from_slice(samples);

@@ -18,6 +18,10 @@ mod jobs;
 pub mod laws;
 /// The order in which a domain's entities are rendered.
 mod orders;
+/// Samples written over others.
+mod samples;
+/// What is done at the places of an order.
+mod tasks;
 /// The output terminals of a clock domain.
 mod terminals;
 /// The frames on the wires.

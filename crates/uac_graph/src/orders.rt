@@ -1,5 +1,5 @@
 // The order in which a clock domain's entities are rendered: each after its sources.
-ghost use Rattle.std.specs.Prelude.{◌≡◌, ◌==◌, ◌||◌, ℕ, List, false, IfOk, OnOk};
+ghost use Rattle.std.specs.Prelude.{◌≡◌, ◌==◌, ◌||◌, ℕ, List, [], false, IfOk, IfSome, IfNone, OnOk};
 ghost use Rattle.std.specs.List.{list_any};
 ghost use Rattle.uac_walk.specs.Walk.{has_walk};
 ghost use Rattle.uac_entities.specs.declared.entity.Entity.{Entity};
@@ -8,18 +8,20 @@ ghost use Rattle.uac_topology_rules.specs.Table.{place_of};
 ghost use Rattle.uac_graph.specs.Fitness.{IsSignalGraph};
 ghost use Rattle.uac_graph.specs.Meaning.{entity};
 ghost use Rattle.uac_graph.specs.Needs.{reaches};
-ghost use Rattle.uac_graph.specs.Orders.{AreOrders, IsOrder, IsOrderOf, holds};
+ghost use Rattle.uac_graph.specs.Orders.{AreOrders, IsKept, IsOrder, IsOrderOf, holds};
 
+use crate::tasks::{Task, tasks_of};
 use crate::terminals::is_end;
 use std::alloc::Global;
 use uac_descriptor::NoMemory;
 use uac_topology_rules::{EntityTable, is_output};
 
-/// The places of the entities on which the output terminals of a clock domain depend, and of these terminals.
+/// The places of the entities on which the output terminals of a clock domain depend, and of these terminals, and what is done there.
 #[derive(Drop)]
 pub(crate) struct Order {
     pub domain: u8,
     pub places: Vec<usize>,
+    pub tasks: Vec<Task>,
 }
 
 /// An order for each domain that has an output terminal.
@@ -32,10 +34,7 @@ pub(crate) fn orders_of(alloc: Global, table: &EntityTable) -> Result<Vec<Order>
         if !is_output(entity.kind) || has_order(&orders, entity.clock) {
             continue;
         }
-        let order = Order {
-            domain: entity.clock,
-            places: order_of(alloc, table, entity.clock)?,
-        };
+        let order = kept_order(alloc, table, entity.clock)?;
         match orders.push(order) {
             Ok(()) => {}
             Err(_) => return Err(NoMemory),
@@ -49,6 +48,20 @@ fn has_order(orders: &[Order], domain: u8) -> bool
     ensures { result ≡ list_any (λ o. o.domain == domain) orders.now }
 {
     orders.iter().any(|order| order.domain == domain)
+}
+
+// The order for a domain, and what is done at its places.
+fn kept_order(alloc: Global, table: &EntityTable, domain: u8) -> Result<Order, NoMemory>
+    requires { IsSignalGraph table.now }
+    ensures { IfOk result (λ order. (order.domain ≡ domain) × IsKept table.now order) }
+{
+    let places = order_of(alloc, table, domain)?;
+    let tasks = tasks_of(alloc, table, &places)?;
+    Ok(Order {
+        domain,
+        places,
+        tasks,
+    })
 }
 
 // The order for a domain.
@@ -89,14 +102,26 @@ fn visit(table: &EntityTable, id: u8, links: usize, places: &mut Vec<usize>) -> 
     }
 }
 
-/// The order of a domain, empty where it has no output terminal.
+/// The places of a domain's order, none where it has no output terminal.
 pub(crate) fn places_for(orders: &[Order], domain: u8) -> &[usize]
     ensures { (entities : List Entity) → AreOrders entities orders.now → IsOrderOf entities domain result.now }
 {
+    match order_for(orders, domain) {
+        Some(order) => order.places.as_slice(),
+        None => &[],
+    }
+}
+
+/// The order of a domain, None where it has no output terminal.
+pub(crate) fn order_for(orders: &[Order], domain: u8) -> Option<&Order>
+    ensures found { (entities : List Entity) → AreOrders entities orders.now
+        → IfSome result (λ order. (order.now.domain ≡ domain) × IsKept entities order.now) }
+    ensures none { (entities : List Entity) → AreOrders entities orders.now → IfNone result (IsOrderOf entities domain []) }
+{
     for order in orders {
         if order.domain == domain {
-            return order.places.as_slice();
+            return Some(order);
         }
     }
-    &[]
+    None
 }

@@ -1,9 +1,9 @@
 // The frames on the wires of a signal graph.
-ghost use Rattle.std.specs.Prelude.{◌≡◌, ◌==◌, ◌+◌, ◌<◌, ◌^◌, ℕ, if◌then◌else◌, Some, IfOk, List, length, map, replicate, pos};
+ghost use Rattle.std.specs.Prelude.{◌≡◌, ◌==◌, ◌+◌, ◌<◌, ◌≤◌, ◌^◌, ℕ, if◌then◌else◌, Some, IfOk, List, length, map, replicate, pos};
 ghost use Rattle.uac_entities.specs.declared.entity.Entity.{Entity};
 ghost use Rattle.std.specs.Option.{option_map};
 ghost use Rattle.uac_units.specs.Fitting.{IsFitted};
-ghost use Rattle.uac_units.specs.Rendering.{in_a_row};
+ghost use Rattle.uac_units.specs.Rendering.{FitsKind, in_a_row, rendered};
 ghost use Rattle.uac_graph.specs.Controls.{Controls};
 ghost use Rattle.uac_graph.specs.Jobs.{FitsFrames, HasJob};
 ghost use Rattle.uac_graph.specs.Meaning as spec;
@@ -23,11 +23,12 @@ use uac_topology::laws::functions_are_sound;
 use uac_units::{Job, Pins, Rack, Steps, Unit};
 
 /// A frame for each terminal and each unit of an audio function, by the entity's id. Beside them lie the inputs of the entity that was
-/// rendered last, so that no room is made for them anew.
+/// rendered last, so that no room is made for them anew. Those of a unit of one channel lie apart, so that the others keep their length.
 #[derive(Drop)]
 pub struct Wires {
     frames: FrameTable,
     pins: Pins,
+    only_pin: Pins,
 }
 
 impl Model for Wires {
@@ -50,6 +51,7 @@ impl Wires {
         Ok(Wires {
             frames,
             pins: ArrayVec::new(),
+            only_pin: ArrayVec::new(),
         })
     }
 
@@ -77,6 +79,41 @@ impl Wires {
         ensures { option_map (λ frame. frame.now.items) result ≡ frame_on self.now entity }
     {
         self.frames.get(entity)
+    }
+
+    /// Puts the frame of a source on the wire of an output terminal.
+    pub(crate) fn pass(&mut self, from: u8, to: u8)
+        requires { option_map length (frame_on self.old to) ≡ Some (length (samples_on self.old from)) }
+        ensures { (id : ℕ) → frame_on self.new id ≡ (if to == id then Some (samples_on self.old from) else frame_on self.old id) }
+    {
+        self.frames.pass(from, to);
+    }
+
+    /// Renders a unit of one source: the wire of its id gets what the unit makes of the source's frame.
+    pub(crate) fn render_one(
+        &mut self,
+        id: u8,
+        source: u8,
+        unit: &dyn Unit,
+        job: &Job,
+        steps: &mut Steps,
+    )
+        requires few { length (samples_on self.old source) ≤ 256 }
+        requires fits { FitsKind (kind_of unit.now) job.now (samples_on self.old source) }
+        requires there { option_map length (frame_on self.old id) ≡ Some job.now.outputs }
+        requires room { steps.old + 1 < 2 ^ 64 }
+        ensures frames { (k : ℕ) → frame_on self.new k ≡ (if id == k
+            then Some (rendered (kind_of unit.now) job.now (samples_on self.old source))
+            else frame_on self.old k) }
+        ensures counted { steps.new ≡ steps.old + 1 }
+    {
+        if job.outputs == 1 {
+            self.frames
+                .render_over(id, source, unit, job, &mut self.only_pin, steps);
+        } else {
+            self.frames
+                .render_over(id, source, unit, job, &mut self.pins, steps);
+        }
     }
 
     /// Renders an entity: its wire gets the frame that it makes of those on the wires of its sources, under the controls of which this

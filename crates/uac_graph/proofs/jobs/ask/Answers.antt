@@ -1,4 +1,4 @@
-use Rattle.std.proofs.Common.{◌≡◌, ◌∙◌, ap, sym, subst, arith, ◌≤◌, ℕ}
+use Rattle.std.proofs.Common.{sym, subst, arith, ◌≤◌, ℕ}
 use Rattle.uac_graph.specs.Jobs.{gain_count}
 use Rattle.uac_graph.proofs.Asking.{gains_few, inputs_few, is_asked, sources_few}
 use Rattle.uac_graph.proofs.jobs.ask.Goals as goal

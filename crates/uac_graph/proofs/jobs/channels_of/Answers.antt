@@ -1,6 +1,6 @@
 use Rattle.std.proofs.Common.{◌∙◌, ap, sym, arith, length, inl, inr}
 use Rattle.uac_entities.specs.declared.entity.Entity.{Entity}
-use Rattle.uac_topology_rules.specs.Table.{at, place_of}
+use Rattle.uac_topology_rules.specs.Table.{at}
 use Rattle.uac_graph.specs.Meaning.{entity}
 use Rattle.uac_graph.proofs.Links.{entity_past, place_or_none}
 use Rattle.uac_graph.proofs.jobs.channels_of.Goals as goal

@@ -1,4 +1,4 @@
-use Rattle.std.proofs.Common.{◌≡◌, ◌∙◌, ap, sym, arith, get_or, sum, sum_by, map, take_all, take, ℕ, List}
+use Rattle.std.proofs.Common.{◌∙◌, ap, sym, arith, get_or, sum_by, take_all}
 use Rattle.std.proofs.lemmas.List.Sums.{sum-map, sum_by_more}
 use Rattle.uac_store.specs.Controls.{channels_of, pins_of}
 use Rattle.uac_store.proofs.Starting.{inputs_within}

@@ -1,4 +1,4 @@
-use Rattle.std.proofs.Common.{◌≡◌, ◌==◌, ◌∙◌, sym, refl, subst, arith, List, true, false}
+use Rattle.std.proofs.Common.{◌≡◌, ◌==◌, ◌∙◌, sym, subst, arith, List, true, false}
 use Rattle.std.specs.List.{list_any}
 use Rattle.uac_graph.specs.declared.orders.Order.{Order}
 use Rattle.uac_graph.proofs.Ordering.{each_more, each_none, known_last, known_more, orders_all, passed_more}
@@ -32,12 +32,12 @@ loop-entity-preserved c =
     let old = c.loop-entity.orders.items in
     let new = c.push.new.self.items in
     let i = c.loop-entity.entity-index in
-    let o : Order = record { domain = c.entity-item.result.clock; places = c.in_ok-order_of.field-0 } in
+    let o : Order = c.in_ok-order.order in
     record {
-      each = each_more c.args.table.now old new o c.in-Ok.ensures.items c.loop-entity.invariant.each c.in_ok-order_of.ensures;
+      each = each_more c.args.table.now old new o c.in-Ok.ensures.items c.loop-entity.invariant.each c.in_ok-order.ensures.1;
       passed =
           passed_more slice new i c.entity-item.result c.loop-entity-test.true c.entity-item.is
-          (λ output. known_last old new o c.entity-item.result.clock c.in-Ok.ensures.items refl)
+          (λ output. known_last old new o c.entity-item.result.clock c.in-Ok.ensures.items c.in_ok-order.ensures.0)
           (known_more slice old new o i c.in-Ok.ensures.items c.loop-entity.invariant.passed);
     }
 

@@ -1,21 +1,9 @@
-use Rattle.std.proofs.Common.{refl, []}
-use Rattle.std.proofs.lemmas.Bool.{ne_eqb}
-use Rattle.uac_graph.proofs.Ordering.{none_more, order_at, order_of_none}
+use Rattle.std.proofs.Common.{subst, sym, ℕ}
+use Rattle.uac_graph.specs.Orders.{IsOrderOf}
 use Rattle.uac_graph.proofs.orders.places_for.Goals as goal
 
-pub loop-order-init : goal.loop-order-init
-loop-order-init c = refl
-
-pub returns-then-order-domain : goal.returns-then-order-domain
-returns-then-order-domain c entities are =
-    order_at entities c.args.orders.now c.loop-order.order-index c.args.domain c.order-item.result c.as_slice.result.now c.loop-order-test.true c.order-item.is
-    c.if-order-domain.true c.as_slice.ensures.value are
-
-pub loop-order-preserved : goal.loop-order-preserved
-loop-order-preserved c =
-    none_more c.args.orders.now c.args.domain c.loop-order.order-index c.order-item.result c.loop-order-test.true c.order-item.is
-    (ne_eqb c.order-item.result.domain c.args.domain c.if-order-domain.false) c.loop-order.invariant
-
-pub returns : goal.returns
-returns c entities are =
-    order_of_none entities c.args.orders.now c.args.domain c.loop-order.order-index [] c.loop-order-test.false c.loop-order.invariant refl are
+pub returns-in-Some : goal.returns-in-Some
+returns-in-Some c entities are =
+    let found = c.in-Some.ensures.found entities are in
+    subst (IsOrderOf entities c.args.domain) (sym c.as_slice.ensures.value)
+    (subst (λ (d : ℕ). IsOrderOf entities d c.in-Some.order.now.places.items) found.0 found.1.order_of)

@@ -1,4 +1,4 @@
-use Rattle.std.proofs.Common.{◌∙◌, sym, ap, length, None}
+use Rattle.std.proofs.Common.{◌∙◌, sym, ap}
 use Rattle.std.specs.Option.{option_map}
 use Rattle.uac_graph.specs.Wiring.{Frames, frame_on}
 use Rattle.uac_graph.proofs.RowsById.{frame_seen, stands_at}

@@ -1,4 +1,4 @@
-use Rattle.std.proofs.Common.{◌≡◌, ◌∙◌, sym, ap, eqb, Some, None, if◌then◌else◌, arith, length, ℤ, List, refl}
+use Rattle.std.proofs.Common.{◌∙◌, ap, eqb, Some, if◌then◌else◌, arith, length, ℤ, List, refl}
 use Rattle.std.specs.Option.{option_map}
 use Rattle.uac_graph.specs.Wiring.{Frames, frame_on}
 use Rattle.uac_graph.specs.contracts.frame_table.FrameTable.{the_view}

@@ -19,7 +19,7 @@ returns-clause-wires c k =
     elim c.match-index_mut.branch [
       | in-Some w ↦
           ap (λ i. frame_on (the_view i) k) w.self-inside-is
-          ∙ frame_written (λ f. f.items) row _ id w.hush.new.frame (omega (arith, c.self.invariant, c.ranges.id.fits)) refl k
+          ∙ frame_written (λ f. f.items) row _ id w.hush.new.list (omega (arith, c.self.invariant, c.ranges.id.fits)) refl k
           ∙ ap (λ (samples : List ℤ). if eqb id k then Some samples else frame_on (the_view c.self.inside) k) w.hush.ensures
           ∙ ap (λ (wire : Option (List ℤ)). if eqb id k then option_map hushed wire else frame_on (the_view c.self.inside) k)
           (sym (own ∙ ap (option_map (λ f. f.items)) w.in-Some.is))

@@ -1,12 +1,7 @@
-use Rattle.std.proofs.Common.{◌≡◌, ◌∙◌, ap, sym, subst, List, ◌<◌, length, sum, map}
+use Rattle.std.proofs.Common.{◌∙◌, ap, sym, subst, List, ◌<◌, length}
 use Rattle.uac_entities.specs.declared.entity.Entity.{Entity}
 use Rattle.uac_topology_rules.specs.Table.{at}
-use Rattle.uac_store.specs.Controls.{pins_of}
-use Rattle.uac_units.specs.Rendering.{in_a_row}
-use Rattle.uac_graph.specs.Controls.{Controls}
 use Rattle.uac_graph.specs.Fitness.{IsSignalGraph}
-use Rattle.uac_graph.specs.Jobs.{HasJob}
-use Rattle.uac_graph.specs.Wiring.{samples_on}
 use Rattle.uac_graph.proofs.InOrder.{fits_at, fitting_at, job_at, kept_at, rendered_at, wire_at}
 use Rattle.uac_graph.proofs.graph.Graph.render_by.Goals as goal
 

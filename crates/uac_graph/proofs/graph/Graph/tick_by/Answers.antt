@@ -1,90 +1,41 @@
-use Rattle.std.proofs.Common.{◌+◌, ap, arith, subst, ℕ}
-use Rattle.uac_graph.specs.Jobs.{HasJob}
+use Rattle.std.proofs.Common.{◌∙◌, ◌+◌, [], ap, arith, subst, length, ℕ}
 use Rattle.uac_graph.specs.Fitness.{IsSignalGraph}
-use Rattle.uac_graph.specs.Wiring.{samples_on}
-use Rattle.uac_graph.proofs.InOrder.{all_rendered, none_rendered, job_here, order_for, step_rendered}
-use Rattle.uac_graph.proofs.NeedsLemmas.{all_units, units_end, units_next}
-use Rattle.uac_graph.proofs.Ticking.{given_held}
+use Rattle.uac_graph.specs.Needs.{depended, needed}
+use Rattle.uac_graph.specs.Wiring.{AreRendered, samples_on}
+use Rattle.uac_graph.proofs.InOrder.{all_rendered, none_rendered, order_for}
+use Rattle.uac_graph.proofs.NeedsLemmas.{all_units}
 use Rattle.uac_graph.proofs.graph.Graph.tick_by.Goals as goal
 
-pub loop-place-init : goal.loop-place-init
-loop-place-init g c =
-    let order = c.places_for-place-items.ensures c.args.self.now (order_for c.args.self.now c.self.inside.table c.self.inside.orders.items c.deref.result.now c.self.view_is c.deref.ensures.value c.self.invariant.1) in
-    record {
-      rendered = λ controls are. none_rendered c.args.self.now controls (samples_on c.args.wires.now) c.places_for-place-items.result.now c.args.wires.now;
-      fitting = c.requires.wires;
-      counted =
-          ap (λ (n : ℕ). c.args.steps.now + n)
-          (all_units c.args.self.now c.args.domain c.places_for-place-items.result.now (subst IsSignalGraph c.self.view_is c.self.invariant.0) order);
-    }
+pub follow-requires-clause-order : goal.follow-requires-clause-order
+follow-requires-clause-order g c =
+    (c.in-Some.ensures.found c.args.self.now (order_for c.args.self.now c.self.inside.table c.self.inside.orders.items c.deref.result.now c.self.view_is c.deref.ensures.value c.self.invariant.1)).1
 
-pub render_by-requires-clause-inside : goal.render_by-requires-clause-inside
-render_by-requires-clause-inside g c =
-    let order = c.places_for-place-items.ensures c.args.self.now (order_for c.args.self.now c.self.inside.table c.self.inside.orders.items c.deref.result.now c.self.view_is c.deref.ensures.value c.self.invariant.1) in
-    order.order.inside c.loop-place.place-index 0 c.loop-place-test.true
+pub follow-requires-clause-room : goal.follow-requires-clause-room
+follow-requires-clause-room g c =
+    let found = c.in-Some.ensures.found c.args.self.now (order_for c.args.self.now c.self.inside.table c.self.inside.orders.items c.deref.result.now c.self.view_is c.deref.ensures.value c.self.invariant.1) in
+    omega (arith, c.requires.room, ap (λ (d : ℕ). length (needed c.args.self.now d)) found.0)
 
-pub render_by-requires-clause-signal : goal.render_by-requires-clause-signal
-render_by-requires-clause-signal g c =
-    let order = c.places_for-place-items.ensures c.args.self.now (order_for c.args.self.now c.self.inside.table c.self.inside.orders.items c.deref.result.now c.self.view_is c.deref.ensures.value c.self.invariant.1) in
-    order.order.signal c.loop-place.place-index 0 c.loop-place-test.true
+pub returns-in-Some-clause-rendered : goal.returns-in-Some-clause-rendered
+returns-in-Some-clause-rendered g c controls are =
+    let found = c.in-Some.ensures.found c.args.self.now (order_for c.args.self.now c.self.inside.table c.self.inside.orders.items c.deref.result.now c.self.view_is c.deref.ensures.value c.self.invariant.1) in
+    subst (λ (d : ℕ). AreRendered c.args.self.now controls (samples_on c.args.wires.now) (depended c.args.self.now d) c.args.wires.now c.follow.new.wires) found.0
+    (c.follow.ensures.rendered controls are)
 
-pub render_by-requires-clause-wires : goal.render_by-requires-clause-wires
-render_by-requires-clause-wires g c = c.loop-place.invariant.fitting
+pub returns-in-Some-clause-once : goal.returns-in-Some-clause-once
+returns-in-Some-clause-once g c =
+    let found = c.in-Some.ensures.found c.args.self.now (order_for c.args.self.now c.self.inside.table c.self.inside.orders.items c.deref.result.now c.self.view_is c.deref.ensures.value c.self.invariant.1) in
+    c.follow.ensures.once ∙ ap (λ (d : ℕ). c.args.steps.now + length (needed c.args.self.now d)) found.0
 
-pub render_by-requires-clause-room : goal.render_by-requires-clause-room
-render_by-requires-clause-room g c =
-    omega (
-      arith,
-      c.requires.room,
-      c.loop-place.invariant.counted,
-      units_next c.args.self.now c.places_for-place-items.result.now c.loop-place.place-index c.loop-place-test.true,
-    )
+pub returns-in-None-clause-rendered : goal.returns-in-None-clause-rendered
+returns-in-None-clause-rendered g c controls are =
+    let none = c.in-None.ensures.none c.args.self.now (order_for c.args.self.now c.self.inside.table c.self.inside.orders.items c.deref.result.now c.self.view_is c.deref.ensures.value c.self.invariant.1) in
+    all_rendered c.args.self.now controls (samples_on c.args.wires.now) c.args.domain 0 [] c.args.wires.now c.args.wires.now none (omega arith)
+    (none_rendered c.args.self.now controls (samples_on c.args.wires.now) [] c.args.wires.now)
 
-pub loop-place-preserved : goal.loop-place-preserved
-loop-place-preserved g c =
-    let order = c.places_for-place-items.ensures c.args.self.now (order_for c.args.self.now c.self.inside.table c.self.inside.orders.items c.deref.result.now c.self.view_is c.deref.ensures.value c.self.invariant.1) in
-    record {
-      rendered = λ controls are.
-          step_rendered c.args.self.now controls (samples_on c.args.wires.now) c.places_for-place-items.result.now c.loop-place.place-index
-          c.args.wires.now c.loop-place.wires c.render_by.new.wires (subst IsSignalGraph c.self.view_is c.self.invariant.0) order.order c.loop-place-test.true
-          (given_held c.args.self.now c.args.wires.now c.requires.wires) (c.loop-place.invariant.rendered controls are)
-          (c.render_by.ensures.rendered controls (job_here c.args.self.now controls c.args.jobs.now c.at.result.now c.loop-place.place-index c.places_for-place-items.result.now order.order are c.loop-place-test.true c.at.ensures));
-      fitting = c.render_by.ensures.fitting;
-      counted =
-          omega (
-            arith,
-            c.render_by.ensures.counted,
-            c.loop-place.invariant.counted,
-            units_next c.args.self.now c.places_for-place-items.result.now c.loop-place.place-index c.loop-place-test.true,
-          );
-    }
+pub returns-in-None-clause-once : goal.returns-in-None-clause-once
+returns-in-None-clause-once g c =
+    let none = c.in-None.ensures.none c.args.self.now (order_for c.args.self.now c.self.inside.table c.self.inside.orders.items c.deref.result.now c.self.view_is c.deref.ensures.value c.self.invariant.1) in
+    omega (arith, all_units c.args.self.now c.args.domain [] (subst IsSignalGraph c.self.view_is c.self.invariant.0) none)
 
-pub returns-clause-rendered : goal.returns-clause-rendered
-returns-clause-rendered g c controls are =
-    let order = c.places_for-place-items.ensures c.args.self.now (order_for c.args.self.now c.self.inside.table c.self.inside.orders.items c.deref.result.now c.self.view_is c.deref.ensures.value c.self.invariant.1) in
-    all_rendered c.args.self.now controls (samples_on c.args.wires.now) c.args.domain c.loop-place.place-index c.places_for-place-items.result.now
-    c.args.wires.now c.loop-place.wires order c.loop-place-test.false (c.loop-place.invariant.rendered controls are)
-
-pub returns-clause-fitting : goal.returns-clause-fitting
-returns-clause-fitting g c = c.loop-place.invariant.fitting
-
-pub returns-clause-once : goal.returns-clause-once
-returns-clause-once g c =
-    omega (
-      arith,
-      c.loop-place.invariant.counted,
-      units_end c.args.self.now c.places_for-place-items.result.now c.loop-place.place-index c.loop-place-test.false,
-    )
-
-pub at-requires : goal.at-requires
-at-requires g c =
-    let order = c.places_for-place-items.ensures c.args.self.now (order_for c.args.self.now c.self.inside.table c.self.inside.orders.items c.deref.result.now c.self.view_is c.deref.ensures.value c.self.invariant.1) in
-    omega (arith, c.requires.jobs.1.counted, order.order.inside c.loop-place.place-index 0 c.loop-place-test.true)
-
-pub render_by-requires-clause-job : goal.render_by-requires-clause-job
-render_by-requires-clause-job g c =
-    let order = c.places_for-place-items.ensures c.args.self.now (order_for c.args.self.now c.self.inside.table c.self.inside.orders.items c.deref.result.now c.self.view_is c.deref.ensures.value c.self.invariant.1) in (
-      c.requires.jobs.0,
-      job_here c.args.self.now c.requires.jobs.0 c.args.jobs.now c.at.result.now c.loop-place.place-index c.places_for-place-items.result.now order.order c.requires.jobs.1 c.loop-place-test.true
-          c.at.ensures,
-    )
+pub follow-requires-clause-sound : goal.follow-requires-clause-sound
+follow-requires-clause-sound g c = subst IsSignalGraph c.self.view_is c.self.invariant.0

@@ -1,4 +1,4 @@
-use Rattle.std.proofs.Common.{◌≡◌, ◌<◌, ap, sym, subst, refl, arith, length}
+use Rattle.std.proofs.Common.{◌<◌, ap, sym, subst, refl, arith, length}
 use Rattle.uac_graph.specs.Controls.{held_in}
 use Rattle.uac_graph.specs.Jobs.{AreJobs}
 use Rattle.uac_graph.proofs.Asking.{none_renewed, one_renewed}

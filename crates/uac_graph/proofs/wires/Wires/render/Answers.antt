@@ -1,7 +1,7 @@
-use Rattle.std.proofs.Common.{◌≡◌, ◌∙◌, ap, sym, subst, ◌≤◌, ℕ, ℤ, List, length, map, arith, eqb, if◌then◌else◌, Some, refl}
+use Rattle.std.proofs.Common.{◌≡◌, ◌∙◌, ap, sym, subst, ◌≤◌, ℕ, ℤ, List, length, map, arith, eqb, if◌then◌else◌, Some}
 use Rattle.std.specs.Option.{option_map}
 use Rattle.std.proofs.lemmas.List.{length-map}
-use Rattle.uac_units.specs.Rendering.{FitsKind, in_a_row, rendered}
+use Rattle.uac_units.specs.Rendering.{in_a_row}
 use Rattle.uac_graph.specs.Wiring.{Frames, frame_on, samples_on}
 use Rattle.uac_graph.proofs.Rendered.{fits_unit, no_frame, passed_on, rendered_unit, row_small, wire_by}
 use Rattle.uac_graph.proofs.Reaching.{length-frame_of}

@@ -5,13 +5,13 @@ use Rattle.uac_graph.specs.Needs.{needed}
 use Rattle.uac_graph.specs.Orders.{holds}
 use Rattle.uac_graph.specs.Wiring.{AreRendered, AreWiresOf, samples_on}
 use Rattle.uac_graph.proofs.NeedsLemmas.{units_left}
-use Rattle.uac_graph.proofs.graph.Graph.tick_by.Given as goal
+use Rattle.uac_graph.proofs.graph.Graph.follow.Given as goal
 
-abbrev pub invariant-loop-place : goal.invariant-loop-place
-invariant-loop-place g l = record {
+abbrev pub invariant-loop-at : goal.invariant-loop-at
+invariant-loop-at g l = record {
   rendered :
       (controls : Controls) → AreJobs l.self controls l.jobs
-      → AreRendered l.self controls (samples_on l.fn.wires) (holds l.self (take l.place-index l.place-items)) l.fn.wires l.wires;
+      → AreRendered l.self controls (samples_on l.fn.wires) (holds l.self (take l.at l.order.places.items)) l.fn.wires l.wires;
   fitting : AreWiresOf l.self l.wires;
-  counted : l.steps + units_left l.self l.place-items l.place-index ≡ l.fn.steps + length (needed l.self l.domain);
+  counted : l.steps + units_left l.self l.order.places.items l.at ≡ l.fn.steps + length (needed l.self l.order.domain);
 }

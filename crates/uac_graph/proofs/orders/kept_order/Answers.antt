@@ -1,0 +1,13 @@
+use Rattle.std.proofs.Common.{◌∙◌, ◌<◌, ap, map, refl, subst, sym, length}
+use Rattle.std.specs.List.{All}
+use Rattle.uac_graph.specs.Tasks.{task_of}
+use Rattle.uac_graph.proofs.orders.kept_order.Goals as goal
+
+pub tasks_of-requires : goal.tasks_of-requires
+tasks_of-requires c = subst (All (λ place. place < length c.args.table.now)) (sym c.deref.ensures.value) c.in_ok-places.ensures.order.inside
+
+pub returns : goal.returns
+returns c = (
+  refl,
+  record { order_of = c.in_ok-places.ensures; tasks_of = c.in_ok-tasks.ensures ∙ ap (map (task_of c.args.table.now)) c.deref.ensures.value },
+)

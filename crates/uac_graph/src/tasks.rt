@@ -1,0 +1,81 @@
+// What is done at the places of an order at each tick, as it follows from the graph.
+ghost use Rattle.std.specs.Prelude.{◌≡◌, ◌<◌, IfOk, length, map};
+ghost use Rattle.std.specs.List.{All};
+ghost use Rattle.uac_graph.specs.Tasks as spec;
+
+use crate::jobs::unit_of;
+use std::alloc::Global;
+use uac_descriptor::NoMemory;
+use uac_entities::Entity;
+use uac_topology_rules::{EntityTable, is_input};
+use uac_units::UnitKind;
+
+/// What is done for an entity at each tick.
+#[derive(Clone, Copy)]
+pub(crate) enum Work {
+    /// Nothing: an input terminal has its frame.
+    Nothing,
+    /// An output terminal, `to`, gets its source's frame.
+    Pass { from: u8, to: u8 },
+    /// A unit of one source is rendered.
+    Render { kind: UnitKind, source: u8, id: u8 },
+    /// What there is to do is asked of the entity at the tick: it has several sources, or no channels.
+    Ask,
+}
+
+/// What is done for the entity at a place.
+#[derive(Drop)]
+pub(crate) struct Task {
+    pub place: usize,
+    pub work: Work,
+}
+
+/// What is done for the entities at these places.
+pub(crate) fn tasks_of(
+    alloc: Global,
+    table: &EntityTable,
+    places: &[usize],
+) -> Result<Vec<Task>, NoMemory>
+    requires { All (λ place. place < length table.now) places.now }
+    ensures { IfOk result (λ tasks. tasks.items ≡ map (spec.task_of table.now) places.now) }
+{
+    let mut tasks = Vec::new(alloc);
+    for place in places {
+        let task = Task {
+            place: *place,
+            work: work_of(table.at(*place)),
+        };
+        match tasks.push(task) {
+            Ok(()) => {}
+            Err(_) => return Err(NoMemory),
+        }
+    }
+    Ok(tasks)
+}
+
+// What is done for an entity.
+fn work_of(entity: &Entity) -> Work
+    ensures { result ≡ spec.work_of entity.now }
+{
+    if is_input(entity.kind) {
+        return Work::Nothing;
+    }
+    let sources = entity.sources.as_slice();
+    if entity.cluster.channels == 0 {
+        return Work::Ask;
+    }
+    if sources.len() != 1 {
+        return Work::Ask;
+    }
+    match unit_of(entity.kind) {
+        Some(kind) => Work::Render {
+            kind,
+            source: sources[0],
+            id: entity.id,
+        },
+        None => Work::Pass {
+            from: sources[0],
+            to: entity.id,
+        },
+    }
+}
