@@ -1,5 +1,6 @@
 // Frames by the ids of their entities.
-ghost use Rattle.std.specs.Prelude.{◌≡◌, ◌==◌, ◌≤◌, ◌<◌, ◌+◌, ◌^◌, ℕ, if◌then◌else◌, Some, None, IfOk, List, length, get_or, map, replicate, set, pos};
+ghost use Rattle.std.specs.Prelude.{◌≡◌, ◌==◌, ◌≤◌, ◌<◌, ◌+◌, ◌^◌, ℕ, if◌then◌else◌, Some, None, IfOk};
+ghost use Rattle.std.specs.Prelude.{List, length, get_or, map, replicate, set, pos};
 ghost use Rattle.uac_entities.specs.declared.entity.Entity.{Entity};
 ghost use Rattle.std.specs.Option.{option_map};
 ghost use Rattle.uac_units.specs.Rendering.{FitsKind, rendered};
