@@ -1,5 +1,6 @@
 -- The transfers of one element: what comes back of them, and what they leave of the element.
-use Rattle.std.proofs.Common.{◌≡◌, ◌∙◌, refl, ap, sym, ℕ, ◌+◌, ◌*◌, ◌/◌, ◌%◌, ◌<◌, ◌⊎◌, ◌==◌, ◌&&◌, ◌||◌, nat_lt, Bool, true, false, not, if◌then◌else◌, ℤ, List, [], ◌∷◌, map, length, take, Option, Some, None, is_some, arith}
+use Rattle.std.proofs.Common.{◌≡◌, ◌∙◌, refl, ap, sym, ℕ, ◌+◌, ◌*◌, ◌/◌, ◌%◌, ◌<◌, ◌⊎◌, ◌==◌, ◌&&◌, ◌||◌, nat_lt, Bool, true, false, not, if◌then◌else◌, ℤ, List, [], ◌∷◌, map, length, slice_get, take, Option, Some, None, is_some, arith}
+use Rattle.std.specs.List.{AllByRecursion}
 use Rattle.std.specs.Option.{option_map_or}
 use Rattle.std.proofs.lemmas.Bool.{eq-eqb}
 use Rattle.std.proofs.lemmas.List.{take_all}
@@ -8,7 +9,7 @@ use Rattle.uac_topology.specs.Function.{FunctionFields}
 use Rattle.uac_store.specs.Controls.{IsStoreOf, count_of}
 use Rattle.uac_store.specs.Keyed.{same_key}
 use Rattle.uac_request.specs.Owners.{get_rules}
-use Rattle.uac_request.specs.Requests.{Held, by_entity, cur_named, entity_width, first_broken, has_interface, high, is_declared_on, is_done, is_stalled, key_named, least, low, owner_of, reply_of, value_bytes, with_bytes}
+use Rattle.uac_request.specs.Requests.{AnswerFields, Held, by_entity, cur_named, entity_width, first_broken, has_interface, high, is_declared_on, is_done, is_stalled, key_named, least, low, owner_of, reply_of, value_bytes, with_bytes}
 use Rattle.uac_request.specs.declared.setup.Setup.{Setup}
 use Rattle.uac_request.proofs.Asked.{first_cur}
 use Rattle.uac_mixer.specs.declared.element.Element.{Element}
@@ -17,7 +18,7 @@ use Rattle.uac_mixer.specs.Transfers.{after_get, after_set, element_after, get_o
 use Rattle.uac_mixer.specs.ViewWorld.{ViewWorld}
 use Rattle.uac_mixer.proofs.ByteLemmas.{comes_back, whole}
 use Rattle.uac_mixer.proofs.KindLemmas.{Agrees, agrees}
-use Rattle.uac_mixer.proofs.Members.{IsElementOf}
+use Rattle.uac_mixer.proofs.Members.{IsElementOf, every}
 use Rattle.uac_mixer.proofs.Setting.{get_reply, owner_is, set_reply}
 use Rattle.uac_mixer.proofs.Agreed.{IsHeldAs, control_bytes, held_as, is_request, same_keys, all_four}
 
@@ -49,6 +50,17 @@ unfolding is_for
 is_for_it type control x n =
     all_four (type == type) (1 == 1) ((256 * x.key.entity + control) % 256 == control) (same_key x.key (key_named (setup_of type control x)))
     (eq-eqb type type refl) refl (eq-eqb ((256 * x.key.entity + control) % 256) control (low_of x.key.entity control n.interface)) (same_keys x.key (key_named (setup_of type control x)) (sym (key_back type control x n)))
+
+-- one element stands at an index
+pub one_element : (xs : List Element) (at : ℕ) (x y : Element) → slice_get xs at ≡ Some y → slice_get xs at ≡ Some x → y ≡ x
+one_element xs at x y a b = (let same : Some y ≡ Some x = sym a ∙ b in cc)
+
+-- the request names its key
+pub names_it : (type control : ℕ) (setup : Setup) (xs : List Element) (at : ℕ) (y : Element) → setup ≡ setup_of type control y
+    → IsNarrow control y → slice_get xs at ≡ Some y
+    → (x : Element) → slice_get xs at ≡ Some x → x.key ≡ key_named setup
+names_it type control setup xs at y is n there x at_x =
+    ap (λ (e : Element). e.key) (one_element xs at y x at_x there) ∙ sym (key_back type control y n) ∙ ap key_named (sym is)
 
 -- and none of another type
 and_false : (b : Bool) → (false && b) ≡ false
@@ -128,6 +140,21 @@ set_told f h x sent = set_reply f h (set_of f.control_interface x) sent refl ref
 
 -- ---- the element after it
 
+-- elements whose values stay, and a view of which all stay
+pub all_left : (control : ℕ) (p : Setup) (sent : List ℕ) (came : Option AnswerFields) (ys : List Element)
+    → AllByRecursion (λ (y : Element). value_after control p sent came y ≡ y.value) ys
+    → map (element_after control p sent came) ys ≡ ys
+all_left control p sent came [] still = refl
+all_left control p sent came (y ∷ ys) still = (λ j. record y { value = still.0 j } ∷ all_left control p sent came ys still.1 j)
+
+pub view_left : (control : ℕ) (p : Setup) (sent : List ℕ) (came : Option AnswerFields) (view : ViewWorld)
+    → ((y : Element) → value_after control p sent came y ≡ y.value)
+    → view_after control p sent came view ≡ view
+unfolding view_after
+view_left control p sent came view still =
+    let each = every (λ (y : Element). value_after control p sent came y ≡ y.value) view.elements still in
+    (λ j. record { elements = all_left control p sent came view.elements each j })
+
 -- a value that came of its GET CUR
 pub value_got : (control : ℕ) (x y : Element) (v : ℤ) → y ≡ x → IsNarrow control x → fits_element x.kind v ≡ true
     → value_after control (get_of control x) [] (Some (with_bytes (value_bytes (width_of x.kind) v))) y ≡ Some v
@@ -152,13 +179,8 @@ got_still control x y = one (gets control (get_of control x) y) where
   one true = refl
   one false = refl
 
-got_nothing : (control : ℕ) (x : Element) (ys : List Element) → map (element_after control (get_of control x) [] None) ys ≡ ys
-got_nothing control x [] = refl
-got_nothing control x (y ∷ ys) = (λ j. record y { value = got_still control x y j } ∷ got_nothing control x ys j)
-
 pub get_broke : (control : ℕ) (x : Element) (view : ViewWorld) → view_after control (get_of control x) [] None view ≡ view
-unfolding view_after
-get_broke control x view = (λ j. record { elements = got_nothing control x view.elements j })
+get_broke control x view = view_left control (get_of control x) [] None view (got_still control x)
 
 -- a value that was set
 pub value_set : (control : ℕ) (x : Element) (v : ℤ) → IsNarrow control x → fits_element x.kind v ≡ true
@@ -183,10 +205,5 @@ still control x sent rule y = one (sets control (set_of control x) y) (gets cont
   one false true = refl
   one false false = refl
 
-stalled_nothing : (control : ℕ) (x : Element) (sent : List ℕ) (rule : ℕ) (ys : List Element) → map (element_after control (set_of control x) sent (Some (is_stalled rule))) ys ≡ ys
-stalled_nothing control x sent rule [] = refl
-stalled_nothing control x sent rule (y ∷ ys) = (λ j. record y { value = still control x sent rule y j } ∷ stalled_nothing control x sent rule ys j)
-
 pub set_stalled : (control : ℕ) (x : Element) (sent : List ℕ) (rule : ℕ) (view : ViewWorld) → view_after control (set_of control x) sent (Some (is_stalled rule)) view ≡ view
-unfolding view_after
-set_stalled control x sent rule view = (λ j. record { elements = stalled_nothing control x sent rule view.elements j })
+set_stalled control x sent rule view = view_left control (set_of control x) sent (Some (is_stalled rule)) view (still control x sent rule)

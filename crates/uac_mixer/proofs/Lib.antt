@@ -9,3 +9,4 @@ pub mod Made
 pub mod Calls
 pub mod Steps
 pub mod Reading
+pub mod Apart

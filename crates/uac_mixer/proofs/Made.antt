@@ -75,7 +75,7 @@ still_of : (control : ℕ) (p : Setup) (sent : List ℕ) (came : Option AnswerFi
 still_of control p sent came [] = refl
 still_of control p sent came (x ∷ xs) = ap (λ ys. unread x ∷ ys) (still_of control p sent came xs)
 
-viewed : (control : ℕ) (p : Setup) (sent : List ℕ) (came : Option AnswerFields) (entities : List Entity) (view : ViewWorld) → IsViewOf entities view → IsViewOf entities (view_after control p sent came view)
+pub viewed : (control : ℕ) (p : Setup) (sent : List ℕ) (came : Option AnswerFields) (entities : List Entity) (view : ViewWorld) → IsViewOf entities view → IsViewOf entities (view_after control p sent came view)
 unfolding view_after
 viewed control p sent came entities view is = still_of control p sent came view.elements ∙ is
 

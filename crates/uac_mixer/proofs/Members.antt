@@ -25,7 +25,7 @@ pub record IsElementOf (entities : List Entity) (x : Element) : Type 0 where
 
 -- ---- lists
 
-joined : {X : Type 0} (P : X → Type 0) (xs ys : List X) → AllByRecursion P xs → AllByRecursion P ys → AllByRecursion P (xs ++ ys)
+pub joined : {X : Type 0} (P : X → Type 0) (xs ys : List X) → AllByRecursion P xs → AllByRecursion P ys → AllByRecursion P (xs ++ ys)
 joined P [] ys h g = g
 joined P (x ∷ xs) ys h g = (h.0, joined P xs ys h.1 g)
 
@@ -33,7 +33,7 @@ flat : {X Y : Type 0} (P : Y → Type 0) (f : X → List Y) (xs : List X) → Al
 flat P f [] h = tt
 flat P f (x ∷ xs) h = joined P (f x) (flat_map f xs) h.0 (flat P f xs h.1)
 
-chosen : {X Y : Type 0} (P : Y → Type 0) (g : X → Option Y) (xs : List X) → AllByRecursion (λ x. (y : Y) → g x ≡ Some y → P y) xs → AllByRecursion P (filter_map g xs)
+pub chosen : {X Y : Type 0} (P : Y → Type 0) (g : X → Option Y) (xs : List X) → AllByRecursion (λ x. (y : Y) → g x ≡ Some y → P y) xs → AllByRecursion P (filter_map g xs)
 chosen P g [] h = tt
 chosen {Y = Y} P g (x ∷ xs) h = from (g x) refl (chosen P g xs h.1) where
   from : (o : Option Y) → g x ≡ o → AllByRecursion P (filter_map g xs) → AllByRecursion P (cons_option o (filter_map g xs))
@@ -45,15 +45,15 @@ counted : (P : ℕ → Type 0) (from n : ℕ) → ((i : ℕ) → i < from + n �
 counted P from zero h = tt
 counted P from (suc n) h = (h from (omega arith), counted P (from + 1) n (λ i below. h i (omega arith)))
 
-every : {X : Type 0} (P : X → Type 0) (xs : List X) → ((x : X) → P x) → AllByRecursion P xs
+pub every : {X : Type 0} (P : X → Type 0) (xs : List X) → ((x : X) → P x) → AllByRecursion P xs
 every P [] h = tt
 every P (x ∷ xs) h = (h x, every P xs h)
 
-weaker : {X : Type 0} (P Q : X → Type 0) (xs : List X) → ((x : X) → P x → Q x) → AllByRecursion P xs → AllByRecursion Q xs
+pub weaker : {X : Type 0} (P Q : X → Type 0) (xs : List X) → ((x : X) → P x → Q x) → AllByRecursion P xs → AllByRecursion Q xs
 weaker P Q [] h all = tt
 weaker P Q (x ∷ xs) h all = (h x all.0, weaker P Q xs h all.1)
 
-unmapped : {X Y : Type 0} (P : Y → Type 0) (f : X → Y) (xs : List X) → AllByRecursion P (map f xs) → AllByRecursion (λ x. P (f x)) xs
+pub unmapped : {X Y : Type 0} (P : Y → Type 0) (f : X → Y) (xs : List X) → AllByRecursion P (map f xs) → AllByRecursion (λ x. P (f x)) xs
 unmapped P f [] all = tt
 unmapped P f (x ∷ xs) all = (all.0, unmapped P f xs all.1)
 
@@ -85,31 +85,42 @@ named_itself (x ∷ xs) distinct = (
 
 -- ---- the elements
 
--- what an element that is listed is
+-- an element as it is listed
+abbrev unread_on : Entity → ℕ → ℕ → ElementKind → Element
+unread_on e s c k = record { key = key_of e.id s c; kind = k; writable = is_writable_on e.kind e s c; value = None }
+
+-- what it is
 from_control : (entities : List Entity) (e : Entity) (s c : ℕ) (y : Element) → named entities e.id ≡ Some e → c < count_of entities e → element_on e s c ≡ Some y → IsElementOf entities y
 from_control entities e s c y found below is = of_kind (kind_at e.kind s) refl is where
-  made : ElementKind → Element
-  made k = record { key = key_of e.id s c; kind = k; writable = is_writable_on e.kind e s c; value = None }
-
-  if_declared : (k : ElementKind) (b : Bool) → kind_at e.kind s ≡ Some k → is_declared_on e.kind e s c ≡ b → (if b then Some (made k) else None) ≡ Some y → IsElementOf entities y
+  if_declared : (k : ElementKind) (b : Bool) → kind_at e.kind s ≡ Some k → is_declared_on e.kind e s c ≡ b → (if b then Some (unread_on e s c k) else None) ≡ Some y → IsElementOf entities y
   if_declared k true shows declared is =
-      let same : made k ≡ y = cc in
+      let same : unread_on e s c k ≡ y = cc in
       let within : nat_lt c (count_of entities e) ≡ true = grind arith in
       subst (IsElementOf entities) same (record { entity = e; found = found; shows = shows; channel = within; declared = declared })
   if_declared k false shows declared is = cc
 
-  of_kind : (o : Option ElementKind) → kind_at e.kind s ≡ o → option_and_then (λ k. if is_declared_on e.kind e s c then Some (made k) else None) o ≡ Some y → IsElementOf entities y
+  of_kind : (o : Option ElementKind) → kind_at e.kind s ≡ o → option_and_then (λ k. if is_declared_on e.kind e s c then Some (unread_on e s c k) else None) o ≡ Some y → IsElementOf entities y
   of_kind None shows is = cc
   of_kind (Some k) shows is = if_declared k (is_declared_on e.kind e s c) shows refl is
 
+-- what is so of each element of a control, and of an entity
+pub in_control : (P : Element → Type 0) (entities : List Entity) (e : Entity) (s : ℕ)
+    → ((c : ℕ) (y : Element) → c < count_of entities e → element_on e s c ≡ Some y → P y) → AllByRecursion P (control_elements entities e s)
+unfolding control_elements
+in_control P entities e s each =
+    chosen P (element_on e s) (range_with_len 0 (count_of entities e))
+    (counted (λ c. (y : Element) → element_on e s c ≡ Some y → P y) 0 (count_of entities e) (λ c below y is. each c y (omega arith) is))
+
+pub in_entity : (P : Element → Type 0) (entities : List Entity) (e : Entity)
+    → ((s c : ℕ) (y : Element) → c < count_of entities e → element_on e s c ≡ Some y → P y) → AllByRecursion P (entity_elements entities e)
+unfolding entity_elements
+in_entity P entities e each =
+    flat P (control_elements entities e) (range_with_len 1 (selectors_of e.kind))
+    (every (λ s. AllByRecursion P (control_elements entities e s)) (range_with_len 1 (selectors_of e.kind))
+    (λ s. in_control P entities e s (each s)))
+
 of_entity : (entities : List Entity) (e : Entity) → named entities e.id ≡ Some e → AllByRecursion (IsElementOf entities) (entity_elements entities e)
-unfolding entity_elements control_elements
-of_entity entities e found =
-    flat (IsElementOf entities) (control_elements entities e) (range_with_len 1 (selectors_of e.kind))
-    (every (λ s. AllByRecursion (IsElementOf entities) (control_elements entities e s)) (range_with_len 1 (selectors_of e.kind))
-    (λ s. chosen (IsElementOf entities) (element_on e s) (range_with_len 0 (count_of entities e))
-    (counted (λ c. (y : Element) → element_on e s c ≡ Some y → IsElementOf entities y) 0 (count_of entities e)
-    (λ c below y is. from_control entities e s c y found (omega arith) is))))
+of_entity entities e found = in_entity (IsElementOf entities) entities e (λ s c y below is. from_control entities e s c y found below is)
 
 pub all_listed : (entities : List Entity) → IsDistinct nat_eq (map (λ e. e.id) entities) → AllByRecursion (IsElementOf entities) (listed entities)
 unfolding listed
@@ -118,29 +129,28 @@ all_listed entities distinct =
     (weaker (λ e. named entities e.id ≡ Some e) (λ e. AllByRecursion (IsElementOf entities) (entity_elements entities e)) entities
     (λ e found. of_entity entities e found) (named_itself entities distinct))
 
--- none of them is read
-none_known : (e : Entity) (s c : ℕ) (y : Element) → element_on e s c ≡ Some y → y.value ≡ None
-none_known e s c y is = of_kind (kind_at e.kind s) is where
-  made : ElementKind → Element
-  made k = record { key = key_of e.id s c; kind = k; writable = is_writable_on e.kind e s c; value = None }
-
-  if_declared : (k : ElementKind) (b : Bool) → (if b then Some (made k) else None) ≡ Some y → y.value ≡ None
-  if_declared k true is = (let same : made k ≡ y = cc in ap (λ (x : Element). x.value) (sym same))
+-- what is so of it for each kind
+as_listed : (P : Element → Type 0) (e : Entity) (s c : ℕ) (y : Element) → ((k : ElementKind) → P (unread_on e s c k)) → element_on e s c ≡ Some y → P y
+as_listed P e s c y each is = of_kind (kind_at e.kind s) is where
+  if_declared : (k : ElementKind) (b : Bool) → (if b then Some (unread_on e s c k) else None) ≡ Some y → P y
+  if_declared k true is = (let same : unread_on e s c k ≡ y = cc in subst P same (each k))
   if_declared k false is = cc
 
-  of_kind : (o : Option ElementKind) → option_and_then (λ k. if is_declared_on e.kind e s c then Some (made k) else None) o ≡ Some y → y.value ≡ None
+  of_kind : (o : Option ElementKind) → option_and_then (λ k. if is_declared_on e.kind e s c then Some (unread_on e s c k) else None) o ≡ Some y → P y
   of_kind None is = cc
   of_kind (Some k) is = if_declared k (is_declared_on e.kind e s c) is
 
+-- it has the key of its control
+pub keyed_on : (e : Entity) (s c : ℕ) (y : Element) → element_on e s c ≡ Some y → y.key ≡ key_of e.id s c
+keyed_on e s c y is = as_listed (λ (x : Element). x.key ≡ key_of e.id s c) e s c y (λ k. refl) is
+
+-- none of them is read
 pub none_read : (entities : List Entity) → AllByRecursion (λ (x : Element). x.value ≡ None) (listed entities)
-unfolding listed entity_elements control_elements
+unfolding listed
 none_read entities =
     flat (λ (x : Element). x.value ≡ None) (entity_elements entities) entities
     (every (λ (e : Entity). AllByRecursion (λ (x : Element). x.value ≡ None) (entity_elements entities e)) entities
-    (λ e. flat (λ (x : Element). x.value ≡ None) (control_elements entities e) (range_with_len 1 (selectors_of e.kind))
-    (every (λ s. AllByRecursion (λ (x : Element). x.value ≡ None) (control_elements entities e s)) (range_with_len 1 (selectors_of e.kind))
-    (λ s. chosen (λ (x : Element). x.value ≡ None) (element_on e s) (range_with_len 0 (count_of entities e))
-    (every (λ c. (y : Element) → element_on e s c ≡ Some y → y.value ≡ None) (range_with_len 0 (count_of entities e)) (λ c y is. none_known e s c y is))))))
+    (λ e. in_entity (λ (x : Element). x.value ≡ None) entities e (λ s c y below is. as_listed (λ (x : Element). x.value ≡ None) e s c y (λ k. refl) is)))
 
 -- an element is what it is, read or not
 as_read : (entities : List Entity) (x : Element) → IsElementOf entities (unread x) → IsElementOf entities x

@@ -19,7 +19,7 @@ use Rattle.uac_mixer.specs.Agreement.{IsMade}
 use Rattle.uac_mixer.proofs.KindLemmas.{narrow}
 use Rattle.uac_mixer.proofs.Members.{IsElementOf, members}
 use Rattle.uac_mixer.proofs.Agreed.{IsHeldAs}
-use Rattle.uac_mixer.proofs.Calls.{IsNarrow, get_broke, is_told, own_value, set_stalled, set_told, value_got, value_lost, value_set}
+use Rattle.uac_mixer.proofs.Calls.{IsNarrow, get_broke, is_told, one_element, own_value, set_stalled, set_told, value_got, value_lost, value_set}
 use Rattle.uac_mixer.proofs.Made.{Went, kept_by, told_by, went}
 
 -- the element at an index is one of the function's
@@ -122,9 +122,6 @@ setup_made : (type control : ℕ) (setup : Setup) (y : Element) (sent : List ℕ
     → control ≡ old.device.function.control_interface → IsMade setup sent came before after old new → IsMade (setup_of type old.device.function.control_interface y) sent came before after old new
 setup_made type control setup y sent came before after old new is on made =
     subst (λ (p : Setup). IsMade p sent came before after old new) (is ∙ ap (λ (i : ℕ). setup_of type i y) on) made
-
-one_element : (xs : List Element) (at : ℕ) (x y : Element) → slice_get xs at ≡ Some y → slice_get xs at ≡ Some x → y ≡ x
-one_element xs at x y a b = (let same : Some y ≡ Some x = sym a ∙ b in cc)
 
 -- what a get owes where the link didn't break
 pub record GetDone (at : ℕ) (r : ℤ) (before after : ViewWorld) (old new : LinkFields) : Type 0 where

@@ -1,12 +1,16 @@
--- What makes the value that a transfer gives an element one of 32 bits.
-use Rattle.std.specs.Prelude.{◌≡◌, ℕ, ◌≤◌, true, List, length, Option, Some}
+-- For which transfers the elements of a view are looked through, and what makes the value that one gives an element one of 32 bits.
+use Rattle.std.specs.Prelude.{◌≡◌, ℕ, ◌≤◌, ◌==◌, ◌&&◌, ◌||◌, Bool, true, List, length, Option, Some}
 use Rattle.std.specs.Int.{w32}
 use Rattle.std.specs.Int.RustNames.{FitsSigned}
-use Rattle.uac_request.specs.Requests.{AnswerFields, is_done, with_bytes}
+use Rattle.uac_request.specs.Requests.{AnswerFields, is_done, low, with_bytes}
 use Rattle.uac_request.specs.declared.setup.Setup.{Setup}
 use Rattle.uac_mixer.specs.declared.element.Element.{Element}
 use Rattle.uac_mixer.specs.Elements.{width_of}
 use Rattle.uac_mixer.specs.Transfers.{gets, sets, value_in}
+
+-- a transfer sets or gets a control of the interface with this number, whichever it names
+unfoldable pub is_for_any : ℕ → Setup → Bool
+is_for_any control p = (p.request_type == 33 || p.request_type == 161) && (p.request == 1 && low p.index == control)
 
 -- the value that was sent, where it is done, and the value that came
 pub record IsReadable (control : ℕ) (p : Setup) (sent : List ℕ) (came : Option AnswerFields) (x : Element) : Type 0 where

@@ -7,6 +7,7 @@ ghost use Rattle.uac_request.specs.Requests.{is_done, with_bytes};
 ghost use Rattle.uac_mixer.specs.Transfers as spec;
 ghost use Rattle.uac_mixer.specs.Transfers.{came_of};
 ghost use Rattle.uac_mixer.specs.Elements.{width_of};
+ghost use Rattle.uac_mixer.specs.Readable as readable;
 ghost use Rattle.uac_mixer.specs.Readable.{IsReadable};
 
 use crate::element::Element;
@@ -36,6 +37,16 @@ pub(crate) fn setup_of(request_type: u8, control: u8, element: Element) -> Setup
     }
 }
 
+/// Whether a transfer sets or gets a control of the interface with this number, whichever it names.
+#[tactic(auto, unfolding(crate::specs::Readable::is_for_any))]
+pub(crate) fn is_for_any(control: u8, setup: &Setup) -> bool
+    ensures { result ≡ readable.is_for_any control setup.now }
+{
+    (setup.request_type == SET || setup.request_type == GET)
+        && setup.request == CUR
+        && low_byte(setup.index) == control
+}
+
 /// What a transfer, of which this came back, makes of each element.
 pub(crate) fn follow_all(
     elements: &mut [Element],
@@ -52,7 +63,8 @@ pub(crate) fn follow_all(
     }
 }
 
-fn follow_one(
+/// What it makes of one element.
+pub(crate) fn follow_one(
     element: &mut Element,
     control: u8,
     setup: &Setup,

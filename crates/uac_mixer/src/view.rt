@@ -1,10 +1,10 @@
 // The host's view of a device.
-ghost use Rattle.std.specs.Prelude.{◌≡◌, ◌<◌, ℕ, [], length, position, slice_get, true, is_ok, IfOk, OnErr, OnOk};
+ghost use Rattle.std.specs.Prelude.{◌≡◌, ◌<◌, ℕ, [], length, position, slice_get, slice_set, true, is_ok, IfOk, OnErr, OnOk};
 ghost use Rattle.std.specs.Prelude.{Ok, Err, None, Some, IsSome, Option};
 ghost use Rattle.std.specs.List.{All};
 ghost use Rattle.std.specs.Option.{option_map};
 ghost use Rattle.std.specs.Str.{bytes_eq};
-ghost use Rattle.uac_request.specs.Requests.{is_done, is_stalled, answer_fields, value_bytes};
+ghost use Rattle.uac_request.specs.Requests.{is_done, is_stalled, answer_fields, key_named, value_bytes};
 ghost use Rattle.uac_store.specs.Keyed.{value_of};
 ghost use Rattle.uac_mixer.specs.declared.element.Element.{Element};
 ghost use Rattle.uac_mixer.specs.declared.faults.SetFault.TheVariants as refusals;
@@ -14,14 +14,14 @@ ghost use Rattle.uac_mixer.specs.Agreement.{IsMade, IsReading};
 ghost use Rattle.uac_mixer.specs.Elements.{fits_element, listed, name_of, width_of};
 ghost use Rattle.uac_mixer.specs.Links.{IsAsBefore};
 ghost use Rattle.uac_mixer.specs.Readable.{IsReadable};
-ghost use Rattle.uac_mixer.specs.Transfers.{came_of, came_of_get, came_of_set, get_of, set_of, view_after};
+ghost use Rattle.uac_mixer.specs.Transfers.{came_of, came_of_get, came_of_set, element_after, get_of, set_of, view_after};
 ghost use Rattle.uac_mixer.specs.ViewWorld.{IsViewOf, known_view};
 
 use crate::element::Element;
 use crate::faults::{SetFault, ViewFault};
 use crate::link::{Broken, Link};
 use crate::listing;
-use crate::transfers::{GET, SET, follow_all, setup_of};
+use crate::transfers::{GET, SET, follow_all, follow_one, is_for_any, setup_of};
 use std::alloc::Global;
 use std::marker::Model;
 use uac_request::bytes::value_bytes;
@@ -122,7 +122,7 @@ impl View {
         sound_functions_have_keys_and_rates();
         let control = link.function().control_interface();
         let setup = setup_of(GET, control, self.element(at));
-        match self.transfer(link, &setup, &[]) {
+        match self.transfer_at(at, link, &setup, &[]) {
             Ok(_) => Ok(self.element(at).value.unwrap()),
             Err(broken) => Err(broken),
         }
@@ -145,7 +145,7 @@ impl View {
         let element = self.element(at);
         let setup = setup_of(SET, control, element);
         let bytes = value_bytes(element.kind.width(), value);
-        match self.transfer(link, &setup, bytes.as_slice()) {
+        match self.transfer_at(at, link, &setup, bytes.as_slice()) {
             Ok(answer) => set_outcome(answer),
             Err(_) => Err(SetFault::Broken),
         }
@@ -170,13 +170,54 @@ impl View {
         came
     }
 
+    // Passes a request for the element at an index on. It is for no other element, and none but this one is looked at.
+    fn transfer_at<L: Link>(
+        &mut self,
+        at: usize,
+        link: &mut L,
+        setup: &Setup,
+        sent: &[u8],
+    ) -> Result<Answer, Broken>
+        requires of_function { IsViewOf (L.state link.old).device.function.entities self.old }
+        requires at { at < length self.old.elements }
+        requires named { (x : Element) → slice_get self.old.elements at ≡ Some x → x.key ≡ key_named setup.now }
+        ensures place { L.place link.new ≡ L.place link.old }
+        ensures made { IsMade setup.now sent.now (came_of result) self.old self.new (L.state link.old) (L.state link.new) }
+    {
+        functions_are_sound(link.function());
+        sound_functions_have_keys_and_rates();
+        let control = link.function().control_interface();
+        let came = link.control(setup, sent);
+        self.follow_at(at, control, setup, sent, &came);
+        came
+    }
+
     // What a transfer makes of each element.
     #[tactic(auto, unfolding(crate::specs::Transfers::view_after))]
     fn follow(&mut self, control: u8, setup: &Setup, sent: &[u8], came: &Result<Answer, Broken>)
         requires { All (IsReadable control setup.now sent.now (came_of came.now)) self.old.elements }
         ensures { self.new ≡ view_after control setup.now sent.now (came_of came.now) self.old }
     {
-        follow_all(self.elements.as_mut_slice(), control, setup, sent, came);
+        if is_for_any(control, setup) {
+            follow_all(self.elements.as_mut_slice(), control, setup, sent, came);
+        }
+    }
+
+    // What a transfer makes of the element at an index. The others stay.
+    fn follow_at(
+        &mut self,
+        at: usize,
+        control: u8,
+        setup: &Setup,
+        sent: &[u8],
+        came: &Result<Answer, Broken>,
+    )
+        requires at { at < length self.old.elements }
+        requires readable { All (IsReadable control setup.now sent.now (came_of came.now)) self.old.elements }
+        ensures { (x : Element) → slice_get self.old.elements at ≡ Some x
+            → self.new.elements ≡ slice_set self.old.elements at (element_after control setup.now sent.now (came_of came.now) x) }
+    {
+        follow_one(&mut self.elements[at], control, setup, sent, came);
     }
 
     // The element at an index; its key is of three bytes.

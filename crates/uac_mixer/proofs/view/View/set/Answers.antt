@@ -4,12 +4,19 @@ use Rattle.std.proofs.lemmas.Int.{to_z-of_z}
 use Rattle.uac_topology.specs.Function.{FunctionFields}
 use Rattle.uac_request.specs.Requests.{value_bytes}
 use Rattle.uac_mixer.specs.declared.faults.SetFault.TheVariants as refusals
+use Rattle.uac_mixer.proofs.Calls.{names_it}
 use Rattle.uac_mixer.proofs.Steps.{set_all, set_answer}
 use Rattle.uac_mixer.proofs.view.View.set.Goals as goal
 
+pub transfer_at-requires-clause-named : goal.transfer_at-requires-clause-named
+transfer_at-requires-clause-named g c =
+    names_it 33 c.control_interface-control.result c.setup_of-setup.result c.args.self.now.elements c.args.at c.element-element.result c.setup_of-setup.ensures
+    (record { interface = c.control_interface-control.type_inv; entity = c.element-element.ensures.entity; selector = c.element-element.ensures.selector; channel = c.element-element.ensures.channel })
+    c.element-element.ensures.there
+
 pub returns-in-Ok-clause-made : goal.returns-in-Ok-clause-made
 returns-in-Ok-clause-made g c =
-    (set_answer c.control_interface-control.result c.setup_of-setup.result c.element-element.result c.args.at c.args.value _ c.args.self.now c.transfer.new.self (g.L.Link.state c.args.link.now) (g.L.Link.state c.transfer.new.link)
+    (set_answer c.control_interface-control.result c.setup_of-setup.result c.element-element.result c.args.at c.args.value _ c.args.self.now c.transfer_at.new.self (g.L.Link.state c.args.link.now) (g.L.Link.state c.transfer_at.new.link)
     c.setup_of-setup.ensures (c.control_interface-control.ensures ∙ ap (λ (f : FunctionFields). f.control_interface) c.function.ensures.function)
     (c.as_slice.ensures.value ∙ c.value_bytes-bytes.ensures.bytes ∙ ap (λ (v : ℤ). value_bytes c.width.result v) (to_z-of_z w32 c.args.value c.ranges.value) ∙ ap (λ (w : ℕ). value_bytes w c.args.value) c.width.ensures.value)
     c.element-element.ensures.there
@@ -19,7 +26,7 @@ returns-in-Ok-clause-made g c =
 
 pub returns-in-Ok-clause-done : goal.returns-in-Ok-clause-done
 returns-in-Ok-clause-done g c =
-    (set_answer c.control_interface-control.result c.setup_of-setup.result c.element-element.result c.args.at c.args.value _ c.args.self.now c.transfer.new.self (g.L.Link.state c.args.link.now) (g.L.Link.state c.transfer.new.link)
+    (set_answer c.control_interface-control.result c.setup_of-setup.result c.element-element.result c.args.at c.args.value _ c.args.self.now c.transfer_at.new.self (g.L.Link.state c.args.link.now) (g.L.Link.state c.transfer_at.new.link)
     c.setup_of-setup.ensures (c.control_interface-control.ensures ∙ ap (λ (f : FunctionFields). f.control_interface) c.function.ensures.function)
     (c.as_slice.ensures.value ∙ c.value_bytes-bytes.ensures.bytes ∙ ap (λ (v : ℤ). value_bytes c.width.result v) (to_z-of_z w32 c.args.value c.ranges.value) ∙ ap (λ (w : ℕ). value_bytes w c.args.value) c.width.ensures.value)
     c.element-element.ensures.there
@@ -29,7 +36,7 @@ returns-in-Ok-clause-done g c =
 
 pub returns-in-Ok-clause-stalled : goal.returns-in-Ok-clause-stalled
 returns-in-Ok-clause-stalled g c =
-    (set_answer c.control_interface-control.result c.setup_of-setup.result c.element-element.result c.args.at c.args.value _ c.args.self.now c.transfer.new.self (g.L.Link.state c.args.link.now) (g.L.Link.state c.transfer.new.link)
+    (set_answer c.control_interface-control.result c.setup_of-setup.result c.element-element.result c.args.at c.args.value _ c.args.self.now c.transfer_at.new.self (g.L.Link.state c.args.link.now) (g.L.Link.state c.transfer_at.new.link)
     c.setup_of-setup.ensures (c.control_interface-control.ensures ∙ ap (λ (f : FunctionFields). f.control_interface) c.function.ensures.function)
     (c.as_slice.ensures.value ∙ c.value_bytes-bytes.ensures.bytes ∙ ap (λ (v : ℤ). value_bytes c.width.result v) (to_z-of_z w32 c.args.value c.ranges.value) ∙ ap (λ (w : ℕ). value_bytes w c.args.value) c.width.ensures.value)
     c.element-element.ensures.there
@@ -39,7 +46,7 @@ returns-in-Ok-clause-stalled g c =
 
 pub returns-in-Ok-clause-unknown : goal.returns-in-Ok-clause-unknown
 returns-in-Ok-clause-unknown g c =
-    (set_answer c.control_interface-control.result c.setup_of-setup.result c.element-element.result c.args.at c.args.value _ c.args.self.now c.transfer.new.self (g.L.Link.state c.args.link.now) (g.L.Link.state c.transfer.new.link)
+    (set_answer c.control_interface-control.result c.setup_of-setup.result c.element-element.result c.args.at c.args.value _ c.args.self.now c.transfer_at.new.self (g.L.Link.state c.args.link.now) (g.L.Link.state c.transfer_at.new.link)
     c.setup_of-setup.ensures (c.control_interface-control.ensures ∙ ap (λ (f : FunctionFields). f.control_interface) c.function.ensures.function)
     (c.as_slice.ensures.value ∙ c.value_bytes-bytes.ensures.bytes ∙ ap (λ (v : ℤ). value_bytes c.width.result v) (to_z-of_z w32 c.args.value c.ranges.value) ∙ ap (λ (w : ℕ). value_bytes w c.args.value) c.width.ensures.value)
     c.element-element.ensures.there
@@ -49,7 +56,7 @@ returns-in-Ok-clause-unknown g c =
 
 pub returns-in-Err-clause-unknown : goal.returns-in-Err-clause-unknown
 returns-in-Err-clause-unknown g c =
-    (set_all c.control_interface-control.result c.setup_of-setup.result c.element-element.result c.args.at c.args.value _ c.args.self.now c.transfer.new.self (g.L.Link.state c.args.link.now) (g.L.Link.state c.transfer.new.link)
+    (set_all c.control_interface-control.result c.setup_of-setup.result c.element-element.result c.args.at c.args.value _ c.args.self.now c.transfer_at.new.self (g.L.Link.state c.args.link.now) (g.L.Link.state c.transfer_at.new.link)
     c.setup_of-setup.ensures (c.control_interface-control.ensures ∙ ap (λ (f : FunctionFields). f.control_interface) c.function.ensures.function)
     (c.as_slice.ensures.value ∙ c.value_bytes-bytes.ensures.bytes ∙ ap (λ (v : ℤ). value_bytes c.width.result v) (to_z-of_z w32 c.args.value c.ranges.value) ∙ ap (λ (w : ℕ). value_bytes w c.args.value) c.width.ensures.value)
     c.element-element.ensures.there
