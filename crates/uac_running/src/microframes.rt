@@ -48,10 +48,7 @@ impl Running {
         ensures cause { HasCause (K.faults sink.old) (K.faults sink.new) result }
     {
         for _passed in 0..count {
-            match self.microframe(marks, rack, meters, sink) {
-                Ok(()) => {}
-                Err(failed) => return Err(failed),
-            }
+            self.microframe(marks, rack, meters, sink)?;
         }
         Ok(())
     }
@@ -73,14 +70,8 @@ impl Running {
     {
         numbers_are_bytes(self.device.function());
         self.pass();
-        match self.write_number(sink) {
-            Ok(()) => {}
-            Err(failed) => return Err(failed),
-        }
-        match self.packets_and_ticks(marks, rack, meters, sink) {
-            Ok(()) => {}
-            Err(failed) => return Err(failed),
-        }
+        self.write_number(sink)?;
+        self.packets_and_ticks(marks, rack, meters, sink)?;
         self.ends_and_reports(marks, sink)
     }
 
@@ -99,14 +90,8 @@ impl Running {
             (K.written sink.old) (K.written sink.new) result }
         ensures cause { HasCause (K.faults sink.old) (K.faults sink.new) result }
     {
-        match self.out_packets(marks, sink) {
-            Ok(()) => {}
-            Err(failed) => return Err(failed),
-        }
-        match self.in_packets(marks, sink) {
-            Ok(()) => {}
-            Err(failed) => return Err(failed),
-        }
+        self.out_packets(marks, sink)?;
+        self.in_packets(marks, sink)?;
         self.domain_microframes(rack, meters, sink)
     }
 
@@ -117,10 +102,7 @@ impl Running {
             → Tells (ends_and_reports (map said_mark marks.now) r) self.new meters (K.written sink.old) (K.written sink.new) result }
         ensures cause { HasCause (K.faults sink.old) (K.faults sink.new) result }
     {
-        match self.settle(sink) {
-            Ok(()) => {}
-            Err(failed) => return Err(failed),
-        }
+        self.settle(sink)?;
         self.reports(marks, sink)
     }
 
@@ -200,10 +182,7 @@ impl Running {
         ensures cause { HasCause (K.faults sink.old) (K.faults sink.new) result }
     {
         for place in 0..self.domain_count() {
-            match self.domain_microframe(self.clock_at(place), rack, meters, sink) {
-                Ok(()) => {}
-                Err(failed) => return Err(failed),
-            }
+            self.domain_microframe(self.clock_at(place), rack, meters, sink)?;
         }
         Ok(())
     }
@@ -271,10 +250,7 @@ impl Running {
         ensures function { self.new.device.function ≡ self.old.device.function }
     {
         for _ticked in 0..count {
-            match self.tick(clock, rack, meters, sink) {
-                Ok(()) => {}
-                Err(failed) => return Err(failed),
-            }
+            self.tick(clock, rack, meters, sink)?;
         }
         Ok(())
     }
@@ -326,10 +302,7 @@ impl Running {
             (found_lines clock before ++ (if nat_le 1 self.now.detail then played_lines clock after else [])) }
         ensures cause { HasCause (K.faults sink.old) (K.faults sink.new) result }
     {
-        match write_found(sink, self.device.function().streams(), found) {
-            Ok(()) => {}
-            Err(failed) => return Err(failed),
-        }
+        write_found(sink, self.device.function().streams(), found)?;
         self.show_played(clock, sink)
     }
 

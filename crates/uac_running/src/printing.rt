@@ -22,10 +22,7 @@ pub(crate) fn write_jacks<K: Sink>(sink: &mut K, device: &Device, clock: u8) -> 
     let function = device.function();
     functions_are_sound(function);
     for entity in function.entities() {
-        match write_entity(sink, device, clock, entity) {
-            Ok(()) => {}
-            Err(failed) => return Err(failed),
-        }
+        write_entity(sink, device, clock, entity)?;
     }
     Ok(())
 }

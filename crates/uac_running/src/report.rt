@@ -24,18 +24,17 @@ use uac_transcript::{
 use uac_units::{Meter, Meters};
 
 /// Prints the microframes since the start, and whether all clocks were steady.
+#[tactic(auto, using(uac_transcript::proofs::PrintingLemmas::stops))]
 pub(crate) fn write_head<K: Sink>(sink: &mut K, time: u64, steady: bool) -> Result<(), Failed>
     ensures printed { Prints (K.written sink.old) (K.written sink.new) result (says_passed time ∷ says_steady steady ∷ []) }
     ensures cause { HasCause (K.faults sink.old) (K.faults sink.new) result }
 {
-    match write_passed(sink, time) {
-        Ok(()) => {}
-        Err(failed) => return Err(failed),
-    }
+    write_passed(sink, time)?;
     write_steady(sink, steady)
 }
 
 /// Prints each domain's rate and ticks, each stream, each meter, and how often units were rendered.
+#[tactic(auto, using(uac_transcript::proofs::PrintingLemmas::stops))]
 pub(crate) fn write_rest<K: Sink>(
     sink: &mut K,
     device: &Device,
@@ -50,27 +49,19 @@ pub(crate) fn write_rest<K: Sink>(
         ++ (map says_meter (readings (λ v x. (⟦<dyn Meter as Meter>⟧ v).reading_of x) meters.now) ++ says_renders renders ∷ []))) }
     ensures cause { HasCause (K.faults sink.old) (K.faults sink.new) result }
 {
-    match write_domains(sink, device, counts) {
-        Ok(()) => {}
-        Err(failed) => return Err(failed),
-    }
-    match write_streams(sink, device, streaming) {
-        Ok(()) => {}
-        Err(failed) => return Err(failed),
-    }
+    write_domains(sink, device, counts)?;
+    write_streams(sink, device, streaming)?;
     write_last(sink, meters, renders)
 }
 
 /// Prints each meter, and how often units were rendered.
+#[tactic(auto, using(uac_transcript::proofs::PrintingLemmas::stops))]
 fn write_last<K: Sink>(sink: &mut K, meters: &Meters, renders: u64) -> Result<(), Failed>
     ensures printed { Prints (K.written sink.old) (K.written sink.new) result
         (map says_meter (readings (λ v x. (⟦<dyn Meter as Meter>⟧ v).reading_of x) meters.now) ++ says_renders renders ∷ []) }
     ensures cause { HasCause (K.faults sink.old) (K.faults sink.new) result }
 {
-    match write_meters(sink, meters) {
-        Ok(()) => {}
-        Err(failed) => return Err(failed),
-    }
+    write_meters(sink, meters)?;
     write_renders(sink, renders)
 }
 
@@ -81,15 +72,12 @@ fn write_domains<K: Sink>(sink: &mut K, device: &Device, counts: &[TickCount]) -
     ensures cause { HasCause (K.faults sink.old) (K.faults sink.new) result }
 {
     for count in counts {
-        match write_domain(
+        write_domain(
             sink,
             count.clock,
             domain_rate(device, count.clock),
             count.ticks,
-        ) {
-            Ok(()) => {}
-            Err(failed) => return Err(failed),
-        }
+        )?;
     }
     Ok(())
 }
@@ -112,10 +100,7 @@ fn write_streams<K: Sink>(
     ensures cause { HasCause (K.faults sink.old) (K.faults sink.new) result }
 {
     for stream in device.function().streams() {
-        match write_stream(sink, device, streaming, stream) {
-            Ok(()) => {}
-            Err(failed) => return Err(failed),
-        }
+        write_stream(sink, device, streaming, stream)?;
     }
     Ok(())
 }
@@ -151,10 +136,7 @@ fn write_meters<K: Sink>(sink: &mut K, meters: &Meters) -> Result<(), Failed>
     ensures cause { HasCause (K.faults sink.old) (K.faults sink.new) result }
 {
     for at in 0..meters.len() {
-        match write_meter(sink, meters.kind(at), meters.value(at)) {
-            Ok(()) => {}
-            Err(failed) => return Err(failed),
-        }
+        write_meter(sink, meters.kind(at), meters.value(at))?;
     }
     Ok(())
 }

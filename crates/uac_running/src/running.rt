@@ -172,10 +172,7 @@ impl Running {
             → Prints (K.written sink.old) (K.written sink.new) result (report_lines r) }
         ensures cause { HasCause (K.faults sink.old) (K.faults sink.new) result }
     {
-        match write_head(sink, self.time, self.streaming.is_steady()) {
-            Ok(()) => {}
-            Err(failed) => return Err(failed),
-        }
+        write_head(sink, self.time, self.streaming.is_steady())?;
         write_rest(
             sink,
             &self.device,

@@ -65,10 +65,8 @@ pub fn fresh_view(alloc: Global, function: Function) -> Result<View, NoMemory>
     ensures { IfOk result (λ view. view ≡ known_view function.entities (initial_controls function.entities)) }
 {
     let device = Device::new(alloc, function)?;
-    match with_view(alloc, device) {
-        Ok(viewed) => Ok(viewed.view),
-        Err(NoMemory) => Err(NoMemory),
-    }
+    let viewed = with_view(alloc, device)?;
+    Ok(viewed.view)
 }
 
 /// Whether a device holds another setting of an interface after a transfer, of which it answered this last.

@@ -22,6 +22,7 @@ use uac_transcript::{
 };
 
 /// Prints a packet to the device: from detail 2 on how it arrived, and at any detail that it was over.
+#[tactic(auto, using(uac_transcript::proofs::PrintingLemmas::stops))]
 pub(crate) fn write_sent<K: Sink>(
     sink: &mut K,
     detail: u8,
@@ -32,10 +33,7 @@ pub(crate) fn write_sent<K: Sink>(
     ensures printed { Prints (K.written sink.old) (K.written sink.new) result (spec.out_lines detail interface frames arrival) }
     ensures cause { HasCause (K.faults sink.old) (K.faults sink.new) result }
 {
-    match write_arrival(sink, detail, interface, frames, arrival) {
-        Ok(()) => {}
-        Err(failed) => return Err(failed),
-    }
+    write_arrival(sink, detail, interface, frames, arrival)?;
     match arrival {
         Arrival::Taken => Ok(()),
         Arrival::Lost => Ok(()),
@@ -81,6 +79,7 @@ pub(crate) struct Fetched {
 }
 
 /// Prints a packet from the device: from detail 2 on how it came, and from detail 1 on the frames of one that did.
+#[tactic(auto, using(uac_transcript::proofs::PrintingLemmas::stops))]
 pub(crate) fn write_fetched<K: Sink>(
     sink: &mut K,
     detail: u8,
@@ -93,10 +92,7 @@ pub(crate) fn write_fetched<K: Sink>(
         (spec.in_lines detail fetched.lost fetched.interface fetched.frames (heard_in w fetched.interface packet.now.items)) }
     ensures cause { HasCause (K.faults sink.old) (K.faults sink.new) result }
 {
-    match write_arrived(sink, detail, fetched) {
-        Ok(()) => {}
-        Err(failed) => return Err(failed),
-    }
+    write_arrived(sink, detail, fetched)?;
     if detail < 1 || fetched.lost {
         return Ok(());
     }
@@ -131,10 +127,7 @@ fn write_heard<K: Sink>(
         if !host.hear(interface, packet, at, frame) {
             return Ok(());
         }
-        match write_frame(sink, interface, frame) {
-            Ok(()) => {}
-            Err(failed) => return Err(failed),
-        }
+        write_frame(sink, interface, frame)?;
     }
     Ok(())
 }
@@ -153,10 +146,7 @@ pub(crate) fn write_empty<K: Sink>(
     for stream in streams {
         let found = rest % 2 == 1;
         rest /= 2;
-        match write_if_empty(sink, stream.number, found) {
-            Ok(()) => {}
-            Err(failed) => return Err(failed),
-        }
+        write_if_empty(sink, stream.number, found)?;
     }
     Ok(())
 }
@@ -186,10 +176,7 @@ pub(crate) fn write_full<K: Sink>(
     for stream in streams {
         let found = rest % 2 == 1;
         rest /= 2;
-        match write_if_full(sink, stream.number, found) {
-            Ok(()) => {}
-            Err(failed) => return Err(failed),
-        }
+        write_if_full(sink, stream.number, found)?;
     }
     Ok(())
 }

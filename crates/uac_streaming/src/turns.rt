@@ -37,10 +37,7 @@ impl Streaming {
     {
         for at in 0..self.order.len() {
             let interface = self.order[at];
-            match self.out_packet(device, interface, detail, marks, sink) {
-                Ok(()) => {}
-                Err(failed) => return Err(failed),
-            }
+            self.out_packet(device, interface, detail, marks, sink)?;
         }
         Ok(())
     }
@@ -83,10 +80,7 @@ impl Streaming {
     {
         for at in 0..self.order.len() {
             let interface = self.order[at];
-            match self.in_packet(device, interface, detail, marks, sink) {
-                Ok(()) => {}
-                Err(failed) => return Err(failed),
-            }
+            self.in_packet(device, interface, detail, marks, sink)?;
         }
         Ok(())
     }
@@ -142,10 +136,7 @@ impl Streaming {
     {
         for at in 0..self.order.len() {
             let interface = self.order[at];
-            match settle_one(device, interface, detail, sink) {
-                Ok(()) => {}
-                Err(failed) => return Err(failed),
-            }
+            settle_one(device, interface, detail, sink)?;
         }
         Ok(())
     }
@@ -164,10 +155,7 @@ impl Streaming {
     {
         for at in 0..self.order.len() {
             let interface = self.order[at];
-            match self.report_one(device, interface, detail, marks, sink) {
-                Ok(()) => {}
-                Err(failed) => return Err(failed),
-            }
+            self.report_one(device, interface, detail, marks, sink)?;
         }
         Ok(())
     }
@@ -231,10 +219,7 @@ pub fn write_found<K: Sink>(
         → Prints (K.written sink.old) (K.written sink.new) result (found_lines clock w) }
     ensures cause { HasCause (K.faults sink.old) (K.faults sink.new) result }
 {
-    match write_empty(sink, streams, found.under) {
-        Ok(()) => {}
-        Err(failed) => return Err(failed),
-    }
+    write_empty(sink, streams, found.under)?;
     write_full(sink, streams, found.over)
 }
 

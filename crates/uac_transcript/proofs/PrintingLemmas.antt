@@ -1,10 +1,10 @@
 -- Lines that are printed one after the other.
-use Rattle.std.proofs.Common.{◌≡◌, ◌∙◌, sym, ap, subst, ℕ, ◌+◌, ◌<◌, List, [], ◌∷◌, ◌++◌, length, map, take, drop, get_or, flat_map, Option, Result}
+use Rattle.std.proofs.Common.{◌≡◌, ◌∙◌, sym, ap, subst, ℕ, ◌+◌, ◌<◌, List, [], ◌∷◌, ◌++◌, length, map, take, drop, get_or, flat_map, Option, Result, IsErrAnd, Ok, Err, OnOk}
 use Rattle.std.specs.Io.KnownBytes.{Appends}
 use Rattle.std.proofs.lemmas.Grind.{flat_map-append}
 use Rattle.std.proofs.lemmas.List.{append-nil, map-append, take-append-drop, take_more}
 use Rattle.uac_edges.specs.Writing.{AppendsFront, Writes}
-use Rattle.uac_edges.proofs.WritingLemmas.{Appends-twice, AppendsFront-after, AppendsFront-longer, Writes-after}
+use Rattle.uac_edges.proofs.WritingLemmas.{Appends-twice, AppendsFront-after, AppendsFront-longer, Writes-after, Writes-handed_on}
 use Rattle.uac_transcript.specs.Transcript.{Said, spelled}
 use Rattle.uac_transcript.specs.Printing.{Prints, text_of}
 
@@ -46,6 +46,27 @@ front_after old mid new first second a f =
 front_within : (old mid new : Option (List ℕ)) (before lines after : List Said) → Appends old mid (text_of before) → AppendsFront mid new (text_of lines)
     → AppendsFront old new (text_of ((before ++ lines) ++ after))
 front_within old mid new before lines after a f = front_of_more old new (before ++ lines) after (front_after old mid new before lines a f)
+
+-- ---- a failure that `?` hands on
+
+-- a front of the lines was printed; what is to hold at Ok is not asked then
+pub Tells-handed_on : {T E : Type 0} (Q : E → Type 0) (P : Type 0) (old new : Option (List ℕ)) (r : Result T E) (lines : List Said) → IsErrAnd r Q → AppendsFront old new (text_of lines)
+    → Prints old new r lines × OnOk r P
+Tells-handed_on Q P old new (Ok x) lines fails f = absurd fails
+Tells-handed_on Q P old new (Err e) lines fails f = (f, tt)
+
+-- a front of the first lines is one of those and others
+pub Prints-stopped : {T E : Type 0} (Q : E → Type 0) (old new : Option (List ℕ)) (r : Result T E) (first second : List Said) → IsErrAnd r Q → AppendsFront old new (text_of first)
+    → Prints old new r (first ++ second)
+Prints-stopped Q old new r first second fails f = Writes-handed_on Q old new r (text_of (first ++ second)) fails (front_of_more old new first second f)
+
+-- the first lines, and then a front of the next
+pub Prints-stopped_next : {T E : Type 0} (Q : E → Type 0) (old mid new : Option (List ℕ)) (r : Result T E) (first second : List Said) → IsErrAnd r Q → Appends old mid (text_of first)
+    → AppendsFront mid new (text_of second) → Prints old new r (first ++ second)
+Prints-stopped_next Q old mid new r first second fails a f = Writes-handed_on Q old new r (text_of (first ++ second)) fails (front_after old mid new first second a f)
+
+-- what `?` leaves of lines that are printed one after the other
+pub ruleset stops = (Prints-stopped, Prints-stopped_next, front_of_more)
 
 -- ---- a line for each item
 

@@ -3,15 +3,18 @@ use Rattle.uac_device.specs.DeviceWorld.{at_rest}
 use Rattle.uac_transcript.proofs.PrintingLemmas.{front_of_lines, one_line_more}
 use Rattle.uac_running.specs.Lines.{domain_line}
 use Rattle.uac_running.proofs.Printed.{below_domains, count_at}
+use Rattle.uac_edges.proofs.WritingLemmas.{Writes-handed_on}
 use Rattle.uac_running.proofs.report.write_domains.Goals as goal
 
-pub returns-in-Err-clause-printed : goal.returns-in-Err-clause-printed
-returns-in-Err-clause-printed g c = λ w stands same.
+pub returns-in_err-write_domain-clause-printed : goal.returns-in_err-write_domain-clause-printed
+returns-in_err-write_domain-clause-printed g c = λ w stands same.
     let i = c.loop-count.count-index in
     let below = below_domains w c.args.counts.now i same c.loop-count-test.true in
+    Writes-handed_on _ (g.K.Sink.written c.args.sink.now) (g.K.Sink.written c.write_domain.new.sink) c.from_residual.result _ c.from_residual.ensures.1 (
     front_of_lines _ _ _ (domain_line w) w.domains i (at_rest 0) _ below
     (count_at c.args.device.now w c.args.counts.now i (at_rest 0) (record { clock = 0; ticks = 0 }) _ c.domain_rate.result stands same below refl c.domain_rate.ensures)
-    (c.loop-count.invariant.written w stands same) c.in-Err.ensures.written
+    (c.loop-count.invariant.written w stands same) c.in_err-write_domain.ensures.written
+    )
 
 pub loop-count-preserved : goal.loop-count-preserved
 loop-count-preserved g c = record {
@@ -20,6 +23,6 @@ loop-count-preserved g c = record {
       let below = below_domains w c.args.counts.now i same c.loop-count-test.true in
       one_line_more _ _ _ (domain_line w) w.domains i (at_rest 0) _ below
       (count_at c.args.device.now w c.args.counts.now i (at_rest 0) (record { clock = 0; ticks = 0 }) _ c.domain_rate.result stands same below refl c.domain_rate.ensures)
-      (c.loop-count.invariant.written w stands same) c.in-Ok.ensures.written;
-  faultless = c.in-Ok.ensures.cause.faultless ∙ c.loop-count.invariant.faultless;
+      (c.loop-count.invariant.written w stands same) c.in_ok-write_domain.ensures.written;
+  faultless = c.in_ok-write_domain.ensures.cause.faultless ∙ c.loop-count.invariant.faultless;
 }

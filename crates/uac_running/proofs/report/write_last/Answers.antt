@@ -7,5 +7,5 @@ use Rattle.uac_running.proofs.report.write_last.Goals as goal
 pub returns-clause-printed : goal.returns-clause-printed
 returns-clause-printed g c =
     Prints-after (g.K.Sink.written c.args.sink.now) (g.K.Sink.written c.write_meters.new.sink) (g.K.Sink.written c.write_renders.new.sink) c.write_renders.result
-    (map says_meter (readings (λ v x. (goal.Meter-dyn g (v, x)).reading_of x) c.args.meters.now)) (says_renders c.args.renders ∷ []) c.in-Ok.ensures.printed
+    (map says_meter (readings (λ v x. (goal.Meter-dyn g (v, x)).reading_of x) c.args.meters.now)) (says_renders c.args.renders ∷ []) c.in_ok-write_meters.ensures.printed
     (Prints-line (g.K.Sink.written c.write_meters.new.sink) (g.K.Sink.written c.write_renders.new.sink) c.write_renders.result (says_renders c.args.renders) c.write_renders.ensures.written)

@@ -7,6 +7,7 @@ use Rattle.uac_transcript.specs.Transcript.{Said, says_under}
 use Rattle.uac_transcript.specs.Printing.{text_of}
 use Rattle.uac_transcript.proofs.PrintingLemmas.{front_of_some, some_lines_more}
 use Rattle.uac_streaming.proofs.PacketLines.{found_here, found_rest, kept_only}
+use Rattle.uac_edges.proofs.WritingLemmas.{Writes-handed_on}
 use Rattle.uac_streaming.proofs.printing.write_empty.Goals as goal
 
 -- what is said of an interface
@@ -17,16 +18,18 @@ lines_here : (test : StreamInterface → Bool) (s d : StreamInterface) (found : 
 lines_here test s d found same is =
     ap (λ (b : Bool). if b then says_under s.number ∷ [] else []) is ∙ ap (λ (t : StreamInterface). if test d then says_under t.number ∷ [] else []) same
 
-pub returns-in-Err-clause-printed : goal.returns-in-Err-clause-printed
-returns-in-Err-clause-printed g c = λ test is.
+pub returns-in_err-write_if_empty-clause-printed : goal.returns-in_err-write_if_empty-clause-printed
+returns-in_err-write_if_empty-clause-printed g c = λ test is.
     let xs = c.args.streams.now in
     let s = c.stream-item.result in
     let i = c.loop-stream.stream-index in
     let found = found_here test xs i s c.loop-stream.rest c.loop-stream-test.true (c.loop-stream.invariant.rest test is) in
+    Writes-handed_on _ (g.K.Sink.written c.args.sink.now) (g.K.Sink.written c.write_if_empty.new.sink) c.from_residual.result _ c.from_residual.ensures.1 (
     subst (λ (lines : List Said). AppendsFront (g.K.Sink.written c.args.sink.now) (g.K.Sink.written c.write_if_empty.new.sink) (text_of lines))
     (sym (kept_only (λ (x : StreamInterface). says_under x.number) test xs))
     (front_of_some _ _ _ (lines_of test) xs i s (if c.loop-stream.rest % 2 == 1 then says_under s.number ∷ [] else []) c.loop-stream-test.true
-    (lines_here test s (get_or xs i s) (c.loop-stream.rest % 2 == 1) c.stream-item.is found) (c.loop-stream.invariant.written test is) c.in-Err.ensures.printed)
+    (lines_here test s (get_or xs i s) (c.loop-stream.rest % 2 == 1) c.stream-item.is found) (c.loop-stream.invariant.written test is) c.in_err-write_if_empty.ensures.printed)
+    )
 
 pub loop-stream-preserved : goal.loop-stream-preserved
 loop-stream-preserved g c = record {
@@ -38,8 +41,8 @@ loop-stream-preserved g c = record {
       let i = c.loop-stream.stream-index in
       let found = found_here test xs i s c.loop-stream.rest c.loop-stream-test.true (c.loop-stream.invariant.rest test is) in
       some_lines_more _ _ _ (lines_of test) xs i s (if c.loop-stream.rest % 2 == 1 then says_under s.number ∷ [] else []) c.loop-stream-test.true
-      (lines_here test s (get_or xs i s) (c.loop-stream.rest % 2 == 1) c.stream-item.is found) (c.loop-stream.invariant.written test is) c.in-Ok.ensures.printed;
-  faultless = c.in-Ok.ensures.cause.faultless ∙ c.loop-stream.invariant.faultless;
+      (lines_here test s (get_or xs i s) (c.loop-stream.rest % 2 == 1) c.stream-item.is found) (c.loop-stream.invariant.written test is) c.in_ok-write_if_empty.ensures.printed;
+  faultless = c.in_ok-write_if_empty.ensures.cause.faultless ∙ c.loop-stream.invariant.faultless;
 }
 
 pub returns-clause-printed : goal.returns-clause-printed

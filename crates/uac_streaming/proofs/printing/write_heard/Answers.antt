@@ -7,16 +7,19 @@ use Rattle.uac_transcript.specs.Transcript.{says_frame}
 use Rattle.uac_transcript.specs.Printing.{text_of}
 use Rattle.uac_transcript.proofs.PrintingLemmas.{front_of_lines, one_line_more}
 use Rattle.uac_streaming.proofs.PacketLines.{heard_few}
+use Rattle.uac_edges.proofs.WritingLemmas.{Writes-handed_on}
 use Rattle.uac_streaming.proofs.printing.write_heard.Goals as goal
 
-pub returns-in-Err-clause-printed : goal.returns-in-Err-clause-printed
-returns-in-Err-clause-printed g c = λ w stands.
+pub returns-in_err-write_frame-clause-printed : goal.returns-in_err-write_frame-clause-printed
+returns-in_err-write_frame-clause-printed g c = λ w stands.
     let xs = heard_in w c.args.interface c.args.packet.now.items in
     let there = c.if-not-hear.ensures.samples w stands in
+    Writes-handed_on _ (g.K.Sink.written c.args.sink.now) (g.K.Sink.written c.write_frame.new.sink) c.from_residual.result _ c.from_residual.ensures.1 (
     front_of_lines _ _ _ (says_frame c.args.interface) xs c.loop-at.at [] (says_frame c.args.interface c.hear.new.frame.items)
     (slice_get_within xs c.loop-at.at c.hear.new.frame.items there)
     (ap (says_frame c.args.interface) (sym (get_or_from_slice_get xs c.loop-at.at c.hear.new.frame.items [] there)))
-    (c.loop-at.invariant.written w stands) c.in-Err.ensures.written
+    (c.loop-at.invariant.written w stands) c.in_err-write_frame.ensures.written
+    )
 
 pub loop-at-preserved : goal.loop-at-preserved
 loop-at-preserved g c = record {
@@ -26,8 +29,8 @@ loop-at-preserved g c = record {
       one_line_more _ _ _ (says_frame c.args.interface) xs c.loop-at.at [] (says_frame c.args.interface c.hear.new.frame.items)
       (slice_get_within xs c.loop-at.at c.hear.new.frame.items there)
       (ap (says_frame c.args.interface) (sym (get_or_from_slice_get xs c.loop-at.at c.hear.new.frame.items [] there)))
-      (c.loop-at.invariant.written w stands) c.in-Ok.ensures.written;
-  faultless = c.in-Ok.ensures.cause.faultless ∙ c.loop-at.invariant.faultless;
+      (c.loop-at.invariant.written w stands) c.in_ok-write_frame.ensures.written;
+  faultless = c.in_ok-write_frame.ensures.cause.faultless ∙ c.loop-at.invariant.faultless;
 }
 
 pub returns-clause-printed : goal.returns-clause-printed

@@ -9,6 +9,7 @@ use Rattle.uac_running.specs.Events.{domain_microframe, domain_microframes}
 use Rattle.uac_running.specs.Kept.{Stands}
 use Rattle.uac_running.proofs.SoFar.{begun, finished, one_more, stopped}
 use Rattle.uac_running.proofs.Steps.{domains_end, domains_split}
+use Rattle.uac_transcript.proofs.PrintingLemmas.{Tells-handed_on}
 use Rattle.uac_running.proofs.running.Running.domain_microframes.Goals as goal
 
 pub loop-place-init : goal.loop-place-init
@@ -18,18 +19,18 @@ loop-place-init g c = record {
   function = refl;
 }
 
-pub returns-in-Err-clause-tells : goal.returns-in-Err-clause-tells
-returns-in-Err-clause-tells g c r stands =
+pub returns-in_err-domain_microframe-clause-tells : goal.returns-in_err-domain_microframe-clause-tells
+returns-in_err-domain_microframe-clause-tells g c r stands =
     let own = ap (λ (f : FunctionFields). f.domains) stands.streaming.device.function in
     let here : c.clock_at.result ≡ get_or c.args.self.now.device.function.domains c.loop-place.place 0 = c.clock_at.ensures ∙ ap (λ (f : FunctionFields). get_or f.domains c.loop-place.place 0) c.loop-place.invariant.function in
     let below : c.loop-place.place < length c.args.self.now.device.function.domains = omega arith in
     let told = subst (λ (clock : ℕ). (w : RunningWorld) → Stands c.loop-place.self (readings (λ v x. (goal.Meter-dyn g (v, x)).reading_of x) c.loop-place.meters) w
-    → AppendsFront (g.K.Sink.written c.loop-place.sink) (g.K.Sink.written c.domain_microframe.new.sink) (text_of (domain_microframe clock w).lines) × Unit {0}) here c.in-Err.ensures.tells in
+    → AppendsFront (g.K.Sink.written c.loop-place.sink) (g.K.Sink.written c.domain_microframe.new.sink) (text_of (domain_microframe clock w).lines) × Unit {0}) here c.in_err-domain_microframe.ensures.tells in
     let all = stopped Stands (domain_microframes c.args.self.now.device.function.domains r) (domain_microframes (drop c.loop-place.place c.args.self.now.device.function.domains)) (domain_microframes (drop (c.loop-place.place + 1) c.args.self.now.device.function.domains))
     (domain_microframe (get_or c.args.self.now.device.function.domains c.loop-place.place 0)) c.loop-place.self (readings (λ v x. (goal.Meter-dyn g (v, x)).reading_of x) c.loop-place.meters)
     (g.K.Sink.written c.args.sink.now) (g.K.Sink.written c.loop-place.sink) (g.K.Sink.written c.domain_microframe.new.sink)
     (λ w. domains_split c.args.self.now.device.function.domains c.loop-place.place w below) (c.loop-place.invariant.told r stands) told in
-    (subst (λ (clocks : List ℕ). AppendsFront (g.K.Sink.written c.args.sink.now) (g.K.Sink.written c.domain_microframe.new.sink) (text_of (domain_microframes clocks r).lines)) own all, tt)
+    Tells-handed_on _ _ (g.K.Sink.written c.args.sink.now) (g.K.Sink.written c.domain_microframe.new.sink) c.from_residual.result _ c.from_residual.ensures.1 (subst (λ (clocks : List ℕ). AppendsFront (g.K.Sink.written c.args.sink.now) (g.K.Sink.written c.domain_microframe.new.sink) (text_of (domain_microframes clocks r).lines)) own all)
 
 pub loop-place-preserved : goal.loop-place-preserved
 loop-place-preserved g c =
@@ -37,14 +38,14 @@ loop-place-preserved g c =
     let below : c.loop-place.place < length c.args.self.now.device.function.domains = omega arith in
     let told = subst (λ (clock : ℕ). (w : RunningWorld) → Stands c.loop-place.self (readings (λ v x. (goal.Meter-dyn g (v, x)).reading_of x) c.loop-place.meters) w
     → Appends (g.K.Sink.written c.loop-place.sink) (g.K.Sink.written c.domain_microframe.new.sink) (text_of (domain_microframe clock w).lines)
-    × Stands c.domain_microframe.new.self (readings (λ v x. (goal.Meter-dyn g (v, x)).reading_of x) c.domain_microframe.new.meters) (domain_microframe clock w).world) here c.in-Ok.ensures.tells in
+    × Stands c.domain_microframe.new.self (readings (λ v x. (goal.Meter-dyn g (v, x)).reading_of x) c.domain_microframe.new.meters) (domain_microframe clock w).world) here c.in_ok-domain_microframe.ensures.tells in
     record {
       told = λ r stands.
           one_more Stands (domain_microframes c.args.self.now.device.function.domains r) (domain_microframes (drop c.loop-place.place c.args.self.now.device.function.domains)) (domain_microframes (drop (c.loop-place.place + 1) c.args.self.now.device.function.domains))
           (domain_microframe (get_or c.args.self.now.device.function.domains c.loop-place.place 0)) c.loop-place.self c.domain_microframe.new.self (readings (λ v x. (goal.Meter-dyn g (v, x)).reading_of x) c.loop-place.meters) (readings (λ v x. (goal.Meter-dyn g (v, x)).reading_of x) c.domain_microframe.new.meters)
           (g.K.Sink.written c.args.sink.now) (g.K.Sink.written c.loop-place.sink) (g.K.Sink.written c.domain_microframe.new.sink)
           (λ w. domains_split c.args.self.now.device.function.domains c.loop-place.place w below) (c.loop-place.invariant.told r stands) told;
-      faultless = c.in-Ok.ensures.cause.faultless ∙ c.loop-place.invariant.faultless;
+      faultless = c.in_ok-domain_microframe.ensures.cause.faultless ∙ c.loop-place.invariant.faultless;
       function = c.domain_microframe.ensures.function ∙ c.loop-place.invariant.function;
     }
 

@@ -10,27 +10,28 @@ use Rattle.uac_running.specs.Kept.{RunningFields}
 use Rattle.uac_running.specs.Events.{packets_and_ticks}
 use Rattle.uac_running.proofs.RoomSteps.{one_microframe, zeros_fit_in}
 use Rattle.uac_running.proofs.Steps.{microframe_front, microframe_next_front, microframe_told, number_line, numbered, passed}
+use Rattle.uac_transcript.proofs.PrintingLemmas.{Tells-handed_on}
 use Rattle.uac_running.proofs.running.Running.microframe.Goals as goal
 
-pub returns-in-Err-clause-tells : goal.returns-in-Err-clause-tells
-returns-in-Err-clause-tells g c r stands =
+pub returns-in_err-write_number-clause-tells : goal.returns-in_err-write_number-clause-tells
+returns-in_err-write_number-clause-tells g c r stands =
     let shown = readings (λ v x. (goal.Meter-dyn g (v, x)).reading_of x) c.args.meters.now in
     let later = passed shown r c.args.self.now c.pass.new.self stands.now c.pass.ensures in
-    let said = number_line r c.pass.new.self shown later in (
-      microframe_front (map said_mark c.args.marks.now) r (g.K.Sink.written c.args.sink.now) (g.K.Sink.written c.write_number.new.sink)
-          (subst (λ (lines : List Said). AppendsFront (g.K.Sink.written c.args.sink.now) (g.K.Sink.written c.write_number.new.sink) (text_of lines)) said c.in-Err.ensures.printed),
-      tt,
+    let said = number_line r c.pass.new.self shown later in
+    Tells-handed_on _ _ (g.K.Sink.written c.args.sink.now) (g.K.Sink.written c.write_number.new.sink) c.from_residual.result _ c.from_residual.ensures.1 (
+    microframe_front (map said_mark c.args.marks.now) r (g.K.Sink.written c.args.sink.now) (g.K.Sink.written c.write_number.new.sink)
+    (subst (λ (lines : List Said). AppendsFront (g.K.Sink.written c.args.sink.now) (g.K.Sink.written c.write_number.new.sink) (text_of lines)) said c.in_err-write_number.ensures.printed)
     )
 
-pub returns-in-Err-packets_and_ticks-clause-tells : goal.returns-in-Err-packets_and_ticks-clause-tells
-returns-in-Err-packets_and_ticks-clause-tells g c r stands =
+pub returns-in_err-packets_and_ticks-clause-tells : goal.returns-in_err-packets_and_ticks-clause-tells
+returns-in_err-packets_and_ticks-clause-tells g c r stands =
     let shown = readings (λ v x. (goal.Meter-dyn g (v, x)).reading_of x) c.args.meters.now in
     let later = passed shown r c.args.self.now c.pass.new.self stands.now c.pass.ensures in
-    let said = number_line r c.pass.new.self shown later in (
-      microframe_next_front (map said_mark c.args.marks.now) r (g.K.Sink.written c.args.sink.now) (g.K.Sink.written c.write_number.new.sink) (g.K.Sink.written c.packets_and_ticks.new.sink)
-          (subst (λ (lines : List Said). Appends (g.K.Sink.written c.args.sink.now) (g.K.Sink.written c.write_number.new.sink) (text_of lines)) said c.in-Ok.ensures.printed)
-          (c.in-Err-packets_and_ticks.ensures.tells (numbered r) later).0,
-      tt,
+    let said = number_line r c.pass.new.self shown later in
+    Tells-handed_on _ _ (g.K.Sink.written c.args.sink.now) (g.K.Sink.written c.packets_and_ticks.new.sink) c.from_residual-in_err-packets_and_ticks.result _ c.from_residual-in_err-packets_and_ticks.ensures.1 (
+    microframe_next_front (map said_mark c.args.marks.now) r (g.K.Sink.written c.args.sink.now) (g.K.Sink.written c.write_number.new.sink) (g.K.Sink.written c.packets_and_ticks.new.sink)
+    (subst (λ (lines : List Said). Appends (g.K.Sink.written c.args.sink.now) (g.K.Sink.written c.write_number.new.sink) (text_of lines)) said c.in_ok-write_number.ensures.printed)
+    (c.in_err-packets_and_ticks.ensures.tells (numbered r) later).0
     )
 
 pub returns-clause-tells : goal.returns-clause-tells
@@ -40,9 +41,9 @@ returns-clause-tells g c r stands =
     let losses = map said_mark c.args.marks.now in
     let later = passed shown r c.args.self.now c.pass.new.self stands.now c.pass.ensures in
     let said = number_line r c.pass.new.self shown later in
-    let number = subst (λ (lines : List Said). Appends (g.K.Sink.written c.args.sink.now) (g.K.Sink.written c.write_number.new.sink) (text_of lines)) said c.in-Ok.ensures.printed in
+    let number = subst (λ (lines : List Said). Appends (g.K.Sink.written c.args.sink.now) (g.K.Sink.written c.write_number.new.sink) (text_of lines)) said c.in_ok-write_number.ensures.printed in
     let small = subst HaveSmallNumbers (c.function.ensures ∙ ap (λ (p : RunningFields). p.device.function) c.self.view_is ∙ stands.now.streaming.device.function) c.numbers_are_bytes.ensures in
-    let first = c.in-Ok-packets_and_ticks.ensures.tells (numbered r) later in
+    let first = c.in_ok-packets_and_ticks.ensures.tells (numbered r) later in
     microframe_told losses r c.ends_and_reports.new.self showing (g.K.Sink.written c.args.sink.now) (g.K.Sink.written c.write_number.new.sink) (g.K.Sink.written c.packets_and_ticks.new.sink)
     (g.K.Sink.written c.ends_and_reports.new.sink) c.ends_and_reports.result (one_microframe losses r small stands.room) number first.0
     (c.ends_and_reports.ensures.tells showing (packets_and_ticks losses (numbered r)).world first.1 (zeros_fit_in losses (numbered r) stands.room))

@@ -5,6 +5,7 @@ use Rattle.uac_running.specs.Events.{microframe, microframes}
 use Rattle.uac_running.specs.Kept.{StandsBetween}
 use Rattle.uac_running.proofs.SoFar.{begun, finished, one_more, stopped}
 use Rattle.uac_running.proofs.Steps.{microframes_end, microframes_split}
+use Rattle.uac_transcript.proofs.PrintingLemmas.{Tells-handed_on}
 use Rattle.uac_running.proofs.running.Running.microframes.Goals as goal
 
 pub loop-passed-init : goal.loop-passed-init
@@ -14,14 +15,14 @@ loop-passed-init g c = record {
   faultless = refl;
 }
 
-pub returns-in-Err-clause-tells : goal.returns-in-Err-clause-tells
-returns-in-Err-clause-tells g c r stands = (
-  stopped StandsBetween (microframes (map said_mark c.args.marks.now) c.args.count r) (microframes (map said_mark c.args.marks.now) (c.args.count - c.loop-passed._passed)) (microframes (map said_mark c.args.marks.now) (c.args.count - (c.loop-passed._passed + 1)))
-      (microframe (map said_mark c.args.marks.now)) c.loop-passed.self (readings (λ v x. (goal.Meter-dyn g (v, x)).reading_of x) c.loop-passed.meters)
-      (g.K.Sink.written c.args.sink.now) (g.K.Sink.written c.loop-passed.sink) (g.K.Sink.written c.microframe.new.sink)
-      (λ w. microframes_split (map said_mark c.args.marks.now) c.args.count c.loop-passed._passed w c.loop-passed-test.true) (c.loop-passed.invariant.told r stands) c.in-Err.ensures.tells,
-  tt,
-)
+pub returns-in_err-microframe-clause-tells : goal.returns-in_err-microframe-clause-tells
+returns-in_err-microframe-clause-tells g c r stands =
+    Tells-handed_on _ _ (g.K.Sink.written c.args.sink.now) (g.K.Sink.written c.microframe.new.sink) c.from_residual.result _ c.from_residual.ensures.1 (
+    stopped StandsBetween (microframes (map said_mark c.args.marks.now) c.args.count r) (microframes (map said_mark c.args.marks.now) (c.args.count - c.loop-passed._passed)) (microframes (map said_mark c.args.marks.now) (c.args.count - (c.loop-passed._passed + 1)))
+    (microframe (map said_mark c.args.marks.now)) c.loop-passed.self (readings (λ v x. (goal.Meter-dyn g (v, x)).reading_of x) c.loop-passed.meters)
+    (g.K.Sink.written c.args.sink.now) (g.K.Sink.written c.loop-passed.sink) (g.K.Sink.written c.microframe.new.sink)
+    (λ w. microframes_split (map said_mark c.args.marks.now) c.args.count c.loop-passed._passed w c.loop-passed-test.true) (c.loop-passed.invariant.told r stands) c.in_err-microframe.ensures.tells
+    )
 
 pub loop-passed-preserved : goal.loop-passed-preserved
 loop-passed-preserved g c = record {
@@ -29,8 +30,8 @@ loop-passed-preserved g c = record {
       one_more StandsBetween (microframes (map said_mark c.args.marks.now) c.args.count r) (microframes (map said_mark c.args.marks.now) (c.args.count - c.loop-passed._passed)) (microframes (map said_mark c.args.marks.now) (c.args.count - (c.loop-passed._passed + 1)))
       (microframe (map said_mark c.args.marks.now)) c.loop-passed.self c.microframe.new.self (readings (λ v x. (goal.Meter-dyn g (v, x)).reading_of x) c.loop-passed.meters) (readings (λ v x. (goal.Meter-dyn g (v, x)).reading_of x) c.microframe.new.meters)
       (g.K.Sink.written c.args.sink.now) (g.K.Sink.written c.loop-passed.sink) (g.K.Sink.written c.microframe.new.sink)
-      (λ w. microframes_split (map said_mark c.args.marks.now) c.args.count c.loop-passed._passed w c.loop-passed-test.true) (c.loop-passed.invariant.told r stands) c.in-Ok.ensures.tells;
-  faultless = c.in-Ok.ensures.cause.faultless ∙ c.loop-passed.invariant.faultless;
+      (λ w. microframes_split (map said_mark c.args.marks.now) c.args.count c.loop-passed._passed w c.loop-passed-test.true) (c.loop-passed.invariant.told r stands) c.in_ok-microframe.ensures.tells;
+  faultless = c.in_ok-microframe.ensures.cause.faultless ∙ c.loop-passed.invariant.faultless;
 }
 
 pub returns-clause-tells : goal.returns-clause-tells

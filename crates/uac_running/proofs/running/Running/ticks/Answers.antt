@@ -4,6 +4,7 @@ use Rattle.uac_running.specs.Events.{tick, tick_times}
 use Rattle.uac_running.specs.Kept.{Stands}
 use Rattle.uac_running.proofs.SoFar.{begun, finished, one_more, stopped}
 use Rattle.uac_running.proofs.Steps.{ticks_end, ticks_split}
+use Rattle.uac_transcript.proofs.PrintingLemmas.{Tells-handed_on}
 use Rattle.uac_running.proofs.running.Running.ticks.Goals as goal
 
 pub loop-ticked-init : goal.loop-ticked-init
@@ -15,14 +16,14 @@ loop-ticked-init g c = record {
   function = search rules;
 }
 
-pub returns-in-Err-clause-tells : goal.returns-in-Err-clause-tells
-returns-in-Err-clause-tells g c r stands = (
-  stopped Stands (tick_times c.args.count c.args.clock r) (tick_times (c.args.count - c.loop-ticked._ticked) c.args.clock) (tick_times (c.args.count - (c.loop-ticked._ticked + 1)) c.args.clock)
-      (tick c.args.clock) c.loop-ticked.self (readings (λ v x. (goal.Meter-dyn g (v, x)).reading_of x) c.loop-ticked.meters)
-      (g.K.Sink.written c.args.sink.now) (g.K.Sink.written c.loop-ticked.sink) (g.K.Sink.written c.tick.new.sink)
-      (λ w. ticks_split c.args.count c.loop-ticked._ticked c.args.clock w c.loop-ticked-test.true) (c.loop-ticked.invariant.told r stands) c.in-Err.ensures.tells,
-  tt,
-)
+pub returns-in_err-tick-clause-tells : goal.returns-in_err-tick-clause-tells
+returns-in_err-tick-clause-tells g c r stands =
+    Tells-handed_on _ _ (g.K.Sink.written c.args.sink.now) (g.K.Sink.written c.tick.new.sink) c.from_residual.result _ c.from_residual.ensures.1 (
+    stopped Stands (tick_times c.args.count c.args.clock r) (tick_times (c.args.count - c.loop-ticked._ticked) c.args.clock) (tick_times (c.args.count - (c.loop-ticked._ticked + 1)) c.args.clock)
+    (tick c.args.clock) c.loop-ticked.self (readings (λ v x. (goal.Meter-dyn g (v, x)).reading_of x) c.loop-ticked.meters)
+    (g.K.Sink.written c.args.sink.now) (g.K.Sink.written c.loop-ticked.sink) (g.K.Sink.written c.tick.new.sink)
+    (λ w. ticks_split c.args.count c.loop-ticked._ticked c.args.clock w c.loop-ticked-test.true) (c.loop-ticked.invariant.told r stands) c.in_err-tick.ensures.tells
+    )
 
 pub loop-ticked-preserved : goal.loop-ticked-preserved
 loop-ticked-preserved g c = record {
@@ -30,8 +31,8 @@ loop-ticked-preserved g c = record {
       one_more Stands (tick_times c.args.count c.args.clock r) (tick_times (c.args.count - c.loop-ticked._ticked) c.args.clock) (tick_times (c.args.count - (c.loop-ticked._ticked + 1)) c.args.clock)
       (tick c.args.clock) c.loop-ticked.self c.tick.new.self (readings (λ v x. (goal.Meter-dyn g (v, x)).reading_of x) c.loop-ticked.meters) (readings (λ v x. (goal.Meter-dyn g (v, x)).reading_of x) c.tick.new.meters)
       (g.K.Sink.written c.args.sink.now) (g.K.Sink.written c.loop-ticked.sink) (g.K.Sink.written c.tick.new.sink)
-      (λ w. ticks_split c.args.count c.loop-ticked._ticked c.args.clock w c.loop-ticked-test.true) (c.loop-ticked.invariant.told r stands) c.in-Ok.ensures.tells;
-  faultless = c.in-Ok.ensures.cause.faultless ∙ c.loop-ticked.invariant.faultless;
+      (λ w. ticks_split c.args.count c.loop-ticked._ticked c.args.clock w c.loop-ticked-test.true) (c.loop-ticked.invariant.told r stands) c.in_ok-tick.ensures.tells;
+  faultless = c.in_ok-tick.ensures.cause.faultless ∙ c.loop-ticked.invariant.faultless;
   function = c.tick.ensures.function ∙ c.loop-ticked.invariant.function;
 }
 

@@ -8,6 +8,7 @@ use Rattle.uac_streaming.specs.StreamingWorld.{StreamingWorld, out_turn}
 use Rattle.uac_streaming.specs.Kept.{StreamingFields, Stands}
 use Rattle.uac_streaming.proofs.SoFar.{at_place, begun, turn_more, turn_stopped, turns_finished}
 use Rattle.uac_streaming.proofs.Turned.{out_packets_are}
+use Rattle.uac_transcript.proofs.PrintingLemmas.{Tells-handed_on}
 use Rattle.uac_streaming.proofs.streaming.Streaming.out_packets.Goals as goal
 
 pub loop-at-init : goal.loop-at-init
@@ -20,8 +21,8 @@ loop-at-init g c = record {
   order = refl;
 }
 
-pub returns-in-Err-clause-tells : goal.returns-in-Err-clause-tells
-returns-in-Err-clause-tells g c = λ w stands.
+pub returns-in_err-out_packet-clause-tells : goal.returns-in_err-out_packet-clause-tells
+returns-in_err-out_packet-clause-tells g c = λ w stands.
     let event = out_turn c.args.detail (map said_mark c.args.marks.now) in
     let order = c.args.self.now.order in
     let many = ap (λ (p : StreamingFields). length p.order) c.self.view_is in
@@ -30,10 +31,10 @@ returns-in-Err-clause-tells g c = λ w stands.
     (ap (λ (p : StreamingFields). p.order) c.self-in-loop-at.view_is) c.loop-at.invariant.order below c.index-interface.ensures in
     let all = turn_stopped event order w (Stands c.loop-at.self c.loop-at.device) (Stands c.loop-at.self c.loop-at.device)
     (g.K.Sink.written c.args.sink.now) (g.K.Sink.written c.loop-at.sink) (g.K.Sink.written c.out_packet.new.sink) c.loop-at.at c.index-interface.result.now
-    below here (c.loop-at.invariant.told w stands) (λ v s. (c.in-Err.ensures.tells v s).0) in (
-      subst (λ (told : Telling StreamingWorld). AppendsFront (g.K.Sink.written c.args.sink.now) (g.K.Sink.written c.out_packet.new.sink) (text_of told.lines))
-          (out_packets_are c.args.detail (map said_mark c.args.marks.now) w order stands.order) all,
-      tt,
+    below here (c.loop-at.invariant.told w stands) (λ v s. (c.in_err-out_packet.ensures.tells v s).0) in
+    Tells-handed_on _ _ (g.K.Sink.written c.args.sink.now) (g.K.Sink.written c.out_packet.new.sink) c.from_residual.result _ c.from_residual.ensures.1 (
+    subst (λ (told : Telling StreamingWorld). AppendsFront (g.K.Sink.written c.args.sink.now) (g.K.Sink.written c.out_packet.new.sink) (text_of told.lines))
+    (out_packets_are c.args.detail (map said_mark c.args.marks.now) w order stands.order) all
     )
 
 pub loop-at-preserved : goal.loop-at-preserved
@@ -47,8 +48,8 @@ loop-at-preserved g c = record {
       (ap (λ (p : StreamingFields). p.order) c.self-in-loop-at.view_is) c.loop-at.invariant.order below c.index-interface.ensures in
       turn_more event order w (Stands c.loop-at.self c.loop-at.device) (Stands c.out_packet.new.self c.out_packet.new.device)
       (g.K.Sink.written c.args.sink.now) (g.K.Sink.written c.loop-at.sink) (g.K.Sink.written c.out_packet.new.sink) c.loop-at.at c.index-interface.result.now
-      below here (c.loop-at.invariant.told w stands) c.in-Ok.ensures.tells;
-  faultless = c.in-Ok.ensures.cause.faultless ∙ c.loop-at.invariant.faultless;
+      below here (c.loop-at.invariant.told w stands) c.in_ok-out_packet.ensures.tells;
+  faultless = c.in_ok-out_packet.ensures.cause.faultless ∙ c.loop-at.invariant.faultless;
   function = c.out_packet.ensures.function ∙ c.loop-at.invariant.function;
   order = c.out_packet.ensures.order ∙ c.loop-at.invariant.order;
 }

@@ -7,6 +7,7 @@ use Rattle.uac_streaming.specs.StreamingWorld.{StreamingWorld, settled_turn}
 use Rattle.uac_streaming.specs.Kept.{StreamingFields, Stands}
 use Rattle.uac_streaming.proofs.SoFar.{at_place, begun, turn_more, turn_stopped, turns_finished}
 use Rattle.uac_streaming.proofs.Turned.{StandsBefore, all_settled_are, settled_failed, settled_next}
+use Rattle.uac_transcript.proofs.PrintingLemmas.{Tells-handed_on}
 use Rattle.uac_streaming.proofs.streaming.Streaming.settle.Goals as goal
 
 pub loop-at-init : goal.loop-at-init
@@ -20,8 +21,8 @@ loop-at-init g c = record {
   function = refl;
 }
 
-pub returns-in-Err-clause-tells : goal.returns-in-Err-clause-tells
-returns-in-Err-clause-tells g c = λ w stands fit.
+pub returns-in_err-settle_one-clause-tells : goal.returns-in_err-settle_one-clause-tells
+returns-in_err-settle_one-clause-tells g c = λ w stands fit.
     let event = settled_turn c.args.detail in
     let p = c.args.self.now in
     let order = c.args.self.now.order in
@@ -32,10 +33,10 @@ returns-in-Err-clause-tells g c = λ w stands fit.
     (g.K.Sink.written c.args.sink.now) (g.K.Sink.written c.loop-at.sink) (g.K.Sink.written c.settle_one.new.sink) c.loop-at.at c.index-interface.result.now
     below here (c.loop-at.invariant.told w stands fit)
     (settled_failed p c.loop-at.device c.settle_one.new.device c.args.detail c.index-interface.result.now c.loop-at.at (g.K.Sink.written c.loop-at.sink) (g.K.Sink.written c.settle_one.new.sink)
-    here below c.in-Err.ensures.tells) in (
-      subst (λ (told : Telling StreamingWorld). AppendsFront (g.K.Sink.written c.args.sink.now) (g.K.Sink.written c.settle_one.new.sink) (text_of told.lines))
-          (all_settled_are c.args.detail w order stands.order) all,
-      tt,
+    here below c.in_err-settle_one.ensures.tells) in
+    Tells-handed_on _ _ (g.K.Sink.written c.args.sink.now) (g.K.Sink.written c.settle_one.new.sink) c.from_residual.result _ c.from_residual.ensures.1 (
+    subst (λ (told : Telling StreamingWorld). AppendsFront (g.K.Sink.written c.args.sink.now) (g.K.Sink.written c.settle_one.new.sink) (text_of told.lines))
+    (all_settled_are c.args.detail w order stands.order) all
     )
 
 pub loop-at-preserved : goal.loop-at-preserved
@@ -51,8 +52,8 @@ loop-at-preserved g c = record {
       (g.K.Sink.written c.args.sink.now) (g.K.Sink.written c.loop-at.sink) (g.K.Sink.written c.settle_one.new.sink) c.loop-at.at c.index-interface.result.now
       below here (c.loop-at.invariant.told w stands fit)
       (settled_next p c.loop-at.device c.settle_one.new.device c.args.detail c.index-interface.result.now c.loop-at.at (g.K.Sink.written c.loop-at.sink) (g.K.Sink.written c.settle_one.new.sink)
-      here below c.in-Ok.ensures.tells);
-  faultless = c.in-Ok.ensures.cause.faultless ∙ c.loop-at.invariant.faultless;
+      here below c.in_ok-settle_one.ensures.tells);
+  faultless = c.in_ok-settle_one.ensures.cause.faultless ∙ c.loop-at.invariant.faultless;
   function = c.settle_one.ensures.function ∙ c.loop-at.invariant.function;
 }
 
