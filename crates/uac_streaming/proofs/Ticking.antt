@@ -1,5 +1,6 @@
 -- What a tick finds, from its bits.
-use Rattle.std.proofs.Common.{◌≡◌, ◌∙◌, sym, ap, ℕ, Bool, List, ◌++◌, map, filter}
+use Rattle.std.proofs.Common.{◌≡◌, ◌∙◌, sym, ap, refl, arith, ℕ, Bool, List, [], ◌∷◌, ◌++◌, map, filter, inl, inr}
+use Rattle.std.proofs.lemmas.Bool.{cases_Bool}
 use Rattle.uac_entities.specs.declared.stream.StreamInterface.{StreamInterface}
 use Rattle.uac_device.specs.DeviceWorld.{DeviceWorld, bits_of, met_of}
 use Rattle.uac_device.specs.declared.ticking.Ticked.{Ticked}
@@ -33,3 +34,22 @@ full_lines clock w streams = map (λ s. says_over s.number) (filter (is_full_at 
 pub found_are : (clock : ℕ) (w : DeviceWorld) (streams : List StreamInterface) → w.function.streams ≡ streams → empty_lines clock w streams ++ full_lines clock w streams ≡ found_lines clock w
 unfolding found_lines
 found_are clock w streams same = ap (λ (ss : List StreamInterface). empty_lines clock w ss ++ full_lines clock w ss) (sym same)
+
+-- where no bit is set, no test holds
+none_kept : (test : StreamInterface → Bool) (streams : List StreamInterface) → bits_of (map test streams) ≡ 0 → filter test streams ≡ []
+unfolding bits_of
+none_kept test [] none = refl
+none_kept test (s ∷ ss) none =
+    elim (cases_Bool (test s)) [
+      | inl here ↦ absurd (let bits = rw here at none in omega (arith, bits))
+      | inr other ↦ (let bits = rw other at none in rw other (none_kept test ss (omega (arith, bits))))
+    ]
+
+-- a tick that finds nothing says nothing
+pub found_none : (clock : ℕ) (w : DeviceWorld) (streams : List StreamInterface) (found : Ticked) → w.function.streams ≡ streams → found ≡ met_of clock w → found.under ≡ 0 → found.over ≡ 0
+    → [] ≡ found_lines clock w
+found_none clock w streams found same is under over =
+    let empty = none_kept (is_empty_at clock w) streams (sym (bits_under clock w streams found same is) ∙ under) in
+    let full = none_kept (is_full_at clock w) streams (sym (bits_over clock w streams found same is) ∙ over) in
+    sym (ap (λ (ss : List StreamInterface). map (λ s. says_under s.number) ss ++ full_lines clock w streams) empty ∙ ap (λ (ss : List StreamInterface). map (λ s. says_over s.number) ss) full)
+    ∙ found_are clock w streams same

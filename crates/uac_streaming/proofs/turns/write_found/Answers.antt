@@ -1,11 +1,19 @@
-use Rattle.std.proofs.Common.{subst, List}
+use Rattle.std.proofs.Common.{subst, List, arith}
+use Rattle.std.specs.Io.KnownBytes.{Appends}
 use Rattle.uac_edges.specs.Writing.{AppendsFront}
 use Rattle.uac_transcript.specs.Transcript.{Said}
 use Rattle.uac_transcript.specs.Printing.{Prints, text_of}
 use Rattle.uac_transcript.proofs.PrintingLemmas.{Prints-after, front_of_more}
-use Rattle.uac_streaming.proofs.Ticking.{bits_over, bits_under, empty_lines, found_are, full_lines, is_empty_at, is_full_at}
+use Rattle.uac_streaming.proofs.SoFar.{Appends-nothing}
+use Rattle.uac_streaming.proofs.Ticking.{bits_over, bits_under, empty_lines, found_are, found_none, full_lines, is_empty_at, is_full_at}
 use Rattle.uac_edges.proofs.WritingLemmas.{Writes-handed_on}
 use Rattle.uac_streaming.proofs.turns.write_found.Goals as goal
+
+pub returns-then-found-eq0-2-clause-printed : goal.returns-then-found-eq0-2-clause-printed
+returns-then-found-eq0-2-clause-printed g c = λ w clock same is.
+    subst (λ (lines : List Said). Appends (g.K.Sink.written c.args.sink.now) (g.K.Sink.written c.args.sink.now) (text_of lines))
+    (found_none clock w c.args.streams.now c.args.found same is (omega (arith, c.if-found-eq0.true)) (omega (arith, c.if-found-eq0-2.true)))
+    (Appends-nothing (g.K.Sink.written c.args.sink.now))
 
 pub returns-in_err-write_empty-clause-printed : goal.returns-in_err-write_empty-clause-printed
 returns-in_err-write_empty-clause-printed g c = λ w clock same is.
