@@ -7,7 +7,7 @@ ghost use Rattle.uac_host.specs.HostWorld.{HostWorld};
 ghost use Rattle.uac_host.specs.Calls.{heard_in};
 ghost use Rattle.uac_host.specs.Kept as kept;
 ghost use Rattle.uac_transcript.specs.Printing.{Prints};
-ghost use Rattle.uac_transcript.specs.Transcript.{says_feedback, says_frame, says_in, says_level, says_out, says_over, says_under};
+ghost use Rattle.uac_transcript.specs.Transcript.{says_feedback, says_frame, says_in, says_out, says_over, says_under};
 ghost use Rattle.uac_device.specs.DeviceWorld.{bits_of};
 ghost use Rattle.uac_streaming.specs.StreamingWorld as spec;
 
@@ -17,8 +17,7 @@ use uac_flow::Arrival;
 use uac_host::Host;
 use uac_pcm::{Frame, Packet};
 use uac_transcript::{
-    Arrival as Printed, write_feedback, write_frame, write_in, write_level, write_out, write_over,
-    write_under,
+    Arrival as Printed, write_feedback, write_frame, write_in, write_out, write_over, write_under,
 };
 
 /// Prints a packet to the device: from detail 2 on how it arrived, and at any detail that it was over.
@@ -190,25 +189,6 @@ fn write_if_full<K: Sink>(sink: &mut K, interface: u8, found: bool) -> Result<()
         return write_over(sink, interface);
     }
     Ok(())
-}
-
-/// Prints the level and the target of a stream to the device that was due, from detail 2 on.
-pub(crate) fn write_settled<K: Sink>(
-    sink: &mut K,
-    detail: u8,
-    interface: u8,
-    due: bool,
-    level: u32,
-    target: Option<u32>,
-) -> Result<(), Failed>
-    ensures printed { Prints (K.written sink.old) (K.written sink.new) result
-        (if nat_le 2 detail && due then says_level interface level target ∷ [] else []) }
-    ensures cause { HasCause (K.faults sink.old) (K.faults sink.new) result }
-{
-    if detail < 2 || !due {
-        return Ok(());
-    }
-    write_level(sink, interface, level, target)
 }
 
 /// Prints a report, from detail 2 on.

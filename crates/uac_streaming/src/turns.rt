@@ -1,5 +1,5 @@
 // The events of a microframe, interface by interface, each printed as it happens.
-ghost use Rattle.std.specs.Prelude.{◌≡◌, ◌&&◌, ◌<◌, ℕ, length, map};
+ghost use Rattle.std.specs.Prelude.{◌≡◌, ◌&&◌, ◌<◌, nat_le, ℕ, length, map};
 ghost use Rattle.uac_edges.specs.Faults.{HasCause};
 ghost use Rattle.uac_script.specs.Line.{said_mark};
 ghost use Rattle.uac_device.specs.DeviceWorld.{DeviceWorld, ZerosFitIn, is_due_in, met_of, settled};
@@ -11,15 +11,14 @@ ghost use Rattle.uac_streaming.specs.StreamingWorld as spec;
 ghost use Rattle.uac_streaming.specs.Kept.{Stands, Tells};
 
 use crate::losses::{loses_in, loses_out, loses_report};
-use crate::printing::{
-    Fetched, write_empty, write_fetched, write_full, write_report, write_sent, write_settled,
-};
+use crate::printing::{Fetched, write_empty, write_fetched, write_full, write_report, write_sent};
 use crate::streaming::Streaming;
 use uac_device::{Device, Ticked};
 use uac_edges::{Failed, Sink};
 use uac_entities::StreamInterface;
 use uac_script::Mark;
 use uac_topology::Function;
+use uac_transcript::write_level;
 
 impl Streaming {
     /// The packets to the device of a microframe, by interface number, with these losses.
@@ -197,16 +196,28 @@ fn settle_one<K: Sink>(
     ensures function { device.new.function ≡ device.old.function }
     ensures cause { HasCause (K.faults sink.old) (K.faults sink.new) result }
 {
-    let due = is_out_due(device, interface);
+    let says = says_level(device, interface, detail);
     device.settle(interface);
-    write_settled(
+    if !says {
+        return Ok(());
+    }
+    write_level(
         sink,
-        detail,
         interface,
-        due,
         device.level(interface),
         device.target(interface),
     )
+}
+
+/// Whether the level of a stream is said at the end of this microframe: from detail 2 on, that of one to the device that is due.
+fn says_level(device: &Device, interface: u8, detail: u8) -> bool
+    ensures { (w : DeviceWorld) → device_kept.Stands device.now w
+        → result ≡ (nat_le 2 detail && (spec.goes_out w.function interface && is_due_in w interface)) }
+{
+    if detail < 2 {
+        return false;
+    }
+    is_out_due(device, interface)
 }
 
 /// Prints what a tick found: the rings that were empty, and then those that were full.
