@@ -65,6 +65,19 @@ change_there interface met change counts is (s ∷ ss) =
       | inr other ↦ rw other (ap (λ cs. met s.number ∷ cs) (change_there interface met change counts is ss))
     ]
 
+-- a change that changes nothing
+pub counts_kept : (interface : ℕ) (met : ℕ → StreamCounts) (change : StreamCounts → StreamCounts) → ((c : StreamCounts) → change c ≡ c) → (streams : List StreamInterface)
+    → map (λ s. counted_at interface change met s.number) streams ≡ map (λ s. met s.number) streams
+counts_kept interface met change same [] = refl
+counts_kept interface met change same (s ∷ ss) =
+    elim (cases_Bool (s.number == interface)) [
+      | inl here ↦
+          rw here
+          (ap (λ (c : StreamCounts). c ∷ map (λ s. counted_at interface change met s.number) ss) (same (met s.number))
+          ∙ ap (λ cs. met s.number ∷ cs) (counts_kept interface met change same ss))
+      | inr other ↦ rw other (ap (λ cs. met s.number ∷ cs) (counts_kept interface met change same ss))
+    ]
+
 -- the counts of an interface, put in block order
 pub counts_put : (function : FunctionFields) (interface place : ℕ) (met : ℕ → StreamCounts) (counts : StreamCounts) (old : List StreamCounts) → AreNumbered function
     → place_of function interface ≡ Some place → old ≡ met_in met function → set old place counts ≡ met_in (counted_at interface (λ c. counts) met) function

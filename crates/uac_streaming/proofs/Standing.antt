@@ -11,7 +11,7 @@ use Rattle.uac_host.specs.declared.lanes.Lane.{Lane}
 use Rattle.uac_transcript.specs.declared.report.StreamCounts.{StreamCounts}
 use Rattle.uac_streaming.specs.StreamingWorld.{StreamingWorld, counted_at, given_at, met_in, nothing_met, numbers, packet_to, place_of, streaming_start}
 use Rattle.uac_streaming.specs.Kept.{StreamingFields, Stands}
-use Rattle.uac_streaming.proofs.Counted.{counts_changed}
+use Rattle.uac_streaming.proofs.Counted.{counts_changed, counts_kept}
 
 -- at the start
 pub stands_start : (function : FunctionFields) (d : devices.DeviceFields) (lanes : List Lane) (order packet : List ℕ) (met : List StreamCounts) (steady : steadiness.SteadyFields)
@@ -83,6 +83,12 @@ module _ (p : StreamingFields) (d : devices.DeviceFields) (w : StreamingWorld) (
     met = is;
     steady = stands.steady;
   }
+
+-- the counts of an interface change by nothing
+pub met_still : (p : StreamingFields) (d : devices.DeviceFields) (w : StreamingWorld) (interface : ℕ) (change : StreamCounts → StreamCounts) → ((c : StreamCounts) → change c ≡ c)
+    → Stands p d w → Stands p d (record w { met = counted_at interface change w.met })
+met_still p d w interface change same stands =
+    met_so p d w stands (counted_at interface change w.met) p.met (stands.met ∙ sym (counts_kept interface w.met change same w.device.function.streams))
 
 -- the counts of an interface change
 pub set_so : (p q : StreamingFields) (d : devices.DeviceFields) (w : StreamingWorld) (asked told : FunctionFields) (interface : ℕ) (change : StreamCounts → StreamCounts)

@@ -1,5 +1,5 @@
 // Lines of packets, ticks and reports.
-ghost use Rattle.std.specs.Prelude.{◌≡◌, ◌++◌, ◌∷◌, [], ◌&&◌, nat_le, if◌then◌else◌, ℕ, ℤ, List, Bool, length, map};
+ghost use Rattle.std.specs.Prelude.{◌≡◌, ◌++◌, ◌∷◌, [], nat_le, if◌then◌else◌, ℕ, ℤ, List, Bool, length, map};
 ghost use Rattle.std.specs.List.{filter};
 ghost use Rattle.uac_edges.specs.Faults.{HasCause};
 ghost use Rattle.uac_entities.specs.declared.stream.StreamInterface as streamed;

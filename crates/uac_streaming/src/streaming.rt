@@ -168,8 +168,7 @@ impl Streaming {
     {
         let frames = self.host.packet(interface, &mut self.packet);
         let arrival = arrive(device, interface, &self.packet, lost);
-        let counts = after_arrival(arrival, self.met_on(device.function(), interface));
-        self.set_met(device.function(), interface, counts);
+        self.count_arrival(device.function(), interface, arrival);
         Sent { frames, arrival }
     }
 
@@ -183,8 +182,7 @@ impl Streaming {
         ensures order { self.new.order ≡ self.old.order }
     {
         let frames = device.microframe_in(interface, &mut self.packet);
-        let counts = one_lost(lost, self.met_on(device.function(), interface));
-        self.set_met(device.function(), interface, counts);
+        self.count_fetched(device.function(), interface, lost);
         frames
     }
 
@@ -207,8 +205,7 @@ impl Streaming {
         sound_functions_are_small();
         self.take_report(interface, value, lost);
         self.count_report(function, interface, lost);
-        let counts = one_missed(lost, self.met_on(function, interface));
-        self.set_met(function, interface, counts);
+        self.count_missed(function, interface, lost);
     }
 
     /// The host takes a report, unless it is lost.
@@ -236,6 +233,46 @@ impl Streaming {
             Some(place) => self.steady.report(place as u8, lost),
             None => {}
         }
+    }
+
+    /// A packet to the device arrived so on an interface: one that was taken changes no count.
+    fn count_arrival(&mut self, function: &Function, interface: u8, arrival: Arrival)
+        ensures stands { (d : devices.DeviceFields) (w : StreamingWorld) → Stands self.old d w → w.device.function ≡ function.now
+            → Stands self.new d (record w { met = spec.counted_at interface (spec.after_arrival arrival) w.met }) }
+        ensures others { self.new ≡ record self.old { met = self.new.met } }
+    {
+        match arrival {
+            Arrival::Taken => return,
+            Arrival::Lost | Arrival::Over => {}
+        }
+        let counts = after_arrival(arrival, self.met_on(function, interface));
+        self.set_met(function, interface, counts);
+    }
+
+    /// A packet from the device was lost on an interface, or wasn't: one that came changes no count.
+    fn count_fetched(&mut self, function: &Function, interface: u8, lost: bool)
+        ensures stands { (d : devices.DeviceFields) (w : StreamingWorld) → Stands self.old d w → w.device.function ≡ function.now
+            → Stands self.new d (record w { met = spec.counted_at interface (λ c. if lost then spec.one_lost c else c) w.met }) }
+        ensures others { self.new ≡ record self.old { met = self.new.met } }
+    {
+        if !lost {
+            return;
+        }
+        let counts = one_lost(lost, self.met_on(function, interface));
+        self.set_met(function, interface, counts);
+    }
+
+    /// A report of an interface was lost, or wasn't: one that came changes no count.
+    fn count_missed(&mut self, function: &Function, interface: u8, lost: bool)
+        ensures stands { (d : devices.DeviceFields) (w : StreamingWorld) → Stands self.old d w → w.device.function ≡ function.now
+            → Stands self.new d (record w { met = spec.counted_at interface (λ c. if lost then spec.one_missed c else c) w.met }) }
+        ensures others { self.new ≡ record self.old { met = self.new.met } }
+    {
+        if !lost {
+            return;
+        }
+        let counts = one_missed(lost, self.met_on(function, interface));
+        self.set_met(function, interface, counts);
     }
 
     /// What the streams of an interface met; nothing where there is no such interface.

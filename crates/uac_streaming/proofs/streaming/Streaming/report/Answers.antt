@@ -1,9 +1,7 @@
-use Rattle.std.proofs.Common.{sym, if◌then◌else◌}
+use Rattle.std.proofs.Common.{if◌then◌else◌}
 use Rattle.uac_rate.specs.Steadiness.{reported}
 use Rattle.uac_host.specs.Calls.{with_report}
-use Rattle.uac_transcript.specs.declared.report.StreamCounts.{StreamCounts}
-use Rattle.uac_streaming.specs.StreamingWorld.{StreamingWorld, given_at, one_missed, place_of, report_made}
-use Rattle.uac_streaming.proofs.Standing.{set_so}
+use Rattle.uac_streaming.specs.StreamingWorld.{StreamingWorld, given_at, place_of, report_made}
 use Rattle.uac_streaming.proofs.streaming.Streaming.report.Goals as goal
 
 pub returns-clause-stands : goal.returns-clause-stands
@@ -11,7 +9,4 @@ unfolding report_made
 returns-clause-stands c d w stands same =
     let heard : StreamingWorld = record w { host = if c.args.lost then w.host else with_report c.args.interface c.args.value w.host } in
     let told : StreamingWorld = record heard { given = given_at (place_of w.device.function c.args.interface) (λ place. reported place c.args.lost) w.given } in
-    set_so c.count_report.new.self c.set_met.new.self d told c.args.function.now c.args.function.now c.args.interface
-    (λ (k : StreamCounts). if c.args.lost then one_missed k else k) c.met_on.result c.one_missed-counts.result
-    (c.count_report.ensures.stands d heard (c.take_report.ensures.stands d w stands) same)
-    (sym same) (sym same) c.met_on.ensures c.set_met.ensures.met c.one_missed-counts.ensures c.set_met.ensures.others
+    c.count_missed.ensures.stands d told (c.count_report.ensures.stands d heard (c.take_report.ensures.stands d w stands) same) same

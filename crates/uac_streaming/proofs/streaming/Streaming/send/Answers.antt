@@ -3,10 +3,10 @@ use Rattle.uac_flow.specs.declared.arrival.Arrival.{Arrival}
 use Rattle.uac_device.specs.Kept as devices
 use Rattle.uac_device.specs.DeviceWorld.{arrival_in, received}
 use Rattle.uac_host.specs.Calls.{after_packet}
-use Rattle.uac_streaming.specs.StreamingWorld.{StreamingWorld, after_arrival, packet_sent, packet_to}
+use Rattle.uac_streaming.specs.StreamingWorld.{StreamingWorld, after_arrival, counted_at, packet_sent, packet_to}
 use Rattle.uac_streaming.specs.Kept.{StreamingFields, Stands}
 use Rattle.uac_streaming.specs.contracts.streaming.Streaming.{the_view}
-use Rattle.uac_streaming.proofs.Standing.{carried, packet_is, set_so}
+use Rattle.uac_streaming.proofs.Standing.{carried, packet_is}
 use Rattle.uac_streaming.proofs.streaming.Streaming.send.Goals as goal
 
 pub returns-clause-stands : goal.returns-clause-stands
@@ -25,7 +25,5 @@ returns-clause-stands c w stands =
     let mid : Stands q c.arrive-arrival.new.device after =
     carried p c.args.device.now w here c.arrive-arrival.new.device c.packet-frames.new.self c.packet-frames.new.packet.items (received c.args.interface to w.device)
     (after_packet c.args.interface w.host) device (c.packet-frames.ensures.stands w.host here.host) refl refl in
-    set_so q c.set_met.new.self c.arrive-arrival.new.device after
-    c.function.result.now c.function-2.result.now c.args.interface (after_arrival (arrival_in w.device c.args.interface to)) c.met_on.result c.after_arrival-counts.result mid
-    (c.function.ensures ∙ device.function) (c.function-2.ensures ∙ device.function) c.met_on.ensures c.set_met.ensures.met
-    (c.after_arrival-counts.ensures ∙ ap (λ (a : Arrival). after_arrival a c.met_on.result) arrival) c.set_met.ensures.others
+    subst (λ (a : Arrival). Stands c.count_arrival.new.self c.arrive-arrival.new.device (record after { met = counted_at c.args.interface (after_arrival a) after.met })) arrival
+    (c.count_arrival.ensures.stands c.arrive-arrival.new.device after mid (sym (c.function.ensures ∙ device.function)))
