@@ -24,7 +24,6 @@ use uac_transcript::{
 use uac_units::{Meter, Meters};
 
 /// Prints the microframes since the start, and whether all clocks were steady.
-#[tactic(auto, using(uac_transcript::proofs::PrintingLemmas::stops))]
 pub(crate) fn write_head<K: Sink>(sink: &mut K, time: u64, steady: bool) -> Result<(), Failed>
     ensures printed { Prints (K.written sink.old) (K.written sink.new) result (says_passed time ∷ says_steady steady ∷ []) }
     ensures cause { HasCause (K.faults sink.old) (K.faults sink.new) result }
@@ -34,7 +33,6 @@ pub(crate) fn write_head<K: Sink>(sink: &mut K, time: u64, steady: bool) -> Resu
 }
 
 /// Prints each domain's rate and ticks, each stream, each meter, and how often units were rendered.
-#[tactic(auto, using(uac_transcript::proofs::PrintingLemmas::stops))]
 pub(crate) fn write_rest<K: Sink>(
     sink: &mut K,
     device: &Device,
@@ -55,7 +53,6 @@ pub(crate) fn write_rest<K: Sink>(
 }
 
 /// Prints each meter, and how often units were rendered.
-#[tactic(auto, using(uac_transcript::proofs::PrintingLemmas::stops))]
 fn write_last<K: Sink>(sink: &mut K, meters: &Meters, renders: u64) -> Result<(), Failed>
     ensures printed { Prints (K.written sink.old) (K.written sink.new) result
         (map says_meter (readings (λ v x. (⟦<dyn Meter as Meter>⟧ v).reading_of x) meters.now) ++ says_renders renders ∷ []) }

@@ -1,5 +1,5 @@
 // A running device.
-ghost use Rattle.std.specs.Prelude.{◌≡◌, ℕ, ◌≤ℤ◌, pos, negsuc, List, IfOk, OnOk, OnErr};
+ghost use Rattle.std.specs.Prelude.{◌≡◌, ℕ, ◌≤ℤ◌, pos, negsuc, List, map, filter, IfOk, OnOk, OnErr};
 ghost use Rattle.uac_units.specs.Hearing.{Reading};
 ghost use Rattle.uac_units.specs.Panel.{readings};
 ghost use Rattle.uac_edges.specs.Faults.{HasCause};
@@ -12,12 +12,16 @@ ghost use Rattle.uac_transcript.specs.Printing.{Prints};
 ghost use Rattle.uac_transcript.specs.Transcript.{spelled};
 ghost use Rattle.uac_running.specs.Lines.{ready_line, report_lines};
 ghost use Rattle.uac_running.specs.Transfers.{configuration_of};
-ghost use Rattle.uac_running.specs.Kept.{StandsBetween};
+ghost use Rattle.uac_running.specs.Kept.{StandsBetween, none_counted};
+ghost use Rattle.uac_device.specs.Kept as kept;
+ghost use Rattle.uac_device.specs.DeviceWorld.{fresh, is_input_jack};
+ghost use Rattle.uac_streaming.specs.Kept as streams;
+ghost use Rattle.uac_streaming.specs.StreamingWorld.{streaming_start};
 
 use crate::counts::{TickCount, no_ticks};
 use crate::jacks::{Jack, has_jack, set_tone, silent_jacks};
 use crate::report::{write_head, write_rest};
-use crate::transfers::with_view;
+use crate::transfers::fresh_viewed;
 use std::alloc::Global;
 use std::marker::Model;
 use uac_descriptor::{ByteList, NoMemory};
@@ -74,19 +78,16 @@ impl Running {
         ensures function { IfOk result (λ running. running.device.function ≡ function) }
     {
         functions_are_sound(&function);
-        let jacks = silent_jacks(alloc, function.entities())?;
-        let counts = no_ticks(alloc, function.domains())?;
-        let streaming = Streaming::new(alloc, &function)?;
-        let device = Device::new(alloc, function)?;
-        let viewed = with_view(alloc, device)?;
+        let beside = fresh_beside(alloc, &function)?;
+        let viewed = fresh_viewed(alloc, function)?;
         Ok(Running {
             device: viewed.device,
             view: viewed.view,
             configuration,
             breaks: None,
-            streaming,
-            jacks,
-            counts,
+            streaming: beside.streaming,
+            jacks: beside.jacks,
+            counts: beside.counts,
             time: 0,
             detail: 0,
             renders: 0,
@@ -196,4 +197,29 @@ impl Running {
             function.domains().len(),
         )
     }
+}
+
+/// What is kept beside a device and the host's view of it.
+#[derive(Drop)]
+struct Beside {
+    streaming: Streaming,
+    jacks: Vec<Jack>,
+    counts: Vec<TickCount>,
+}
+
+/// What is kept beside a fresh device of a function: a host of which no stream runs, silent jacks, and no ticks yet.
+fn fresh_beside(alloc: Global, function: &Function) -> Result<Beside, NoMemory>
+    ensures streaming { IfOk result (λ beside. (d : kept.DeviceFields) → kept.Stands d (fresh function.now)
+        → streams.Stands beside.streaming d (streaming_start function.now)) }
+    ensures jacks { IfOk result (λ beside. beside.jacks.items ≡ map spec.silent_jack (filter is_input_jack function.now.entities)) }
+    ensures counts { IfOk result (λ beside. beside.counts.items ≡ map none_counted function.now.domains) }
+{
+    let jacks = silent_jacks(alloc, function.entities())?;
+    let counts = no_ticks(alloc, function.domains())?;
+    let streaming = Streaming::new(alloc, function)?;
+    Ok(Beside {
+        streaming,
+        jacks,
+        counts,
+    })
 }

@@ -7,7 +7,7 @@ ghost use Rattle.uac_store.specs.Keyed.{value_of};
 ghost use Rattle.uac_request.specs.Requests.{answer_fields, value_bytes};
 ghost use Rattle.uac_units.specs.Hearing.{Reading};
 ghost use Rattle.uac_edges.specs.Faults.{HasCause};
-ghost use Rattle.uac_device.specs.DeviceWorld.{DeviceWorld, sets_interface, tells_done};
+ghost use Rattle.uac_device.specs.DeviceWorld.{DeviceWorld, fresh, sets_interface, tells_done};
 ghost use Rattle.uac_device.specs.Kept as kept;
 ghost use Rattle.uac_mixer.specs.declared.element.Element.{Element};
 ghost use Rattle.uac_mixer.specs.Elements.{fits_element, name_of, width_of};
@@ -43,7 +43,7 @@ pub(crate) struct Viewed {
 }
 
 /// A device whose host has read every value.
-pub(crate) fn with_view(alloc: Global, device: Device) -> Result<Viewed, NoMemory>
+fn with_view(alloc: Global, device: Device) -> Result<Viewed, NoMemory>
     ensures view { IfOk result (λ viewed. viewed.view ≡ known_view device.function.entities device.controls) }
     ensures of_function { IfOk result (λ viewed. IsViewOf viewed.device.function.entities viewed.view) }
     ensures stands { IfOk result (λ viewed. (w : DeviceWorld) → kept.Stands device w → kept.Stands viewed.device w) }
@@ -64,9 +64,19 @@ pub(crate) fn with_view(alloc: Global, device: Device) -> Result<Viewed, NoMemor
 pub fn fresh_view(alloc: Global, function: Function) -> Result<View, NoMemory>
     ensures { IfOk result (λ view. view ≡ known_view function.entities (initial_controls function.entities)) }
 {
-    let device = Device::new(alloc, function)?;
-    let viewed = with_view(alloc, device)?;
+    let viewed = fresh_viewed(alloc, function)?;
     Ok(viewed.view)
+}
+
+/// A fresh device of a function, whose host has read every value.
+pub(crate) fn fresh_viewed(alloc: Global, function: Function) -> Result<Viewed, NoMemory>
+    ensures view { IfOk result (λ viewed. viewed.view ≡ known_view function.entities (initial_controls function.entities)) }
+    ensures of_function { IfOk result (λ viewed. IsViewOf viewed.device.function.entities viewed.view) }
+    ensures stands { IfOk result (λ viewed. kept.Stands viewed.device (fresh function)) }
+    ensures function { IfOk result (λ viewed. viewed.device.function ≡ function) }
+{
+    let device = Device::new(alloc, function)?;
+    with_view(alloc, device)
 }
 
 /// Whether a device holds another setting of an interface after a transfer, of which it answered this last.
