@@ -24,10 +24,7 @@ pub(crate) fn resting_clocks(alloc: Global, domains: &[u8]) -> Result<Vec<Clock>
 {
     let mut clocks = Vec::new(alloc);
     for domain in domains {
-        match clocks.push(resting_clock(*domain)) {
-            Ok(()) => {}
-            Err(_) => return Err(NoMemory),
-        }
+        clocks.push(resting_clock(*domain))?;
     }
     Ok(clocks)
 }

@@ -122,10 +122,7 @@ fn paces_of(alloc: Global, function: &Function, store: &Store) -> Result<Vec<Pac
             domain: *domain,
             values: values_at(function, store, *domain),
         };
-        match paces.push(pace) {
-            Ok(()) => {}
-            Err(_) => return Err(NoMemory),
-        }
+        paces.push(pace)?;
     }
     Ok(paces)
 }

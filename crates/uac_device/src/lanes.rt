@@ -49,10 +49,7 @@ impl Lanes {
         let mut list = Vec::new(alloc);
         for stream in function.streams() {
             let lane = Lane::idle(alloc, port(function, stream))?;
-            match list.push(lane) {
-                Ok(()) => {}
-                Err(_) => return Err(NoMemory),
-            }
+            list.push(lane)?;
         }
         Ok(Lanes { list })
     }

@@ -12,10 +12,7 @@ pub(crate) fn copies_of(alloc: Global, entities: &[Entity]) -> Result<Vec<Entity
     let mut copies = Vec::new(alloc);
     for entity in entities {
         let copy = copy_of(alloc, entity)?;
-        match copies.push(copy) {
-            Ok(()) => {}
-            Err(_) => return Err(NoMemory),
-        }
+        copies.push(copy)?;
     }
     Ok(copies)
 }
@@ -43,8 +40,5 @@ fn copy_of(alloc: Global, entity: &Entity) -> Result<Entity, NoMemory>
 fn items_of<T: Copy>(alloc: Global, items: &[T]) -> Result<Vec<T>, NoMemory>
     ensures { IfOk result (λ copy. copy.items ≡ items.now) }
 {
-    match Vec::from_slice(alloc, items) {
-        Ok(copy) => Ok(copy),
-        Err(_) => Err(NoMemory),
-    }
+    Ok(Vec::from_slice(alloc, items)?)
 }

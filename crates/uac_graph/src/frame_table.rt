@@ -192,10 +192,7 @@ fn empty_row(alloc: Global) -> Result<Vec<Option<Frame>>, NoMemory>
 {
     let mut row = Vec::new(alloc);
     for _each in 0..256usize {
-        match row.push(None) {
-            Ok(()) => {}
-            Err(_) => return Err(NoMemory),
-        }
+        row.push(None)?;
     }
     Ok(row)
 }

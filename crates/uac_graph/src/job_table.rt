@@ -39,10 +39,7 @@ impl Jobs {
         for entity in table.as_slice() {
             let mut job = no_job();
             ask(&mut job, table, store, entity);
-            match list.push(job) {
-                Ok(()) => {}
-                Err(_) => return Err(NoMemory),
-            }
+            list.push(job)?;
         }
         Ok(Jobs { list })
     }

@@ -35,10 +35,7 @@ pub(crate) fn orders_of(alloc: Global, table: &EntityTable) -> Result<Vec<Order>
             continue;
         }
         let order = kept_order(alloc, table, entity.clock)?;
-        match orders.push(order) {
-            Ok(()) => {}
-            Err(_) => return Err(NoMemory),
-        }
+        orders.push(order)?;
     }
     Ok(orders)
 }
@@ -96,10 +93,8 @@ fn visit(table: &EntityTable, id: u8, links: usize, places: &mut Vec<usize>) -> 
     for source in table.at(place).sources.as_slice() {
         visit(table, *source, links - 1, places)?;
     }
-    match places.push(place) {
-        Ok(()) => Ok(()),
-        Err(_) => Err(NoMemory),
-    }
+    places.push(place)?;
+    Ok(())
 }
 
 /// The places of a domain's order, none where it has no output terminal.

@@ -45,10 +45,7 @@ pub(crate) fn tasks_of(
             place: *place,
             work: work_of(table.at(*place)),
         };
-        match tasks.push(task) {
-            Ok(()) => {}
-            Err(_) => return Err(NoMemory),
-        }
+        tasks.push(task)?;
     }
     Ok(tasks)
 }

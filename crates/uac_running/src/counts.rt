@@ -22,10 +22,7 @@ pub(crate) fn no_ticks(alloc: Global, domains: &[u8]) -> Result<Vec<TickCount>, 
             clock: *clock,
             ticks: 0,
         };
-        match counts.push(count) {
-            Ok(()) => {}
-            Err(_) => return Err(NoMemory),
-        }
+        counts.push(count)?;
     }
     Ok(counts)
 }

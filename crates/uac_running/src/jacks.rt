@@ -35,10 +35,7 @@ pub(crate) fn silent_jacks(alloc: Global, entities: &[Entity]) -> Result<Vec<Jac
         if !is_input_jack(entity) {
             continue;
         }
-        match jacks.push(silent_jack(entity)) {
-            Ok(()) => {}
-            Err(_) => return Err(NoMemory),
-        }
+        jacks.push(silent_jack(entity))?;
     }
     Ok(jacks)
 }

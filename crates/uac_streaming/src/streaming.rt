@@ -369,10 +369,7 @@ fn none_met(alloc: Global, function: &Function) -> Result<Vec<StreamCounts>, NoM
 {
     let mut met = Vec::new(alloc);
     for _stream in function.streams() {
-        match met.push(nothing_met()) {
-            Ok(()) => {}
-            Err(_) => return Err(NoMemory),
-        }
+        met.push(nothing_met())?;
     }
     Ok(met)
 }
@@ -385,10 +382,7 @@ fn in_order(alloc: Global, function: &Function) -> Result<Vec<u8>, NoMemory>
     for at in 0..256u32 {
         let number = at as u8;
         if function.interface(number).is_some() {
-            match order.push(number) {
-                Ok(()) => {}
-                Err(_) => return Err(NoMemory),
-            }
+            order.push(number)?;
         }
     }
     Ok(order)

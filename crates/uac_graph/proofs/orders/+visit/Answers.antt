@@ -72,7 +72,7 @@ returns-in-Ok-clause-order t c =
     held_done entities (c.args.links - 1) c.loop-source.source-index id c.at.result.now c.as_slice-source-items.result.now old mid
     c.requires.signal here c.as_slice-source-items.ensures c.loop-source-test.false c.loop-source.invariant.all in
     order_more entities (c.args.links - 1) id place old mid c.push.new.self.items c.requires.sound c.requires.signal
-    c.place_of-place.ensures c.in-Ok.ensures.items
+    c.place_of-place.ensures c.in_ok-push.ensures.items
     (not_held_yet entities (c.args.links - 1) id place old mid c.as_slice.result.now c.requires.sound c.requires.signal c.requires.order
     c.place_of-place.ensures c.as_slice.ensures.value (sym c.contains.ensures.value ∙ c.if-contains.false) done)
     c.loop-source.invariant.order done
@@ -83,6 +83,6 @@ returns-in-Ok-clause-all t c =
     let id = c.args.id in
     let here = entity_read entities entities id c.place_of-place.result c.at.result.now refl c.place_of-place.ensures c.at.ensures in
     held_itself entities c.args.links id c.place_of-place.result c.args.places.now.items c.loop-source.places.items c.push.new.self.items c.requires.signal
-    (links_some (signal_links entities) c.args.links (place_of entities id) c.requires.ends) c.place_of-place.ensures c.in-Ok.ensures.items
+    (links_some (signal_links entities) c.args.links (place_of entities id) c.requires.ends) c.place_of-place.ensures c.in_ok-push.ensures.items
     (held_done entities (c.args.links - 1) c.loop-source.source-index id c.at.result.now c.as_slice-source-items.result.now c.args.places.now.items c.loop-source.places.items
     c.requires.signal here c.as_slice-source-items.ensures c.loop-source-test.false c.loop-source.invariant.all)

@@ -34,11 +34,11 @@ loop-entity-preserved c =
     let i = c.loop-entity.entity-index in
     let o : Order = c.in_ok-order.order in
     record {
-      each = each_more c.args.table.now old new o c.in-Ok.ensures.items c.loop-entity.invariant.each c.in_ok-order.ensures.1;
+      each = each_more c.args.table.now old new o c.in_ok-push.ensures.items c.loop-entity.invariant.each c.in_ok-order.ensures.1;
       passed =
           passed_more slice new i c.entity-item.result c.loop-entity-test.true c.entity-item.is
-          (λ output. known_last old new o c.entity-item.result.clock c.in-Ok.ensures.items c.in_ok-order.ensures.0)
-          (known_more slice old new o i c.in-Ok.ensures.items c.loop-entity.invariant.passed);
+          (λ output. known_last old new o c.entity-item.result.clock c.in_ok-push.ensures.items c.in_ok-order.ensures.0)
+          (known_more slice old new o i c.in_ok-push.ensures.items c.loop-entity.invariant.passed);
     }
 
 pub returns : goal.returns

@@ -12,7 +12,7 @@ pub loop-place-preserved : goal.loop-place-preserved
 loop-place-preserved c =
     let old = c.loop-place.tasks.items in
     let here = get_or c.args.places.now c.loop-place.place-index 0 in
-    c.in-Ok.ensures.items
+    c.in_ok-push.ensures.items
     ∙ ap (λ (w : Work). old ++ record { place = here; work = w } ∷ []) (c.work_of.ensures ∙ ap work_of c.at.ensures)
     ∙ ap (λ (ts : List Task). ts ++ task_of c.args.table.now here ∷ []) c.loop-place.invariant
     ∙ sym (map_more (task_of c.args.table.now) c.args.places.now c.loop-place.place-index 0 c.loop-place-test.true)

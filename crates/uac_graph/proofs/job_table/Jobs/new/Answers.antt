@@ -23,7 +23,7 @@ loop-entity-preserved c =
     one_job_more c.args.table.now (held_in c.args.store.now) c.loop-entity.entity-index c.loop-entity.list.items c.push.new.self.items c.ask.new.job c.entity-item.result
     (at_read c.args.table.now c.loop-entity.entity-index c.entity-item.result inside
     (subst (λ (es : List Entity). c.entity-item.result ≡ get_or es c.loop-entity.entity-index c.entity-item.result) c.as_slice-entity-items.ensures c.entity-item.is))
-    c.ask.ensures (c.in-Ok.ensures.items) c.loop-entity.invariant
+    c.ask.ensures (c.in_ok-push.ensures.items) c.loop-entity.invariant
 
 pub returns : goal.returns
 returns c =
