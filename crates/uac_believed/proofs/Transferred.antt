@@ -1,36 +1,22 @@
 -- What the host knows is so after a control transfer, whatever came back of it.
-use Rattle.std.proofs.Common.{◌≡◌, ◌∙◌, refl, ap, ℕ, ◌&&◌, Bool, true, false, if◌then◌else◌, List, [], ◌∷◌, map, Option, None, Some, is_some}
+use Rattle.std.proofs.Common.{ℕ, ◌&&◌, Bool, true, false, if◌then◌else◌, List, Option, None, Some, is_some}
 use Rattle.uac_alt.specs.Streams.{StreamFields}
 use Rattle.uac_store.proofs.Soundness.{keyed}
 use Rattle.uac_request.specs.Requests.{Held, AnswerFields, after_request, held_by, reply_of}
 use Rattle.uac_request.specs.declared.setup.Setup.{Setup}
 use Rattle.uac_device.specs.DeviceWorld.{DeviceWorld, controlled, restarted, sets_interface, stream_in_setting, tells_done}
 use Rattle.uac_mixer.specs.Agreement.{IsAgreed, StaysAgreed}
-use Rattle.uac_mixer.specs.Elements.{unread}
-use Rattle.uac_mixer.specs.Transfers.{element_after, view_after}
-use Rattle.uac_mixer.specs.ViewWorld.{IsViewOf, ViewWorld}
-use Rattle.uac_mixer.specs.declared.element.Element.{Element}
+use Rattle.uac_mixer.specs.Transfers.{view_after}
+use Rattle.uac_mixer.specs.ViewWorld.{ViewWorld}
 use Rattle.uac_mixer.specs.declared.link.When.{When}
 use Rattle.uac_mixer.specs.declared.link.When.TheVariants as when
 use Rattle.uac_mixer.proofs.Agreed.{stays_known}
+use Rattle.uac_mixer.proofs.Made.{viewed}
 use Rattle.uac_mixer.proofs.Stored.{stays}
-use Rattle.uac_entities.specs.declared.entity.Entity.{Entity}
 use Rattle.uac_streaming.specs.StreamingWorld.{StreamingWorld, followed}
 use Rattle.uac_running.specs.RunningWorld.{RunningWorld, streaming_of}
 use Rattle.uac_running.specs.Transfers.{acts, comes_back, holds_setting, reply_in, transferred}
 use Rattle.uac_believed.proofs.Worlds.{Agree, IsBelieved}
-
--- ---- the view's elements stay those of the function
-
-unread_after : (control : ℕ) (p : Setup) (sent : List ℕ) (came : Option AnswerFields) (xs : List Element)
-    → map unread (map (element_after control p sent came) xs) ≡ map unread xs
-unread_after control p sent came [] = refl
-unread_after control p sent came (x ∷ xs) = ap (λ (ys : List Element). unread x ∷ ys) (unread_after control p sent came xs)
-
-viewed : (control : ℕ) (p : Setup) (sent : List ℕ) (came : Option AnswerFields) (entities : List Entity) (view : ViewWorld)
-    → IsViewOf entities view → IsViewOf entities (view_after control p sent came view)
-unfolding view_after
-viewed control p sent came entities view is = unread_after control p sent came view.elements ∙ is
 
 -- ---- streams that start or stop change neither
 
