@@ -9,6 +9,7 @@ use Rattle.uac_entities.specs.declared.stream.StreamInterface.{StreamInterface}
 use Rattle.uac_topology.specs.Function.{FunctionFields}
 use Rattle.uac_device.specs.DeviceWorld.{Domain, changed_at, changed_where}
 use Rattle.uac_host.specs.Calls.{interface_in}
+use Rattle.uac_mixer.proofs.Apart.{numbers_apart}
 use Rattle.uac_streaming.specs.Telling.{Telling, in_turn}
 use Rattle.uac_streaming.specs.StreamingWorld.{numbers}
 
@@ -121,22 +122,9 @@ kept_distinct test (n ∷ ns) once =
     by true rest = IsDistinct-cons nat_eq n (filter test ns) (kept_false test n ns (IsDistinct-head nat_eq n ns once)) rest
     by false rest = rest
 
-below_range : (n from count : ℕ) → n < from → AllByRecursion (λ y. nat_eq n y ≡ false) (range_with_len from count)
-below_range n from zero below = tt
-below_range n from (suc count) below = (differs n from below, below_range n (from + 1) count (omega (arith, below)))
-  where
-    differs : (i j : ℕ) → i < j → nat_eq i j ≡ false
-    differs i j less = grind arith
-
-range_distinct : (from count : ℕ) → IsDistinct nat_eq (range_with_len from count)
-unfolding IsDistinct
-range_distinct from zero = tt
-range_distinct from (suc count) =
-    IsDistinct-cons nat_eq from (range_with_len (from + 1) count) (below_range from (from + 1) count (omega arith)) (range_distinct (from + 1) count)
-
 pub numbers_differ : (function : FunctionFields) → IsDistinct nat_eq (numbers function)
 unfolding numbers
-numbers_differ function = kept_distinct (λ n. is_some (interface_in function n)) (range_with_len 0 256) (range_distinct 0 256)
+numbers_differ function = kept_distinct (λ n. is_some (interface_in function n)) (range_with_len 0 256) (numbers_apart 0 256)
 
 pub among_range : (k from count : ℕ) → from ≤ k → k < from + count → Among k (range_with_len from count)
 unfolding Among
