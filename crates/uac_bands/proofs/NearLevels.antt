@@ -11,7 +11,8 @@ use Rattle.uac_alt.specs.Streams.{StreamFields}
 use Rattle.uac_flow.specs.Streams.{OutStream, feedback_of, is_due, out_level, settled_out}
 use Rattle.uac_host.specs.Calls.{reported}
 use Rattle.uac_host.specs.HostWorld.{Track}
-use Rattle.uac_device.specs.DeviceWorld.{DeviceWorld, Domain, advanced, either_due, is_due_in, level_in, level_of, next_ticks, settled, step_in, target_of}
+use Rattle.uac_lanes.specs.InterfaceStreams.{either_due, level_in}
+use Rattle.uac_device.specs.DeviceWorld.{DeviceWorld, Domain, advanced, is_due_in, level_of, next_ticks, settled, step_in, target_of}
 use Rattle.uac_script.specs.Phrase.{SaidMark}
 use Rattle.uac_transcript.specs.Transcript.{Said, says_level, says_over, says_under}
 use Rattle.uac_streaming.specs.StreamingWorld.{StreamingWorld, all_settled, finds_empty, finds_full, goes_out, loses_out, loses_report, numbers, out_packets, settled_turn}

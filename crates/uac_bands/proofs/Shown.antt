@@ -15,7 +15,8 @@ use Rattle.uac_flow.specs.Streams.{OutStream, after_packet, feedback_of, is_due,
 use Rattle.uac_host.specs.HostWorld.{Pace, Track}
 use Rattle.uac_host.specs.Calls.{after_frames, interface_in, next_frames, next_size, packet_of, reported, sent, size_of, with_report}
 use Rattle.uac_host.specs.Calls.{after_packet as host_sends}
-use Rattle.uac_device.specs.DeviceWorld.{Domain, either_due, feedback_in, is_due_in, received, settled}
+use Rattle.uac_lanes.specs.InterfaceStreams.{either_due}
+use Rattle.uac_device.specs.DeviceWorld.{Domain, feedback_in, is_due_in, received, settled}
 use Rattle.uac_device.specs.DeviceWorld.{sent as device_sends}
 use Rattle.uac_script.specs.Phrase.{SaidMark}
 use Rattle.uac_streaming.specs.Telling.{at_rest}

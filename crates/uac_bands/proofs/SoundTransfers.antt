@@ -15,7 +15,8 @@ use Rattle.uac_request.specs.declared.setup.Setup.{Setup}
 use Rattle.uac_request.proofs.Lasting.{settings_stay, store_stays}
 use Rattle.uac_flow.specs.Streams.{OutStream}
 use Rattle.uac_host.specs.Calls.{interface_in, with_stream}
-use Rattle.uac_device.specs.DeviceWorld.{out_from, restarted, sets_interface, tells_done}
+use Rattle.uac_lanes.specs.InterfaceStreams.{out_from}
+use Rattle.uac_device.specs.DeviceWorld.{restarted, sets_interface, tells_done}
 use Rattle.uac_running.specs.RunningWorld.{RunningWorld}
 use Rattle.uac_bands.specs.Transfers.{IsSoundRun, TransfersKeepSound}
 use Rattle.uac_bands.proofs.Once.{not_this, own_number}

@@ -13,13 +13,14 @@ use Rattle.uac_alt.specs.declared.values.Stream.{Stream}
 use Rattle.uac_request.specs.Requests.{Held, AnswerFields, after_request, held_by, rate_at, reply_of}
 use Rattle.uac_request.specs.declared.setup.Setup.{Setup}
 use Rattle.uac_flow.specs.Streams.{InStream, OutStream}
-use Rattle.uac_device.specs.declared.lane.Lane.{Lane}
-use Rattle.uac_device.specs.declared.lane.Port.{Port}
-use Rattle.uac_device.specs.DeviceWorld.{DeviceWorld, controlled, in_from, out_from, replaced_at, restarted, sets_interface, stream_in_setting, tells_done}
+use Rattle.uac_lanes.specs.declared.lane.Lane.{Lane}
+use Rattle.uac_lanes.specs.declared.lane.Port.{Port}
+use Rattle.uac_lanes.specs.InterfaceStreams.{in_from, out_from, replaced_at}
+use Rattle.uac_device.specs.DeviceWorld.{DeviceWorld, controlled, restarted, sets_interface, stream_in_setting, tells_done}
 use Rattle.uac_device.specs.Kept.{DeviceFields, IsControlled, IsDevice, Stands}
-use Rattle.uac_device.specs.Lanes.{KeepsStreams, port_of, ports}
+use Rattle.uac_lanes.specs.Lanes.{KeepsStreams, port_of, ports}
 use Rattle.uac_device.specs.Linked.{FitsInterface}
-use Rattle.uac_device.proofs.LanesLemmas.{FitsAt}
+use Rattle.uac_lanes.proofs.LanesLemmas.{FitsAt}
 use Rattle.uac_device.proofs.StreamsLemmas.{stream_fits}
 
 -- ---- the stream that is asked for

@@ -1,11 +1,11 @@
 -- What a tick gives the input terminals, interface by interface.
-use Rattle.std.proofs.Common.{◌≡◌, ◌≢◌, ◌∙◌, sym, refl, ap, subst, arith, ℕ, zero, suc, ◌+◌, ◌<◌, ◌≤◌, ◌==◌, Bool, true, false, if◌then◌else◌, not, nat_eq, ℤ, pos, List, [], ◌∷◌, ◌++◌, Option, Some, None, length, get_or, map, position, replicate, slice_get, take, unwrap_or, eq-eqb}
+use Rattle.std.proofs.Common.{◌≡◌, ◌≢◌, ◌∙◌, sym, refl, ap, subst, arith, ℕ, zero, suc, ◌<◌, ◌≤◌, ◌==◌, Bool, true, false, if◌then◌else◌, not, nat_eq, ℤ, List, [], ◌∷◌, Option, Some, None, length, get_or, map, position, slice_get, unwrap_or, eq-eqb}
 use Rattle.std.specs.List.{IsDistinct, find, fold, position_or_len}
-use Rattle.std.specs.Option.{option_and_then, option_map}
+use Rattle.std.specs.Option.{option_and_then}
 use Rattle.std.proofs.lemmas.Bool.{and_from, and_parts, eqb-true}
-use Rattle.std.proofs.lemmas.List.{get_or-map, length-map, take_all, take_more, map-append}
+use Rattle.std.proofs.lemmas.List.{get_or-map, length-map}
 use Rattle.std.proofs.lemmas.List.Folds.{find_at}
-use Rattle.std.proofs.lemmas.List.Sums.{fails_before_first, fold-append, position_or_len_is}
+use Rattle.std.proofs.lemmas.List.Sums.{fails_before_first, position_or_len_is}
 use Rattle.std.proofs.lemmas.List.Quantifiers.{position-Some}
 use Rattle.std.proofs.lemmas.Map.Keys.{apart_from_distinct}
 use Rattle.std.proofs.lemmas.Option.{same_Some, slice_get-get_or, slice_get_past}
@@ -17,13 +17,12 @@ use Rattle.uac_topology_rules.specs.Clusters.{is_input}
 use Rattle.uac_topology_rules.specs.Rules.{is_output}
 use Rattle.uac_topology_rules.proofs.Found.{position_is, position_none}
 use Rattle.uac_graph.specs.Meaning.{entity}
-use Rattle.uac_graph.specs.Wiring.{Frames, frame_on, silence}
-use Rattle.uac_flow.specs.Streams.{InStream, OutStream, next_taken}
-use Rattle.uac_device.specs.declared.lane.Port.{Port}
-use Rattle.uac_device.specs.declared.lane.Lane.{Lane}
+use Rattle.uac_graph.specs.Wiring.{silence}
+use Rattle.uac_flow.specs.Streams.{OutStream, next_taken}
+use Rattle.uac_lanes.specs.declared.lane.Port.{Port}
 use Rattle.uac_device.specs.DeviceWorld.{DeviceWorld, entity_in, input_of, is_jack, is_streamed, stream_to, streamed}
 use Rattle.uac_device.specs.Linked.{AreLinked}
-use Rattle.uac_device.specs.Lanes.{KeepsLane, KeepsStreams, frame_given, given_by, gives_to, port_of, ports}
+use Rattle.uac_lanes.specs.Lanes.{frame_given, given_by, gives_to, port_of}
 
 -- no entity is both
 pub apart : (k : EntityKind) → is_input k ≡ true → is_output k ≡ true → ⊥
@@ -67,38 +66,6 @@ module _ (test : Port → Bool) (frame : Port → List ℤ) where
   given_once (p ∷ ps) before (suc k) d below here other =
       ap (λ (b : Bool). fold (λ f q. if test q then Some (frame q) else f) (if b then Some (frame p) else before) ps) (other 0 p (omega arith) (omega arith))
       ∙ given_once ps before k d (omega (arith, below)) here (λ j e inside differ. other (suc j) e (omega (arith, inside)) (omega (arith, differ)))
-
--- one interface more
-pub given_more : (domain id : ℕ) (outs : ℕ → Option OutStream) (lanes : List Lane) (at : ℕ) (d : Lane) (before : Option (List ℤ)) → at < length lanes
-    → given_by domain id outs (ports (take (at + 1) lanes)) before
-    ≡ (if gives_to domain id (get_or lanes at d).port then Some (frame_given (outs (get_or lanes at d).port.interface) (get_or lanes at d).port)
-    else given_by domain id outs (ports (take at lanes)) before)
-given_more domain id outs lanes at d before below =
-    let longer : ports (take (at + 1) lanes) ≡ ports (take at lanes) ++ (get_or lanes at d).port ∷ [] =
-    ap ports (take_more lanes at d below) ∙ map-append (λ (l : Lane). l.port) (take at lanes) (get_or lanes at d ∷ []) in
-    ap (λ (ps : List Port). given_by domain id outs ps before) longer
-    ∙ fold-append (λ frame p. if gives_to domain id p then Some (frame_given (outs p.interface) p) else frame) before (ports (take at lanes)) ((get_or lanes at d).port ∷ [])
-
--- the frames on the wires after one lane more
-pub frames_more : (domain : ℕ) (lanes : List Lane) (at : ℕ) (d l : Lane) (first before after : Frames) (outs : ℕ → Option OutStream) (ins : ℕ → Option InStream) (id : ℕ)
-    → at < length lanes → l ≡ get_or lanes at d → KeepsStreams lanes outs ins
-    → ((out : Option OutStream) (in_ : Option InStream) → KeepsLane l out in_
-    → (id : ℕ) → frame_on after id ≡ (if gives_to domain id l.port then Some (frame_given out l.port) else frame_on before id))
-    → frame_on before id ≡ given_by domain id outs (ports (take at lanes)) (frame_on first id)
-    → frame_on after id ≡ given_by domain id outs (ports (take (at + 1) lanes)) (frame_on first id)
-frames_more domain lanes at d l first before after outs ins id below read keeps gives so_far =
-    let n = l.port.interface in
-    let kept : KeepsLane l (outs n) (ins n) =
-    subst (λ (m : Lane). KeepsLane m (outs m.port.interface) (ins m.port.interface)) (sym read) (keeps.each at d below) in
-    gives (outs n) (ins n) kept id
-    ∙ ap (λ (o : Option (List ℤ)). if gives_to domain id l.port then Some (frame_given (outs n) l.port) else o) so_far
-    ∙ ap (λ (m : Lane). if gives_to domain id m.port then Some (frame_given (outs m.port.interface) m.port)
-    else given_by domain id outs (ports (take at lanes)) (frame_on first id)) read
-    ∙ sym (given_more domain id outs lanes at d (frame_on first id) below)
-
-pub frames_all : (domain id : ℕ) (outs : ℕ → Option OutStream) (lanes : List Lane) (at : ℕ) (before : Option (List ℤ)) → length lanes ≤ at
-    → given_by domain id outs (ports (take at lanes)) before ≡ given_by domain id outs (ports lanes) before
-frames_all domain id outs lanes at before past = ap (λ (ls : List Lane). given_by domain id outs (ports ls) before) (take_all at lanes past)
 
 -- ---- in a world
 
@@ -270,11 +237,3 @@ given_input w domain id before linked input some held unlinked = by_streamed (is
     by_streamed : (b : Bool) → is_streamed domain (entity_in w id) ≡ b → given ≡ Some (if b then streamed w id else w.given id)
     by_streamed true bus = by_place bus (position (λ s. s.terminal == id) streams) refl
     by_streamed false other = given_nothing w domain id before linked other ∙ held
-
--- a wire that is hushed has silence on its channels
-pub hushed : (frame : Option (List ℤ)) (channels : ℕ) → option_map length frame ≡ Some channels
-    → option_map (λ samples. replicate (length samples) (pos 0)) frame ≡ Some (silence channels)
-hushed None channels fits = cc
-hushed (Some samples) channels fits =
-    let as_many : length samples ≡ channels = cc in
-    ap (λ (n : ℕ). Some (silence n)) as_many

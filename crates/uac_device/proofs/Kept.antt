@@ -14,9 +14,10 @@ use Rattle.uac_clock.specs.declared.values.Nominal.{Nominal}
 use Rattle.uac_store.specs.Rates.{rate_of}
 use Rattle.uac_device.specs.declared.clocks.Clock.{Clock}
 use Rattle.uac_flow.specs.Streams.{after_ticks}
-use Rattle.uac_device.specs.DeviceWorld.{DeviceWorld, Domain, advanced, changed_where, deviated, is_on, next_ticks, step_in, steps_with_next}
-use Rattle.uac_device.specs.declared.lane.Lane.{Lane}
-use Rattle.uac_device.specs.Lanes.{KeepsStreams}
+use Rattle.uac_lanes.specs.InterfaceStreams.{changed_where}
+use Rattle.uac_device.specs.DeviceWorld.{DeviceWorld, Domain, advanced, deviated, is_on, next_ticks, step_in, steps_with_next}
+use Rattle.uac_lanes.specs.declared.lane.Lane.{Lane}
+use Rattle.uac_lanes.specs.Lanes.{KeepsStreams}
 use Rattle.uac_device.specs.Kept.{DeviceFields, IsInRange, Stands, kept}
 use Rattle.uac_device.specs.Turns.{advanced_clock, deviated_clock, first_ticks, resting_clock, step_by, ticks_where}
 

@@ -1,7 +1,3 @@
-pub mod Turning
-pub mod LaneLemmas
-pub mod LanesLemmas
-pub mod TurnedLanes
 pub mod GivenFrames
 pub mod LinkedLemmas
 pub mod StreamsLemmas

@@ -30,8 +30,8 @@ use Rattle.uac_alt.specs.declared.settings.InterfaceSetting.{InterfaceSetting}
 use Rattle.uac_device.specs.declared.clocks.Clock.{Clock}
 use Rattle.uac_entities.specs.declared.stream.StreamInterface.{StreamInterface}
 use Rattle.uac_flow.specs.Streams.{next_taken}
-use Rattle.uac_device.specs.declared.lane.Lane.{Lane}
-use Rattle.uac_device.specs.Lanes.{KeepsLane, KeepsStreams, idle_lane, port_of}
+use Rattle.uac_lanes.specs.declared.lane.Lane.{Lane}
+use Rattle.uac_lanes.specs.Lanes.{KeepsLane, KeepsStreams, idle_lane, port_of}
 use Rattle.uac_device.specs.DeviceWorld.{DeviceWorld, at_rest, entity_in, fresh, heard_of, input_of, is_input_jack, is_jack, is_output_jack, is_streamed, played_at, renders_of, set_jack, stream_to, streamed, ticked}
 use Rattle.uac_device.specs.Kept.{DeviceFields, IsDevice, Stands, kept}
 use Rattle.uac_device.specs.Turns.{frames_heard, resting_clock}

@@ -15,12 +15,13 @@ use Rattle.uac_graph.specs.Wiring.{AreWiresOf, Frames, frame_on}
 use Rattle.uac_graph.proofs.Ticking.{input_signal, output_signal}
 use Rattle.uac_graph.proofs.Walking.{signal_channels}
 use Rattle.uac_flow.specs.Streams.{InStream, OutStream, after_packet, after_sending, settled_in, settled_out}
-use Rattle.uac_device.specs.declared.lane.Lane.{Lane}
-use Rattle.uac_device.specs.declared.lane.Port.{Port}
-use Rattle.uac_device.specs.DeviceWorld.{DeviceWorld, changed_at, interface_in, is_on, played_to, received, sent, settled}
+use Rattle.uac_lanes.specs.declared.lane.Lane.{Lane}
+use Rattle.uac_lanes.specs.declared.lane.Port.{Port}
+use Rattle.uac_lanes.specs.InterfaceStreams.{changed_at}
+use Rattle.uac_device.specs.DeviceWorld.{DeviceWorld, interface_in, is_on, played_to, received, sent, settled}
 use Rattle.uac_device.specs.Kept.{DeviceFields, IsDevice, Stands}
 use Rattle.uac_device.specs.Linked.{AreLinked}
-use Rattle.uac_device.specs.Lanes.{KeepsStreams, WiredIn, WiredOut, idle_lane, port_of, ports}
+use Rattle.uac_lanes.specs.Lanes.{KeepsStreams, WiredIn, WiredOut, idle_lane, port_of, ports}
 use Rattle.uac_device.proofs.GivenFrames.{find_own}
 
 pub stands_streams : (device : DeviceFields) (lanes : List Lane) (w : DeviceWorld) (outs : ℕ → Option OutStream) (ins : ℕ → Option InStream) → Stands device w

@@ -16,13 +16,14 @@ use Rattle.uac_graph.specs.Wiring.{AreWiresOf, Frames, frame_on}
 use Rattle.uac_graph.proofs.Links.{entity_past, place_or_none}
 use Rattle.uac_graph.proofs.Ticking.{input_signal}
 use Rattle.uac_flow.specs.Streams.{InStream, OutStream, after_putting, after_taking, is_dry, is_full}
-use Rattle.uac_device.specs.declared.ticking.Ticked.{Ticked}
-use Rattle.uac_device.specs.declared.lane.Lane.{Lane}
-use Rattle.uac_device.specs.declared.lane.Port.{Port}
-use Rattle.uac_device.specs.DeviceWorld.{DeviceWorld, bits_of, changed_where, entity_in, input_of, is_on, is_streamed, met_of, played_to, ticked}
+use Rattle.uac_lanes.specs.declared.ticking.Ticked.{Ticked}
+use Rattle.uac_lanes.specs.declared.lane.Lane.{Lane}
+use Rattle.uac_lanes.specs.declared.lane.Port.{Port}
+use Rattle.uac_lanes.specs.InterfaceStreams.{bits_of, changed_where}
+use Rattle.uac_device.specs.DeviceWorld.{DeviceWorld, entity_in, input_of, is_on, is_streamed, met_of, played_to, ticked}
 use Rattle.uac_device.specs.Kept.{DeviceFields, IsDevice, Stands}
 use Rattle.uac_device.specs.Linked.{AreLinked}
-use Rattle.uac_device.specs.Lanes.{KeepsStreams, found_dry, found_full, given_by, met_by, port_of, ports}
+use Rattle.uac_lanes.specs.Lanes.{KeepsStreams, found_dry, found_full, given_by, met_by, port_of, ports}
 use Rattle.uac_device.proofs.GivenFrames.{apart, given_input, given_nothing}
 use Rattle.uac_device.proofs.Played.{Mid, Rendered, outputs_after, tick_stands}
 use Rattle.uac_device.proofs.Streaming.{own_interface, ports_on, ports_played}

@@ -18,7 +18,8 @@ use Rattle.std.specs.Int.{int_wrap}
 use Rattle.uac_pcm.specs.Words.{cut, sample_of_word, word_of}
 use Rattle.uac_alt.specs.Streams.{StreamFields}
 use Rattle.uac_flow.specs.Streams.{InStream, OutStream, after_packet, after_putting, after_sending, after_taking, arrival_of, feedback_of, is_due, sent_packet, settled_in, settled_out, started_out}
-use Rattle.uac_device.specs.DeviceWorld.{DeviceWorld, advanced, bits_of, feedback_in, input_of, is_due_in, level_of, met_of, next_ticks, received, restarted, sent, settled, step_in, streamed, target_of, ticked}
+use Rattle.uac_lanes.specs.InterfaceStreams.{bits_of}
+use Rattle.uac_device.specs.DeviceWorld.{DeviceWorld, advanced, feedback_in, input_of, is_due_in, level_of, met_of, next_ticks, received, restarted, sent, settled, step_in, streamed, target_of, ticked}
 use Rattle.uac_flow.specs.declared.arrival.Arrival.TheVariants as arrival
 
 abbrev with : ℕ → EntityKind → ℕ → List ℕ → ℕ → Entity

@@ -1,9 +1,9 @@
 -- The device's part of the world: what it keeps, with the whole past of its clocks, and what each event does to it.
 -- Profile: the events and their order; the terms are those of Audio Class 2.0, 3.13.
-use Rattle.std.specs.Prelude.{ℕ, ◌+◌, ◌*◌, ◌==◌, ◌&&◌, not, Bool, false, true, if◌then◌else◌, ℤ, pos, List, [], ◌∷◌, ◌++◌, map, filter}
+use Rattle.std.specs.Prelude.{ℕ, ◌==◌, ◌&&◌, not, Bool, false, true, if◌then◌else◌, ℤ, pos, List, [], ◌∷◌, ◌++◌, map, filter}
 use Rattle.std.specs.Prelude.{length, Option, Some, None, IfSome, unwrap_or}
 use Rattle.std.specs.List.{fold, find}
-use Rattle.std.specs.Option.{option_and_then, option_map, option_map_or, option_or}
+use Rattle.std.specs.Option.{option_and_then, option_map_or}
 use Rattle.uac_clock.specs.Nominal.{nominal_of, step_of}
 use Rattle.uac_clock.specs.Ticks.{ticks_in}
 use Rattle.uac_entities.specs.declared.entity.Entity.{Entity}
@@ -26,12 +26,12 @@ use Rattle.uac_alt.specs.Streams.{StreamFields, stream_of}
 use Rattle.uac_request.specs.Requests.{AnswerFields, after_request, held_by, is_done, is_stalled, rate_at, reply_of, with_bytes, with_descriptor}
 use Rattle.uac_request.specs.declared.setup.Setup.{Setup}
 use Rattle.uac_flow.specs.Streams.{InStream, OutStream, after_packet, after_putting, after_sending, after_taking, after_ticks, arrival_of}
-use Rattle.uac_flow.specs.Streams.{feedback_of, in_level, is_dry, is_due, is_full, next_taken, out_level, sent_frames, sent_packet}
-use Rattle.uac_flow.specs.Streams.{settled_in, settled_out, started_in, started_out}
+use Rattle.uac_flow.specs.Streams.{feedback_of, is_dry, is_full, next_taken, sent_frames, sent_packet, settled_in, settled_out}
 use Rattle.uac_flow.specs.Flows.{ZerosFit}
 use Rattle.uac_flow.specs.declared.arrival.Arrival.{Arrival}
 use Rattle.uac_flow.specs.declared.arrival.Arrival.TheVariants as arrival
-use Rattle.uac_device.specs.declared.ticking.Ticked.{Ticked}
+use Rattle.uac_lanes.specs.InterfaceStreams.{bits_of, changed_at, changed_where, either_due, in_from, level_in, out_from, replaced_at}
+use Rattle.uac_lanes.specs.declared.ticking.Ticked.{Ticked}
 
 -- a clock domain: the clock that its terminals name, what that is off by in millionths, and its steps since the start, one
 -- for each microframe, in 65,536ths of a frame
@@ -97,17 +97,6 @@ fresh function =
 
 -- ---- streams
 
--- by interface, streams of which that of one interface changes, or is another
-abbrev pub changed_at : {S : Type 0} → ℕ → (S → S) → (ℕ → Option S) → ℕ → Option S
-changed_at interface change streams k = if k == interface then option_map change (streams k) else streams k
-
-abbrev pub replaced_at : {S : Type 0} → ℕ → Option S → (ℕ → Option S) → ℕ → Option S
-replaced_at interface stream streams k = if k == interface then stream else streams k
-
--- the same, of which those of some interfaces change
-abbrev pub changed_where : {S : Type 0} → (ℕ → Bool) → (ℕ → S → S) → (ℕ → Option S) → ℕ → Option S
-changed_where test change streams k = option_map (λ s. if test k then change k s else s) (streams k)
-
 -- the stream to the device of the interface that links to a terminal (Audio Class 2.0, 4.9.2)
 abbrev pub stream_to : DeviceWorld → ℕ → Option OutStream
 stream_to w id = option_and_then (λ s. w.outs s.number) (find (λ s. s.terminal == id) w.function.streams)
@@ -121,10 +110,6 @@ abbrev pub is_on : DeviceWorld → ℕ → ℕ → Bool
 is_on w clock interface =
     option_map_or (λ s. (entity_in w s.terminal).clock == clock) (interface_in w interface) false
 
--- how many frames lie in the ring of a stream to the device, or from it
-abbrev pub level_in : Option OutStream → Option InStream → ℕ
-level_in out in_ = unwrap_or (option_or (option_map out_level out) (option_map in_level in_)) 0
-
 -- how many frames lie in the ring of an interface's stream; none where none runs
 unfoldable pub level_of : DeviceWorld → ℕ → ℕ
 level_of w interface = level_in (w.outs interface) (w.ins interface)
@@ -132,11 +117,6 @@ level_of w interface = level_in (w.outs interface) (w.ins interface)
 -- the level at which an interface's stream to the device was primed; none where none runs, or while it is priming
 unfoldable pub target_of : DeviceWorld → ℕ → Option ℕ
 target_of w interface = option_and_then (λ o. o.target) (w.outs interface)
-
--- a bit for each of these, the first being the lowest
-unfoldable pub bits_of : List Bool → ℕ
-bits_of [] = 0
-bits_of (b ∷ bs) = (if b then 1 else 0) + 2 * bits_of bs
 
 -- the streaming interfaces, in block order, whose primed ring is found empty, or whose ring is found full, in the next tick of a domain
 unfoldable pub met_of : ℕ → DeviceWorld → Ticked
@@ -259,10 +239,6 @@ unfoldable pub settled : ℕ → DeviceWorld → DeviceWorld
 settled interface w = at_in interface settled_in (at_out interface settled_out w)
 
 -- an interface runs a stream that has a packet in the next microframe
-abbrev pub either_due : Option OutStream → Option InStream → Bool
-either_due out in_ =
-    option_map_or (λ o. is_due o.stream o.microframes) out (option_map_or (λ i. is_due i.stream i.microframes) in_ false)
-
 unfoldable pub is_due_in : DeviceWorld → ℕ → Bool
 is_due_in w interface = either_due (w.outs interface) (w.ins interface)
 
@@ -291,13 +267,6 @@ unfoldable pub stream_in_setting : FunctionFields → List (Key × ℤ) → ℕ 
 stream_in_setting function controls interface setting =
     option_and_then (λ s. option_and_then (λ rate. stream_of function rate interface setting) (rate_at function controls s))
     (find (λ s. s.number == interface) function.streams)
-
--- such a stream at its start, where it goes to the device, and where it comes from it
-abbrev pub out_from : StreamFields → Option OutStream
-out_from s = if s.out then Some (started_out s) else None
-
-abbrev pub in_from : StreamFields → Option InStream
-in_from s = if s.out then None else Some (started_in s)
 
 -- an interface's stream starts anew, or stops where none is given
 unfoldable pub restarted : ℕ → Option StreamFields → DeviceWorld → DeviceWorld

@@ -11,9 +11,9 @@ use Rattle.uac_request.specs.declared.setup.Setup.{Setup}
 use Rattle.uac_alt.specs.declared.settings.InterfaceSetting.{InterfaceSetting}
 use Rattle.uac_graph.specs.Wiring.{Frames, AreWiresOf, frame_on, silence}
 use Rattle.uac_device.specs.declared.clocks.Clock.{Clock}
-use Rattle.uac_device.specs.declared.lane.Lane.{Lane}
+use Rattle.uac_lanes.specs.declared.lane.Lane.{Lane}
 use Rattle.uac_device.specs.DeviceWorld.{Domain, DeviceWorld, controlled, entity_in, is_jack}
-use Rattle.uac_device.specs.Lanes.{KeepsStreams, port_of, ports}
+use Rattle.uac_lanes.specs.Lanes.{KeepsStreams, port_of, ports}
 
 -- what a device is seen as: of its clocks it keeps the phase alone, and its frames are those on the wires
 pub record DeviceFields : Type 0 where

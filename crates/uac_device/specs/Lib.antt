@@ -3,7 +3,6 @@
 pub mod DeviceWorld
 -- What the contracts below them cite: steps of the code, no part of what is promised.
 pub mod Linked
-pub mod Lanes
 pub mod Kept
 pub mod Turns
 pub mod Following

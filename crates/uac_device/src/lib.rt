@@ -9,24 +9,18 @@ mod derived;
 mod device;
 /// What the meters hear of a tick.
 mod hearing;
-/// What is kept of a streaming interface.
-mod lane;
-/// What is kept of all of them.
-mod lanes;
 pub mod laws;
 /// The stream that a request starts.
 mod streams;
 /// Which terminals carry no stream of the bus.
 mod terminals;
-/// One tick, lane by lane.
-mod ticking;
 
 pub use clocks::Clock;
 pub use device::Device;
 pub use streams::{is_done, sets_interface, stream_asked};
 pub use terminals::{is_input_jack, is_output_jack, is_output_jack_of};
-pub use ticking::Ticked;
 pub use uac_flow::Arrival;
+pub use uac_lanes::Ticked;
 
 #[cfg(test)]
 mod streaming_tests;

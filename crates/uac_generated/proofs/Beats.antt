@@ -8,7 +8,8 @@ use Rattle.uac_rate.specs.Steadiness.{Given, reported}
 use Rattle.uac_topology.specs.Function.{FunctionFields}
 use Rattle.uac_rate.specs.Reports.{report_of}
 use Rattle.uac_flow.specs.Streams.{OutStream, after_packet, after_taking, after_ticks, feedback_of, is_dry, is_due, out_level, settled_out, settled_when_due}
-use Rattle.uac_device.specs.DeviceWorld.{DeviceWorld, advanced, changed_at, feedback_in, is_on, next_ticks, received, set_jack, settled, ticked}
+use Rattle.uac_lanes.specs.InterfaceStreams.{changed_at}
+use Rattle.uac_device.specs.DeviceWorld.{DeviceWorld, advanced, feedback_in, is_on, next_ticks, received, set_jack, settled, ticked}
 use Rattle.uac_device.specs.DeviceWorld.{sent as device_sends}
 use Rattle.uac_script.specs.Phrase.{SaidMark}
 use Rattle.uac_streaming.specs.Telling.{Telling, at_rest}

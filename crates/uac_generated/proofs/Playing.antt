@@ -9,7 +9,8 @@ use Rattle.uac_store.specs.declared.keys.Key.{Key}
 use Rattle.uac_alt.specs.Streams.{StreamFields}
 use Rattle.uac_units.specs.Hearing.{Reading}
 use Rattle.uac_request.specs.Requests.{after_request, held_by, reply_of, setup_of}
-use Rattle.uac_device.specs.DeviceWorld.{DeviceWorld, controlled, deviated, fresh, out_from, stream_in_setting, tells_done}
+use Rattle.uac_lanes.specs.InterfaceStreams.{out_from}
+use Rattle.uac_device.specs.DeviceWorld.{DeviceWorld, controlled, deviated, fresh, stream_in_setting, tells_done}
 use Rattle.uac_device.specs.DeviceWorld as device
 use Rattle.uac_flow.specs.Streams.{OutStream, started_out}
 use Rattle.uac_mixer.specs.declared.link.When.{When}

@@ -7,7 +7,8 @@ use Rattle.uac_rate.specs.Steadiness as steadiness
 use Rattle.uac_flow.specs.Streams.{OutStream, is_due, out_level}
 use Rattle.uac_host.specs.Calls.{with_samples}
 use Rattle.uac_host.specs.Calls as calls
-use Rattle.uac_device.specs.DeviceWorld.{Domain, either_due, fresh, is_due_in, step_in, target_of}
+use Rattle.uac_lanes.specs.InterfaceStreams.{either_due}
+use Rattle.uac_device.specs.DeviceWorld.{Domain, fresh, is_due_in, step_in, target_of}
 use Rattle.uac_script.specs.Phrase.{SaidMark}
 use Rattle.uac_streaming.specs.StreamingWorld.{StreamingWorld, loses_out, loses_report, packet_to}
 use Rattle.uac_running.specs.RunningWorld.{RunningWorld, at_start, streaming_of, with_detail, with_samples_on, with_tone, with_track}

@@ -10,7 +10,8 @@ use Rattle.uac_request.specs.declared.setup.Setup.{Setup}
 use Rattle.uac_flow.specs.Streams.{InStream, OutStream, started_out}
 use Rattle.uac_host.specs.HostWorld.{Pace}
 use Rattle.uac_host.specs.Calls.{at_interface, started, with_stream}
-use Rattle.uac_device.specs.DeviceWorld.{Domain, in_from, out_from, replaced_at, restarted}
+use Rattle.uac_lanes.specs.InterfaceStreams.{in_from, out_from, replaced_at}
+use Rattle.uac_device.specs.DeviceWorld.{Domain, restarted}
 use Rattle.uac_streaming.specs.StreamingWorld.{place_of}
 use Rattle.uac_running.specs.RunningWorld.{RunningWorld}
 use Rattle.uac_running.specs.Transfers.{transferred}

@@ -12,7 +12,8 @@ use Rattle.uac_flow.specs.Streams.{InStream, OutStream, arrival_of, is_due, is_f
 use Rattle.uac_flow.specs.declared.arrival.Arrival.{Arrival}
 use Rattle.uac_flow.specs.declared.arrival.Arrival.TheVariants as arrivals
 use Rattle.uac_host.specs.HostWorld.{Track}
-use Rattle.uac_device.specs.DeviceWorld.{DeviceWorld, Domain, advanced, arrival_in, either_due, is_due_in, is_on, next_ticks, received}
+use Rattle.uac_lanes.specs.InterfaceStreams.{either_due}
+use Rattle.uac_device.specs.DeviceWorld.{DeviceWorld, Domain, advanced, arrival_in, is_due_in, is_on, next_ticks, received}
 use Rattle.uac_script.specs.Phrase.{SaidMark}
 use Rattle.uac_transcript.specs.Transcript.{Said, says_over, says_under}
 use Rattle.uac_streaming.specs.Telling.{at_rest}

@@ -13,7 +13,8 @@ use Rattle.uac_alt.specs.Streams.{StreamFields}
 use Rattle.uac_alt.specs.declared.settings.InterfaceSetting.{InterfaceSetting}
 use Rattle.uac_flow.specs.Streams.{InStream, OutStream, after_packet, after_putting, after_sending, after_taking, after_ticks, in_level, is_due, is_full, sent_frames, settled_in, settled_out}
 use Rattle.uac_host.specs.Calls.{interface_in}
-use Rattle.uac_device.specs.DeviceWorld.{DeviceWorld, Domain, advanced, either_due, feedback_in, is_due_in, is_on, next_ticks, received, set_jack, settled, step_in, steps_with_next, ticked}
+use Rattle.uac_lanes.specs.InterfaceStreams.{either_due}
+use Rattle.uac_device.specs.DeviceWorld.{DeviceWorld, Domain, advanced, feedback_in, is_due_in, is_on, next_ticks, received, set_jack, settled, step_in, steps_with_next, ticked}
 use Rattle.uac_device.specs.DeviceWorld.{sent as device_sends}
 use Rattle.uac_script.specs.Phrase.{SaidMark}
 use Rattle.uac_streaming.specs.Telling.{at_rest}

@@ -19,7 +19,8 @@ use Rattle.uac_request.specs.declared.setup.Setup.{Setup}
 use Rattle.uac_request.proofs.Lasting.{rates_stay}
 use Rattle.uac_flow.specs.Streams.{InStream, OutStream, started_in}
 use Rattle.uac_host.specs.Calls.{with_stream}
-use Rattle.uac_device.specs.DeviceWorld.{Domain, deviated, fresh, in_from, out_from, replaced_at, restarted, sets_interface, stream_in_setting}
+use Rattle.uac_lanes.specs.InterfaceStreams.{in_from, out_from, replaced_at}
+use Rattle.uac_device.specs.DeviceWorld.{Domain, deviated, fresh, restarted, sets_interface, stream_in_setting}
 use Rattle.uac_device.specs.Linked.{IsOutput}
 use Rattle.uac_device.proofs.LinkedLemmas.{linked}
 use Rattle.uac_device.proofs.StreamsLemmas.{stream_fits}

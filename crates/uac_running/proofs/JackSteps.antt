@@ -17,7 +17,7 @@ use Rattle.uac_running.specs.declared.jacks.Jack.{Jack}
 use Rattle.uac_running.specs.Events.{after_one, given, given_one, gone_on, next_frame}
 use Rattle.uac_running.specs.RunningWorld.{toned}
 use Rattle.uac_device.proofs.Kept.{all_changed}
-use Rattle.uac_device.proofs.Turning.{IsTurnedBelow, untouched}
+use Rattle.uac_lanes.proofs.Turning.{IsTurnedBelow, untouched}
 use Rattle.uac_running.specs.Kept.{HasItsJacks, RunningFields}
 
 -- one jack more

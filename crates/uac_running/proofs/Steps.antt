@@ -8,7 +8,7 @@ use Rattle.uac_units.specs.Hearing.{Reading, at_most_u64}
 use Rattle.uac_rate.specs.Steadiness as steadiness
 use Rattle.uac_device.specs.Kept as device
 use Rattle.uac_device.specs.DeviceWorld.{DeviceWorld, advanced, after_frames, deviated, heard_of, met_of, next_ticks, renders_of, set_jack, step_in, ticked}
-use Rattle.uac_device.specs.declared.ticking.Ticked.{Ticked}
+use Rattle.uac_lanes.specs.declared.ticking.Ticked.{Ticked}
 use Rattle.uac_script.specs.Phrase.{SaidMark}
 use Rattle.uac_transcript.specs.Printing.{Prints, text_of}
 use Rattle.uac_transcript.proofs.PrintingLemmas.{front_after, front_of_more}

@@ -13,7 +13,7 @@ use Rattle.uac_host.specs.HostWorld.{HostWorld, Pace}
 use Rattle.uac_host.specs.Calls.{heard_in}
 use Rattle.uac_flow.specs.declared.arrival.Arrival.{Arrival}
 use Rattle.uac_flow.specs.declared.arrival.Arrival.TheVariants as arrivals
-use Rattle.uac_device.specs.DeviceWorld.{bits_of}
+use Rattle.uac_lanes.specs.InterfaceStreams.{bits_of}
 use Rattle.uac_transcript.specs.Transcript.{Said, says_out, says_over, spelled}
 use Rattle.uac_transcript.specs.Printing.{Prints, text_of}
 use Rattle.uac_transcript.proofs.PrintingLemmas.{Prints-after, Prints-line}

@@ -16,7 +16,8 @@ use Rattle.uac_alt.proofs.Parts.{parts_of, ran_of}
 use Rattle.uac_request.specs.Requests.{after_request, held_by, rate_at, reply_of}
 use Rattle.uac_request.specs.declared.setup.Setup.{Setup}
 use Rattle.uac_flow.specs.Streams.{OutStream, started_out}
-use Rattle.uac_device.specs.DeviceWorld.{DeviceWorld, at_rest, controlled, deviated, fresh, out_from, replaced_at, restarted, sets_interface, stream_in_setting, tells_done}
+use Rattle.uac_lanes.specs.InterfaceStreams.{out_from, replaced_at}
+use Rattle.uac_device.specs.DeviceWorld.{DeviceWorld, at_rest, controlled, deviated, fresh, restarted, sets_interface, stream_in_setting, tells_done}
 use Rattle.uac_device.specs.Kept.{IsInRange}
 use Rattle.uac_device.proofs.StreamsLemmas.{interval}
 use Rattle.uac_streaming.specs.Room.{HasRoom, HaveRoom}

@@ -10,7 +10,8 @@ use Rattle.uac_topology.specs.Function.{FunctionFields}
 use Rattle.uac_graph.specs.Meaning.{entity}
 use Rattle.uac_flow.specs.Flows.{ZerosFit}
 use Rattle.uac_flow.specs.Streams.{OutStream, after_packet, after_taking, after_ticks, is_due, settled_out}
-use Rattle.uac_device.specs.DeviceWorld.{DeviceWorld, Domain, ZerosFitIn, advanced, changed_at, changed_where, either_due, is_due_in, next_ticks, received, sent, set_jack, settled, steps_with_next, ticked}
+use Rattle.uac_lanes.specs.InterfaceStreams.{changed_at, changed_where, either_due}
+use Rattle.uac_device.specs.DeviceWorld.{DeviceWorld, Domain, ZerosFitIn, advanced, is_due_in, next_ticks, received, sent, set_jack, settled, steps_with_next, ticked}
 use Rattle.uac_device.specs.Kept.{IsInRange}
 use Rattle.uac_streaming.specs.Room.{HasRoom, HaveRoom}
 use Rattle.uac_streaming.specs.StreamingWorld.{numbers}

@@ -8,7 +8,7 @@ ghost use Rattle.uac_host.specs.Calls.{heard_in};
 ghost use Rattle.uac_host.specs.Kept as kept;
 ghost use Rattle.uac_transcript.specs.Printing.{Prints};
 ghost use Rattle.uac_transcript.specs.Transcript.{says_feedback, says_frame, says_in, says_out, says_over, says_under};
-ghost use Rattle.uac_device.specs.DeviceWorld.{bits_of};
+ghost use Rattle.uac_lanes.specs.InterfaceStreams.{bits_of};
 ghost use Rattle.uac_streaming.specs.StreamingWorld as spec;
 
 use uac_edges::{Failed, Sink};

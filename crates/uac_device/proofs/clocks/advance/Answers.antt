@@ -3,7 +3,7 @@ use Rattle.uac_device.specs.Kept.{IsInRange}
 use Rattle.uac_device.specs.Turns.{advanced_clock, ticks_where}
 use Rattle.uac_device.specs.declared.clocks.Clock.{Clock}
 use Rattle.uac_device.proofs.Kept.{first_more, first_read}
-use Rattle.uac_device.proofs.Turning.{turned_all, turned_more, untouched, untouched_holds}
+use Rattle.uac_lanes.proofs.Turning.{turned_all, turned_more, untouched, untouched_holds}
 use Rattle.uac_device.proofs.clocks.advance.Goals as goal
 
 pub advance_one-requires-clause-range : goal.advance_one-requires-clause-range

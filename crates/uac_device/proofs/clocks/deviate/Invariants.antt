@@ -1,5 +1,5 @@
 use Rattle.uac_device.specs.Turns.{deviated_clock}
-use Rattle.uac_device.proofs.Turning.{IsTurnedBelow}
+use Rattle.uac_lanes.proofs.Turning.{IsTurnedBelow}
 use Rattle.uac_device.proofs.clocks.deviate.Given as goal
 
 abbrev pub invariant-loop-clock : goal.invariant-loop-clock

@@ -1,5 +1,5 @@
 use Rattle.std.proofs.Common.{arith}
-use Rattle.uac_device.proofs.Turning.{turned_all, turned_more}
+use Rattle.uac_lanes.proofs.Turning.{turned_all, turned_more}
 use Rattle.uac_device.proofs.derived.renew.Goals as goal
 
 pub loop-pace-preserved : goal.loop-pace-preserved

@@ -1,5 +1,5 @@
 use Rattle.uac_device.specs.Following.{renewed_pace}
-use Rattle.uac_device.proofs.Turning.{IsTurnedBelow}
+use Rattle.uac_lanes.proofs.Turning.{IsTurnedBelow}
 use Rattle.uac_device.proofs.derived.renew.Given as goal
 
 abbrev pub invariant-loop-pace : goal.invariant-loop-pace

@@ -1,5 +1,5 @@
 use Rattle.uac_running.specs.RunningWorld.{toned}
-use Rattle.uac_device.proofs.Turning.{IsTurnedBelow}
+use Rattle.uac_lanes.proofs.Turning.{IsTurnedBelow}
 use Rattle.uac_running.proofs.jacks.set_tone.Given as goal
 
 abbrev pub invariant-loop-jack : goal.invariant-loop-jack

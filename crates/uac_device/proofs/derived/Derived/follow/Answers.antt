@@ -7,7 +7,7 @@ use Rattle.uac_graph.specs.Jobs.{AreJobs}
 use Rattle.uac_device.specs.Following.{IsDerived, IsPace, renewed_pace}
 use Rattle.uac_device.specs.declared.derived.Pace.{Pace}
 use Rattle.uac_device.proofs.Deriving.{renewed_paces, same_paces}
-use Rattle.uac_device.proofs.Turning.{turned_back}
+use Rattle.uac_lanes.proofs.Turning.{turned_back}
 use Rattle.uac_device.proofs.derived.Derived.follow.Goals as goal
 
 pub returns-then-not-sets_control : goal.returns-then-not-sets_control

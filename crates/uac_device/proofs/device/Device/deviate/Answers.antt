@@ -6,7 +6,7 @@ use Rattle.uac_device.specs.Kept.{DeviceFields, IsInRange, Stands}
 use Rattle.uac_device.specs.Turns.{deviated_clock}
 use Rattle.uac_device.specs.contracts.device.Device.{the_view}
 use Rattle.uac_device.proofs.Kept.{deviated_domains, deviated_phases, deviated_range, deviated_stands}
-use Rattle.uac_device.proofs.Turning.{put_back}
+use Rattle.uac_lanes.proofs.Turning.{put_back}
 use Rattle.uac_device.proofs.device.Device.deviate.Goals as goal
 
 pub invariant_of-self : goal.invariant_of-self

@@ -5,7 +5,7 @@ use Rattle.uac_graph.specs.Wiring.{frame_on, silence}
 use Rattle.uac_device.specs.DeviceWorld.{is_input_jack, set_jack}
 use Rattle.uac_device.specs.Kept.{DeviceFields, Stands}
 use Rattle.uac_device.specs.contracts.device.Device.{the_view}
-use Rattle.uac_device.proofs.GivenFrames.{hushed}
+use Rattle.uac_lanes.proofs.LaneFrames.{hushed}
 use Rattle.uac_device.proofs.Played.{jack_fits, jack_stands}
 use Rattle.uac_device.proofs.device.Device.hush.Goals as goal
 

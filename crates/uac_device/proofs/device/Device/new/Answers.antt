@@ -5,7 +5,7 @@ use Rattle.uac_device.specs.declared.clocks.Clock.{Clock}
 use Rattle.uac_device.specs.Kept.{IsInRange}
 use Rattle.uac_device.specs.Turns.{resting_clock}
 use Rattle.uac_device.proofs.Kept.{resting_domains, resting_phases, resting_range}
-use Rattle.uac_device.specs.Lanes.{ports}
+use Rattle.uac_lanes.specs.Lanes.{ports}
 use Rattle.uac_device.proofs.Played.{fresh_stands}
 use Rattle.uac_device.proofs.Streaming.{ports_idle}
 use Rattle.uac_device.proofs.device.Device.new.Goals as goal

@@ -10,7 +10,7 @@ use Rattle.uac_graph.proofs.FromRules.{sound_graph}
 use Rattle.uac_units.specs.Panel.{readings}
 use Rattle.uac_device.specs.DeviceWorld.{after_frames, ticked}
 use Rattle.uac_device.specs.Kept.{DeviceFields, Stands}
-use Rattle.uac_device.specs.Lanes.{WiredOut}
+use Rattle.uac_lanes.specs.Lanes.{WiredOut}
 use Rattle.uac_device.specs.Turns.{frames_heard}
 use Rattle.uac_device.specs.contracts.device.Device.{the_view}
 use Rattle.uac_device.proofs.LinkedLemmas.{linked}

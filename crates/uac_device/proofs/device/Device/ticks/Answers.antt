@@ -10,10 +10,11 @@ use Rattle.uac_device.specs.contracts.device.Device.{the_view}
 use Rattle.uac_device.proofs.Fastest.{few_ticks, rated_nominal}
 use Rattle.uac_device.proofs.Kept.{advanced_domains, advanced_phases, advanced_range, advanced_stands, ticks_next}
 use Rattle.uac_flow.specs.Streams.{after_ticks}
-use Rattle.uac_device.specs.DeviceWorld.{changed_where, is_on, next_ticks}
-use Rattle.uac_device.specs.Lanes.{KeepsStreams}
+use Rattle.uac_lanes.specs.InterfaceStreams.{changed_where}
+use Rattle.uac_device.specs.DeviceWorld.{is_on, next_ticks}
+use Rattle.uac_lanes.specs.Lanes.{KeepsStreams}
 use Rattle.uac_device.proofs.Streaming.{ports_on}
-use Rattle.uac_device.proofs.Turning.{put_back}
+use Rattle.uac_lanes.proofs.Turning.{put_back}
 use Rattle.uac_device.proofs.device.Device.ticks.Goals as goal
 
 pub invariant_of-self : goal.invariant_of-self

@@ -1,7 +1,7 @@
 use Rattle.std.proofs.Common.{sym, subst, refl}
 use Rattle.uac_running.specs.RunningWorld.{toned, with_tone}
 use Rattle.uac_running.specs.Kept.{RunningFields, Stands}
-use Rattle.uac_device.proofs.Turning.{turned_back}
+use Rattle.uac_lanes.proofs.Turning.{turned_back}
 use Rattle.uac_running.proofs.Counting.{domains_kept}
 use Rattle.uac_running.proofs.JackSteps.{jacks_toned}
 use Rattle.uac_running.proofs.Steps.{toned_on}

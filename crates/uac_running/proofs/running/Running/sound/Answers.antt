@@ -4,7 +4,7 @@ use Rattle.uac_device.specs.DeviceWorld.{DeviceWorld, renders_of}
 use Rattle.uac_units.specs.Panel.{readings}
 use Rattle.uac_running.specs.Events.{after_one, gone_on}
 use Rattle.uac_running.specs.Kept.{RunningFields, Stands}
-use Rattle.uac_device.proofs.Turning.{turned_back}
+use Rattle.uac_lanes.proofs.Turning.{turned_back}
 use Rattle.uac_running.proofs.Counting.{domains_kept}
 use Rattle.uac_running.proofs.JackSteps.{jacks_gone_on}
 use Rattle.uac_running.proofs.Steps.{sounded, sounded_found, view_still}

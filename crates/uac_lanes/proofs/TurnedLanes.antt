@@ -1,0 +1,270 @@
+-- Lanes that change one after the other.
+use Rattle.std.proofs.Common.{◌≡◌, ◌∙◌, sym, refl, ap, subst, arith, ℕ, zero, suc, ◌+◌, ◌-◌, ◌*◌, ◌^◌, ◌<◌, ◌≤◌, ◌==◌, Bool, true, false, if◌then◌else◌, ℤ, List, [], ◌∷◌, Option, Some, None, length, get_or, map, set, drop, unwrap_or, inl, inr}
+use Rattle.std.specs.List.{All}
+use Rattle.std.specs.Option.{option_map}
+use Rattle.std.proofs.lemmas.Bool.{cases_eq}
+use Rattle.std.proofs.lemmas.List.{drop_all, drop_more, get_or_default, get_or-map, get_or-set_other, get_or-set_same, length-map, length-set}
+use Rattle.std.proofs.lemmas.Nat.{pow-add}
+use Rattle.uac_graph.specs.Wiring.{Frames, frame_on, samples_on}
+use Rattle.uac_flow.specs.Streams.{InStream, OutStream, after_putting, after_taking, after_ticks}
+use Rattle.uac_lanes.specs.declared.lane.Flow.{Flow}
+use Rattle.uac_lanes.specs.declared.lane.Flow.TheVariants as flow
+use Rattle.uac_lanes.specs.InterfaceStreams.{bits_of, changed_where}
+use Rattle.uac_lanes.specs.declared.lane.Port.{Port}
+use Rattle.uac_lanes.specs.declared.lane.Lane.{Lane}
+use Rattle.uac_lanes.specs.Lanes.{IsFlow, IsLane, KeepsFlow, KeepsLane, KeepsStreams, Turns, counted_on, lane_at, ports, put_on, taken_on}
+use Rattle.uac_lanes.proofs.LanesLemmas.{same_places}
+
+-- what an event makes of streams, by the interface's port
+abbrev pub Change : Type 0 → Type 0
+Change S = Port → Option S → Option S
+
+-- the lanes below a place have changed, and the others are as they were
+pub record IsTurnedTo (outs : Port → Option OutStream → Option OutStream) (ins : Port → Option InStream → Option InStream) (now old : List Lane) (at : ℕ) : Type 0 where
+  pub below : (k : ℕ) (d : Lane) → k < at → k < length old → Turns (outs (get_or old k d).port) (ins (get_or old k d).port) (get_or old k d) (get_or now k d)
+  pub sound : (k : ℕ) (d : Lane) → k < at → k < length old → IsLane (get_or now k d)
+  pub rest : (k : ℕ) (d : Lane) → at ≤ k → get_or now k d ≡ get_or old k d
+  pub same : length now ≡ length old
+
+pub turned_none : (outs : Port → Option OutStream → Option OutStream) (ins : Port → Option InStream → Option InStream) (lanes : List Lane) → IsTurnedTo outs ins lanes lanes 0
+turned_none outs ins lanes = record {
+  below = λ k d less inside. absurd (omega (arith, less));
+  sound = λ k d less inside. absurd (omega (arith, less));
+  rest = λ k d past. refl;
+  same = refl;
+}
+
+-- the lane that comes next is as it was
+pub untouched : (outs : Port → Option OutStream → Option OutStream) (ins : Port → Option InStream → Option InStream) (now old : List Lane) (at : ℕ) (d : Lane)
+    → IsTurnedTo outs ins now old at → get_or now at d ≡ get_or old at d
+untouched outs ins now old at d turned = turned.rest at d (omega arith)
+
+pub untouched_sound : (outs : Port → Option OutStream → Option OutStream) (ins : Port → Option InStream → Option InStream) (now old : List Lane) (at : ℕ) (d l : Lane)
+    → IsTurnedTo outs ins now old at → All IsLane old → at < length now → l ≡ get_or now at d → IsLane l
+untouched_sound outs ins now old at d l turned sound below read =
+    subst IsLane (sym (read ∙ untouched outs ins now old at d turned)) (sound at d (omega (arith, turned.same)))
+
+-- what holds of the ports holds of its port
+pub untouched_port : (P : Port → Type 0) (outs : Port → Option OutStream → Option OutStream) (ins : Port → Option InStream → Option InStream) (now old : List Lane) (at : ℕ)
+    (d l : Lane) → IsTurnedTo outs ins now old at → All P (ports old) → at < length now → l ≡ get_or now at d → P l.port
+untouched_port P outs ins now old at d l turned all below read =
+    let inside : at < length old = omega (arith, turned.same) in
+    let own : get_or (ports old) at d.port ≡ (get_or old at d).port = get_or-map (λ (m : Lane). m.port) old at d d.port inside in
+    subst P (own ∙ sym (ap (λ (m : Lane). m.port) (read ∙ untouched outs ins now old at d turned)))
+    (all at d.port (omega (arith, length-map old (λ (m : Lane). m.port))))
+
+-- one more has changed
+pub turned_more : (outs : Port → Option OutStream → Option OutStream) (ins : Port → Option InStream → Option InStream) (now old : List Lane) (at : ℕ) (x l d : Lane)
+    → at < length now → IsTurnedTo outs ins now old at → l ≡ get_or now at d → Turns (outs l.port) (ins l.port) l x → IsLane x
+    → IsTurnedTo outs ins (set now at x) old (at + 1)
+turned_more outs ins now old at x l d inside turned read turns sound = record {
+  below = below;
+  sound = right;
+  rest = λ k e past. get_or-set_other now at k x e (λ same. omega (arith, past, same)) ∙ turned.rest k e (omega (arith, past));
+  same = length-set now at x ∙ turned.same;
+}
+  where
+    here : (e : Lane) → get_or old at e ≡ l
+    here e = sym (turned.rest at e (omega arith)) ∙ get_or_default now at e d inside ∙ sym read
+
+    below : (k : ℕ) (e : Lane) → k < at + 1 → k < length old
+        → Turns (outs (get_or old k e).port) (ins (get_or old k e).port) (get_or old k e) (get_or (set now at x) k e)
+    below k e less within = elim (cases_eq k at) [
+      | inl same ↦
+          (let was : get_or old k e ≡ l = ap (λ (n : ℕ). get_or old n e) same ∙ here e in
+          let is : get_or (set now at x) k e ≡ x = ap (λ (n : ℕ). get_or (set now at x) n e) same ∙ get_or-set_same now at x e inside in
+          subst (λ (m : Lane). Turns (outs m.port) (ins m.port) m (get_or (set now at x) k e)) (sym was)
+          (subst (λ (m : Lane). Turns (outs l.port) (ins l.port) l m) (sym is) turns))
+      | inr other ↦
+          subst (λ (m : Lane). Turns (outs (get_or old k e).port) (ins (get_or old k e).port) (get_or old k e) m) (sym (get_or-set_other now at k x e other))
+          (turned.below k e (omega (arith, less, other)) within)
+    ]
+
+    right : (k : ℕ) (e : Lane) → k < at + 1 → k < length old → IsLane (get_or (set now at x) k e)
+    right k e less within = elim (cases_eq k at) [
+      | inl same ↦
+          subst IsLane (sym (ap (λ (n : ℕ). get_or (set now at x) n e) same ∙ get_or-set_same now at x e inside)) sound
+      | inr other ↦ subst IsLane (sym (get_or-set_other now at k x e other)) (turned.sound k e (omega (arith, less, other)) within)
+    ]
+
+-- lists that give the same at each place
+map_same_at : {X Y : Type 0} (f : X → Y) (xs ys : List X) → length xs ≡ length ys → ((k : ℕ) (d : X) → k < length ys → f (get_or xs k d) ≡ f (get_or ys k d)) → map f xs ≡ map f ys
+map_same_at f [] [] sized same = refl
+map_same_at f [] (y ∷ ys) sized same = absurd (omega (arith, sized))
+map_same_at f (x ∷ xs) [] sized same = absurd (omega (arith, sized))
+map_same_at f (x ∷ xs) (y ∷ ys) sized same =
+    ap (λ a. a ∷ map f xs) (same 0 x (omega arith))
+    ∙ ap (λ rest. f y ∷ rest) (map_same_at f xs ys (omega (arith, sized)) (λ k d below. same (suc k) d (omega (arith, below))))
+
+-- all have
+pub ports_turned : (outs : Port → Option OutStream → Option OutStream) (ins : Port → Option InStream → Option InStream) (now old : List Lane) (at : ℕ)
+    → IsTurnedTo outs ins now old at → length now ≤ at → ports now ≡ ports old
+ports_turned outs ins now old at turned past =
+    map_same_at (λ (l : Lane). l.port) now old turned.same (λ k d below. (turned.below k d (omega (arith, past, below, turned.same)) below).port)
+
+pub sound_turned : (outs : Port → Option OutStream → Option OutStream) (ins : Port → Option InStream → Option InStream) (now old : List Lane) (at : ℕ)
+    → IsTurnedTo outs ins now old at → length now ≤ at → All IsLane now
+sound_turned outs ins now old at turned past k d below = turned.sound k d (omega (arith, past, below)) (omega (arith, below, turned.same))
+
+pub keeps_turned : (outs : Port → Option OutStream → Option OutStream) (ins : Port → Option InStream → Option InStream) (now old : List Lane) (at : ℕ)
+    (os os' : ℕ → Option OutStream) (is is' : ℕ → Option InStream)
+    → IsTurnedTo outs ins now old at → length now ≤ at → All IsLane old → KeepsStreams old os is
+    → ((l : Lane) (k : ℕ) → k < length old → l ≡ get_or old k l → IsLane l → KeepsLane l (os l.port.interface) (is l.port.interface)
+    → (os' l.port.interface ≡ outs l.port (os l.port.interface)) × (is' l.port.interface ≡ ins l.port (is l.port.interface)))
+    → ((n : ℕ) → os n ≡ None → os' n ≡ None) → ((n : ℕ) → is n ≡ None → is' n ≡ None)
+    → KeepsStreams now os' is'
+keeps_turned outs ins now old at os os' is is' turned past sound keeps changes none_out none_in = record { each = each; none = none }
+  where
+    each : All (λ l. KeepsLane l (os' l.port.interface) (is' l.port.interface)) now
+    each k d below =
+        let inside : k < length old = omega (arith, below, turned.same) in
+        let l = get_or old k d in
+        let turns = turned.below k d (omega (arith, past, below)) inside in
+        let kept : KeepsLane l (os l.port.interface) (is l.port.interface) = keeps.each k d inside in
+        let change = changes l k inside (get_or_default old k d l inside) (sound k d inside) kept in
+        let new : KeepsLane (get_or now k d) (outs l.port (os l.port.interface)) (ins l.port (is l.port.interface)) = turns.stands (os l.port.interface) (is l.port.interface) kept in
+        subst (λ (p : Port). KeepsLane (get_or now k d) (os' p.interface) (is' p.interface)) (sym turns.port)
+        (subst (λ (o : Option OutStream). KeepsLane (get_or now k d) o (is' l.port.interface)) (sym change.0)
+        (subst (λ (i : Option InStream). KeepsLane (get_or now k d) (outs l.port (os l.port.interface)) i) (sym change.1) new))
+
+    none : (n : ℕ) → lane_at now n ≡ None → (os' n ≡ None) × (is' n ≡ None)
+    none n gone =
+        let was = keeps.none n (sym (same_places old now n (ports_turned outs ins now old at turned past)) ∙ gone) in
+        (none_out n was.0, none_in n was.1)
+
+-- the port of a lane is among the ports
+pub port_holds : (P : Port → Type 0) (lanes : List Lane) (l : Lane) (k : ℕ) → All P (ports lanes) → k < length lanes → l ≡ get_or lanes k l → P l.port
+port_holds P lanes l k all below is =
+    let own : get_or (ports lanes) k l.port ≡ (get_or lanes k l).port = get_or-map (λ (m : Lane). m.port) lanes k l l.port below in
+    subst P (own ∙ sym (ap (λ (m : Lane). m.port) is)) (all k l.port (omega (arith, below, length-map lanes (λ (m : Lane). m.port))))
+
+-- streams of which some change: those on a domain
+pub changed_none : {S : Type 0} (b : Bool) (change : S → S) (o : Option S) → o ≡ None → option_map (λ s. if b then change s else s) o ≡ None
+changed_none b change o is = ap (option_map (λ s. if b then change s else s)) is
+
+pub changed_as : {S : Type 0} (a b : Bool) (change : S → S) (o : Option S) → a ≡ b
+    → option_map (λ s. if a then change s else s) o ≡ option_map (λ s. if b then change s else s) o
+changed_as a b change o same = ap (λ (t : Bool). option_map (λ s. if t then change s else s) o) same
+
+-- ---- the three events of ticks
+
+pub counted_keeps : (domain ticks : ℕ) (now old : List Lane) (at : ℕ) → IsTurnedTo (counted_on domain ticks) (λ p in_. in_) now old at → length now ≤ at → All IsLane old
+    → (on : ℕ → Bool) (outs : ℕ → Option OutStream) (ins : ℕ → Option InStream) → All (λ p. on p.interface ≡ (p.clock == domain)) (ports old) → KeepsStreams old outs ins
+    → KeepsStreams now (changed_where on (λ interface. after_ticks ticks) outs) ins
+counted_keeps domain ticks now old at turned past sound on outs ins all keeps =
+    keeps_turned (counted_on domain ticks) (λ p in_. in_) now old at outs (changed_where on (λ interface. after_ticks ticks) outs) ins ins turned past sound keeps
+    (λ l k below is right kept. (
+      changed_as (on l.port.interface) (l.port.clock == domain) (after_ticks ticks) (outs l.port.interface)
+          (port_holds (λ p. on p.interface ≡ (p.clock == domain)) old l k all below is),
+      refl,
+    ))
+    (λ n none. changed_none (on n) (after_ticks ticks) (outs n) none) (λ n none. none)
+
+pub taken_keeps : (domain : ℕ) (now old : List Lane) (at : ℕ) → IsTurnedTo (taken_on domain) (λ p in_. in_) now old at → length now ≤ at → All IsLane old
+    → (on : ℕ → Bool) (outs : ℕ → Option OutStream) (ins : ℕ → Option InStream) → All (λ p. on p.interface ≡ (p.clock == domain)) (ports old) → KeepsStreams old outs ins
+    → KeepsStreams now (changed_where on (λ interface. after_taking) outs) ins
+taken_keeps domain now old at turned past sound on outs ins all keeps =
+    keeps_turned (taken_on domain) (λ p in_. in_) now old at outs (changed_where on (λ interface. after_taking) outs) ins ins turned past sound keeps
+    (λ l k below is right kept. (
+      changed_as (on l.port.interface) (l.port.clock == domain) after_taking (outs l.port.interface)
+          (port_holds (λ p. on p.interface ≡ (p.clock == domain)) old l k all below is),
+      refl,
+    ))
+    (λ n none. changed_none (on n) after_taking (outs n) none) (λ n none. none)
+
+-- the frame on a terminal's wire is the one that it played
+put_same : (domain : ℕ) (wires : Frames) (on : Bool) (frame : List ℤ) (l : Lane) (out : Option OutStream) (in_ : Option InStream) → IsLane l → KeepsLane l out in_
+    → on ≡ (l.port.clock == domain) → (l.port.out ≡ false → 1 ≤ l.port.channels → frame_on wires l.port.terminal ≡ Some frame)
+    → option_map (λ i. if on then after_putting frame i else i) in_ ≡ put_on domain (samples_on wires l.port.terminal) l.port in_
+put_same domain wires on frame l out in_ sound keeps same there = along l.flow sound keeps
+  where
+    nothing : in_ ≡ None → option_map (λ i. if on then after_putting frame i else i) in_ ≡ put_on domain (samples_on wires l.port.terminal) l.port in_
+    nothing none =
+        ap (option_map (λ (i : InStream). if on then after_putting frame i else i)) none
+        ∙ sym (ap (put_on domain (samples_on wires l.port.terminal) l.port) none)
+
+    along : (f : Flow) → IsFlow l.port l.ring f → KeepsFlow l.ring f out in_
+        → option_map (λ i. if on then after_putting frame i else i) in_ ≡ put_on domain (samples_on wires l.port.terminal) l.port in_
+    along flow.Idle right kept = nothing kept.1
+    along (flow.Out f) right kept = nothing kept.2
+    along (flow.In f) right kept =
+        let on_wire : samples_on wires l.port.terminal ≡ frame = ap (λ (o : Option (List ℤ)). unwrap_or o []) (there right.1 right.3) in
+        changed_as on (l.port.clock == domain) (after_putting frame) in_ same
+        ∙ ap (λ (x : List ℤ). put_on domain x l.port in_) (sym on_wire)
+
+pub put_keeps : (domain : ℕ) (wires : Frames) (now old : List Lane) (at : ℕ)
+    → IsTurnedTo (λ p out. out) (λ p in_. put_on domain (samples_on wires p.terminal) p in_) now old at → length now ≤ at → All IsLane old
+    → (on : ℕ → Bool) (played : ℕ → List ℤ) (outs : ℕ → Option OutStream) (ins : ℕ → Option InStream) → All (λ p. on p.interface ≡ (p.clock == domain)) (ports old)
+    → All (λ p. p.out ≡ false → 1 ≤ p.channels → frame_on wires p.terminal ≡ Some (played p.interface)) (ports old) → KeepsStreams old outs ins
+    → KeepsStreams now outs (changed_where on (λ interface. after_putting (played interface)) ins)
+put_keeps domain wires now old at turned past sound on played outs ins all there keeps =
+    keeps_turned (λ p out. out) (λ p in_. put_on domain (samples_on wires p.terminal) p in_) now old at outs outs ins
+    (changed_where on (λ interface. after_putting (played interface)) ins) turned past sound keeps
+    (λ l k below is right kept. (
+      refl,
+      put_same domain wires (on l.port.interface) (played l.port.interface) l (outs l.port.interface) (ins l.port.interface) right kept
+          (port_holds (λ p. on p.interface ≡ (p.clock == domain)) old l k all below is)
+          (port_holds (λ p. p.out ≡ false → 1 ≤ p.channels → frame_on wires p.terminal ≡ Some (played p.interface)) old l k there below is),
+    ))
+    (λ n none. none) (λ n none. changed_none (on n) (after_putting (played n)) (ins n) none)
+
+-- ---- what a tick meets
+
+-- one lane in front of those that were asked
+pub met_more : (test : Port → Bool) (lanes : List Lane) (at : ℕ) (l : Lane) (found : Bool) (bits : ℕ) → at < length lanes → l ≡ get_or lanes at l → found ≡ test l.port
+    → bits ≡ bits_of (map test (drop (at + 1) (ports lanes))) → (if found then 1 else 0) + 2 * bits ≡ bits_of (map test (drop at (ports lanes)))
+unfolding bits_of
+met_more test lanes at l found bits below read is so_far =
+    let own : get_or (ports lanes) at l.port ≡ l.port = get_or-map (λ (m : Lane). m.port) lanes at l l.port below ∙ sym (ap (λ (m : Lane). m.port) read) in
+    ap (λ (b : Bool). (if b then 1 else 0) + 2 * bits) is
+    ∙ ap (λ (n : ℕ). (if test l.port then 1 else 0) + 2 * n) so_far
+    ∙ ap (λ (p : Port). (if test p then 1 else 0) + 2 * bits_of (map test (drop (at + 1) (ports lanes)))) (sym own)
+    ∙ ap (λ (ps : List Port). bits_of (map test ps)) (sym (drop_more (ports lanes) at l.port (omega (arith, below, length-map lanes (λ (m : Lane). m.port)))))
+
+pub met_nothing : (test : Port → Bool) (lanes : List Lane) → 0 ≡ bits_of (map test (drop (length lanes) (ports lanes)))
+unfolding bits_of
+met_nothing test lanes = ap (λ (ps : List Port). bits_of (map test ps)) (sym (drop_all (length lanes) (ports lanes) (omega (arith, length-map lanes (λ (m : Lane). m.port)))))
+
+pub met_further : (test : Port → Bool) (lanes : List Lane) (at : ℕ) (l : Lane) (found : Bool) (bits more : ℕ) → 0 < at → at ≤ length lanes → l ≡ get_or lanes (at - 1) l
+    → found ≡ test l.port → bits ≡ bits_of (map test (drop at (ports lanes))) → more ≡ (if found then 1 else 0) + 2 * bits
+    → more ≡ bits_of (map test (drop (at - 1) (ports lanes)))
+met_further test lanes at l found bits more some inside read is so_far grown =
+    let next : at ≡ at - 1 + 1 = omega (arith, some) in
+    grown ∙ met_more test lanes (at - 1) l found bits (omega (arith, some, inside)) read is (so_far ∙ ap (λ (n : ℕ). bits_of (map test (drop n (ports lanes)))) next)
+
+pub met_all : (test : Port → Bool) (lanes : List Lane) (at bits : ℕ) → at ≡ 0 → bits ≡ bits_of (map test (drop at (ports lanes))) → bits ≡ bits_of (map test (ports lanes))
+met_all test lanes at bits none so_far = so_far ∙ ap (λ (n : ℕ). bits_of (map test (drop n (ports lanes)))) none
+
+-- what a lane at a place keeps
+pub keeps_at : (lanes : List Lane) (outs : ℕ → Option OutStream) (ins : ℕ → Option InStream) (at : ℕ) (l : Lane) → KeepsStreams lanes outs ins → at < length lanes → l ≡ get_or lanes at l
+    → KeepsLane l (outs l.port.interface) (ins l.port.interface)
+keeps_at lanes outs ins at l keeps below read =
+    subst (λ (m : Lane). KeepsLane m (outs m.port.interface) (ins m.port.interface)) (sym read) (keeps.each at l below)
+
+-- as many bits as lanes
+pub few_bits : (bits count : ℕ) (found : Bool) → bits < 2 ^ count → (if found then 1 else 0) + 2 * bits < 2 ^ (count + 1)
+few_bits bits count found few = by found
+  where
+    double : 2 ^ (count + 1) ≡ 2 ^ count * 2 ^ 1
+    double = pow-add 2 count 1
+
+    by : (b : Bool) → (if b then 1 else 0) + 2 * bits < 2 ^ (count + 1)
+    by true = omega (arith, few, double)
+    by false = omega (arith, few, double)
+
+pub few_further : (bits more size at : ℕ) (found : Bool) → 0 < at → at ≤ size → bits < 2 ^ (size - at) → more ≡ (if found then 1 else 0) + 2 * bits → more < 2 ^ (size - (at - 1))
+few_further bits more size at found some inside few grown =
+    let next : size - at + 1 ≡ size - (at - 1) = omega (arith, some, inside) in
+    subst (λ (n : ℕ). n < 2 ^ (size - (at - 1))) (sym grown)
+    (subst (λ (n : ℕ). (if found then 1 else 0) + 2 * bits < 2 ^ n) next (few_bits bits (size - at) found few))
+
+pub room_for_bits : (bits count : ℕ) → bits < 2 ^ count → count ≤ 7 → bits ≤ 127
+room_for_bits bits zero few most = omega (arith, few)
+room_for_bits bits (suc zero) few most = omega (arith, few)
+room_for_bits bits (suc (suc zero)) few most = omega (arith, few)
+room_for_bits bits (suc (suc (suc zero))) few most = omega (arith, few)
+room_for_bits bits (suc (suc (suc (suc zero)))) few most = omega (arith, few)
+room_for_bits bits (suc (suc (suc (suc (suc zero))))) few most = omega (arith, few)
+room_for_bits bits (suc (suc (suc (suc (suc (suc zero)))))) few most = omega (arith, few)
+room_for_bits bits (suc (suc (suc (suc (suc (suc (suc zero))))))) few most = omega (arith, few)
+room_for_bits bits (suc (suc (suc (suc (suc (suc (suc (suc count)))))))) few most = absurd (omega (arith, most))

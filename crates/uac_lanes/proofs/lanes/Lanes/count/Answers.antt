@@ -1,0 +1,24 @@
+use Rattle.std.proofs.Common.{◌≡◌, ◌∙◌, ◌==◌, arith, ap, subst, sym, List}
+use Rattle.std.specs.List.{All}
+use Rattle.uac_flow.specs.Streams.{after_ticks}
+use Rattle.uac_lanes.specs.declared.lane.Lane.{Lane}
+use Rattle.uac_lanes.specs.InterfaceStreams.{changed_where}
+use Rattle.uac_lanes.specs.Lanes.{AreLanes, KeepsStreams, ports}
+use Rattle.uac_lanes.proofs.LanesLemmas.{still_apart}
+use Rattle.uac_lanes.proofs.Turning.{put_back}
+use Rattle.uac_lanes.proofs.lanes.Lanes.count.Goals as goal
+
+pub invariant_of-self : goal.invariant_of-self
+invariant_of-self c =
+    subst AreLanes (sym (put_back c.self.inside.list.len c.count.new.lanes c.self.inside.list.items (omega arith)))
+    (record {
+      each = c.count.ensures.sound;
+      apart = still_apart c.self.inside.list.items c.count.new.lanes (c.count.ensures.ports ∙ ap ports c.deref_mut.ensures.value) c.self.invariant.apart;
+    })
+
+pub returns-clause-stands : goal.returns-clause-stands
+returns-clause-stands c on outs ins all keeps =
+    let same = sym (c.deref_mut.ensures.value ∙ c.self.view_is) in
+    subst (λ (ls : List Lane). KeepsStreams ls (changed_where on (λ interface. after_ticks c.args.ticks) outs) ins)
+    (sym (put_back c.self.inside.list.len c.count.new.lanes c.self.inside.list.items (omega arith)))
+    (c.count.ensures.stands on outs ins (subst (λ (ls : List Lane). All (λ p. on p.interface ≡ (p.clock == c.args.domain)) (ports ls)) same all) (subst (λ (ls : List Lane). KeepsStreams ls outs ins) same keeps))

@@ -1,0 +1,25 @@
+use Rattle.std.proofs.Common.{◌≡◌, ◌∙◌, ◌==◌, ◌≤◌, arith, ap, subst, sym, List, false, Some}
+use Rattle.std.specs.List.{All}
+use Rattle.uac_graph.specs.Wiring.{frame_on}
+use Rattle.uac_flow.specs.Streams.{after_putting}
+use Rattle.uac_lanes.specs.declared.lane.Lane.{Lane}
+use Rattle.uac_lanes.specs.InterfaceStreams.{changed_where}
+use Rattle.uac_lanes.specs.Lanes.{AreLanes, KeepsStreams, ports}
+use Rattle.uac_lanes.proofs.LanesLemmas.{still_apart}
+use Rattle.uac_lanes.proofs.Turning.{put_back}
+use Rattle.uac_lanes.proofs.lanes.Lanes.put.Goals as goal
+
+pub invariant_of-self : goal.invariant_of-self
+invariant_of-self c =
+    subst AreLanes (sym (put_back c.self.inside.list.len c.put.new.lanes c.self.inside.list.items (omega arith)))
+    (record {
+      each = c.put.ensures.sound;
+      apart = still_apart c.self.inside.list.items c.put.new.lanes (c.put.ensures.ports ∙ ap ports c.deref_mut.ensures.value) c.self.invariant.apart;
+    })
+
+pub returns-clause-stands : goal.returns-clause-stands
+returns-clause-stands c on played outs ins all there keeps =
+    let same = sym (c.deref_mut.ensures.value ∙ c.self.view_is) in
+    subst (λ (ls : List Lane). KeepsStreams ls outs (changed_where on (λ interface. after_putting (played interface)) ins))
+    (sym (put_back c.self.inside.list.len c.put.new.lanes c.self.inside.list.items (omega arith)))
+    (c.put.ensures.stands on played outs ins (subst (λ (ls : List Lane). All (λ p. on p.interface ≡ (p.clock == c.args.domain)) (ports ls)) same all) (subst (λ (ls : List Lane). All (λ p. p.out ≡ false → 1 ≤ p.channels → frame_on c.args.wires.now p.terminal ≡ Some (played p.interface)) (ports ls)) same there) (subst (λ (ls : List Lane). KeepsStreams ls outs ins) same keeps))

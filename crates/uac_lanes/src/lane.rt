@@ -1,0 +1,286 @@
+// What the device keeps of a streaming interface.
+ghost use Rattle.std.specs.Prelude.{◌≡◌, ◌≤◌, ℕ, Option, Some, [], true, if◌then◌else◌, length, replicate, pos, IfOk, IfSome};
+ghost use Rattle.std.specs.Option.{option_and_then, option_map, option_map_or};
+ghost use Rattle.uac_alt.specs.Streams.{stream_fields};
+ghost use Rattle.uac_graph.specs.Wiring.{frame_on, samples_on};
+ghost use Rattle.uac_flow.specs.Flows.{CanRun, ZerosFit};
+ghost use Rattle.uac_flow.specs.Streams.{InStream, OutStream, after_packet, after_sending, after_taking, arrival_of, feedback_of};
+ghost use Rattle.uac_flow.specs.Streams.{next_taken, sent_frames, sent_packet, settled_in, settled_out};
+ghost use Rattle.uac_flow.specs.declared.arrival.Arrival.TheVariants as arrival;
+ghost use Rattle.uac_lanes.specs.InterfaceStreams.{either_due, in_from, level_in, out_from};
+ghost use Rattle.uac_lanes.specs.Lanes.{FitsPort, IsFlow, IsLane, KeepsFlow, KeepsLane, Turns, WiredIn, WiredOut, counted_on, found_dry};
+ghost use Rattle.uac_lanes.specs.Lanes.{found_full, frame_given, gives_to, idle_lane, put_on, taken_on};
+
+use std::alloc::Global;
+use uac_alt::Stream;
+use uac_descriptor::NoMemory;
+use uac_flow::{Arrival, InFlow, OutFlow};
+use uac_graph::Wires;
+use uac_pcm::{Frame, Packet};
+use uac_ring::Ring;
+
+/// A streaming interface, and the terminal of the bus to which it links: its id, its clock and its channels (Audio Class 2.0, 4.9.2).
+#[derive(Clone, Copy)]
+pub struct Port {
+    pub interface: u8,
+    pub terminal: u8,
+    pub clock: u8,
+    pub channels: u8,
+    /// Whether it goes from the host to the device.
+    pub out: bool,
+}
+
+/// The stream that an interface runs, beside its ring.
+#[derive(Clone, Copy)]
+pub enum Flow {
+    Idle,
+    Out(OutFlow),
+    In(InFlow),
+}
+
+/// A streaming interface with its stream.
+#[derive(Drop)]
+pub struct Lane {
+    pub port: Port,
+    pub ring: Ring,
+    pub flow: Flow,
+}
+
+impl Lane {
+    /// The lane of an interface that runs no stream, with all the memory that it will use.
+    pub(crate) fn idle(alloc: Global, port: Port) -> Result<Lane, NoMemory>
+        ensures { IfOk result (λ lane. lane ≡ idle_lane port) }
+    {
+        let ring = Ring::new(alloc)?;
+        Ok(Lane {
+            port,
+            ring,
+            flow: Flow::Idle,
+        })
+    }
+
+    /// How many frames lie in the ring of its stream.
+    pub(crate) fn level(&self) -> u32
+        ensures { (out : Option OutStream) (in_ : Option InStream) → KeepsLane self.now out in_ → result ≡ level_in out in_ }
+    {
+        match self.flow {
+            Flow::Idle => 0,
+            Flow::Out(_) | Flow::In(_) => self.ring.level(),
+        }
+    }
+
+    /// The level at which its stream to the device was primed.
+    pub(crate) fn target(&self) -> Option<u32>
+        ensures { (out : Option OutStream) (in_ : Option InStream) → KeepsLane self.now out in_
+            → result ≡ option_and_then (λ o. o.target) out }
+    {
+        match &self.flow {
+            Flow::Out(flow) => flow.target,
+            Flow::Idle | Flow::In(_) => None,
+        }
+    }
+
+    /// Whether its stream has a packet in the next microframe.
+    pub(crate) fn due(&self) -> bool
+        requires { IsLane self.now }
+        ensures { (out : Option OutStream) (in_ : Option InStream) → KeepsLane self.now out in_ → result ≡ either_due out in_ }
+    {
+        match &self.flow {
+            Flow::Idle => false,
+            Flow::Out(flow) => flow.is_due(),
+            Flow::In(flow) => flow.is_due(),
+        }
+    }
+
+    /// The report that is due of its stream to the device.
+    pub(crate) fn feedback(&self) -> Option<u32>
+        requires { IsLane self.now }
+        ensures { (out : Option OutStream) (in_ : Option InStream) → KeepsLane self.now out in_
+            → result ≡ option_and_then feedback_of out }
+    {
+        match &self.flow {
+            Flow::Out(flow) => flow.feedback(&self.ring),
+            Flow::Idle | Flow::In(_) => None,
+        }
+    }
+
+    /// Its stream starts anew, or it runs none from now on.
+    pub(crate) fn restart(&mut self, begun: Option<Stream>)
+        requires fits { IfSome begun (λ s. FitsPort self.old.port (stream_fields s)) }
+        ensures turns { Turns (λ out. option_and_then out_from (option_map stream_fields begun))
+            (λ in_. option_and_then in_from (option_map stream_fields begun)) self.old self.new }
+        ensures sound { IsLane self.new }
+    {
+        self.flow = match begun {
+            Some(stream) => start(stream, &mut self.ring),
+            None => Flow::Idle,
+        };
+    }
+
+    /// A packet comes to the device; None is a lost one. Where no stream to the device runs, nothing takes it.
+    pub(crate) fn receive(&mut self, packet: Option<&Packet>) -> Arrival
+        requires { IsLane self.old }
+        ensures turns { Turns (option_map (after_packet (option_map (λ p. p.now.items) packet.entry))) (λ in_. in_) self.old self.new }
+        ensures arrival { (out : Option OutStream) (in_ : Option InStream) → KeepsLane self.old out in_
+            → result ≡ option_map_or (arrival_of (option_map (λ p. p.now.items) packet.entry)) out arrival.Lost }
+        ensures sound { IsLane self.new }
+    {
+        match &mut self.flow {
+            Flow::Out(flow) => flow.receive(&mut self.ring, packet),
+            Flow::Idle | Flow::In(_) => Arrival::Lost,
+        }
+    }
+
+    /// Forms a packet from the device, and answers the number of its frames; it is empty where no stream from the device runs.
+    pub(crate) fn send(&mut self, packet: &mut Packet) -> u32
+        requires { IsLane self.old }
+        ensures turns { Turns (λ out. out) (option_map after_sending) self.old self.new }
+        ensures packet { (out : Option OutStream) (in_ : Option InStream) → KeepsLane self.old out in_
+            → packet.new.items ≡ option_map_or sent_packet in_ [] }
+        ensures frames { (out : Option OutStream) (in_ : Option InStream) → KeepsLane self.old out in_
+            → result ≡ option_map_or sent_frames in_ 0 }
+        ensures sound { IsLane self.new }
+    {
+        match &mut self.flow {
+            Flow::In(flow) => flow.send(&mut self.ring, packet),
+            Flow::Idle | Flow::Out(_) => {
+                packet.clear();
+                0
+            }
+        }
+    }
+
+    /// A microframe ends for its stream.
+    pub(crate) fn settle(&mut self)
+        requires { IsLane self.old }
+        ensures port { self.new.port ≡ self.old.port }
+        ensures stands { (out : Option OutStream) (in_ : Option InStream) → KeepsLane self.old out in_ → IfSome out ZerosFit
+            → KeepsLane self.new (option_map settled_out out) (option_map settled_in in_) }
+        ensures sound { IsLane self.new }
+    {
+        match &mut self.flow {
+            Flow::Idle => {}
+            Flow::Out(flow) => flow.settle(&mut self.ring),
+            Flow::In(flow) => flow.settle(),
+        }
+    }
+
+    /// So many ticks of a domain came: a stream to a terminal of the domain counts them.
+    pub(crate) fn count(&mut self, domain: u8, ticks: u32)
+        requires { IsLane self.old }
+        ensures turns { Turns (counted_on domain ticks self.old.port) (λ in_. in_) self.old self.new }
+        ensures sound { IsLane self.new }
+    {
+        if self.port.clock != domain {
+            return;
+        }
+        match &mut self.flow {
+            Flow::Out(flow) => flow.count(ticks),
+            Flow::Idle | Flow::In(_) => {}
+        }
+    }
+
+    /// A tick of a domain: a terminal of the bus in the domain takes the next frame of its stream, or silence where there is none, and
+    /// puts it on its wire.
+    #[tactic(auto, using(crate::proofs::LaneFrames::hushed))]
+    pub(crate) fn give(&mut self, domain: u8, wires: &mut Wires)
+        requires sound { IsLane self.old }
+        requires wired { WiredIn wires.old self.old.port }
+        ensures turns { Turns (taken_on domain self.old.port) (λ in_. in_) self.old self.new }
+        ensures frame { (out : Option OutStream) (in_ : Option InStream) → KeepsLane self.old out in_
+            → (id : ℕ) → frame_on wires.new id
+            ≡ (if gives_to domain id self.old.port then Some (frame_given out self.old.port) else frame_on wires.old id) }
+        ensures lengths { (id : ℕ) → option_map length (frame_on wires.new id) ≡ option_map length (frame_on wires.old id) }
+        ensures sound { IsLane self.new }
+    {
+        if !self.port.out || self.port.clock != domain {
+            return;
+        }
+        match self.next_frame() {
+            Some(frame) => wires.set(self.port.terminal, frame),
+            None => wires.silence(self.port.terminal),
+        }
+        self.go_on();
+    }
+
+    // The next frame of the stream to the device, lent, where it is primed and its ring has one.
+    fn next_frame(&self) -> Option<&Frame>
+        requires { IsLane self.now }
+        ensures frame { (out : Option OutStream) (in_ : Option InStream) → KeepsLane self.now out in_
+            → option_map (λ frame. frame.now.items) result ≡ option_and_then next_taken out }
+        ensures channels { IfSome result (λ frame. length frame.now.items ≡ self.now.port.channels) }
+    {
+        match &self.flow {
+            Flow::Out(flow) => flow.next(&self.ring),
+            Flow::Idle | Flow::In(_) => None,
+        }
+    }
+
+    // That frame was taken.
+    fn go_on(&mut self)
+        requires { IsLane self.old }
+        ensures turns { Turns (option_map after_taking) (λ in_. in_) self.old self.new }
+        ensures sound { IsLane self.new }
+    {
+        match &mut self.flow {
+            Flow::Out(flow) => flow.go_on(&mut self.ring),
+            Flow::Idle | Flow::In(_) => {}
+        }
+    }
+
+    /// A tick of a domain: a stream from a terminal of the domain takes the frame that this played.
+    pub(crate) fn put(&mut self, domain: u8, wires: &Wires)
+        requires sound { IsLane self.old }
+        requires wired { WiredOut wires.now self.old.port }
+        ensures turns { Turns (λ out. out) (put_on domain (samples_on wires.now self.old.port.terminal) self.old.port) self.old self.new }
+        ensures sound { IsLane self.new }
+    {
+        if self.port.clock != domain {
+            return;
+        }
+        match &self.flow {
+            Flow::In(flow) => match wires.get(self.port.terminal) {
+                Some(frame) => flow.put(&mut self.ring, frame),
+                None => {}
+            },
+            Flow::Idle | Flow::Out(_) => {}
+        }
+    }
+
+    /// Whether the next tick of a domain finds its ring empty: that of a primed stream to the device.
+    pub(crate) fn is_dry(&self, domain: u8) -> bool
+        ensures { (out : Option OutStream) (in_ : Option InStream) → KeepsLane self.now out in_
+            → result ≡ found_dry domain out self.now.port }
+    {
+        self.port.clock == domain
+            && match &self.flow {
+                Flow::Out(flow) => flow.is_dry(&self.ring),
+                Flow::Idle | Flow::In(_) => false,
+            }
+    }
+
+    /// Whether the next tick of a domain finds its ring full: that of a stream from the device.
+    pub(crate) fn is_full(&self, domain: u8) -> bool
+        ensures { (out : Option OutStream) (in_ : Option InStream) → KeepsLane self.now out in_
+            → result ≡ found_full domain in_ self.now.port }
+    {
+        self.port.clock == domain
+            && match &self.flow {
+                Flow::In(flow) => flow.is_full(&self.ring),
+                Flow::Idle | Flow::Out(_) => false,
+            }
+    }
+}
+
+// A stream at its start; its ring is emptied.
+fn start(stream: Stream, ring: &mut Ring) -> Flow
+    requires { CanRun (stream_fields stream) }
+    ensures stands { KeepsFlow ring.new result (out_from (stream_fields stream)) (in_from (stream_fields stream)) }
+    ensures sound { (port : Port) → FitsPort port (stream_fields stream) → IsFlow port ring.new result }
+{
+    if stream.out {
+        Flow::Out(OutFlow::start(stream, ring))
+    } else {
+        Flow::In(InFlow::start(stream, ring))
+    }
+}

@@ -1,0 +1,140 @@
+// One tick of a clock domain, lane by lane.
+ghost use Rattle.std.specs.Prelude.{◌≡◌, ◌≤◌, ◌+◌, ◌*◌, ◌==◌, if◌then◌else◌, ℕ, ℤ, Bool, Option, Some, List, true, false, length};
+ghost use Rattle.std.specs.List.{All};
+ghost use Rattle.std.specs.Option.{option_map};
+ghost use Rattle.uac_graph.specs.Wiring.{frame_on};
+ghost use Rattle.uac_flow.specs.Streams.{InStream, OutStream, after_putting, after_taking, after_ticks};
+ghost use Rattle.uac_lanes.specs.InterfaceStreams.{changed_where};
+ghost use Rattle.uac_lanes.specs.Lanes.{AreLanes, IsLane, KeepsStreams, WiredIn, WiredOut, given_by, met_by, ports};
+
+use crate::lane::Lane;
+use crate::lanes::Lanes;
+use uac_graph::Wires;
+
+/// What a tick met, with a bit for each streaming interface, in block order: a ring that was empty, and one that was full.
+#[derive(Clone, Copy, Debug, PartialEq, Eq)]
+pub struct Ticked {
+    pub under: u8,
+    pub over: u8,
+}
+
+impl Lanes {
+    /// The streams to the terminals of a domain count so many ticks.
+    pub fn count(&mut self, domain: u8, ticks: u32)
+        ensures stands { (on : ℕ → Bool) (outs : ℕ → Option OutStream) (ins : ℕ → Option InStream)
+            → All (λ p. on p.interface ≡ (p.clock == domain)) (ports self.old) → KeepsStreams self.old outs ins
+            → KeepsStreams self.new (changed_where on (λ interface. after_ticks ticks) outs) ins }
+        ensures ports { ports self.new ≡ ports self.old }
+    {
+        count(&mut self.list, domain, ticks);
+    }
+
+    /// What a tick of a domain meets.
+    pub fn met(&self, domain: u8) -> Ticked
+        requires { length self.now ≤ 8 }
+        ensures { (outs : ℕ → Option OutStream) (ins : ℕ → Option InStream) → KeepsStreams self.now outs ins
+            → result ≡ met_by domain outs ins (ports self.now) }
+    {
+        met(&self.list, domain)
+    }
+
+    /// The terminals of the bus in a domain take the next frames of their streams, or silence, and put them on their wires.
+    pub fn give(&mut self, domain: u8, wires: &mut Wires)
+        requires wired { All (WiredIn wires.old) (ports self.old) }
+        ensures stands { (on : ℕ → Bool) (outs : ℕ → Option OutStream) (ins : ℕ → Option InStream)
+            → All (λ p. on p.interface ≡ (p.clock == domain)) (ports self.old) → KeepsStreams self.old outs ins
+            → KeepsStreams self.new (changed_where on (λ interface. after_taking) outs) ins }
+        ensures frames { (outs : ℕ → Option OutStream) (ins : ℕ → Option InStream) → KeepsStreams self.old outs ins
+            → (id : ℕ) → frame_on wires.new id ≡ given_by domain id outs (ports self.old) (frame_on wires.old id) }
+        ensures lengths { (id : ℕ) → option_map length (frame_on wires.new id) ≡ option_map length (frame_on wires.old id) }
+        ensures ports { ports self.new ≡ ports self.old }
+    {
+        give(&mut self.list, domain, wires);
+    }
+
+    /// The streams from the terminals of a domain take the frames that these played.
+    pub fn put(&mut self, domain: u8, wires: &Wires)
+        requires wired { All (WiredOut wires.now) (ports self.old) }
+        ensures stands { (on : ℕ → Bool) (played : ℕ → List ℤ) (outs : ℕ → Option OutStream) (ins : ℕ → Option InStream)
+            → All (λ p. on p.interface ≡ (p.clock == domain)) (ports self.old)
+            → All (λ p. p.out ≡ false → 1 ≤ p.channels → frame_on wires.now p.terminal ≡ Some (played p.interface)) (ports self.old)
+            → KeepsStreams self.old outs ins
+            → KeepsStreams self.new outs (changed_where on (λ interface. after_putting (played interface)) ins) }
+        ensures ports { ports self.new ≡ ports self.old }
+    {
+        put(&mut self.list, domain, wires);
+    }
+}
+
+// The streams to the terminals of a domain count so many ticks.
+fn count(lanes: &mut [Lane], domain: u8, ticks: u32)
+    requires { All IsLane lanes.old }
+    ensures stands { (on : ℕ → Bool) (outs : ℕ → Option OutStream) (ins : ℕ → Option InStream)
+        → All (λ p. on p.interface ≡ (p.clock == domain)) (ports lanes.old) → KeepsStreams lanes.old outs ins
+        → KeepsStreams lanes.new (changed_where on (λ interface. after_ticks ticks) outs) ins }
+    ensures ports { ports lanes.new ≡ ports lanes.old }
+    ensures sound { All IsLane lanes.new }
+{
+    for lane in lanes.iter_mut() {
+        lane.count(domain, ticks);
+    }
+}
+
+// What a tick of a domain meets.
+fn met(lanes: &[Lane], domain: u8) -> Ticked
+    requires { length lanes.now ≤ 8 }
+    ensures { (outs : ℕ → Option OutStream) (ins : ℕ → Option InStream) → KeepsStreams lanes.now outs ins
+        → result ≡ met_by domain outs ins (ports lanes.now) }
+{
+    let mut under = 0;
+    let mut over = 0;
+    for at in (0..lanes.len()).rev() {
+        let lane = &lanes[at];
+        under = with_lowest(under, lane.is_dry(domain));
+        over = with_lowest(over, lane.is_full(domain));
+    }
+    Ticked { under, over }
+}
+
+// Bits, each a place higher, with this one below them.
+fn with_lowest(bits: u8, lowest: bool) -> u8
+    requires { bits ≤ 127 }
+    ensures { result ≡ (if lowest then 1 else 0) + 2 * bits }
+{
+    2 * bits + u8::from(lowest)
+}
+
+// The terminals of the bus in a domain take the next frames of their streams, or silence.
+fn give(lanes: &mut [Lane], domain: u8, wires: &mut Wires)
+    requires sound { All IsLane lanes.old }
+    requires wired { All (WiredIn wires.old) (ports lanes.old) }
+    ensures stands { (on : ℕ → Bool) (outs : ℕ → Option OutStream) (ins : ℕ → Option InStream)
+        → All (λ p. on p.interface ≡ (p.clock == domain)) (ports lanes.old) → KeepsStreams lanes.old outs ins
+        → KeepsStreams lanes.new (changed_where on (λ interface. after_taking) outs) ins }
+    ensures frames { (outs : ℕ → Option OutStream) (ins : ℕ → Option InStream) → KeepsStreams lanes.old outs ins
+        → (id : ℕ) → frame_on wires.new id ≡ given_by domain id outs (ports lanes.old) (frame_on wires.old id) }
+    ensures lengths { (id : ℕ) → option_map length (frame_on wires.new id) ≡ option_map length (frame_on wires.old id) }
+    ensures ports { ports lanes.new ≡ ports lanes.old }
+    ensures sound { All IsLane lanes.new }
+{
+    for lane in lanes.iter_mut() {
+        lane.give(domain, wires);
+    }
+}
+
+// The streams from the terminals of a domain take the frames that these played.
+fn put(lanes: &mut [Lane], domain: u8, wires: &Wires)
+    requires sound { All IsLane lanes.old }
+    requires wired { All (WiredOut wires.now) (ports lanes.old) }
+    ensures stands { (on : ℕ → Bool) (played : ℕ → List ℤ) (outs : ℕ → Option OutStream) (ins : ℕ → Option InStream)
+        → All (λ p. on p.interface ≡ (p.clock == domain)) (ports lanes.old)
+        → All (λ p. p.out ≡ false → 1 ≤ p.channels → frame_on wires.now p.terminal ≡ Some (played p.interface)) (ports lanes.old)
+        → KeepsStreams lanes.old outs ins
+        → KeepsStreams lanes.new outs (changed_where on (λ interface. after_putting (played interface)) ins) }
+    ensures ports { ports lanes.new ≡ ports lanes.old }
+    ensures sound { All IsLane lanes.new }
+{
+    for lane in lanes.iter_mut() {
+        lane.put(domain, wires);
+    }
+}
