@@ -1,4 +1,4 @@
--- What the meters hear, entity by entity.
+-- What the meters hear, jack by jack.
 use Rattle.std.proofs.Common.{◌≡◌, ◌∙◌, sym, refl, ap, arith, ℕ, suc, ◌+◌, ◌<◌, ◌≤◌, ◌&&◌, ◌==◌, Bool, true, false, cond, if◌then◌else◌, ℤ, List, [], ◌∷◌, ◌++◌, Option, Some, None, length, get_or, take, map, filter}
 use Rattle.std.specs.List.{All, cons_option}
 use Rattle.std.proofs.lemmas.List.{append-nil, take_all, take_more}
@@ -9,64 +9,75 @@ use Rattle.uac_topology_rules.specs.Rules.{is_output}
 use Rattle.uac_graph.specs.Needs.{is_end}
 use Rattle.uac_graph.specs.Wiring.{Frames, frame_on}
 use Rattle.uac_units.specs.Hearing.{Reading, after_hearing}
-use Rattle.uac_device.specs.DeviceWorld.{after_frames, is_jack}
-use Rattle.uac_device.specs.Turns.{frames_heard, heard_on}
+use Rattle.uac_device.specs.declared.hearing.OutputJack.{OutputJack}
+use Rattle.uac_device.specs.DeviceWorld.{after_frames, is_jack, is_output_jack}
+use Rattle.uac_device.specs.Turns.{frames_heard, heard_on, jack_of, jacks_of}
 
--- one entity more
-frames_more : (wires : Frames) (domain : ℕ) (entities : List Entity) (i : ℕ) (e : Entity) → i < length entities → e ≡ get_or entities i e
-    → frames_heard wires domain (take (i + 1) entities) ≡ frames_heard wires domain (take i entities) ++ cons_option (heard_on wires domain e) []
-frames_more wires domain entities i e below item =
-    ap (frames_heard wires domain) (take_more entities i e below ∙ ap (λ (x : Entity). take i entities ++ x ∷ []) (sym item))
-    ∙ filter_map-append (heard_on wires domain) (take i entities) (e ∷ [])
+-- one jack more
+frames_more : (wires : Frames) (domain : ℕ) (jacks : List OutputJack) (i : ℕ) (d : OutputJack) → i < length jacks
+    → frames_heard wires domain (take (i + 1) jacks) ≡ frames_heard wires domain (take i jacks) ++ cons_option (heard_on wires domain (get_or jacks i d)) []
+frames_more wires domain jacks i d below =
+    ap (frames_heard wires domain) (take_more jacks i d below)
+    ∙ filter_map-append (heard_on wires domain) (take i jacks) (get_or jacks i d ∷ [])
 
 -- frames heard after frames
 after_more : (first second : List (List ℤ)) (shown : List Reading) → after_frames (first ++ second) shown ≡ after_frames second (after_frames first shown)
 unfolding after_frames
 after_more first second shown = fold-append (λ shown frame. map (after_hearing frame) shown) shown first second
 
--- an entity of which a frame is heard
-pub heard_more : (wires : Frames) (domain : ℕ) (entities : List Entity) (i : ℕ) (e : Entity) (frame : List ℤ) (old mid new : List Reading) → i < length entities
-    → e ≡ get_or entities i e → heard_on wires domain e ≡ Some frame → mid ≡ after_frames (frames_heard wires domain (take i entities)) old
-    → new ≡ map (after_hearing frame) mid → new ≡ after_frames (frames_heard wires domain (take (i + 1) entities)) old
+-- a jack of which a frame is heard
+pub heard_more : (wires : Frames) (domain : ℕ) (jacks : List OutputJack) (i : ℕ) (d : OutputJack) (frame : List ℤ) (old mid new : List Reading) → i < length jacks
+    → heard_on wires domain (get_or jacks i d) ≡ Some frame → mid ≡ after_frames (frames_heard wires domain (take i jacks)) old
+    → new ≡ map (after_hearing frame) mid → new ≡ after_frames (frames_heard wires domain (take (i + 1) jacks)) old
 unfolding after_frames
-heard_more wires domain entities i e frame old mid new below item heard so_far one =
+heard_more wires domain jacks i d frame old mid new below heard so_far one =
     one
     ∙ ap (map (after_hearing frame)) so_far
-    ∙ sym (after_more (frames_heard wires domain (take i entities)) (frame ∷ []) old)
-    ∙ ap (λ (o : Option (List ℤ)). after_frames (frames_heard wires domain (take i entities) ++ cons_option o []) old) (sym heard)
-    ∙ ap (λ (frames : List (List ℤ)). after_frames frames old) (sym (frames_more wires domain entities i e below item))
+    ∙ sym (after_more (frames_heard wires domain (take i jacks)) (frame ∷ []) old)
+    ∙ ap (λ (o : Option (List ℤ)). after_frames (frames_heard wires domain (take i jacks) ++ cons_option o []) old) (sym heard)
+    ∙ ap (λ (frames : List (List ℤ)). after_frames frames old) (sym (frames_more wires domain jacks i d below))
 
--- an entity of which none is
-pub heard_none : (wires : Frames) (domain : ℕ) (entities : List Entity) (i : ℕ) (e : Entity) (old new : List Reading) → i < length entities
-    → e ≡ get_or entities i e → heard_on wires domain e ≡ None → new ≡ after_frames (frames_heard wires domain (take i entities)) old
-    → new ≡ after_frames (frames_heard wires domain (take (i + 1) entities)) old
-heard_none wires domain entities i e old new below item none so_far =
+-- a jack of which none is
+pub heard_none : (wires : Frames) (domain : ℕ) (jacks : List OutputJack) (i : ℕ) (d : OutputJack) (old new : List Reading) → i < length jacks
+    → heard_on wires domain (get_or jacks i d) ≡ None → new ≡ after_frames (frames_heard wires domain (take i jacks)) old
+    → new ≡ after_frames (frames_heard wires domain (take (i + 1) jacks)) old
+heard_none wires domain jacks i d old new below none so_far =
     so_far
-    ∙ ap (λ (frames : List (List ℤ)). after_frames frames old) (sym (append-nil (frames_heard wires domain (take i entities))))
-    ∙ ap (λ (o : Option (List ℤ)). after_frames (frames_heard wires domain (take i entities) ++ cons_option o []) old) (sym none)
-    ∙ ap (λ (frames : List (List ℤ)). after_frames frames old) (sym (frames_more wires domain entities i e below item))
+    ∙ ap (λ (frames : List (List ℤ)). after_frames frames old) (sym (append-nil (frames_heard wires domain (take i jacks))))
+    ∙ ap (λ (o : Option (List ℤ)). after_frames (frames_heard wires domain (take i jacks) ++ cons_option o []) old) (sym none)
+    ∙ ap (λ (frames : List (List ℤ)). after_frames frames old) (sym (frames_more wires domain jacks i d below))
 
--- all entities
-pub heard_all : (wires : Frames) (domain : ℕ) (entities : List Entity) (i : ℕ) (old new : List Reading) → length entities ≤ i
-    → new ≡ after_frames (frames_heard wires domain (take i entities)) old → new ≡ after_frames (frames_heard wires domain entities) old
-heard_all wires domain entities i old new past so_far =
-    so_far ∙ ap (λ (xs : List Entity). after_frames (frames_heard wires domain xs) old) (take_all i entities past)
+-- all jacks
+pub heard_all : (wires : Frames) (domain : ℕ) (jacks : List OutputJack) (i : ℕ) (old new : List Reading) → length jacks ≤ i
+    → new ≡ after_frames (frames_heard wires domain (take i jacks)) old → new ≡ after_frames (frames_heard wires domain jacks) old
+heard_all wires domain jacks i old new past so_far =
+    so_far ∙ ap (λ (xs : List OutputJack). after_frames (frames_heard wires domain xs) old) (take_all i jacks past)
 
--- frames on wires, told otherwise
+-- the frames of the output jacks among entities, told otherwise
 pub heard_told : (wires : Frames) (domain : ℕ) (played : ℕ → List ℤ) (entities : List Entity)
     → All (λ e. is_end domain e ≡ true → frame_on wires e.id ≡ Some (played e.id)) entities
-    → frames_heard wires domain entities ≡ map (λ e. played e.id) (filter (λ e. is_end domain e && is_jack e) entities)
+    → frames_heard wires domain (jacks_of entities) ≡ map (λ e. played e.id) (filter (λ e. is_end domain e && is_jack e) entities)
 heard_told wires domain played [] told = refl
 heard_told wires domain played (e ∷ es) told =
-    one (is_output e.kind && e.clock == domain) (is_jack e) (told 0 e (omega arith)) (heard_told wires domain played es (λ k d below. told (suc k) d (omega arith)))
+    first (is_output_jack e)
+    ∙ one (is_output e.kind) (e.clock == domain) (is_jack e) (told 0 e (omega arith)) (heard_told wires domain played es (λ k d below. told (suc k) d (omega arith)))
   where
+    frames : List (List ℤ)
+    frames = frames_heard wires domain (jacks_of es)
+
     rest : List Entity
     rest = filter (λ e. is_end domain e && is_jack e) es
 
-    one : (a b : Bool) → (a ≡ true → frame_on wires e.id ≡ Some (played e.id))
-        → frames_heard wires domain es ≡ map (λ e. played e.id) rest
-        → cons_option (if a && b then frame_on wires e.id else None) (frames_heard wires domain es) ≡ map (λ e. played e.id) (cond (a && b) (e ∷ rest) rest)
-    one true true there others =
-        ap (λ (o : Option (List ℤ)). cons_option o (frames_heard wires domain es)) (there refl) ∙ ap (λ frames. played e.id ∷ frames) others
-    one true false there others = others
-    one false b there others = others
+    first : (b : Bool) → frames_heard wires domain (map jack_of (cond b (e ∷ filter is_output_jack es) (filter is_output_jack es)))
+        ≡ cond b (cons_option (heard_on wires domain (jack_of e)) frames) frames
+    first true = refl
+    first false = refl
+
+    one : (output own jack : Bool) → ((output && own) ≡ true → frame_on wires e.id ≡ Some (played e.id)) → frames ≡ map (λ e. played e.id) rest
+        → cond (output && jack) (cons_option (if own then frame_on wires e.id else None) frames) frames
+        ≡ map (λ e. played e.id) (cond ((output && own) && jack) (e ∷ rest) rest)
+    one true true true there others = ap (λ (o : Option (List ℤ)). cons_option o frames) (there refl) ∙ ap (λ fs. played e.id ∷ fs) others
+    one true false true there others = others
+    one true true false there others = others
+    one true false false there others = others
+    one false own jack there others = others

@@ -34,7 +34,7 @@ use Rattle.uac_lanes.specs.declared.lane.Lane.{Lane}
 use Rattle.uac_lanes.specs.Lanes.{KeepsLane, KeepsStreams, idle_lane, port_of}
 use Rattle.uac_device.specs.DeviceWorld.{DeviceWorld, at_rest, entity_in, fresh, heard_of, input_of, is_input_jack, is_jack, is_output_jack, is_streamed, played_at, renders_of, set_jack, stream_to, streamed, ticked}
 use Rattle.uac_device.specs.Kept.{DeviceFields, IsDevice, Stands, kept}
-use Rattle.uac_device.specs.Turns.{frames_heard, resting_clock}
+use Rattle.uac_device.specs.Turns.{frames_heard, jacks_of, resting_clock}
 use Rattle.uac_device.proofs.Heard.{heard_told}
 use Rattle.uac_device.proofs.GivenFrames.{apart}
 
@@ -263,10 +263,10 @@ module _ (device : DeviceFields) (mid wires : Frames) (domain : ℕ) (w : Device
 
 -- the frames that are heard on wires that stand for a world
 pub heard_in : (device : DeviceFields) (domain : ℕ) (w : DeviceWorld) → IsSignalGraph device.function.entities → Stands device w
-    → frames_heard device.wires domain device.function.entities ≡ heard_of domain w
+    → frames_heard device.wires domain (jacks_of device.function.entities) ≡ heard_of domain w
 unfolding heard_of entity
 heard_in device domain w sound stands =
-    ap (λ (f : FunctionFields). frames_heard device.wires domain f.entities) stands.function
+    ap (λ (f : FunctionFields). frames_heard device.wires domain (jacks_of f.entities)) stands.function
     ∙ heard_told device.wires domain w.played w.function.entities (λ k d below end. one k d below end)
   where
     sound_here : IsSignalGraph w.function.entities

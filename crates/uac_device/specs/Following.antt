@@ -1,4 +1,5 @@
--- What a device keeps that follows from its controls: what its units are asked, and the nominal values of its domains.
+-- What a device keeps so that a tick looks up nothing: what its units are asked and the nominal values of its domains, which follow from
+-- its controls, and its output jacks.
 use Rattle.std.specs.Prelude.{◌≡◌, ℕ, ℤ, false, List, Option}
 use Rattle.std.specs.List.{All}
 use Rattle.std.specs.Option.{option_and_then}
@@ -14,6 +15,7 @@ use Rattle.uac_request.specs.Requests.{high, sets_cur}
 use Rattle.uac_request.specs.declared.setup.Setup.{Setup}
 use Rattle.uac_device.specs.declared.derived.Derived.{Derived}
 use Rattle.uac_device.specs.declared.derived.Pace.{Pace}
+use Rattle.uac_device.specs.Turns.{jacks_of}
 
 -- the nominal values of the rate that a domain's clock has, if it has one
 abbrev pub nominal_at : List Entity → List (Key × ℤ) → ℕ → Option Nominal
@@ -30,6 +32,7 @@ renewed_pace entities controls p = record { domain = p.domain; values = nominal_
 pub record IsDerived (function : FunctionFields) (controls : List (Key × ℤ)) (derived : Derived) : Type 0 where
   pub asked : AreJobs function.entities (held_in controls) derived.jobs
   pub paced : All (IsPace function.entities controls) derived.paces.items
+  pub heard : derived.jacks.items ≡ jacks_of function.entities
 
 -- what a request can change: one to set a control the values of the entity that it names, and any other none
 pub record IsLeftBy (p : Setup) (before after : List (Key × ℤ)) : Type 0 where

@@ -1,4 +1,4 @@
-// What follows from a device's controls, kept until they change.
+// What follows from a device's function and its controls, kept so that a tick looks up nothing.
 ghost use Rattle.std.specs.Prelude.{◌≡◌, ℤ, List, false, IfOk, length, map};
 ghost use Rattle.std.specs.List.{All};
 ghost use Rattle.std.specs.Option.{option_map_or};
@@ -9,6 +9,7 @@ ghost use Rattle.uac_store.specs.declared.keys.Key as keys;
 ghost use Rattle.uac_request.specs.Requests as requests;
 ghost use Rattle.uac_device.specs.Following.{IsDerived, IsLeftBy, IsPace, nominal_at, renewed_pace};
 
+use crate::hearing::{OutputJack, output_jacks};
 use std::alloc::Global;
 use uac_clock::{Nominal, nominal};
 use uac_descriptor::NoMemory;
@@ -26,14 +27,16 @@ pub struct Pace {
 }
 
 /// What follows from the controls of a device, so that a tick looks up none: the jobs of its units, and the paces of its domains.
+/// Beside them stand its output jacks, so that a tick looks for none.
 #[derive(Drop)]
 pub struct Derived {
     pub(crate) jobs: Jobs,
     pub(crate) paces: Vec<Pace>,
+    pub(crate) jacks: Vec<OutputJack>,
 }
 
 impl Derived {
-    /// What follows from the values that controls have, with all the memory that it will use.
+    /// What follows from the values that controls have, and the output jacks, with all the memory that it will use.
     pub(crate) fn new(
         alloc: Global,
         graph: &Graph,
@@ -45,7 +48,8 @@ impl Derived {
     {
         let jobs = graph.jobs(alloc, store)?;
         let paces = paces_of(alloc, function, store)?;
-        Ok(Derived { jobs, paces })
+        let jacks = output_jacks(alloc, function.entities())?;
+        Ok(Derived { jobs, paces, jacks })
     }
 
     /// Follows what a request that was answered changed.
@@ -69,6 +73,13 @@ impl Derived {
         if names_clock(function, id) {
             renew(&mut self.paces, function, store);
         }
+    }
+
+    /// The output jacks, in block order.
+    pub(crate) fn jacks(&self) -> &[OutputJack]
+        ensures { result.now ≡ self.now.jacks.items }
+    {
+        self.jacks.as_slice()
     }
 
     /// The nominal values of a domain's rate.

@@ -279,7 +279,7 @@ impl Device {
         self.graph
             .tick_by(domain, &self.derived.jobs, rack, &mut self.wires, steps);
         self.lanes.put(domain, &self.wires);
-        hear(self.function.entities(), &self.wires, domain, meters);
+        hear(self.derived.jacks(), &self.wires, domain, meters);
         met
     }
 

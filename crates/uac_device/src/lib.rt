@@ -3,7 +3,7 @@
 
 /// The clocks of the domains.
 mod clocks;
-/// What follows from the controls, kept until they change.
+/// What follows from the function and the controls, kept for the ticks.
 mod derived;
 /// The device and its events.
 mod device;

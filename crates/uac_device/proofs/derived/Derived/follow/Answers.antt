@@ -28,6 +28,7 @@ returns-then-names_clock c before is left =
           (sym (turned_back (renewed_pace entities controls) c.args.self.now.paces.len c.args.self.now.paces.items c.deref_mut.result.now c.renew-then-names_clock.new.paces c.renew-then-names_clock.ensures
           c.deref_mut.ensures.value (omega arith)))
           (renewed_paces entities controls c.args.self.now.paces.items);
+      heard = is.heard;
     }
 
 pub returns-else-names_clock : goal.returns-else-names_clock
@@ -39,4 +40,5 @@ returns-else-names_clock c before is left =
           (c.renew.ensures (held_in before) (subst (λ (graph : List Entity). AreJobs graph (held_in before) c.args.self.now.jobs) (sym c.requires.graph) is.asked) left.others);
       paced =
           same_paces c.args.function.now.entities before controls (c.args.setup.now.index / 256) c.args.self.now.paces.items left.others (sym c.names_clock.ensures ∙ c.if-names_clock.false) is.paced;
+      heard = is.heard;
     }

@@ -109,7 +109,8 @@ returns-clause-heard g c w stands =
     (c.interfaces_are_numbered.ensures c.self.inside.function sound) (linked c.self.inside.function sound)
     (c.entities_have_channels.ensures c.self.inside.function sound) c.self.invariant.0 turned here in
     c.hear.ensures
-    ∙ ap (λ entities. after_frames (frames_heard c.tick_by.new.wires c.args.domain entities) (readings (λ v x. (goal.Meter-dyn g (v, x)).reading_of x) c.args.meters.now)) c.entities.ensures
+    ∙ ap (λ jacks. after_frames (frames_heard c.tick_by.new.wires c.args.domain jacks) (readings (λ v x. (goal.Meter-dyn g (v, x)).reading_of x) c.args.meters.now))
+    (c.jacks.ensures ∙ c.self.invariant.2.heard)
     ∙ ap (λ frames. after_frames frames (readings (λ v x. (goal.Meter-dyn g (v, x)).reading_of x) c.args.meters.now))
     (heard_in (record (the_view c.self.inside) { wires = c.tick_by.new.wires; lanes = c.put.new.self }) c.args.domain (ticked c.args.domain w) (sound_graph c.self.inside.function sound) after)
 
