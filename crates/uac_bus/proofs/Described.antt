@@ -1,5 +1,6 @@
 -- The blocks and the function that a descriptor's bytes describe.
 use Rattle.std.proofs.Common.{◌≡◌, ◌≢◌, ℕ, List, [], ◌∷◌, ◌++◌, refl, sym, ap, subst, ◌∙◌, true, flat_map, Option, None, Some, Result, Ok, Err, IfOk, IfErr}
+use Rattle.std.specs.Io.KnownBytes.{Appends}
 use Rattle.std.proofs.KnownBytes.{Appends-nil}
 use Rattle.uac_descriptor.specs.declared.context.Context.{Context}
 use Rattle.uac_descriptor.specs.declared.context.Context.TheVariants as context
@@ -25,6 +26,10 @@ use Rattle.uac_topology_rules.specs.declared.fault.TopologyFault.{TopologyFault}
 use Rattle.uac_topology.specs.Function.{FunctionFields}
 use Rattle.uac_topology.specs.Topology.{first_broken, IsSound, IsFunctionOf}
 use Rattle.uac_units.specs.Hearing.{Reading}
+use Rattle.uac_edges.specs.Writing.{AppendsFront, Writes}
+use Rattle.uac_transcript.specs.Transcript.{spelled}
+use Rattle.uac_transcript.proofs.PrintingLemmas.{Appends-line, front_of_line}
+use Rattle.uac_running.specs.Kept.{RunningFields, StandsBetween}
 use Rattle.uac_running.specs.Lines.{ready_line}
 use Rattle.uac_running.specs.RunningWorld.{at_start}
 use Rattle.uac_bus.specs.declared.fault.BusFault.{BusFault}
@@ -32,10 +37,10 @@ use Rattle.uac_bus.specs.declared.fault.BusFault.TheVariants as faults
 use Rattle.uac_bus.specs.declared.bus.BusStage.TheVariants as stages
 use Rattle.uac_bus.specs.Description.{first_then, blocks_from, blocks_of, function_of}
 use Rattle.uac_bus.specs.World.{Step, done, describing, running, if_no_fault, if_sound, silently, fed, gone}
-use Rattle.uac_bus.specs.Kept.{StandsFor, Reaches, Prevents}
+use Rattle.uac_bus.specs.Kept.{StandsFor, Reaches, IsCut, Prevents}
 use Rattle.uac_running.specs.Transfers.{configuration_of}
 use Rattle.uac_bus.specs.declared.describing.SoundDescriptor.{SoundDescriptor}
-use Rattle.uac_bus.specs.Rows.{Describes, fault_of}
+use Rattle.uac_bus.specs.Rows.{Begins, Describes, fault_of}
 
 abbrev the_fields : List Entity → List ℕ → List StreamInterface → ℕ → ℕ → FunctionFields
 the_fields es ds ss k t = record { entities = es; domains = ds; streams = ss; control_interface = k; total = t }
@@ -126,6 +131,21 @@ gone_ill bytes (faults.Topology f) shown written d =
 gone_ill bytes faults.NoMemory shown written d = refl
 gone_ill bytes faults.WriteFault shown written d = absurd d
 gone_ill bytes (faults.Script rule) shown written d = absurd d
+
+-- the device's line was printed, or a front of it
+pub begun : (bytes : List ℕ) (d : SoundDescriptor) (p : RunningFields) (shown : List Reading) (written written' : Option (List ℕ)) (result : Result RunningFields BusFault)
+    → Describes bytes (Ok d) → p.device.function ≡ d.function → StandsBetween p shown (at_start bytes d.function shown)
+    → IfOk result (λ announced. announced ≡ p) → IfErr result (λ fault. fault ≡ faults.WriteFault)
+    → Writes written written' result (spelled (ready_line p.device.function)) → Begins (gone bytes shown) shown written written' result
+begun bytes d p shown written written' (Ok announced) described same stands is other writes =
+    subst (λ (s : Step). Reaches s (StandsFor (stages.Running announced) shown) written written') (sym (gone_well bytes d shown described)) (
+      subst (λ (x : RunningFields). StandsBetween x shown (at_start bytes d.function shown)) (sym is) stands,
+      Appends-line written written' (ready_line d.function) (subst (λ (f : FunctionFields). Appends written written' (spelled (ready_line f))) same writes),
+    )
+begun bytes d p shown written written' (Err fault) described same stands is other writes =
+    subst (λ (f : BusFault). Prevents f true (gone bytes shown) written written') (sym other)
+    (subst (λ (s : Step). IsCut s written written') (sym (gone_well bytes d shown described))
+    (front_of_line written written' (ready_line d.function) (subst (λ (f : FunctionFields). AppendsFront written written' (spelled (ready_line f))) same writes)))
 
 -- more bytes show no fault
 pub fed_well : (taken piece : List ℕ) (r : reader.ReaderFields) (shown : List Reading) (written : Option (List ℕ)) → r.stop ≡ None → r.taken ≡ taken ++ piece

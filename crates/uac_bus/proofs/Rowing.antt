@@ -1,6 +1,7 @@
 -- The rows of the running device.
 use Rattle.std.proofs.Common.{◌≡◌, ℕ, ℤ, pos, Result, Bool, true, false, List, [], ◌∷◌, map, length, get_or, refl, sym, ap, subst, ◌∙◌, Option, None, Some, ◌&&◌, ◌==◌, arith}
 use Rattle.std.specs.Prelude.{position}
+use Rattle.std.specs.Io.KnownBytes.{Appends}
 use Rattle.std.specs.List.{list_all, position_or_len}
 use Rattle.std.proofs.lemmas.List.{get_or_default, get_or_past}
 use Rattle.uac_entities.specs.declared.entity.Entity.{Entity}
@@ -8,16 +9,18 @@ use Rattle.uac_entities.specs.declared.stream.StreamInterface.{StreamInterface}
 use Rattle.uac_topology_rules.specs.Table.{at, place_of, nothing}
 use Rattle.uac_topology_rules.proofs.Found.{position_is, position_none}
 use Rattle.uac_graph.specs.Meaning.{entity}
+use Rattle.uac_transcript.specs.Printing.{text_of}
 use Rattle.uac_units.specs.Hearing.{Reading}
 use Rattle.uac_script.specs.declared.line.Mark.{Mark}
 use Rattle.uac_script.specs.Line.{said_mark}
 use Rattle.uac_script.specs.Phrase.{deviates, sets}
 use Rattle.uac_topology.specs.Function.{FunctionFields}
 use Rattle.uac_running.specs.RunningWorld.{RunningWorld}
+use Rattle.uac_running.specs.Events.{Told}
 use Rattle.uac_running.specs.Kept.{RunningFields, StandsBetween}
 use Rattle.uac_bus.specs.declared.bus.BusStage.TheVariants as stages
 use Rattle.uac_bus.specs.declared.fault.BusFault.{BusFault}
-use Rattle.uac_bus.specs.World.{World, Step, step_running, unless, breaks_rule, is_placed, has_out, are_frames}
+use Rattle.uac_bus.specs.World.{World, Step, told, step_running, unless, breaks_rule, is_placed, has_out, are_frames}
 use Rattle.uac_bus.specs.Kept.{StandsFor, Reaches, IsCut, Does}
 use Rattle.uac_bus.proofs.Stepping.{unless_holds, unless_fails}
 
@@ -32,6 +35,13 @@ pub unless_cut : (b : Bool) (rule : ℕ) (s : Step) (written written' : Option (
     → IsCut (unless b rule s) written written'
 unless_cut true rule s written written' e cut = cut
 unless_cut false rule s written written' e cut = absurd (cc)
+
+-- the rule holds, and what was told was printed
+pub told_reached : (b : Bool) (rule : ℕ) (t : Told) (p : RunningFields) (shown : List Reading) (written written' : Option (List ℕ)) → b ≡ true
+    → Appends written written' (text_of t.lines) → StandsBetween p shown t.world
+    → Reaches (unless b rule (told t)) (StandsFor (stages.Running p) shown) written written'
+told_reached true rule t p shown written written' e printed stands = (stands, printed)
+told_reached false rule t p shown written written' e printed stands = absurd (cc)
 
 -- a deviation that was passed on is the line's
 pub deviates_said : (domain : ℕ) (passed ppm : ℤ) (p p' : RunningFields) (result : Result (Unit {0}) BusFault) → passed ≡ ppm

@@ -200,7 +200,8 @@ fn go<K: Sink>(alloc: Global, stage: &mut BusStage, sink: &mut K) -> Result<(), 
             let whole = mem::replace(reader, Reader::new(alloc));
             match begin(alloc, whole, sink) {
                 Ok(running) => {
-                    *stage = BusStage::Running(running);
+                    // By a call, since a stage that is dropped in place makes the proof several times as long.
+                    drop(mem::replace(stage, BusStage::Running(running)));
                     Ok(())
                 }
                 Err(fault) => Err(fault),

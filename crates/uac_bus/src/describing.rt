@@ -1,10 +1,13 @@
 // The lines of the descriptor.
-ghost use Rattle.std.specs.Prelude.{◌≡◌, ◌≢◌, ◌≤◌, ◌++◌, ℕ, List, flat_map, Option, None, true, IfErr, OnOk, IfOk};
+ghost use Rattle.std.specs.Prelude.{◌≡◌, ◌≢◌, ◌≤◌, ◌++◌, ℕ, List, flat_map, Option, None, Ok, true, IfErr, OnOk, IfOk};
 ghost use Rattle.uac_descriptor.specs.Spelling.{spelling};
 ghost use Rattle.uac_running.specs.Transfers as transfers;
 ghost use Rattle.uac_running.specs.Transfers.{configuration_of};
 ghost use Rattle.uac_units.specs.Hearing.{Reading};
-ghost use Rattle.uac_edges.specs.Faults.{Rose};
+ghost use Rattle.uac_edges.specs.Faults.{HasCause, Rose};
+ghost use Rattle.uac_edges.specs.Writing.{Writes};
+ghost use Rattle.uac_running.specs.Lines.{ready_line};
+ghost use Rattle.uac_transcript.specs.Transcript.{spelled};
 ghost use Rattle.uac_bus.specs.World.{fed, gone};
 ghost use Rattle.uac_bus.specs.Kept.{StandsFor, Does, is_final};
 ghost use Rattle.uac_bus.specs.Rows.{Begins, Describes, fault_of};
@@ -74,16 +77,29 @@ fn with_bytes(
         × (described.configuration ≡ configuration_of (flat_map spelling blocks.now))) }
     ensures err { IfErr result (λ fault. fault ≡ BusFault.NoMemory) }
 {
-    let bytes = match bytes_of(alloc, blocks) {
-        Ok(bytes) => bytes,
-        Err(NoMemory) => return Err(BusFault::NoMemory),
-    };
-    match configuration_of(alloc, bytes.as_slice()) {
+    match configuration_in(alloc, blocks) {
         Ok(configuration) => Ok(SoundDescriptor {
             function,
             configuration,
         }),
-        Err(NoMemory) => Err(BusFault::NoMemory),
+        Err(NoMemory) => {
+            drop(function);
+            Err(BusFault::NoMemory)
+        }
+    }
+}
+
+/// The configuration's bytes among those of blocks.
+fn configuration_in(alloc: Global, blocks: &[Block]) -> Result<ByteList, NoMemory>
+    ensures { IfOk result (λ configuration. configuration ≡ configuration_of (flat_map spelling blocks.now)) }
+{
+    match bytes_of(alloc, blocks) {
+        Ok(bytes) => {
+            let configuration = configuration_of(alloc, bytes.as_slice());
+            drop(bytes);
+            configuration
+        }
+        Err(NoMemory) => Err(NoMemory),
     }
 }
 
@@ -93,10 +109,7 @@ pub fn bytes_of(alloc: Global, blocks: &[Block]) -> Result<ByteList, NoMemory>
 {
     let mut bytes = ByteList::from_vec(Vec::new(alloc));
     for block in blocks {
-        match block.write(&mut bytes) {
-            Ok(()) => {}
-            Err(NoMemory) => return Err(NoMemory),
-        }
+        block.write(&mut bytes)?;
     }
     Ok(bytes)
 }
@@ -106,10 +119,10 @@ fn configuration_of(alloc: Global, bytes: &[u8]) -> Result<ByteList, NoMemory>
     ensures { IfOk result (λ configuration. configuration ≡ configuration_of bytes.now) }
 {
     let front = if begins_with_device(bytes) { 18 } else { 0 };
-    match Vec::from_slice(alloc, &bytes[bytes.len().min(front)..]) {
-        Ok(configuration) => Ok(ByteList::from_vec(configuration)),
-        Err(_) => Err(NoMemory),
-    }
+    let configuration = Vec::from_slice(alloc, &bytes[bytes.len().min(front)..]).map_err(
+        |_| NoMemory,
+    )?;
+    Ok(ByteList::from_vec(configuration))
 }
 
 /// Whether a device descriptor stands in front.
@@ -132,16 +145,44 @@ pub(crate) fn begin<K: Sink>(
     ensures never_falls { K.faults sink.old ≤ K.faults sink.new }
     ensures faultless { OnOk result (K.faults sink.new ≡ K.faults sink.old) }
 {
-    let described = match described(alloc, reader) {
-        Ok(described) => described,
-        Err(fault) => return Err(fault),
-    };
-    let running = match Running::new(alloc, described.function, described.configuration) {
-        Ok(running) => running,
-        Err(_) => return Err(BusFault::NoMemory),
-    };
+    match described(alloc, reader) {
+        Ok(described) => start(alloc, described, sink),
+        Err(fault) => Err(fault),
+    }
+}
+
+/// The device that was described begins to run, and says so.
+fn start<K: Sink>(
+    alloc: Global,
+    described: SoundDescriptor,
+    sink: &mut K,
+) -> Result<Running, BusFault>
+    ensures begins { (bytes : List ℕ) → Describes bytes (Ok described)
+        → (shown : List Reading) → Begins (gone bytes shown) shown (K.written sink.old) (K.written sink.new) result }
+    ensures fault { IfErr result (λ fault. is_final fault ≡ true) }
+    ensures unwritten { IfErr result (λ fault. fault ≢ BusFault.WriteFault → sink.new ≡ sink.old) }
+    ensures cause { IfErr result (λ fault. fault ≡ BusFault.WriteFault → Rose (K.faults sink.old) (K.faults sink.new)) }
+    ensures never_falls { K.faults sink.old ≤ K.faults sink.new }
+    ensures faultless { OnOk result (K.faults sink.new ≡ K.faults sink.old) }
+{
+    match Running::new(alloc, described.function, described.configuration) {
+        Ok(running) => announced(running, sink),
+        Err(_) => Err(BusFault::NoMemory),
+    }
+}
+
+/// A device whose line of the descriptor's end is printed.
+fn announced<K: Sink>(running: Running, sink: &mut K) -> Result<Running, BusFault>
+    ensures same { IfOk result (λ announced. announced ≡ running) }
+    ensures fault { IfErr result (λ fault. fault ≡ BusFault.WriteFault) }
+    ensures written { Writes (K.written sink.old) (K.written sink.new) result (spelled (ready_line running.device.function)) }
+    ensures cause { HasCause (K.faults sink.old) (K.faults sink.new) result }
+{
     match running.ready(sink) {
         Ok(()) => Ok(running),
-        Err(_) => Err(BusFault::WriteFault),
+        Err(_) => {
+            drop(running);
+            Err(BusFault::WriteFault)
+        }
     }
 }

@@ -47,9 +47,9 @@ fn append(running: &mut Running, interface: u8, samples: &[i32]) -> Result<(), B
 }
 
 /// The tone of a track.
-fn track(running: &mut Running, interface: u8, tone: &Tone) -> Result<(), BusFault>
+fn track(running: &mut Running, interface: u8, tone: Tone) -> Result<(), BusFault>
     ensures does { (shown : List Reading) (r : RunningWorld) (written : Option (List ℕ)) → StandsBetween running.old shown r
-        → Does (step_running r (phrase.tracks (pos interface) (said_tone_of tone.now))) false
+        → Does (step_running r (phrase.tracks (pos interface) (said_tone_of tone))) false
         (StandsFor (BusStage.Running running.new) shown) written written result }
     ensures rule { IfErr result (λ fault. is_final fault ≡ false) }
     ensures unchanged { OnErr result (running.new ≡ running.old) }
@@ -57,14 +57,14 @@ fn track(running: &mut Running, interface: u8, tone: &Tone) -> Result<(), BusFau
     if !has_out(running.function().streams(), interface) {
         return Err(BusFault::Script(6));
     }
-    running.track(interface, *tone);
+    running.track(interface, tone);
     Ok(())
 }
 
 /// The tone of an input jack.
-fn set_jack(running: &mut Running, terminal: u8, tone: &Tone) -> Result<(), BusFault>
+fn set_jack(running: &mut Running, terminal: u8, tone: Tone) -> Result<(), BusFault>
     ensures does { (shown : List Reading) (r : RunningWorld) (written : Option (List ℕ)) → StandsBetween running.old shown r
-        → Does (step_running r (phrase.jacks (pos terminal) (said_tone_of tone.now))) false
+        → Does (step_running r (phrase.jacks (pos terminal) (said_tone_of tone))) false
         (StandsFor (BusStage.Running running.new) shown) written written result }
     ensures rule { IfErr result (λ fault. is_final fault ≡ false) }
     ensures unchanged { OnErr result (running.new ≡ running.old) }
@@ -72,7 +72,7 @@ fn set_jack(running: &mut Running, terminal: u8, tone: &Tone) -> Result<(), BusF
     if !running.has_jack(terminal) {
         return Err(BusFault::Script(6));
     }
-    running.set_tone(terminal, *tone);
+    running.set_tone(terminal, tone);
     Ok(())
 }
 
@@ -173,8 +173,8 @@ pub(crate) fn play<K: Sink>(
             Ok(())
         }
         LentLine::Append { interface, samples } => append(running, interface, samples),
-        LentLine::Track { interface, tone } => track(running, interface, &tone),
-        LentLine::Jack { terminal, tone } => set_jack(running, terminal, &tone),
+        LentLine::Track { interface, tone } => track(running, interface, tone),
+        LentLine::Jack { terminal, tone } => set_jack(running, terminal, tone),
         LentLine::Deviate { domain, ppm } => deviate(running, domain, ppm),
         LentLine::Run { count, marks } => run(running, count, marks, rack, meters, sink),
         LentLine::Detail(level) => {

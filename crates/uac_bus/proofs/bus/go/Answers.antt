@@ -3,7 +3,7 @@ use Rattle.uac_bus.proofs.bus.go.Goals as goal
 
 pub returns-in-Ok-clause-does : goal.returns-in-Ok-clause-does
 returns-in-Ok-clause-does g c = λ shown w s.
-    begun_in _ _ _ _ w _ _ c.replace-whole.ensures.value (rw c.in-Describing.is at s) c.in-Ok.ensures.begins
+    rw c.replace.ensures.after (begun_in _ _ _ _ w _ _ c.replace-whole.ensures.value (rw c.in-Describing.is at s) c.in-Ok.ensures.begins)
 
 pub returns-in-Err-clause-does : goal.returns-in-Err-clause-does
 returns-in-Err-clause-does g c = λ shown w s.

@@ -1,6 +1,8 @@
-use Rattle.std.proofs.Common.{sym, ◌∙◌}
+use Rattle.std.proofs.Common.{sym, ◌∙◌, map}
+use Rattle.uac_script.specs.Line.{said_mark}
+use Rattle.uac_running.specs.Events.{microframes}
 use Rattle.uac_bus.proofs.Stepping.{unless_fails}
-use Rattle.uac_bus.proofs.Rowing.{streams_in, are_placed_in, unless_reached, unless_cut}
+use Rattle.uac_bus.proofs.Rowing.{streams_in, are_placed_in, told_reached, unless_cut}
 use Rattle.uac_bus.proofs.rows.run.Goals as goal
 
 pub returns-then-not-are_placed-clause-does : goal.returns-then-not-are_placed-clause-does
@@ -14,7 +16,8 @@ returns-in-Ok-clause-does g c = λ r s.
     let streams = streams_in r _ _ _ _ s c.function.ensures c.streams.ensures in
     let all = are_placed_in _ _ c.args.marks.now _ streams c.are_placed.ensures in
     let tells = c.in-Ok.ensures.tells r s in
-    unless_reached _ 6 _ _ _ _ (sym all ∙ c.if-not-are_placed.false) (tells.1, tells.0)
+    told_reached _ 6 (microframes (map said_mark c.args.marks.now) c.args.count r) c.microframes.new.self _ _ _
+    (sym all ∙ c.if-not-are_placed.false) tells.0 tells.1
 
 pub returns-in-Err-clause-does : goal.returns-in-Err-clause-does
 returns-in-Err-clause-does g c = λ r s.
