@@ -34,7 +34,7 @@ impl InFlow {
         }
     }
 
-    /// Moves the oldest frames of the ring, as many as fit, into an emptied packet, and answers their number.
+    /// Moves the oldest frames of the ring, as many as fit, into a packet in place of its bytes, and answers their number.
     #[tactic(auto, unfolding(crate::specs::Streams::after_sending, crate::specs::Streams::sent_packet))]
     pub fn send(&self, ring: &mut Ring, packet: &mut Packet) -> u32
         requires sound { IsInFlow ring.old self.now }

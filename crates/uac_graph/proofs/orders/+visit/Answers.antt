@@ -60,8 +60,8 @@ loop-source-preserved t c = record {
       c.loop-source-test.true c.loop-source.invariant.all c.in_ok-visit.ensures.all;
 }
 
-pub returns-in-Ok-clause-order : goal.returns-in-Ok-clause-order
-returns-in-Ok-clause-order t c =
+pub returns-clause-order : goal.returns-clause-order
+returns-clause-order t c =
     let entities = c.args.table.now in
     let id = c.args.id in
     let place = c.place_of-place.result in
@@ -77,8 +77,8 @@ returns-in-Ok-clause-order t c =
     c.place_of-place.ensures c.as_slice.ensures.value (sym c.contains.ensures.value ∙ c.if-contains.false) done)
     c.loop-source.invariant.order done
 
-pub returns-in-Ok-clause-all : goal.returns-in-Ok-clause-all
-returns-in-Ok-clause-all t c =
+pub returns-clause-all : goal.returns-clause-all
+returns-clause-all t c =
     let entities = c.args.table.now in
     let id = c.args.id in
     let here = entity_read entities entities id c.place_of-place.result c.at.result.now refl c.place_of-place.ensures c.at.ensures in
