@@ -1,12 +1,13 @@
 // Running a script, line by line.
-ghost use Rattle.std.specs.Prelude.{◌≡◌, ◌≢◌, ◌≤◌, length, List};
+ghost use Rattle.std.specs.Prelude.{◌≡◌, ◌≢◌, ◌≤◌, false, [], None, length, List};
 ghost use Rattle.std.specs.Io.KnownBytes.{IsAtEnd};
 ghost use Rattle.uac_edges.specs.Faults.{Rose};
+ghost use Rattle.uac_script.specs.Lines.{most_of_input};
 ghost use Rattle.uac_script.specs.Reading.{answer};
 ghost use Rattle.uac_units.specs.Fitting.{IsFitted};
 ghost use Rattle.uac_units.specs.Hearing.{Reading};
 ghost use Rattle.uac_units.specs.Panel.{readings};
-ghost use Rattle.uac_bus.specs.World.{World};
+ghost use Rattle.uac_bus.specs.World.{World, start};
 ghost use Rattle.uac_bus.specs.After.{said_step};
 ghost use Rattle.uac_bus.specs.Kept.{Stands};
 ghost use Rattle.uac_cli.specs.declared.jobs.Job.TheVariants.{Run};
@@ -47,13 +48,41 @@ pub fn run_script<S: Source, K: Sink>(
     let mut bus = Bus::new(alloc);
     let mut lines = Lines::new();
     let mut room = LineRoom::new();
+    run_lines(&mut bus, &mut lines, &mut room, source, sink, rack, meters)
+}
+
+/// The same with a bus to which no line was given, and with no line yet. It is apart, since the prover walks through all that a bus lets
+/// go wherever one is dropped at a return, and here there are three.
+fn run_lines<S: Source, K: Sink>(
+    bus: &mut Bus,
+    lines: &mut Lines,
+    room: &mut LineRoom,
+    source: &mut S,
+    sink: &mut K,
+    rack: &Rack,
+    meters: &mut Meters,
+) -> Status
+    requires rack { IsFitted (λ v x. (⟦<dyn Unit as Unit>⟧ v).kind_of x) rack.now }
+    requires fresh { Stands bus.old (readings (λ v x. (⟦<dyn Meter as Meter>⟧ v).reading_of x) meters.old)
+        (start (readings (λ v x. (⟦<dyn Meter as Meter>⟧ v).reading_of x) meters.old)) }
+    requires unread { lines.old ≡ record { text = []; number = 0; unread = []; spare = most_of_input; stop = None; ended = false } }
+    ensures run { IsRun (Some Run)
+        (readings (λ v x. (⟦<dyn Meter as Meter>⟧ v).reading_of x) meters.old)
+        (readings (λ v x. (⟦<dyn Meter as Meter>⟧ v).reading_of x) meters.new)
+        (S.left source.old) (S.left source.new) (S.faults source.old) (S.faults source.new)
+        (K.written sink.old) (K.written sink.new) (K.faults sink.old) (K.faults sink.new) result }
+    ensures read_fault { result ≡ Status.ReadFault → Rose (S.faults source.old) (S.faults source.new) }
+    ensures write_fault { result ≡ Status.WriteFault → Rose (K.faults sink.old) (K.faults sink.new) }
+    ensures faultless { IsFaultless (S.faults source.old) (S.faults source.new) (K.faults sink.old) (K.faults sink.new) result }
+    ensures ok { result ≡ Status.Ok → IsAtEnd (S.left source.new) }
+{
     loop {
         match lines.next(source) {
-            Ok(Next::Line) => match do_line(&mut bus, lines.text(), &mut room, rack, meters, sink) {
+            Ok(Next::Line) => match do_line(bus, lines.text(), room, rack, meters, sink) {
                 Ok(()) => {}
                 Err(fault) => return refuse_line(fault, lines.number(), sink),
             },
-            Ok(Next::End) => return finish(&bus, lines.number() + 1, sink),
+            Ok(Next::End) => return finish(bus, lines.number() + 1, sink),
             Err(stop) => return stop_lines(stop, lines.number(), sink),
         }
     }

@@ -2,7 +2,7 @@ use Rattle.std.proofs.Common.{◌≡◌, ◌+◌, ◌≤◌}
 use Rattle.uac_units.specs.Panel.{readings}
 use Rattle.uac_script.specs.Lines.{most_of_input}
 use Rattle.uac_cli.proofs.Following.{IsFar}
-use Rattle.uac_cli.proofs.running.run_script.Given as goal
+use Rattle.uac_cli.proofs.running.run_lines.Given as goal
 
 abbrev pub invariant-loop-bus : goal.invariant-loop-bus
 invariant-loop-bus g l = record {
