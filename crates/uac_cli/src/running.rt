@@ -1,7 +1,8 @@
 // Running a script, line by line.
-ghost use Rattle.std.specs.Prelude.{◌≡◌, ◌≢◌, ◌≤◌, false, [], None, length, List};
+ghost use Rattle.std.specs.Prelude.{◌≡◌, ◌≢◌, ◌≤◌, false, [], None, length, IfOk, List};
 ghost use Rattle.std.specs.Io.KnownBytes.{IsAtEnd};
 ghost use Rattle.uac_edges.specs.Faults.{Rose};
+ghost use Rattle.uac_script.specs.Lent.{lent_said, LentKeeps};
 ghost use Rattle.uac_script.specs.Lines.{most_of_input};
 ghost use Rattle.uac_script.specs.Reading.{answer};
 ghost use Rattle.uac_units.specs.Fitting.{IsFitted};
@@ -109,7 +110,27 @@ fn do_line<K: Sink>(
     if is_idle(text) {
         return Ok(());
     }
-    match LentLine::read(text, room) {
+    do_said(bus, LentLine::read(text, room), rack, meters, sink)
+}
+
+/// Does a line that was read, or answers the rule that its spelling breaks.
+fn do_said<K: Sink>(
+    bus: &mut Bus,
+    said: Result<LentLine<'_>, u8>,
+    rack: &Rack,
+    meters: &mut Meters,
+    sink: &mut K,
+) -> Result<(), BusFault>
+    requires rack { IsFitted (λ v x. (⟦<dyn Unit as Unit>⟧ v).kind_of x) rack.now }
+    requires keeps { IfOk said LentKeeps }
+    ensures does { (w : World) → Stands bus.old (readings (λ v x. (⟦<dyn Meter as Meter>⟧ v).reading_of x) meters.old) w
+        → Does (said_step (lent_said said.entry) w) (wants (lent_said said.entry) w) bus.new
+        (readings (λ v x. (⟦<dyn Meter as Meter>⟧ v).reading_of x) meters.old)
+        (readings (λ v x. (⟦<dyn Meter as Meter>⟧ v).reading_of x) meters.new)
+        (K.written sink.old) (K.written sink.new) (K.faults sink.old) (K.faults sink.new) result }
+    ensures never_falls { K.faults sink.old ≤ K.faults sink.new }
+{
+    match said {
         Ok(line) => bus.lent_line(line, rack, meters, sink),
         Err(rule) => Err(BusFault::Script(rule)),
     }
