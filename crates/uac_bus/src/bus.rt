@@ -200,7 +200,7 @@ fn go<K: Sink>(alloc: Global, stage: &mut BusStage, sink: &mut K) -> Result<(), 
             let whole = mem::replace(reader, Reader::new(alloc));
             match begin(alloc, whole, sink) {
                 Ok(running) => {
-                    // By a call, since a stage that is dropped in place makes the proof several times as long.
+                    // By a call, as a stage that is dropped in place makes the proof several times as long.
                     drop(mem::replace(stage, BusStage::Running(running)));
                     Ok(())
                 }

@@ -119,9 +119,8 @@ fn configuration_of(alloc: Global, bytes: &[u8]) -> Result<ByteList, NoMemory>
     ensures { IfOk result (λ configuration. configuration ≡ configuration_of bytes.now) }
 {
     let front = if begins_with_device(bytes) { 18 } else { 0 };
-    let configuration = Vec::from_slice(alloc, &bytes[bytes.len().min(front)..]).map_err(
-        |_| NoMemory,
-    )?;
+    let rest = &bytes[bytes.len().min(front)..];
+    let configuration = Vec::from_slice(alloc, rest).map_err(|_| NoMemory)?;
     Ok(ByteList::from_vec(configuration))
 }
 
@@ -181,6 +180,7 @@ fn announced<K: Sink>(running: Running, sink: &mut K) -> Result<Running, BusFaul
     match running.ready(sink) {
         Ok(()) => Ok(running),
         Err(_) => {
+            // By a call, as a device that is dropped where its scope ends makes the proof twice as long.
             drop(running);
             Err(BusFault::WriteFault)
         }
