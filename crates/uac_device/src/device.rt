@@ -13,9 +13,10 @@ ghost use Rattle.uac_device.specs.DeviceWorld.{ticked};
 ghost use Rattle.uac_device.specs.Kept.{IsControlled, Stands};
 ghost use Rattle.uac_request.specs.Requests.{answer_fields};
 
-use crate::clocks::{Clock, advance, deviate, resting_clocks};
+use crate::clocks::{Clock, advance, deviate};
 use crate::derived::Derived;
 use crate::hearing::hear;
+use crate::rest::{Moving, at_rest};
 use crate::streams::{is_done, sets_interface, stream_asked};
 use crate::terminals::is_output_jack;
 use std::alloc::Global;
@@ -86,9 +87,11 @@ impl Device {
         each_interface_starts_with_a_setting();
         let graph = Graph::build(alloc, &function)?;
         let derived = Derived::new(alloc, &graph, &function, &store)?;
-        let wires = Wires::new(alloc, &function)?;
-        let clocks = resting_clocks(alloc, function.domains())?;
-        let lanes = Lanes::new(alloc, &function)?;
+        let Moving {
+            wires,
+            clocks,
+            lanes,
+        } = at_rest(alloc, &function)?;
         Ok(Device {
             function,
             store,

@@ -10,6 +10,8 @@ mod device;
 /// What the meters hear of a tick.
 mod hearing;
 pub mod laws;
+/// What ticks change, at the start.
+mod rest;
 /// The stream that a request starts.
 mod streams;
 /// Which terminals carry no stream of the bus.

@@ -12,7 +12,7 @@ use Rattle.uac_device.proofs.device.Device.new.Goals as goal
 
 pub invariant_of-result : goal.invariant_of-result
 invariant_of-result c =
-    let resting = c.in_ok-clocks.ensures ∙ ap (map resting_clock) c.domains.ensures in (
+    let resting = c.in_ok-wires.ensures.clocks in (
       record {
         store = c.in_ok-store.ensures.of_function;
         interfaces =
@@ -21,7 +21,7 @@ invariant_of-result c =
         domains = ap (map (λ k. k.clock)) resting ∙ resting_domains c.args.function.domains;
         clocks = subst (λ (clocks : List Clock). All (λ k. IsInRange k.ppm) clocks) (sym resting) (resting_range c.args.function.domains);
         phases = subst (λ (clocks : List Clock). All (λ k. k.phase < 65536) clocks) (sym resting) (resting_phases c.args.function.domains);
-        ports = ap ports c.in_ok-lanes.ensures ∙ ports_idle c.args.function.entities c.args.function.streams;
+        ports = ap ports c.in_ok-wires.ensures.lanes ∙ ports_idle c.args.function.entities c.args.function.streams;
       },
       c.in_ok-graph.ensures,
       c.in_ok-derived.ensures,
@@ -29,5 +29,5 @@ invariant_of-result c =
 
 pub returns : goal.returns
 returns c =
-    fresh_stands c.args.function c.in_ok-store.store c.new-settings.result c.in_ok-clocks.clocks.items c.in_ok-wires.wires c.in_ok-lanes.lanes c.in_ok-store.ensures.starts
-    c.new-settings.ensures (c.in_ok-clocks.ensures ∙ ap (map resting_clock) c.domains.ensures) c.in_ok-wires.ensures.silent c.in_ok-lanes.ensures
+    fresh_stands c.args.function c.in_ok-store.store c.new-settings.result c.in_ok-wires.field-0.clocks.items c.in_ok-wires.field-0.wires c.in_ok-wires.field-0.lanes c.in_ok-store.ensures.starts
+    c.new-settings.ensures c.in_ok-wires.ensures.clocks c.in_ok-wires.ensures.silent c.in_ok-wires.ensures.lanes
