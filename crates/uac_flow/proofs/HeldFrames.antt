@@ -1,13 +1,11 @@
 -- The frames of a ring as frames come and go.
 use Rattle.std.proofs.Common.{◌≡◌, ◌∙◌, sym, refl, ap, subst, arith, ℕ, zero, suc, ◌+◌, ◌-◌, ◌*◌, ◌<◌, ◌≤◌, ℤ, List, [], ◌∷◌, ◌++◌, length, take, drop, slice_get, Some, Result, Ok, Err, IsErr, OnOk, ◌↔◌, OnErr, replicate, add-one, append_assoc, length-append}
-use Rattle.std.proofs.Math.Nat.{suc-mul}
-use Rattle.std.proofs.lemmas.List.{drop-append-le, flat_map_more, length-drop, length-replicate, length-take-le, replicate-append-replicate, take_at}
+use Rattle.std.proofs.lemmas.List.{drop-append-le, length-drop, length-replicate, replicate-append-replicate}
 use Rattle.std.proofs.lemmas.List.Elements.{All-push}
 use Rattle.std.proofs.lemmas.Option.{get_or_from_slice_get, slice_get_within}
 use Rattle.uac_pcm.specs.Frames.{bytes_of_frame}
 use Rattle.uac_pcm.specs.Packets.{packed}
-use Rattle.uac_pcm.proofs.Packing.{length-bytes_of_frame}
-use Rattle.uac_pcm.proofs.PacketsLemmas.{drop-drop}
+use Rattle.uac_pcm.proofs.PacketsLemmas.{drop-drop, one_written}
 use Rattle.uac_ring.specs.Rings.{Holds, ring_frames}
 use Rattle.uac_flow.specs.Flows.{AreFrames}
 
@@ -90,17 +88,8 @@ pub packed_further : (channels size bits start n : ℕ) (frames : List (List ℤ
     → new ≡ take start old ++ (bytes_of_frame size bits frame ++ rest)
     → take ((n + 1) * (channels * size)) new ≡ packed size bits (take (n + 1) frames)
 packed_further channels size bits start n frames frame old new rest whole is_start inside oldest so_far written =
-    let bytes : List ℕ = bytes_of_frame size bits frame in
-    let front : List ℕ = take start old in
     let there : slice_get frames n ≡ Some frame = sym (oldest_at n frames) ∙ sym oldest in
     let wide : length frame ≡ channels =
     ap length (sym (get_or_from_slice_get frames n frame frame there)) ∙ whole n frame (slice_get_within frames n frame there) in
-    let width : length bytes ≡ channels * size = length-bytes_of_frame size bits frame ∙ ap (λ (m : ℕ). m * size) wide in
-    let step : (n + 1) * (channels * size) ≡ n * (channels * size) + channels * size = rw add-one (suc-mul n (channels * size)) in
-    let many : length (front ++ bytes) ≡ (n + 1) * (channels * size) =
-    length-append front bytes ∙ omega (arith, length-take-le start old inside) in
-    ap (take ((n + 1) * (channels * size))) (written ∙ sym (append_assoc front bytes rest))
-    ∙ take_at (front ++ bytes) rest ((n + 1) * (channels * size)) many
-    ∙ ap (λ (bs : List ℕ). bs ++ bytes) so_far
-    ∙ flat_map_more (bytes_of_frame size bits) [] (take n frames) frame
-    ∙ ap (packed size bits) (sym (one_more n frames frame there))
+    one_written channels size bits start n (take n frames) (take (n + 1) frames) frame old new rest wide is_start inside (one_more n frames frame there)
+    so_far written

@@ -5,7 +5,7 @@ ghost use Rattle.uac_ring.specs.Rings.{ring_frames};
 ghost use Rattle.uac_flow.specs.Flows.{AreFrames};
 
 use arrayvec::ArrayVec;
-use uac_pcm::{Format, Frame, Packet};
+use uac_pcm::{Format, Frame, Packet, resize, silence};
 use uac_ring::Ring;
 
 /// Puts the frames of a packet into a ring that has room for them.
@@ -27,22 +27,11 @@ pub(crate) fn put_zeros(ring: &mut Ring, channels: u8, count: u32)
     ensures put { length ring.old + count ≤ ring_frames → ring.new ≡ ring.old ++ replicate count (replicate channels (pos 0)) }
     ensures frames { AreFrames channels ring.old → AreFrames channels ring.new }
 {
-    let zero = silent(channels);
+    let mut zero: Frame = ArrayVec::new();
+    silence(&mut zero, channels);
     for _each in 0..count {
         let _ = ring.put(&zero);
     }
-}
-
-// A frame of zeros.
-fn silent(channels: u8) -> Frame
-    requires { channels ≤ 32 }
-    ensures { result.items ≡ replicate channels (pos 0) }
-{
-    let mut frame: Frame = ArrayVec::new();
-    for _each in 0..channels {
-        frame.push(0);
-    }
-    frame
 }
 
 /// Moves the oldest frames of a ring, so many, into a packet, in place of what is there.
@@ -60,16 +49,5 @@ pub(crate) fn take_frames(ring: &mut Ring, format: &Format, count: u32, packet: 
             format.write_at(frame, packet, number * size);
         }
         ring.drop_front();
-    }
-}
-
-// Gives a packet so many bytes, whatever they are.
-fn resize(packet: &mut Packet, len: usize)
-    requires { len ≤ 3072 }
-    ensures { length packet.new.items ≡ len }
-{
-    packet.truncate(len);
-    for _each in packet.len()..len {
-        packet.push(0);
     }
 }

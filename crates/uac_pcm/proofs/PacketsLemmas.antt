@@ -5,7 +5,7 @@ use Rattle.std.proofs.Math.Seq.{take-append_seam, drop-append_seam, drop-nil}
 use Rattle.std.specs.List.{All}
 use Rattle.std.specs.Option.{option_map}
 use Rattle.std.specs.Simd.{first_chunks}
-use Rattle.std.proofs.lemmas.List.{append-nil, length-map}
+use Rattle.std.proofs.lemmas.List.{append-nil, flat_map_more, length-map, length-take-le, take_at}
 use Rattle.std.proofs.lemmas.Nat.{div-mul-add}
 use Rattle.std.proofs.lemmas.Option.{slice_get-map}
 use Rattle.uac_pcm.specs.Words.{cut, sample_of_word}
@@ -82,6 +82,23 @@ frame_of_packed count size resolution (suc i) (f ∷ fs) d even inside =
     ∙ ap (take (count * size)) (sym (drop-drop (count * size) (i * (count * size)) (packed size resolution (f ∷ fs))))
     ∙ ap (λ (bs : List ℕ). take (count * size) (drop (i * (count * size)) bs)) (drop_front (count * size) (bytes_of_frame size resolution f) (packed size resolution fs) long)
     ∙ frame_of_packed count size resolution i fs d (λ k e below. even (suc k) e (omega arith)) (omega arith)
+
+-- frames whose bytes are the front of a packet, and one more that is written behind them
+pub one_written : (channels size bits start n : ℕ) (frames more : List (List ℤ)) (frame : List ℤ) (old new rest : List ℕ) → length frame ≡ channels
+    → start ≡ n * (channels * size) → start ≤ length old → more ≡ frames ++ frame ∷ [] → take start old ≡ packed size bits frames
+    → new ≡ take start old ++ (bytes_of_frame size bits frame ++ rest) → take ((n + 1) * (channels * size)) new ≡ packed size bits more
+one_written channels size bits start n frames more frame old new rest wide is_start inside grown so_far written =
+    let bytes : List ℕ = bytes_of_frame size bits frame in
+    let front : List ℕ = take start old in
+    let width : length bytes ≡ channels * size = length-bytes_of_frame size bits frame ∙ ap (λ (m : ℕ). m * size) wide in
+    let step : (n + 1) * (channels * size) ≡ n * (channels * size) + channels * size = rw add-one (suc-mul n (channels * size)) in
+    let many : length (front ++ bytes) ≡ (n + 1) * (channels * size) =
+    length-append front bytes ∙ omega (arith, length-take-le start old inside) in
+    ap (take ((n + 1) * (channels * size))) (written ∙ sym (append_assoc front bytes rest))
+    ∙ take_at (front ++ bytes) rest ((n + 1) * (channels * size)) many
+    ∙ ap (λ (bs : List ℕ). bs ++ bytes) so_far
+    ∙ flat_map_more (bytes_of_frame size bits) [] frames frame
+    ∙ ap (packed size bits) (sym grown)
 
 -- the frames that are read are those that were packed, cut
 chunks_read : (count size resolution : ℕ) (frames : List (List ℤ)) (rest : List ℕ) → IsFormat count size resolution → All (IsFrame count) frames

@@ -1,18 +1,14 @@
 //! How frames stand in packets.
-ghost use Rattle.std.specs.Prelude.{◌≡◌, ◌↔◌, ◌<◌, ◌≤◌, ◌+◌, ◌*◌, ℤ, List, [], ◌∷◌, ◌++◌, length, take, drop, slice_get, Some, IsTrue, IsSome, IfSome};
+ghost use Rattle.std.specs.Prelude.{◌≡◌, ◌↔◌, ◌<◌, ◌≤◌, ◌+◌, ◌*◌, ℤ, List, [], ◌∷◌, ◌++◌, length, take, drop, slice_get};
+ghost use Rattle.std.specs.Prelude.{Some, IsTrue, IsSome, IfSome};
 ghost use Rattle.std.specs.Bool.{OnTrue, OnFalse};
 ghost use Rattle.arrayvec.specs.ArrayVec.{array_vec_len};
 ghost use Rattle.uac_pcm.specs.Frames.{IsFormat, bytes_of_frame, frame_of_bytes};
 ghost use Rattle.uac_pcm.specs.Packets.{packed, unpacked, whole_frames};
 
+use crate::blanks::{ZEROS, silence};
 use crate::words::{read_words, write_words};
 use crate::{Frame, Packet};
-
-/// A zero for each byte of the longest frame.
-const ZEROS: [u8; 128] = [0; 128];
-
-/// A zero for each channel of the widest frame.
-const SILENCE: [i32; 32] = [0; 32];
 
 /// A format of Type I PCM: how many channels, bytes for each sample, and bits of them that are used.
 ///
@@ -108,10 +104,8 @@ impl Format {
         ensures samples { frame.new.items ≡ frame_of_bytes self.now.channels self.now.subslot self.now.bits bytes.now }
         ensures len { array_vec_len frame.new ≡ self.now.channels }
     {
-        let channels = usize::from(self.channels);
-        if frame.len() != channels {
-            frame.clear();
-            let _ = frame.try_extend_from_slice(&SILENCE[..channels]);
+        if frame.len() != usize::from(self.channels) {
+            silence(frame, self.channels);
         }
         self.read(bytes, frame.as_mut_slice());
     }

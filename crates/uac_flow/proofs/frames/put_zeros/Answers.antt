@@ -8,7 +8,7 @@ pub loop-each-preserved : goal.loop-each-preserved
 loop-each-preserved c =
     record {
       put = zero_further c.put.result c.loop-each._each c.args.count c.args.ring.now c.loop-each.ring c.put.new.self _
-          (replicate c.args.channels (pos 0)) c.loop-each.invariant.put c.loop-each-test.true c.silent-zero.ensures c.put.ensures.full c.put.ensures.appended;
+          (replicate c.args.channels (pos 0)) c.loop-each.invariant.put c.loop-each-test.true c.silence.ensures.samples c.put.ensures.full c.put.ensures.appended;
       frames = λ whole. frames_put c.put.result c.args.channels c.loop-each.ring c.put.new.self _
-          (ap length c.silent-zero.ensures ∙ length-replicate c.args.channels (pos 0)) c.put.ensures.appended c.put.ensures.unchanged (c.loop-each.invariant.frames whole);
+          (ap length c.silence.ensures.samples ∙ length-replicate c.args.channels (pos 0)) c.put.ensures.appended c.put.ensures.unchanged (c.loop-each.invariant.frames whole);
     }

@@ -1,0 +1,44 @@
+//! Frames and packets of a size, before samples or bytes are written over what they hold.
+ghost use Rattle.std.specs.Prelude.{◌≡◌, ◌≤◌, ◌+◌, replicate, pos};
+ghost use Rattle.arrayvec.specs.ArrayVec.{array_vec_len};
+
+use crate::{Frame, Packet};
+
+/// A zero for each channel of the widest frame.
+const SILENCE: [i32; 32] = [0; 32];
+
+/// A zero for each byte of the longest frame.
+pub(crate) const ZEROS: [u8; 128] = [0; 128];
+
+/// Makes a frame silent, on so many channels.
+#[inline(never)]
+pub fn silence(frame: &mut Frame, channels: u8)
+    requires { channels ≤ 32 }
+    ensures samples { frame.new.items ≡ replicate channels (pos 0) }
+    ensures len { array_vec_len frame.new ≡ channels }
+{
+    frame.clear();
+    let _ = frame.try_extend_from_slice(&SILENCE[..usize::from(channels)]);
+}
+
+/// Gives a packet so many bytes, whatever they are.
+pub fn resize(packet: &mut Packet, len: usize)
+    requires { len ≤ 3072 }
+    ensures { array_vec_len packet.new ≡ len }
+{
+    packet.truncate(len);
+    let missing = len - packet.len();
+    for _each in 0..missing / 128 {
+        append_zeros(packet, 128);
+    }
+    append_zeros(packet, missing % 128);
+}
+
+// Appends so many zeros to a packet.
+fn append_zeros(packet: &mut Packet, count: usize)
+    requires few { count ≤ 128 }
+    requires room { array_vec_len packet.old + count ≤ 3072 }
+    ensures { array_vec_len packet.new ≡ array_vec_len packet.old + count }
+{
+    let _ = packet.try_extend_from_slice(&ZEROS[..count]);
+}
