@@ -49,7 +49,8 @@ impl Host {
     /// An interface starts a stream anew, at its nominal rate and a whole frame, or runs none from now on. Its track stays. A stream that
     /// is given is one of that interface of the host's function.
     pub fn set_stream(&mut self, interface: u8, stream: Option<Stream>)
-        requires { IfSome stream (λ s. (function : FunctionFields) × IsSoundFunction function × IsStreamOf function interface (stream_fields s)) }
+        requires { IfSome stream (λ s. (function : FunctionFields) × IsSoundFunction function
+            × IsStreamOf function interface (stream_fields s)) }
         ensures stands { (w : HostWorld) → Stands self.old w → IfSome stream (λ s. IsStreamOf w.function interface (stream_fields s))
             → Stands self.new (with_stream interface (option_map stream_fields stream) w) }
     {
@@ -91,10 +92,12 @@ impl Host {
         ensures packet { (w : HostWorld) → Stands self.old w → packet.new.items ≡ packet_of w interface }
         ensures stands { (w : HostWorld) → Stands self.old w → Stands self.new (after_packet interface w) }
     {
-        packet.clear();
         match self.place(interface) {
             Some(place) => self.lanes[place].send(packet),
-            None => 0,
+            None => {
+                packet.clear();
+                0
+            }
         }
     }
 

@@ -1,5 +1,5 @@
 // What the host keeps for an interface.
-ghost use Rattle.std.specs.Prelude.{◌≡◌, ◌↔◌, ◌<◌, [], length, slice_get, Some, IsTrue, IfSome};
+ghost use Rattle.std.specs.Prelude.{◌≡◌, ◌↔◌, ◌<◌, length, slice_get, Some, IsTrue, IfSome};
 ghost use Rattle.std.specs.Bool.{OnTrue, OnFalse};
 ghost use Rattle.std.specs.Option.{option_map};
 ghost use Rattle.uac_alt.specs.Streams.{stream_fields};
@@ -55,10 +55,9 @@ impl Lane {
         }
     }
 
-    /// Puts the next frames of the track into an empty packet, as many as the stream's pace gives, and answers how many these are. Where
-    /// no stream runs there are none.
+    /// Makes the packet the next frames of the track, as many as the stream's pace gives, and answers how many these are. Where no stream
+    /// runs there are none.
     pub(crate) fn send(&mut self, packet: &mut Packet) -> u32
-        requires { packet.old.items ≡ [] }
         ensures size { (w : HostWorld) → IsKept w self.old → result ≡ size_of w self.old.interface }
         ensures packet { (w : HostWorld) → IsKept w self.old → packet.new.items ≡ packet_of w self.old.interface }
         ensures stands { (w : HostWorld) → IsKept w self.old
@@ -71,7 +70,10 @@ impl Lane {
                 self.track.fill(frames, &format, packet);
                 frames
             }
-            None => 0,
+            None => {
+                packet.clear();
+                0
+            }
         }
     }
 

@@ -14,7 +14,7 @@ use std::alloc::Global;
 use std::collections::VecDeque;
 use std::marker::Model;
 use uac_descriptor::NoMemory;
-use uac_pcm::{Format, Frame, Packet, Tone};
+use uac_pcm::{Format, Frame, Packet, Tone, resize, silence};
 
 /// The samples of the frames that wait, channel after channel, and the tone after them. A tone's samples come again after 2^32
 /// places, so its place wraps there.
@@ -63,35 +63,35 @@ impl Track {
         self.place = 0;
     }
 
-    /// The next frame: of those that wait, or where none does the tone's.
-    pub(crate) fn next(&mut self, channels: u8) -> Frame
-        requires some { 1 ≤ channels }
-        requires most { channels ≤ 32 }
-        ensures channels { array_vec_len result ≡ channels }
-        ensures stands { (t : world.Track) → All (λ frame. length frame ≡ channels) t.waiting → self.old ≡ kept_track t
-            → (next_frames channels 1 t ≡ result.items ∷ []) × (self.new ≡ kept_track (after_frames 1 t)) }
+    /// Makes `frame` the next frame, of as many channels: of those that wait, or where none does the tone's.
+    pub(crate) fn next(&mut self, frame: &mut Frame)
+        requires { 1 ≤ array_vec_len frame.old }
+        ensures channels { array_vec_len frame.new ≡ array_vec_len frame.old }
+        ensures stands { (t : world.Track) → All (λ f. length f ≡ array_vec_len frame.old) t.waiting → self.old ≡ kept_track t
+            → (next_frames (array_vec_len frame.old) 1 t ≡ frame.new.items ∷ []) × (self.new ≡ kept_track (after_frames 1 t)) }
     {
-        let count = usize::from(channels);
-        if self.samples.len() < count {
-            let frame = frame_of(&self.tone, self.place, count);
+        if self.samples.len() < frame.len() {
+            sound(self.tone, self.place, frame.as_mut_slice());
             self.place = self.place.wrapping_add(1);
-            return frame;
+            return;
         }
-        taken(&mut self.samples, count)
+        take_first(&mut self.samples, frame.as_mut_slice());
     }
 
-    /// Packs so many of the next frames.
+    /// Makes the packet so many of the next frames, packed in place of what is there.
     pub(crate) fn fill(&mut self, frames: u32, format: &Format, packet: &mut Packet)
-        requires fits { frames * (format.now.channels * format.now.subslot) ≤ 3072 }
-        requires empty { packet.old.items ≡ [] }
+        requires { frames * (format.now.channels * format.now.subslot) ≤ 3072 }
         ensures stands { (t : world.Track) → All (λ frame. length frame ≡ format.now.channels) t.waiting → self.old ≡ kept_track t
             → (packet.new.items ≡ packed format.now.subslot format.now.bits (next_frames format.now.channels frames t))
             × (self.new ≡ kept_track (after_frames frames t)) }
     {
-        for _ in 0..frames {
-            let frame = self.next(format.channels);
-            // There is room for all of them, so each fits.
-            let _ = format.pack(&frame, packet);
+        let size = format.frame_bytes();
+        resize(packet, frames as usize * size);
+        let mut frame: Frame = ArrayVec::new();
+        silence(&mut frame, format.channels);
+        for number in 0..frames as usize {
+            self.next(&mut frame);
+            format.write_at(&frame, packet, number * size);
         }
     }
 }
@@ -106,32 +106,25 @@ fn push_all(waiting: &mut VecDeque<i32>, samples: &[i32])
     }
 }
 
-// Takes the first samples out as a frame.
-fn taken(waiting: &mut VecDeque<i32>, count: usize) -> Frame
-    requires most { count ≤ 32 }
-    requires there { count ≤ length waiting.old.items }
-    ensures front { result.items ≡ take count waiting.old.items }
-    ensures rest { waiting.new.items ≡ drop count waiting.old.items }
-    ensures len { array_vec_len result ≡ count }
+// Takes the first samples out, and writes them over so many others.
+fn take_first(waiting: &mut VecDeque<i32>, samples: &mut [i32])
+    requires { length samples.old ≤ length waiting.old.items }
+    ensures front { samples.new ≡ take (length samples.old) waiting.old.items }
+    ensures rest { waiting.new.items ≡ drop (length samples.old) waiting.old.items }
 {
-    let mut frame: Frame = ArrayVec::new();
-    for _ in 0..count {
+    for place in 0..samples.len() {
         if let Some(sample) = waiting.pop_front() {
-            frame.push(sample);
+            samples[place] = sample;
         }
     }
-    frame
 }
 
-// The frame of a tone at a place.
-fn frame_of(tone: &Tone, place: u32, count: usize) -> Frame
-    requires { count ≤ 32 }
-    ensures samples { result.items ≡ spec.tone_frame count tone.now place }
-    ensures len { array_vec_len result ≡ count }
+// Writes the frame of a tone at a place over so many samples.
+fn sound(tone: Tone, place: u32, samples: &mut [i32])
+    requires { length samples.old ≤ 32 }
+    ensures { samples.new ≡ spec.tone_frame (length samples.old) tone place }
 {
-    let mut frame: Frame = ArrayVec::new();
-    for channel in 0..count {
-        frame.push(tone.sample(u64::from(place), channel as u32));
+    for channel in 0..samples.len() {
+        samples[channel] = tone.sample(u64::from(place), channel as u32);
     }
-    frame
 }

@@ -25,7 +25,7 @@ pub returns-in-None-clause-size : goal.returns-in-None-clause-size
 returns-in-None-clause-size c w kept = (unsent w c.args.self.now.interface (rests_in w c.args.self.now kept c.in-None.is)).0
 
 pub returns-in-None-clause-packet : goal.returns-in-None-clause-packet
-returns-in-None-clause-packet c w kept = c.requires ∙ (unsent w c.args.self.now.interface (rests_in w c.args.self.now kept c.in-None.is)).1
+returns-in-None-clause-packet c w kept = c.clear.ensures ∙ (unsent w c.args.self.now.interface (rests_in w c.args.self.now kept c.in-None.is)).1
 
 pub returns-in-None-clause-stands : goal.returns-in-None-clause-stands
 returns-in-None-clause-stands c w kept = kept.lane ∙ (unsent w c.args.self.now.interface (rests_in w c.args.self.now kept c.in-None.is)).2

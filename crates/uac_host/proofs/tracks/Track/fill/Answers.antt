@@ -1,39 +1,50 @@
--- One more frame of the track is packed in each turn, and there is room for all of them.
-use Rattle.std.proofs.Common.{◌≡◌, ℕ, ◌+◌, ◌*◌, ◌≤◌, ◌++◌, ◌∷◌, [], true, List, ℤ, length, ap, sym, ◌∙◌, arith, add-one}
-use Rattle.std.proofs.Math.Nat.{mul-le-mul_right, suc-mul, zero-mul}
-use Rattle.std.proofs.lemmas.Bool.{OnTrue_at}
+-- One more frame of the track is written in each turn, in place of what is there.
+use Rattle.std.proofs.Common.{◌≡◌, ℕ, ◌+◌, ◌*◌, ◌≤◌, ◌++◌, ◌∷◌, [], List, ℤ, length, take, ap, sym, subst, ◌∙◌, arith}
+use Rattle.std.proofs.Math.Nat.{mul-le-mul_right, zero-mul}
+use Rattle.std.specs.List.{All}
 use Rattle.uac_pcm.specs.Packets.{packed}
+use Rattle.uac_pcm.proofs.PacketsLemmas.{one_written}
 use Rattle.uac_host.specs.Calls.{after_frames, next_frames}
 use Rattle.uac_host.specs.Kept.{kept_track}
 use Rattle.uac_host.proofs.CallsLemmas.{after_frames_more, after_frames_none, next_frames_more, next_frames_none}
 use Rattle.uac_host.proofs.KeptLemmas.{even_after}
 use Rattle.uac_host.proofs.tracks.Track.fill.Goals as goal
 
-pub loop-init : goal.loop-init
-loop-init c =
+pub loop-number-init : goal.loop-number-init
+loop-number-init c =
     let format = c.args.format.now in
     record {
-      stands = λ t even kept. (c.requires.empty ∙ sym (ap (packed format.subslot format.bits) (next_frames_none format.channels t)), kept ∙ ap kept_track (sym (after_frames_none t)));
-      room = ap length c.requires.empty ∙ sym (zero-mul (format.channels * format.subslot));
+      stands = λ t even kept. (
+        ap (λ (n : ℕ). take n c.resize.new.packet.items) (zero-mul (format.channels * format.subslot))
+            ∙ sym (ap (packed format.subslot format.bits) (next_frames_none format.channels t)),
+        kept ∙ ap kept_track (sym (after_frames_none t)),
+      );
+      sized = c.resize.ensures ∙ ap (λ (n : ℕ). c.args.frames * n) c.frame_bytes-size.ensures;
+      channels = c.silence.ensures.len;
     }
 
-pub loop-preserved : goal.loop-preserved
-loop-preserved c =
+pub loop-number-preserved : goal.loop-number-preserved
+loop-number-preserved c =
     let format = c.args.format.now in
-    let i : ℕ = c.loop.counter in
-    let bytes : ℕ = format.channels * format.subslot in
-    let next : (i + 1) * bytes ≡ i * bytes + bytes = rw add-one (suc-mul i bytes) in
-    let rest : (i + 1) * bytes ≤ c.args.frames * bytes = mul-le-mul_right bytes (omega arith) in
-    let fits : c.pack.result ≡ true = c.pack.ensures.fits.1 (omega (arith, c.loop.invariant.room, c.requires.fits)) in
+    let width : ℕ = format.channels * format.subslot in
+    let n : ℕ = c.loop-number.number in
+    let start : n * c.frame_bytes-size.result ≡ n * width = ap (λ (m : ℕ). n * m) c.frame_bytes-size.ensures in
+    let before : n * width ≤ c.args.frames * width = mul-le-mul_right width (omega arith) in
+    let inside : n * c.frame_bytes-size.result ≤ length c.loop-number.packet.items = omega (arith, c.loop-number.invariant.sized) in
+    let as_many : length c.loop-number.frame.items ≡ format.channels = c.loop-number.invariant.channels in
+    let frame : List ℤ = c.next.new.frame.items in
     record {
       stands = λ t even kept.
-          (let before = c.loop.invariant.stands t even kept in
-          let frame = c.next-frame.result.items in
-          let one = c.next-frame.ensures.stands (after_frames i t) (even_after format.channels i t even) before.1 in
-          let frames : next_frames format.channels (i + 1) t ≡ next_frames format.channels i t ++ frame ∷ [] =
-          next_frames_more format.channels i t ∙ ap (λ (fs : List (List ℤ)). next_frames format.channels i t ++ fs) one.0 in (
-            OnTrue_at fits (c.pack.ensures.packed (next_frames format.channels i t) before.0) ∙ ap (packed format.subslot format.bits) (sym frames),
-            one.1 ∙ ap kept_track (sym (after_frames_more i t)),
+          (let so_far = c.loop-number.invariant.stands t even kept in
+          let one = subst (λ (m : ℕ). (next_frames m 1 (after_frames n t) ≡ frame ∷ []) × (c.next.new.self ≡ kept_track (after_frames 1 (after_frames n t)))) as_many
+          (c.next.ensures.stands (after_frames n t) (subst (λ (m : ℕ). All (λ f. length f ≡ m) (after_frames n t).waiting) (sym as_many) (even_after format.channels n t even)) so_far.1) in
+          let grown : next_frames format.channels (n + 1) t ≡ next_frames format.channels n t ++ frame ∷ [] =
+          next_frames_more format.channels n t ∙ ap (λ (fs : List (List ℤ)). next_frames format.channels n t ++ fs) one.0 in (
+            one_written format.channels format.subslot format.bits (n * c.frame_bytes-size.result) n (next_frames format.channels n t)
+                (next_frames format.channels (n + 1) t) frame c.loop-number.packet.items c.write_at.new.packet.items _ (c.next.ensures.channels ∙ as_many)
+                start inside grown (ap (λ (m : ℕ). take m c.loop-number.packet.items) start ∙ so_far.0) c.write_at.ensures.written,
+            one.1 ∙ ap kept_track (sym (after_frames_more n t)),
           ));
-      room = OnTrue_at fits c.pack.ensures.len ∙ omega (arith, c.loop.invariant.room);
+      sized = c.write_at.ensures.len ∙ c.loop-number.invariant.sized;
+      channels = c.next.ensures.channels ∙ as_many;
     }

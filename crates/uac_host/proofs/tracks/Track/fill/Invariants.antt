@@ -1,4 +1,4 @@
-use Rattle.std.proofs.Common.{◌≡◌, ◌*◌, length}
+use Rattle.std.proofs.Common.{◌≡◌, ◌*◌, length, take}
 use Rattle.std.specs.List.{All}
 use Rattle.uac_pcm.specs.Packets.{packed}
 use Rattle.uac_host.specs.HostWorld.{Track}
@@ -6,10 +6,12 @@ use Rattle.uac_host.specs.Calls.{after_frames, next_frames}
 use Rattle.uac_host.specs.Kept.{kept_track}
 use Rattle.uac_host.proofs.tracks.Track.fill.Given as goal
 
-abbrev pub invariant-loop : goal.invariant-loop
-invariant-loop l = record {
+abbrev pub invariant-loop-number : goal.invariant-loop-number
+invariant-loop-number l = record {
   stands : (t : Track) → All (λ frame. length frame ≡ l.format.channels) t.waiting → l.initial.self ≡ kept_track t
-      → (l.packet.items ≡ packed l.format.subslot l.format.bits (next_frames l.format.channels l.counter t))
-      × (l.self ≡ kept_track (after_frames l.counter t));
-  room : length l.packet.items ≡ l.counter * (l.format.channels * l.format.subslot);
+      → (take (l.number * (l.format.channels * l.format.subslot)) l.packet.items
+      ≡ packed l.format.subslot l.format.bits (next_frames l.format.channels l.number t))
+      × (l.self ≡ kept_track (after_frames l.number t));
+  sized : length l.packet.items ≡ l.frames * (l.format.channels * l.format.subslot);
+  channels : length l.frame.items ≡ l.format.channels;
 }

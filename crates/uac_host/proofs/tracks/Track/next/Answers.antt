@@ -1,15 +1,36 @@
--- Frames that wait come first, and then the tone's.
-use Rattle.std.proofs.Common.{◌∙◌, arith}
+-- Frames that wait come first, and then the tone's. As many samples are written as there are.
+use Rattle.std.proofs.Common.{◌≡◌, ◌∙◌, ◌≤◌, ℕ, ℤ, List, length, drop, take, ap, arith, refl}
+use Rattle.std.proofs.lemmas.List.{length-take-le}
+use Rattle.std.proofs.lemmas.List.FromFn.{length-map-range_with_len}
+use Rattle.uac_pcm.specs.Tones.{tone_sample}
+use Rattle.uac_pcm.proofs.PacketsLemmas.{take_front}
+use Rattle.uac_host.specs.Calls.{tone_frame}
 use Rattle.uac_host.specs.contracts.tracks.Track.{the_view}
 use Rattle.uac_host.proofs.KeptLemmas.{next_sounds, next_waits}
 use Rattle.uac_host.proofs.tracks.Track.next.Goals as goal
 
-pub returns-then-len-count-clause-stands : goal.returns-then-len-count-clause-stands
-returns-then-len-count-clause-stands c t even kept =
-    next_sounds c.args.channels c.from-count.result t (the_view c.self.inside) c.frame_of-frame.result.items even (c.self.view_is ∙ kept) c.from-count.ensures
-    (omega (arith, c.if-len-count.true, c.len.ensures, c.self.inside.samples.ok)) c.frame_of-frame.ensures.samples
+pub returns-then-len-clause-stands : goal.returns-then-len-clause-stands
+returns-then-len-clause-stands c t even kept =
+    let old : List ℤ = c.args.frame.now.items in
+    let n : ℕ = length old in
+    let tone = c.self.inside.tone in
+    let place : ℕ = c.self.inside.place in
+    let as_many : length c.as_mut_slice.result.now ≡ n = ap length c.as_mut_slice.ensures.value in
+    let sounds : c.sound.new.samples ≡ tone_frame n tone place = c.sound.ensures ∙ ap (λ (m : ℕ). tone_frame m tone place) as_many in
+    let whole : length c.sound.new.samples ≡ n = ap length sounds ∙ length-map-range_with_len (tone_sample tone place) 0 n in
+    next_sounds n n t (the_view c.self.inside) _ even (c.self.view_is ∙ kept) refl
+    (omega (arith, c.if-len.true, c.len.ensures, c.len-2.ensures.value, c.self.inside.samples.ok))
+    (take_front n c.sound.new.samples (drop (length c.sound.new.samples) old) whole ∙ sounds)
 
 pub returns-clause-stands : goal.returns-clause-stands
 returns-clause-stands c t even kept =
-    next_waits c.args.channels c.from-count.result t (the_view c.self.inside) c.taken.result.items c.taken.new.waiting.items c.requires.some even (c.self.view_is ∙ kept) c.from-count.ensures
-    (omega (arith, c.if-len-count.false, c.len.ensures, c.self.inside.samples.ok)) c.taken.ensures.front c.taken.ensures.rest
+    let old : List ℤ = c.args.frame.now.items in
+    let n : ℕ = length old in
+    let waiting : List ℤ = c.self.inside.samples.items in
+    let as_many : length c.as_mut_slice-2.result.now ≡ n = ap length c.as_mut_slice-2.ensures.value in
+    let there : n ≤ length waiting = omega (arith, c.if-len.false, c.len.ensures, c.len-2.ensures.value, c.self.inside.samples.ok) in
+    let front : c.take_first.new.samples ≡ take n waiting = c.take_first.ensures.front ∙ ap (λ (m : ℕ). take m waiting) as_many in
+    let whole : length c.take_first.new.samples ≡ n = ap length front ∙ length-take-le n waiting there in
+    next_waits n n t (the_view c.self.inside) _ c.take_first.new.waiting.items c.requires even (c.self.view_is ∙ kept) refl there
+    (take_front n c.take_first.new.samples (drop (length c.take_first.new.samples) old) whole ∙ front)
+    (c.take_first.ensures.rest ∙ ap (λ (m : ℕ). drop m waiting) as_many)
