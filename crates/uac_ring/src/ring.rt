@@ -1,6 +1,6 @@
 // A bounded queue of frames over a circular buffer.
-ghost use Rattle.std.specs.Prelude.{◌≡◌, ◌↔◌, ◌≤◌, ◌<◌, ◌+◌, ℕ, ℤ, List, [], ◌∷◌, ◌++◌, length, drop, map, slice_get, IsNone, IsErr, IfOk};
-ghost use Rattle.std.specs.Prelude.{OnSome, OnOk, OnErr};
+ghost use Rattle.std.specs.Prelude.{◌≡◌, ◌↔◌, ◌≤◌, ◌<◌, ◌+◌, ℕ, ℤ, List, [], ◌∷◌, ◌++◌, length, drop, map, slice_get};
+ghost use Rattle.std.specs.Prelude.{IsNone, IsErr, IfOk, OnSome, OnOk, OnErr};
 ghost use Rattle.std.specs.Option.{option_map};
 ghost use Rattle.uac_ring.specs.Rings.{Holds, ring_frames};
 
@@ -42,10 +42,8 @@ impl Ring {
     pub fn new(alloc: Global) -> Result<Ring, NoMemory>
         ensures { IfOk result (λ ring. ring ≡ []) }
     {
-        match HeapCircularBuffer::with_capacity(alloc, RING_FRAMES as usize) {
-            Ok(frames) => Ok(Ring { frames }),
-            Err(_) => Err(NoMemory),
-        }
+        let frames = HeapCircularBuffer::with_capacity(alloc, RING_FRAMES as usize)?;
+        Ok(Ring { frames })
     }
 
     /// Appends a copy of a frame; `Full` exactly where the ring holds all that it can, and then it stays as it was.
@@ -55,6 +53,37 @@ impl Ring {
         ensures unchanged { OnErr result (self.new ≡ self.old) }
         ensures holds { (came : List (List ℤ)) (gone : ℕ) → Holds came gone self.old
             → OnOk result (Holds (came ++ frame.now.items ∷ []) gone self.new) }
+    {
+        let samples = frame.as_slice();
+        // Most frames have one channel or two. These are made where they are to lie.
+        if samples.len() == 1 {
+            return self.push(mono(samples[0]));
+        }
+        if samples.len() == 2 {
+            return self.push(stereo(samples[0], samples[1]));
+        }
+        self.put_wide(frame)
+    }
+
+    // Appends a frame; `Full` exactly where the ring holds all that it can, and then it stays as it was.
+    #[inline]
+    fn push(&mut self, frame: Frame) -> Result<(), Full>
+        ensures full { IsErr result ↔ (length self.old ≡ ring_frames) }
+        ensures appended { OnOk result (self.new ≡ self.old ++ frame.items ∷ []) }
+        ensures unchanged { OnErr result (self.new ≡ self.old) }
+    {
+        match self.frames.try_push_back(frame) {
+            Ok(()) => Ok(()),
+            Err(_) => Err(Full),
+        }
+    }
+
+    // Appends a copy of a frame, whose samples are written where an empty frame was put; `Full` exactly where the ring holds all that it
+    // can, and then it stays as it was.
+    fn put_wide(&mut self, frame: &Frame) -> Result<(), Full>
+        ensures full { IsErr result ↔ (length self.old ≡ ring_frames) }
+        ensures appended { OnOk result (self.new ≡ self.old ++ frame.now.items ∷ []) }
+        ensures unchanged { OnErr result (self.new ≡ self.old) }
     {
         let level = self.frames.len();
         match self.frames.try_push_back(ArrayVec::new()) {
@@ -110,6 +139,27 @@ impl Ring {
     {
         self.frames.clear();
     }
+}
+
+// A frame of one channel.
+#[inline]
+fn mono(only: i32) -> Frame
+    ensures { result.items ≡ only ∷ [] }
+{
+    let mut frame: Frame = ArrayVec::new();
+    frame.push(only);
+    frame
+}
+
+// A frame of two channels.
+#[inline]
+fn stereo(left: i32, right: i32) -> Frame
+    ensures { result.items ≡ left ∷ right ∷ [] }
+{
+    let mut frame: Frame = ArrayVec::new();
+    frame.push(left);
+    frame.push(right);
+    frame
 }
 
 // Gives the frame at a place, which is the newest and empty, these samples.
