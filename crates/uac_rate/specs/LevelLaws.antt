@@ -5,7 +5,8 @@ use Rattle.uac_clock.specs.declared.values.Nominal.{Nominal}
 use Rattle.uac_clock.specs.Nominal.{IsNominal, HasRoom, step_of}
 use Rattle.uac_rate.specs.Packets.{frames_in_packet}
 use Rattle.uac_rate.specs.Steadiness.{is_slight}
-use Rattle.uac_rate.specs.Levels.{HasBand, AreIntervals, Point, Within, stored, owed, Interval, Reported, IsTarget, IsRobust, Anchor, anchor_of}
+use Rattle.uac_rate.specs.Levels.{HasBand, AreIntervals, Point, Within, stored, owed, Interval, Reported}
+use Rattle.uac_rate.specs.Levels.{IsTarget, IsRobust, Anchor, anchor_of}
 use Rattle.uac_rate.specs.Levels.{aged, anchor_after, HasDrifted, IsTight, IsJustPrimed, IsPriming, Fills, Moment, IsHeld, FallsDue}
 
 -- each of the twelve rates has room, and a band of 65 frames
@@ -64,8 +65,8 @@ ReportsKeepRobust =
     (values : Nominal) (band service period : ℕ) (report_lost : Bool) (p q : Point) → HasBand values band → AreIntervals service period
     → Reported values period report_lost p q → IsRobust values band service period p → IsRobust values band service period q
 
--- where the report of the anchor isn't held at either end: in 64ths, each microframe since the anchor takes one of its error, and leaves the
--- remainders of the anchor and at most what the clock deviated
+-- where the report of the anchor isn't held at either end: in 64ths, each microframe since the anchor takes one of its error, and leaves
+-- the remainders of the anchor and at most what the clock deviated
 abbrev pub FreeFormula : Type 0
 FreeFormula =
     (values : Nominal) (anchor : Anchor) (p : Point) → anchor.age ≤ 64 → p.value + 1024 * anchor.level ≡ values.f + 1024 * p.target

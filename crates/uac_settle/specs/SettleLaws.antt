@@ -33,13 +33,14 @@ GapsBegin =
 -- an interval whose packet came goes on with it, up to 32 microframes
 abbrev pub IntervalsGoOn : Type 0
 IntervalsGoOn =
-    (values : Nominal) (service period : ℕ) (anchor : Anchor) (p q : Point) → Interval values service period false p q → anchor.age + service ≤ 32
-    → Gap values anchor p → Gap values (aged service anchor) q
+    (values : Nominal) (service period : ℕ) (anchor : Anchor) (p q : Point) → Interval values service period false p q
+    → anchor.age + service ≤ 32 → Gap values anchor p → Gap values (aged service anchor) q
 
 -- so does a report that was lost
 abbrev pub LostReportsGoOn : Type 0
 LostReportsGoOn =
-    (values : Nominal) (period : ℕ) (anchor : Anchor) (p q : Point) → Reported values period true p q → Gap values anchor p → Gap values anchor q
+    (values : Nominal) (period : ℕ) (anchor : Anchor) (p q : Point) → Reported values period true p q → Gap values anchor p
+    → Gap values anchor q
 
 -- gaps one after the other take every stretch home
 abbrev pub StretchesSettle : Type 0
