@@ -26,6 +26,9 @@ pub fn resize(packet: &mut Packet, len: usize)
     requires { len ≤ 3072 }
     ensures { array_vec_len packet.new ≡ len }
 {
+    if packet.len() == len {
+        return;
+    }
     packet.truncate(len);
     let missing = len - packet.len();
     for _each in 0..missing / 128 {
