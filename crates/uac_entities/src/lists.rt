@@ -16,10 +16,7 @@ pub(crate) fn no_bytes(alloc: Global) -> ByteList
 pub(crate) fn words_of(alloc: Global, words: &[u32]) -> Result<WordList, NoMemory>
     ensures { IfOk result (λ list. list ≡ words.now) }
 {
-    match Vec::from_slice(alloc, words) {
-        Ok(items) => Ok(WordList::from_vec(items)),
-        Err(_) => Err(NoMemory),
-    }
+    Ok(WordList::from_vec(Vec::from_slice(alloc, words)?))
 }
 
 /// Puts the item after the others, if there is one.
@@ -29,8 +26,6 @@ pub(crate) fn keep<T: Drop>(items: &mut Vec<T>, item: Option<T>) -> Result<(), N
     let Some(item) = item else {
         return Ok(());
     };
-    match items.push(item) {
-        Ok(()) => Ok(()),
-        Err(_) => Err(NoMemory),
-    }
+    items.push(item)?;
+    Ok(())
 }
