@@ -78,7 +78,6 @@ no_get control x y = refl
 
 -- where none of the rules is broken
 unbroken : (a b c d : Bool) → a ≡ false → b ≡ false → c ≡ false → d ≡ false → least ((4, a) ∷ (5, b) ∷ (6, c) ∷ (8, d) ∷ []) ≡ None
-unfolding least
 unbroken a b c d i j k l = rw (i, j, k, l) refl
 
 or_false : (b : Bool) → b ≡ true → (not b || false) ≡ false

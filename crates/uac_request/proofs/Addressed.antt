@@ -17,7 +17,7 @@ use Rattle.uac_store.specs.Keyed.{value_of, with_value}
 use Rattle.uac_store.proofs.Tabled.{at_each}
 use Rattle.uac_request.specs.declared.setup.Setup.{Setup}
 use Rattle.uac_request.specs.Elements.{get_of, is_present, set_of, signed_at, width_at}
-use Rattle.uac_request.specs.Requests.{after_request, answered, by_entity, controls_set, cur_bytes, cur_named, entity_bytes, entity_width, first_broken, has_interface, Held, held_by, high, is_declared_on, is_done, is_signed, is_stalled, kept_bytes, key_named, least, left_by, low, Owner, owner_of, reply_of, sent_value, value_bytes, value_from, with_bytes}
+use Rattle.uac_request.specs.Requests.{after_request, answered, by_entity, controls_set, cur_bytes, cur_named, entity_bytes, entity_width, first_broken, has_interface, Held, held_by, high, is_declared_on, is_done, is_signed, is_stalled, kept_bytes, key_named, left_by, low, Owner, owner_of, reply_of, sent_value, value_bytes, value_from, with_bytes}
 use Rattle.uac_request.proofs.Asked.{answered_cur, answered_set, first_cur, left_cur, left_set}
 use Rattle.uac_request.proofs.Answering.{few_channels, IsKept, kept_in}
 use Rattle.uac_request.proofs.Coming.{length_value}
@@ -98,7 +98,6 @@ module _ (function : FunctionFields) (own : function.control_interface < 256) (k
     has_is = (let own_number : (low p.index == function.control_interface) ≡ true = eq-eqb (low p.index) function.control_interface index_low in rw own_number refl)
 
     get_none : (held : Held) → p.request_type ≡ 161 → p.request ≡ 1 → is_declared_on e.kind e k.selector k.channel ≡ true → first_broken function held p [] ≡ None
-    unfolding least
     get_none held type number declared =
         first_cur function held p [] (by_entity e) has_is owner_is type number
         ∙ rw (value_high, value_low, has_width e.kind k.selector kept.some kept.low, kept.within, declared) refl

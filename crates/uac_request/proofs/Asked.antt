@@ -58,20 +58,20 @@ module _ (function : FunctionFields) (held : Held) (p : Setup) (sent : List ℕ)
   -- ---- rules
 
   pub first_unknown : breaks_q1 p ≡ true → first_broken function held p sent ≡ Some 1
-  unfolding first_broken least
+  unfolding first_broken
   first_unknown unknown = rw unknown refl
 
   pub first_descriptor : p.request_type ≡ 128 → p.request ≡ 6 → first_broken function held p sent ≡ least ((4, not (p.value == 512)) ∷ (8, not (is_empty sent)) ∷ [])
-  unfolding first_broken least breaks_q1 breaks_q2 breaks_q3 breaks_q4 breaks_q5 breaks_q6 breaks_q7 breaks_q8 breaks_q9 breaks_q10 breaks_q11 breaks_q12
+  unfolding first_broken breaks_q1 breaks_q2 breaks_q3 breaks_q4 breaks_q5 breaks_q6 breaks_q7 breaks_q8 breaks_q9 breaks_q10 breaks_q11 breaks_q12
   first_descriptor type number = rw (type, number) (simp or-false)
 
   pub first_interface : p.request_type ≡ 129 → p.request ≡ 10 → first_broken function held p sent ≡ least ((2, not (has_interface function p.index)) ∷ (8, not (is_empty sent)) ∷ [])
-  unfolding first_broken least breaks_q1 breaks_q2 breaks_q3 breaks_q4 breaks_q5 breaks_q6 breaks_q7 breaks_q8 breaks_q9 breaks_q10 breaks_q11 breaks_q12
+  unfolding first_broken breaks_q1 breaks_q2 breaks_q3 breaks_q4 breaks_q5 breaks_q6 breaks_q7 breaks_q8 breaks_q9 breaks_q10 breaks_q11 breaks_q12
   first_interface type number = rw (type, number) (simp or-false)
 
   pub first_set_interface : p.request_type ≡ 1 → p.request ≡ 11 → first_broken function held p sent
       ≡ least ((2, not (has_interface function p.index)) ∷ (8, not (p.length == 0 && is_empty sent)) ∷ (11, not (has_setting function p.index p.value)) ∷ (12, not (can_hold function held.controls p.index p.value)) ∷ [])
-  unfolding first_broken least breaks_q1 breaks_q2 breaks_q3 breaks_q4 breaks_q5 breaks_q6 breaks_q7 breaks_q8 breaks_q9 breaks_q10 breaks_q11 breaks_q12
+  unfolding first_broken breaks_q1 breaks_q2 breaks_q3 breaks_q4 breaks_q5 breaks_q6 breaks_q7 breaks_q8 breaks_q9 breaks_q10 breaks_q11 breaks_q12
   first_set_interface type number = rw (type, number) refl
 
   -- a request to a control, on no interface of the function, and of what isn't there
@@ -79,21 +79,21 @@ module _ (function : FunctionFields) (held : Held) (p : Setup) (sent : List ℕ)
   not_both control = grind arith
 
   pub no_interface : is_to_control p ≡ true → has_interface function (low p.index) ≡ false → first_broken function held p sent ≡ Some 2
-  unfolding first_broken least breaks_q1 breaks_q2
+  unfolding first_broken breaks_q1 breaks_q2
   no_interface control none = rw (control, none) refl
 
   pub no_owner : is_to_control p ≡ true → has_interface function (low p.index) ≡ true → owner_of function p.index ≡ None → first_broken function held p sent ≡ Some 3
-  unfolding first_broken least breaks_q1 breaks_q2 breaks_q3
+  unfolding first_broken breaks_q1 breaks_q2 breaks_q3
   no_owner control has none = rw (control, not_both control, has, none) refl
 
   -- of what is there
   module _ (o : Owner) (has : has_interface function (low p.index) ≡ true) (of : owner_of function p.index ≡ Some o) where
     pub first_cur : p.request_type ≡ 161 → p.request ≡ 1 → first_broken function held p sent ≡ least (get_rules function p sent o false)
-    unfolding first_broken least breaks_q1 breaks_q2 breaks_q3 breaks_q4 breaks_q5 breaks_q6 breaks_q7 breaks_q8 breaks_q9 breaks_q10 breaks_q11 breaks_q12
+    unfolding first_broken breaks_q1 breaks_q2 breaks_q3 breaks_q4 breaks_q5 breaks_q6 breaks_q7 breaks_q8 breaks_q9 breaks_q10 breaks_q11 breaks_q12
     first_cur type number = rw (type, number, has, of) (simp or-false)
 
     pub first_range : p.request_type ≡ 161 → p.request ≡ 2 → first_broken function held p sent ≡ least (get_rules function p sent o true)
-    unfolding first_broken least breaks_q1 breaks_q2 breaks_q3 breaks_q4 breaks_q5 breaks_q6 breaks_q7 breaks_q8 breaks_q9 breaks_q10 breaks_q11 breaks_q12
+    unfolding first_broken breaks_q1 breaks_q2 breaks_q3 breaks_q4 breaks_q5 breaks_q6 breaks_q7 breaks_q8 breaks_q9 breaks_q10 breaks_q11 breaks_q12
     first_range type number = rw (type, number, has, of) (simp or-false)
 
     pub first_get : (range : Bool) → p.request_type ≡ 161 → p.request ≡ (if range then 2 else 1) → first_broken function held p sent ≡ least (get_rules function p sent o range)
@@ -101,5 +101,5 @@ module _ (function : FunctionFields) (held : Held) (p : Setup) (sent : List ℕ)
     first_get false type number = first_cur type number
 
     pub first_set : p.request_type ≡ 33 → p.request ≡ 1 → first_broken function held p sent ≡ least (set_rules function held p sent o)
-    unfolding first_broken least breaks_q1 breaks_q2 breaks_q3 breaks_q4 breaks_q5 breaks_q6 breaks_q7 breaks_q8 breaks_q9 breaks_q10 breaks_q11 breaks_q12
+    unfolding first_broken breaks_q1 breaks_q2 breaks_q3 breaks_q4 breaks_q5 breaks_q6 breaks_q7 breaks_q8 breaks_q9 breaks_q10 breaks_q11 breaks_q12
     first_set type number = rw (type, number, has, of) (simp or-false)

@@ -1,5 +1,5 @@
 -- What every request leaves: the store and the settings of the function, settings that are valid, and rates while a stream runs.
-use Rattle.std.proofs.Common.{◌≡◌, ◌∙◌, sym, ap, subst, refl, ℕ, ◌≤◌, ◌==◌, ◌||◌, ◌⊎◌, not, nat_le, Bool, true, false, List, [], ◌∷◌, map, take, unwrap_or, Option, Some, None, IsSome, is_some, ℤ, inl, inr, if◌then◌else◌, eqb-true, eq-eqb, arith}
+use Rattle.std.proofs.Common.{◌≡◌, ◌∙◌, sym, ap, subst, refl, ℕ, ◌≤◌, ◌==◌, ◌&&◌, ◌||◌, ◌⊎◌, not, nat_le, Bool, true, false, List, [], ◌∷◌, map, take, unwrap_or, Option, Some, None, IsSome, is_some, ℤ, inl, inr, if◌then◌else◌, eqb-true, eq-eqb, arith}
 use Rattle.std.specs.List.{list_any}
 use Rattle.std.specs.Option.{option_map, option_map_or}
 use Rattle.std.proofs.lemmas.Bool.{and_parts, cases_Bool, cases_eq}
@@ -24,12 +24,12 @@ use Rattle.uac_store.specs.declared.controls.Facts.{Facts}
 use Rattle.uac_store.specs.ControlTable.{control_of, facts_of}
 use Rattle.uac_store.proofs.Tabled.{one_or_two}
 use Rattle.uac_request.specs.declared.setup.Setup.{Setup}
-use Rattle.uac_request.specs.Requests.{after_request, answered, AreSettingsOf, AreValidSettings, by_entity, by_stream, can_hold, controls_set, cur_named, entity_width, first_broken, gets_cur, gets_descriptor, gets_interface, gets_range, has_interface, has_setting, has_value, Held, held_by, high, is_done, is_request, is_stalled, is_to_control, is_valid, key_named, left_by, low, Owner, owner_of, ranges_named, reply_of, sent_value, sets_cur, sets_interface, stream_in, AnswerFields, with_bytes, with_descriptor}
+use Rattle.uac_request.specs.Requests.{after_request, answered, AreSettingsOf, AreValidSettings, by_entity, by_stream, can_hold, controls_set, cur_named, entity_width, first_broken, gets_cur, gets_descriptor, gets_interface, gets_range, has_interface, has_setting, has_value, Held, held_by, high, is_done, is_empty, is_request, is_stalled, is_to_control, is_valid, key_named, left_by, low, Owner, owner_of, ranges_named, reply_of, sent_value, sets_cur, sets_interface, stream_in, AnswerFields, with_bytes, with_descriptor}
 use Rattle.uac_request.proofs.Asked.{first_set_interface, no_interface, no_owner}
 use Rattle.uac_request.proofs.Owned.{entity_named}
 use Rattle.uac_request.proofs.Sent.{is_held}
 use Rattle.uac_request.proofs.Staying.{held_alike, same_by_kind, same_by_value, SameClocks, same_rate, valid_alike}
-use Rattle.uac_request.proofs.Taken.{IsTaken, is_taken, least_none, not_false}
+use Rattle.uac_request.proofs.Taken.{are_met, IsTaken, is_taken, not_false}
 
 -- ---- which requests change anything
 
@@ -167,11 +167,10 @@ pub record IsHeld (function : FunctionFields) (held : Held) (p : Setup) : Type 0
 
 is_taken_up : (function : FunctionFields) (held : Held) (p : Setup) (sent : List ℕ) → p.request_type ≡ 1 → p.request ≡ 11 → first_broken function held p sent ≡ None → IsHeld function held p
 is_taken_up function held p sent type number none =
-    let second = least_none 2 _ _ (sym (first_set_interface function held p sent type number) ∙ none) in
-    let eighth = least_none 8 _ _ second.1 in
-    let eleventh = least_none 11 _ _ eighth.1 in
-    let twelfth = least_none 12 _ _ eleventh.1 in
-    record { interface = not_false _ second.0; has = not_false _ eleventh.0; can = not_false _ twelfth.0 }
+    let met = are_met
+    ((2, not (has_interface function p.index)) ∷ (8, not (p.length == 0 && is_empty sent)) ∷ (11, not (has_setting function p.index p.value)) ∷ (12, not (can_hold function held.controls p.index p.value)) ∷ [])
+    (sym (first_set_interface function held p sent type number) ∙ none) in
+    record { interface = not_false _ met.0; has = not_false _ met.1.1.0; can = not_false _ met.1.1.1.0 }
 
 -- the setting of each interface then
 new_setting : (function : FunctionFields) (settings : List InterfaceSetting) (interface setting : ℕ) → AreSettingsOf function settings → has_interface function interface ≡ true → (n : ℕ) → setting_of (with_setting settings interface setting) n ≡ (if n == interface then Some setting else setting_of settings n)

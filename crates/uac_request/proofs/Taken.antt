@@ -1,17 +1,23 @@
 -- What is so of a request to set a control that breaks no rule.
-use Rattle.std.proofs.Common.{◌≡◌, ◌∙◌, sym, refl, ℕ, ◌&&◌, not, Bool, true, false, List, ◌∷◌, length, Some, None, is_some, unwrap_or, eqb-true}
+use Rattle.std.proofs.Common.{◌≡◌, ◌∙◌, sym, refl, ℕ, ◌&&◌, not, Bool, true, false, List, [], ◌∷◌, length, Some, None, is_some, unwrap_or, eqb-true}
 use Rattle.std.proofs.lemmas.Bool.{and_parts}
 use Rattle.uac_topology.specs.Function.{FunctionFields}
 use Rattle.uac_store.specs.Values.{is_legal}
 use Rattle.uac_alt.specs.Settings.{is_running}
 use Rattle.uac_request.specs.declared.setup.Setup.{Setup}
 use Rattle.uac_request.specs.Requests.{first_broken, has_interface, has_value, Held, high, is_clock_control, is_in_range, is_writable, key_named, least, low, Owner, owner_of, sent_value, width_of}
+use Rattle.uac_request.specs.Owners.{set_rules}
 use Rattle.uac_request.proofs.Asked.{first_set}
 
-pub least_none : (rule : ℕ) (broken : Bool) (more : List (ℕ × Bool)) → least ((rule, broken) ∷ more) ≡ None → (broken ≡ false) × (least more ≡ None)
-unfolding least
-least_none rule true more none = cc
-least_none rule false more none = (refl, none)
+-- where a table's least broken rule is none, no rule of it is broken
+abbrev pub AreMet : List (ℕ × Bool) → Type 0
+AreMet [] = Unit {0}
+AreMet ((rule, broken) ∷ rules) = (broken ≡ false) × AreMet rules
+
+pub are_met : (rules : List (ℕ × Bool)) → least rules ≡ None → AreMet rules
+are_met [] none = tt
+are_met ((rule, true) ∷ rules) none = cc
+are_met ((rule, false) ∷ rules) none = (refl, are_met rules none)
 
 pub not_false : (b : Bool) → not b ≡ false → b ≡ true
 not_false true is = refl
@@ -27,18 +33,12 @@ pub record IsTaken (function : FunctionFields) (held : Held) (p : Setup) (sent :
 
 pub is_taken : (function : FunctionFields) (held : Held) (p : Setup) (sent : List ℕ) (owner : Owner) → has_interface function (low p.index) ≡ true → owner_of function p.index ≡ Some owner → p.request_type ≡ 33 → p.request ≡ 1 → first_broken function held p sent ≡ None → IsTaken function held p sent owner
 is_taken function held p sent owner has of type number none =
-    let fourth = least_none 4 _ _ (sym (first_set function held p sent owner has of type number) ∙ none) in
-    let fifth = least_none 5 _ _ fourth.1 in
-    let sixth = least_none 6 _ _ fifth.1 in
-    let seventh = least_none 7 _ _ sixth.1 in
-    let eighth = least_none 8 _ _ seventh.1 in
-    let ninth = least_none 9 _ _ eighth.1 in
-    let tenth = least_none 10 _ _ ninth.1 in
+    let met = are_met (set_rules function held p sent owner) (sym (first_set function held p sent owner has of type number) ∙ none) in
     record {
-      wide = not_false _ fourth.0;
-      within = not_false _ sixth.0;
-      writable = not_false _ seventh.0;
-      whole = eqb-true _ _ (and_parts _ _ (not_false _ eighth.0)).1;
-      legal = not_false _ ninth.0;
-      still = tenth.0;
+      wide = not_false _ met.0;
+      within = not_false _ met.1.1.0;
+      writable = not_false _ met.1.1.1.0;
+      whole = eqb-true _ _ (and_parts _ _ (not_false _ met.1.1.1.1.0)).1;
+      legal = not_false _ met.1.1.1.1.1.0;
+      still = met.1.1.1.1.1.1.0;
     }

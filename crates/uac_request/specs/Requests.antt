@@ -6,6 +6,7 @@ use Rattle.std.specs.Prelude.{None, is_some, unwrap_or}
 use Rattle.std.specs.List.{find, filter_map, list_any, range_with_len}
 use Rattle.std.specs.Option.{option_and_then, option_map, option_map_or}
 use Rattle.std.specs.Ordering.{int_eq}
+pub use Rattle.uac_sentence.specs.Grammar.{least}
 use Rattle.uac_entities.specs.Streams.{named}
 use Rattle.uac_entities.specs.declared.entity.Entity.{Entity}
 use Rattle.uac_entities.specs.declared.entity.EntityKind.{EntityKind}
@@ -339,11 +340,6 @@ breaks_q11 function p = sets_interface p && not (has_setting function p.index p.
 -- Q12 (profile): a request to set an interface names a setting that is valid at the rate that its clock has
 unfoldable pub breaks_q12 : FunctionFields → Held → Setup → Bool
 breaks_q12 function held p = sets_interface p && not (can_hold function held.controls p.index p.value)
-
--- the first of these rules that is broken
-unfoldable pub least : List (ℕ × Bool) → Option ℕ
-least [] = None
-least ((rule, broken) ∷ rules) = if broken then Some rule else least rules
 
 -- the first rule that a request breaks
 unfoldable pub first_broken : FunctionFields → Held → Setup → List ℕ → Option ℕ

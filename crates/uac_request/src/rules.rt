@@ -46,7 +46,6 @@ pub(crate) fn get_broken(
 }
 
 // The first rule that it breaks, of those that are left where its control is kept by something.
-#[tactic(auto, unfolding(crate::specs::Requests::least))]
 fn broken_at(
     function: &Function,
     store: &Store,
@@ -127,7 +126,7 @@ pub(crate) fn value_to_set(
 }
 
 // The same, where its control is kept by something.
-#[tactic(auto, unfolding(crate::specs::Requests::least), using(crate::proofs::Owned::entity_named))]
+#[tactic(auto, using(crate::proofs::Owned::entity_named))]
 fn value_sent(
     function: &Function,
     store: &Store,

@@ -97,7 +97,7 @@ pub(crate) fn set_cur(
 }
 
 /// What a request for the configuration is told (USB 2.0, 9.4.3).
-#[tactic(auto, unfolding(crate::specs::Requests::reply_of, crate::specs::Requests::after_request, crate::specs::Requests::least), using(crate::proofs::Asked::first_descriptor, crate::proofs::Asked::answered_descriptor, crate::proofs::Asked::left_descriptor))]
+#[tactic(auto, unfolding(crate::specs::Requests::reply_of, crate::specs::Requests::after_request), using(crate::proofs::Asked::first_descriptor, crate::proofs::Asked::answered_descriptor, crate::proofs::Asked::left_descriptor))]
 pub(crate) fn get_descriptor(function: &Function, setup: &Setup, sent: &[u8]) -> Answer
     requires asked { setup.now.request_type ≡ 128 }
     requires number { setup.now.request ≡ 6 }
@@ -122,7 +122,7 @@ pub(crate) fn get_descriptor(function: &Function, setup: &Setup, sent: &[u8]) ->
 }
 
 /// What a request for an interface's setting is told (USB 2.0, 9.4.4).
-#[tactic(auto, unfolding(crate::specs::Requests::reply_of, crate::specs::Requests::after_request, crate::specs::Requests::least), using(crate::proofs::Asked::first_interface, crate::proofs::Asked::answered_interface, crate::proofs::Asked::left_interface))]
+#[tactic(auto, unfolding(crate::specs::Requests::reply_of, crate::specs::Requests::after_request), using(crate::proofs::Asked::first_interface, crate::proofs::Asked::answered_interface, crate::proofs::Asked::left_interface))]
 pub(crate) fn get_interface(
     function: &Function,
     settings: &Settings,
@@ -146,7 +146,7 @@ pub(crate) fn get_interface(
 }
 
 /// What a request to set an interface's setting is told, and the settings after it (USB 2.0, 9.4.10).
-#[tactic(auto, unfolding(crate::specs::Requests::reply_of, crate::specs::Requests::after_request, crate::specs::Requests::least), using(crate::proofs::Asked::first_set_interface, crate::proofs::Asked::answered_set_interface, crate::proofs::Asked::left_set_interface))]
+#[tactic(auto, unfolding(crate::specs::Requests::reply_of, crate::specs::Requests::after_request), using(crate::proofs::Asked::first_set_interface, crate::proofs::Asked::answered_set_interface, crate::proofs::Asked::left_set_interface))]
 pub(crate) fn set_interface(
     function: &Function,
     store: &Store,
