@@ -12,7 +12,7 @@ use Rattle.uac_topology.specs.Topology.{IsSoundFunction}
 use Rattle.uac_store.specs.declared.keys.Key.{Key}
 use Rattle.uac_store.specs.Controls.{IsKeyed, IsStoreOf, has_control, has_on, takes, takes_on}
 use Rattle.uac_store.specs.Keyed.{same_key, value_of}
-use Rattle.uac_store.proofs.Setting.{changed_alone}
+use Rattle.uac_store.proofs.Setting.{changed_alone, key_itself, one_key}
 use Rattle.uac_request.specs.Requests.{Held, Owner, AnswerFields, after_request, by_entity, cur_bytes, cur_named, entity_width, first_broken, high, is_done, is_signed, is_stalled, key_named, low, owner_of, reply_of, sent_value, value_bytes, value_from, with_bytes, with_descriptor}
 use Rattle.uac_request.specs.declared.setup.Setup.{Setup}
 use Rattle.uac_mixer.specs.declared.element.Element.{Element}
@@ -28,19 +28,6 @@ use Rattle.uac_mixer.proofs.Stored.{stays}
 use Rattle.uac_mixer.proofs.Setting.{WasSet, changes, get_after, get_reply, on_control, owner_is}
 
 -- ---- keys
-
-one_key : (k l : Key) → same_key k l ≡ true → k ≡ l
-one_key k l h =
-    let a = and_parts (k.entity == l.entity) _ h in
-    let b = and_parts (k.selector == l.selector) _ a.1 in
-    let i = eqb-true k.entity l.entity a.0 in
-    let j = eqb-true k.selector l.selector b.0 in
-    let m = eqb-true k.channel l.channel b.1 in
-    λ p. record { entity = i p; selector = j p; channel = m p }
-
-key_itself : (k : Key) → same_key k k ≡ true
-key_itself k =
-    (λ j. eq-eqb k.entity k.entity refl j && (eq-eqb k.selector k.selector refl j && eq-eqb k.channel k.channel refl j))
 
 pub same_keys : (k l : Key) → k ≡ l → same_key k l ≡ true
 same_keys k l is = subst (λ m. same_key k m ≡ true) is (key_itself k)

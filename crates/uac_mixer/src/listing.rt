@@ -73,13 +73,11 @@ fn add_channel(
     requires { selector ≤ 2 }
     ensures { OnOk result (elements.new.items ≡ elements.old.items ++ cons_option (spec.element_on entity.now selector channel) []) }
 {
-    match element_on(entity, selector, channel) {
-        Some(element) => match elements.push(element) {
-            Ok(()) => Ok(()),
-            Err(_) => Err(NoMemory),
-        },
-        None => Ok(()),
-    }
+    let Some(element) = element_on(entity, selector, channel) else {
+        return Ok(());
+    };
+    elements.push(element)?;
+    Ok(())
 }
 
 // A control as an element that isn't read yet, where it is declared.

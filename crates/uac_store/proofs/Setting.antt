@@ -1,7 +1,7 @@
 -- A control with a new value.
 use Rattle.std.proofs.Common.{◌≡◌, ◌==◌, ◌&&◌, ℤ, List, Some, is_some, if◌then◌else◌, Bool, true, false, refl, ap, sym, subst, ◌∙◌, IsSome}
 use Rattle.std.specs.Cmp.{IsEquivalence}
-use Rattle.std.proofs.lemmas.Bool.{eqb-true, eq-eqb}
+use Rattle.std.proofs.lemmas.Bool.{and_parts, eqb-true, eq-eqb}
 use Rattle.std.proofs.lemmas.Cmp.{nat_eq_equiv}
 use Rattle.std.proofs.lemmas.Map.{lookup-set_value}
 use Rattle.uac_entities.specs.declared.entity.Entity.{Entity}
@@ -10,19 +10,16 @@ use Rattle.uac_store.specs.Keyed.{same_key, value_of, with_value}
 use Rattle.uac_store.specs.Controls.{takes, IsStoreOf}
 
 -- the parts of one key are those of the other
-one_key : (k l : Key) → same_key k l ≡ true → k ≡ l
-one_key k l h = from (k.entity == l.entity) (k.selector == l.selector) (k.channel == l.channel) refl refl refl h where
-  from : (e s c : Bool) → (k.entity == l.entity) ≡ e → (k.selector == l.selector) ≡ s → (k.channel == l.channel) ≡ c → (e && (s && c)) ≡ true → k ≡ l
-  from true true true e s c h =
-      let i = eqb-true k.entity l.entity e in
-      let j = eqb-true k.selector l.selector s in
-      let m = eqb-true k.channel l.channel c in
-      λ p. record { entity = i p; selector = j p; channel = m p }
-  from true true false e s c h = cc
-  from true false c e s d h = cc
-  from false s c e t d h = cc
+pub one_key : (k l : Key) → same_key k l ≡ true → k ≡ l
+one_key k l h =
+    let a = and_parts (k.entity == l.entity) _ h in
+    let b = and_parts (k.selector == l.selector) _ a.1 in
+    let i = eqb-true k.entity l.entity a.0 in
+    let j = eqb-true k.selector l.selector b.0 in
+    let m = eqb-true k.channel l.channel b.1 in
+    λ p. record { entity = i p; selector = j p; channel = m p }
 
-key_itself : (k : Key) → same_key k k ≡ true
+pub key_itself : (k : Key) → same_key k k ≡ true
 key_itself k =
     (λ j. eq-eqb k.entity k.entity refl j && (eq-eqb k.selector k.selector refl j && eq-eqb k.channel k.channel refl j))
 
