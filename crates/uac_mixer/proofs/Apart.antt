@@ -9,20 +9,17 @@ use Rattle.std.proofs.lemmas.Option.{get_or_from_slice_get, slice_get_within}
 use Rattle.uac_entities.specs.declared.entity.Entity.{Entity}
 use Rattle.uac_store.specs.declared.keys.Key.{Key}
 use Rattle.uac_store.specs.ControlTable.{selectors_of}
-use Rattle.uac_store.specs.Controls.{IsKeyed, IsStoreOf, count_of}
+use Rattle.uac_store.specs.Controls.{count_of}
 use Rattle.uac_store.specs.Keyed.{same_key}
 use Rattle.uac_store.proofs.Setting.{key_laws}
 use Rattle.uac_request.specs.Requests.{AnswerFields, key_named, low}
 use Rattle.uac_request.specs.declared.setup.Setup.{Setup}
 use Rattle.uac_mixer.specs.declared.element.Element.{Element}
 use Rattle.uac_mixer.specs.Elements.{control_elements, element_on, entity_elements, listed, unread}
-use Rattle.uac_mixer.specs.Agreement.{IsMade}
-use Rattle.uac_mixer.specs.Links.{IsTransferred, LinkFields}
 use Rattle.uac_mixer.specs.Readable.{is_for_any}
 use Rattle.uac_mixer.specs.Transfers.{after_get, after_set, element_after, gets, is_for, sets, value_after, view_after}
 use Rattle.uac_mixer.specs.ViewWorld.{IsViewOf, ViewWorld}
 use Rattle.uac_mixer.proofs.Calls.{all_left, view_left}
-use Rattle.uac_mixer.proofs.Made.{made_step}
 use Rattle.uac_mixer.proofs.Members.{chosen, every, in_control, in_entity, joined, keyed_on, unmapped, weaker}
 use Rattle.uac_mixer.proofs.Reading.{element_there}
 
@@ -219,17 +216,3 @@ module _ (control : ℕ) (p : Setup) (sent : List ℕ) (came : Option AnswerFiel
   -- a whole view, where it is for none of its controls
   pub none_left : (before : ViewWorld) → is_for_any control p ≡ false → before ≡ view_after control p sent came before
   none_left before none = sym (view_left control p sent came before (none_asked none))
-
--- ---- as the call has it
-
-pub made_alone : (control : ℕ) (p : Setup) (sent : List ℕ) (came : Option AnswerFields) (before after : ViewWorld) (at : ℕ)
-    (old new : LinkFields) → control ≡ old.device.function.control_interface → IsKeyed old.device.function.entities
-    → IsStoreOf old.device.function.entities old.device.controls → IsViewOf old.device.function.entities before
-    → IsTransferred p sent came old new → at < length before.elements
-    → ((x : Element) → slice_get before.elements at ≡ Some x → x.key ≡ key_named p)
-    → ((x : Element) → slice_get before.elements at ≡ Some x
-    → after.elements ≡ slice_set before.elements at (element_after control p sent came x))
-    → IsMade p sent came before after old new
-made_alone control p sent came before after at old new is keys store of transfer within named changed =
-    made_step control p sent came before after old new is keys store of transfer
-    (view_alone control p sent came before after at (viewed_apart old.device.function.entities before keys.apart of) within named changed)

@@ -111,14 +111,9 @@ stored_by p sent told old new is store = stored_after p sent (Some told) old new
 pub keyed : (given : FunctionFields) (function : FunctionFields) → ((f : FunctionFields) → IsSoundFunction f → IsKeyed f.entities) → IsSoundFunction given → given ≡ function → IsKeyed function.entities
 keyed given function keys sound is = subst (λ (f : FunctionFields). IsKeyed f.entities) is (keys given sound)
 
-pub readable_step : (control : ℕ) (p : Setup) (sent : List ℕ) (came : Option AnswerFields) (before : ViewWorld) (old new : LinkFields) → control ≡ old.device.function.control_interface → IsKeyed old.device.function.entities
-    → IsStoreOf old.device.function.entities old.device.controls → IsViewOf old.device.function.entities before → IsTransferred p sent came old new
-    → All (IsReadable control p sent came) before.elements
-readable_step control p sent came before old new is keys store of transfer =
-    subst (λ (i : ℕ). All (IsReadable i p sent came) before.elements) (sym is) (readable_made p sent came before old new keys store of transfer)
+module _ (control : ℕ) (p : Setup) (sent : List ℕ) (came : Option AnswerFields) (before : ViewWorld) (old : LinkFields) (is : control ≡ old.device.function.control_interface) where
+  pub readable_step : All (IsReadable old.device.function.control_interface p sent came) before.elements → All (IsReadable control p sent came) before.elements
+  readable_step readable = subst (λ (i : ℕ). All (IsReadable i p sent came) before.elements) (sym is) readable
 
-pub made_step : (control : ℕ) (p : Setup) (sent : List ℕ) (came : Option AnswerFields) (before after : ViewWorld) (old new : LinkFields) → control ≡ old.device.function.control_interface → IsKeyed old.device.function.entities
-    → IsStoreOf old.device.function.entities old.device.controls → IsViewOf old.device.function.entities before → IsTransferred p sent came old new
-    → after ≡ view_after control p sent came before → IsMade p sent came before after old new
-made_step control p sent came before after old new is keys store of transfer view =
-    made p sent came before after old new keys store of transfer (view ∙ ap (λ (i : ℕ). view_after i p sent came before) is)
+  pub view_step : (after : ViewWorld) → after ≡ view_after control p sent came before → after ≡ view_after old.device.function.control_interface p sent came before
+  view_step after view = view ∙ ap (λ (i : ℕ). view_after i p sent came before) is

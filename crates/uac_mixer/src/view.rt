@@ -5,6 +5,7 @@ ghost use Rattle.std.specs.List.{All};
 ghost use Rattle.std.specs.Option.{option_map};
 ghost use Rattle.std.specs.Str.{bytes_eq};
 ghost use Rattle.uac_request.specs.Requests.{is_done, is_stalled, answer_fields, key_named, value_bytes};
+ghost use Rattle.uac_store.specs.Controls.{IsKeyed};
 ghost use Rattle.uac_store.specs.Keyed.{value_of};
 ghost use Rattle.uac_mixer.specs.declared.element.Element.{Element};
 ghost use Rattle.uac_mixer.specs.declared.faults.SetFault.TheVariants as refusals;
@@ -15,7 +16,7 @@ ghost use Rattle.uac_mixer.specs.Elements.{fits_element, listed, name_of, width_
 ghost use Rattle.uac_mixer.specs.Links.{IsAsBefore};
 ghost use Rattle.uac_mixer.specs.Readable.{IsReadable};
 ghost use Rattle.uac_mixer.specs.Transfers.{came_of, came_of_get, came_of_set, element_after, get_of, set_of, view_after};
-ghost use Rattle.uac_mixer.specs.ViewWorld.{IsViewOf, known_view};
+ghost use Rattle.uac_mixer.specs.ViewWorld.{IsViewOf, ViewWorld, known_view};
 
 use crate::element::Element;
 use crate::faults::{SetFault, ViewFault};
@@ -162,10 +163,8 @@ impl View {
         ensures place { L.place link.new ≡ L.place link.old }
         ensures made { IsMade setup.now sent.now (came_of result) self.old self.new (L.state link.old) (L.state link.new) }
     {
-        functions_are_sound(link.function());
-        sound_functions_have_keys_and_rates();
         let control = link.function().control_interface();
-        let came = link.control(setup, sent);
+        let came = self.pass_on(link, setup, sent);
         self.follow(control, setup, sent, &came);
         came
     }
@@ -184,12 +183,26 @@ impl View {
         ensures place { L.place link.new ≡ L.place link.old }
         ensures made { IsMade setup.now sent.now (came_of result) self.old self.new (L.state link.old) (L.state link.new) }
     {
-        functions_are_sound(link.function());
-        sound_functions_have_keys_and_rates();
         let control = link.function().control_interface();
-        let came = link.control(setup, sent);
+        let came = self.pass_on(link, setup, sent);
         self.follow_at(at, control, setup, sent, &came);
         came
+    }
+
+    // Passes a transfer on. The view that it makes of this one is still to be kept.
+    fn pass_on<L: Link>(&self, link: &mut L, setup: &Setup, sent: &[u8]) -> Result<Answer, Broken>
+        requires of_function { IsViewOf (L.state link.old).device.function.entities self.now }
+        ensures place { L.place link.new ≡ L.place link.old }
+        ensures keyed { IsKeyed (L.state link.old).device.function.entities }
+        ensures readable { All (IsReadable (L.state link.old).device.function.control_interface setup.now sent.now (came_of result))
+            self.now.elements }
+        ensures made { (after : ViewWorld)
+            → after ≡ view_after (L.state link.old).device.function.control_interface setup.now sent.now (came_of result) self.now
+            → IsMade setup.now sent.now (came_of result) self.now after (L.state link.old) (L.state link.new) }
+    {
+        functions_are_sound(link.function());
+        sound_functions_have_keys_and_rates();
+        link.control(setup, sent)
     }
 
     // What a transfer makes of each element.

@@ -1,19 +1,20 @@
 use Rattle.std.proofs.Common.{◌∙◌, ap}
 use Rattle.uac_topology.specs.Function.{FunctionFields}
-use Rattle.uac_mixer.proofs.Apart.{made_alone}
-use Rattle.uac_mixer.proofs.Made.{keyed, readable_step}
+use Rattle.uac_mixer.proofs.Apart.{view_alone, viewed_apart}
+use Rattle.uac_mixer.proofs.Made.{readable_step, view_step}
 use Rattle.uac_mixer.proofs.view.View.transfer_at.Goals as goal
 
 pub follow_at-requires-clause-readable : goal.follow_at-requires-clause-readable
 follow_at-requires-clause-readable g c =
-    readable_step c.control_interface-control.result c.args.setup.now c.args.sent.now _ c.args.self.now (g.L.Link.state c.args.link.now) (g.L.Link.state c.control-came.new.self)
-    (c.control_interface-control.ensures ∙ ap (λ (f : FunctionFields). f.control_interface) c.function-2.ensures.function)
-    (keyed c.function.result.now _ c.sound_functions_have_keys_and_rates.ensures.keys c.functions_are_sound.ensures c.function.ensures.function)
-    c.function.ensures.stored c.requires.of_function c.control-came.ensures.transfer
+    readable_step c.control_interface-control.result c.args.setup.now c.args.sent.now _ c.args.self.now (g.L.Link.state c.args.link.now)
+    (c.control_interface-control.ensures ∙ ap (λ (f : FunctionFields). f.control_interface) c.function.ensures.function)
+    c.pass_on-came.ensures.readable
 
 pub returns-clause-made : goal.returns-clause-made
 returns-clause-made g c =
-    made_alone c.control_interface-control.result c.args.setup.now c.args.sent.now _ c.args.self.now c.follow_at.new.self c.args.at (g.L.Link.state c.args.link.now) (g.L.Link.state c.control-came.new.self)
-    (c.control_interface-control.ensures ∙ ap (λ (f : FunctionFields). f.control_interface) c.function-2.ensures.function)
-    (keyed c.function.result.now _ c.sound_functions_have_keys_and_rates.ensures.keys c.functions_are_sound.ensures c.function.ensures.function)
-    c.function.ensures.stored c.requires.of_function c.control-came.ensures.transfer c.requires.at c.requires.named c.follow_at.ensures
+    c.pass_on-came.ensures.made _
+    (view_step c.control_interface-control.result c.args.setup.now c.args.sent.now _ c.args.self.now (g.L.Link.state c.args.link.now)
+    (c.control_interface-control.ensures ∙ ap (λ (f : FunctionFields). f.control_interface) c.function.ensures.function)
+    c.follow_at.new.self
+    (view_alone c.control_interface-control.result c.args.setup.now c.args.sent.now _ c.args.self.now c.follow_at.new.self c.args.at
+    (viewed_apart _ c.args.self.now c.pass_on-came.ensures.keyed.apart c.requires.of_function) c.requires.at c.requires.named c.follow_at.ensures))
