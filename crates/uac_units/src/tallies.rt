@@ -1,6 +1,9 @@
 //! The three meters.
 
-ghost use Rattle.std.specs.Prelude.{◌≡◌};
+ghost use Rattle.std.specs.Prelude.{◌≡◌, ◌≤◌, unsigned_abs, count_by, length};
+ghost use Rattle.std.specs.List.{sum_by};
+ghost use Rattle.uac_units.specs.Hearing as spec;
+ghost use Rattle.uac_units.specs.Hearing.{is_clipped};
 ghost use Rattle.uac_units.specs.declared.hearing.MeterKind.TheVariants.{Peak, Clipped, Sum};
 
 use crate::hearing::{Meter, MeterKind};
@@ -64,11 +67,7 @@ impl Meter for PeakMeter {
 
     #[tactic(auto, unfolding(crate::specs::Hearing::after_hearing))]
     fn hear(&mut self, frame: &Frame) {
-        let mut value = self.value;
-        for sample in frame.iter() {
-            value = value.max(sample.unsigned_abs() as u64);
-        }
-        self.value = value;
+        self.value = self.value.max(peak_of(frame.as_slice()) as u64);
     }
 }
 
@@ -85,13 +84,7 @@ impl Meter for ClippedMeter {
 
     #[tactic(auto, unfolding(crate::specs::Hearing::after_hearing))]
     fn hear(&mut self, frame: &Frame) {
-        let mut value = self.value;
-        for sample in frame.iter() {
-            if *sample == i32::MAX || *sample == i32::MIN {
-                value = value.saturating_add(1);
-            }
-        }
-        self.value = value;
+        self.value = self.value.saturating_add(clipped_among(frame.as_slice()) as u64);
     }
 }
 
@@ -108,10 +101,43 @@ impl Meter for SumMeter {
 
     #[tactic(auto, unfolding(crate::specs::Hearing::after_hearing))]
     fn hear(&mut self, frame: &Frame) {
-        let mut value = self.value;
-        for sample in frame.iter() {
-            value = value.saturating_add(sample.unsigned_abs() as u64);
-        }
-        self.value = value;
+        self.value = self.value.saturating_add(sum_of(frame.as_slice()));
     }
+}
+
+// The greatest absolute sample of a frame.
+fn peak_of(samples: &[i32]) -> u32
+    ensures { result ≡ spec.peak_of samples.now }
+{
+    let mut peak = 0;
+    for sample in samples {
+        peak = peak.max(sample.unsigned_abs());
+    }
+    peak
+}
+
+// How many samples of a frame stand at full scale.
+fn clipped_among(samples: &[i32]) -> u32
+    requires { length samples.now ≤ 32 }
+    ensures { result ≡ count_by is_clipped samples.now }
+{
+    let mut clipped = 0;
+    for sample in samples {
+        if *sample == i32::MAX || *sample == i32::MIN {
+            clipped += 1;
+        }
+    }
+    clipped
+}
+
+// The absolute samples of a frame together.
+fn sum_of(samples: &[i32]) -> u64
+    requires { length samples.now ≤ 32 }
+    ensures { result ≡ sum_by unsigned_abs samples.now }
+{
+    let mut sum = 0;
+    for sample in samples {
+        sum += sample.unsigned_abs() as u64;
+    }
+    sum
 }
