@@ -18,10 +18,9 @@ use Rattle.uac_graph.specs.Fitness.{IsSignalGraph}
 use Rattle.uac_graph.specs.Jobs.{AreJobs, HasJob, unit_of}
 use Rattle.uac_graph.specs.Meaning.{frame_of}
 use Rattle.uac_graph.specs.Needs.{unit_count}
-use Rattle.uac_graph.specs.Tasks.{task_of, work_by, work_of}
+use Rattle.uac_graph.specs.Tasks.{work_by, work_of}
 use Rattle.uac_graph.specs.Wiring.{AreWiresOf, Frames, frame_on, samples_on}
-use Rattle.uac_graph.specs.declared.tasks.Task.{Task}
-use Rattle.uac_graph.specs.declared.tasks.Work.TheVariants.{Nothing, Pass, Render, Ask}
+use Rattle.uac_graph.specs.declared.tasks.Work.TheVariants.{Pass, Render, Ask}
 use Rattle.uac_graph.proofs.InOrder.{fits_at, job_at, wire_at}
 use Rattle.uac_graph.proofs.Reaching.{length-frame_of}
 use Rattle.uac_graph.proofs.Rendered.{fits_unit, passed_on, rendered_unit, row_small}
@@ -41,44 +40,22 @@ work_by_many id unit [] many = refl
 work_by_many id unit (source ∷ []) many = absurd (many refl)
 work_by_many id unit (source ∷ other ∷ sources) many = refl
 
-pub works_nothing : (e : Entity) → is_input e.kind ≡ true → work_of e ≡ Nothing
+-- what is done for an entity, where it has channels or hasn't
+works_counted : (e : Entity) (none : Bool) → eqb e.cluster.channels 0 ≡ none → work_of e ≡ (if none then Ask else work_by e.id (unit_of e.kind) e.sources)
 unfolding work_of
-works_nothing e input =
-    ap (λ (b : Bool). if b then Nothing else if eqb e.cluster.channels 0 then Ask else work_by e.id (unit_of e.kind) e.sources) input
+works_counted e none counted = ap (λ (b : Bool). if b then Ask else work_by e.id (unit_of e.kind) e.sources) counted
 
--- what is done for an entity that is no input terminal
-works_other : (e : Entity) (none : Bool) → is_input e.kind ≡ false → eqb e.cluster.channels 0 ≡ none
-    → work_of e ≡ (if none then Ask else work_by e.id (unit_of e.kind) e.sources)
-unfolding work_of
-works_other e none other counted =
-    ap (λ (b : Bool). if b then Nothing else if eqb e.cluster.channels 0 then Ask else work_by e.id (unit_of e.kind) e.sources) other
-    ∙ ap (λ (b : Bool). if b then Ask else work_by e.id (unit_of e.kind) e.sources) counted
+pub works_none : (e : Entity) → e.cluster.channels ≡ 0 → work_of e ≡ Ask
+works_none e none = works_counted e true (eq-eqb e.cluster.channels 0 none)
 
-pub works_none : (e : Entity) → is_input e.kind ≡ false → e.cluster.channels ≡ 0 → work_of e ≡ Ask
-works_none e other none = works_other e true other (eq-eqb e.cluster.channels 0 none)
+pub works_many : (e : Entity) → (e.cluster.channels ≡ 0 → ⊥) → (length e.sources ≡ 1 → ⊥) → work_of e ≡ Ask
+works_many e some many = works_counted e false (ne_eqb e.cluster.channels 0 some) ∙ work_by_many e.id (unit_of e.kind) e.sources many
 
-pub works_many : (e : Entity) → is_input e.kind ≡ false → (e.cluster.channels ≡ 0 → ⊥) → (length e.sources ≡ 1 → ⊥) → work_of e ≡ Ask
-works_many e other some many = works_other e false other (ne_eqb e.cluster.channels 0 some) ∙ work_by_many e.id (unit_of e.kind) e.sources many
-
-pub works_one : (e : Entity) (sources : List ℕ) → is_input e.kind ≡ false → (e.cluster.channels ≡ 0 → ⊥) → sources ≡ e.sources → length sources ≡ 1
+pub works_one : (e : Entity) (sources : List ℕ) → (e.cluster.channels ≡ 0 → ⊥) → sources ≡ e.sources → length sources ≡ 1
     → work_of e ≡ work_by e.id (unit_of e.kind) (get_or sources 0 0 ∷ [])
-works_one e sources other some same one =
-    works_other e false other (ne_eqb e.cluster.channels 0 some)
+works_one e sources some same one =
+    works_counted e false (ne_eqb e.cluster.channels 0 some)
     ∙ ap (work_by e.id (unit_of e.kind)) (sym same ∙ only_item sources one)
-
--- where nothing is done, an input terminal stands
-nothing_by : (input none : Bool) (id : ℕ) (unit : Option UnitKind) (sources : List ℕ)
-    → (if input then Nothing else if none then Ask else work_by id unit sources) ≡ Nothing → input ≡ true
-nothing_by true none id unit sources is = refl
-nothing_by false true id unit sources is = absurd (cc)
-nothing_by false false id unit [] is = absurd (cc)
-nothing_by false false id (Some u) (source ∷ []) is = absurd (cc)
-nothing_by false false id None (source ∷ []) is = absurd (cc)
-nothing_by false false id unit (source ∷ other ∷ sources) is = absurd (cc)
-
-pub nothing_is : (e : Entity) → work_of e ≡ Nothing → is_input e.kind ≡ true
-unfolding work_of
-nothing_is e is = nothing_by (is_input e.kind) (eqb e.cluster.channels 0) e.id (unit_of e.kind) e.sources is
 
 -- an entity that passes on: its one source, and its own id
 pub record Passes (e : Entity) (source own : ℕ) : Type 0 where
@@ -87,21 +64,20 @@ pub record Passes (e : Entity) (source own : ℕ) : Type 0 where
   pub one : e.sources ≡ source ∷ []
   pub named : own ≡ e.id
 
-pub passes_is : (e : Entity) (source own : ℕ) → work_of e ≡ Pass source own → Passes e source own
+pub passes_is : (e : Entity) (source own : ℕ) → is_input e.kind ≡ false → work_of e ≡ Pass source own → Passes e source own
 unfolding work_of
-passes_is e source own is =
-    let parts = by (is_input e.kind) (eqb e.cluster.channels 0) (unit_of e.kind) e.sources is in
-    record { signal = parts.0; unit = parts.1; one = parts.2; named = parts.3 }
+passes_is e source own other is =
+    let parts = by (eqb e.cluster.channels 0) (unit_of e.kind) e.sources is in
+    record { signal = other; unit = parts.0; one = parts.1; named = parts.2 }
   where
-    by : (input none : Bool) (unit : Option UnitKind) (sources : List ℕ)
-        → (if input then Nothing else if none then Ask else work_by e.id unit sources) ≡ Pass source own
-        → (input ≡ false) × (unit ≡ None) × (sources ≡ source ∷ []) × (own ≡ e.id)
-    by true none unit sources is = absurd (cc)
-    by false true unit sources is = absurd (cc)
-    by false false unit [] is = absurd (cc)
-    by false false (Some u) (s ∷ []) is = absurd (cc)
-    by false false None (s ∷ []) is = (refl, refl, (let same : s ≡ source = cc in ap (λ (n : ℕ). n ∷ []) same), (let same : own ≡ e.id = cc in same))
-    by false false unit (s ∷ t ∷ sources) is = absurd (cc)
+    by : (none : Bool) (unit : Option UnitKind) (sources : List ℕ)
+        → (if none then Ask else work_by e.id unit sources) ≡ Pass source own
+        → (unit ≡ None) × (sources ≡ source ∷ []) × (own ≡ e.id)
+    by true unit sources is = absurd (cc)
+    by false unit [] is = absurd (cc)
+    by false (Some u) (s ∷ []) is = absurd (cc)
+    by false None (s ∷ []) is = (refl, (let same : s ≡ source = cc in ap (λ (n : ℕ). n ∷ []) same), (let same : own ≡ e.id = cc in same))
+    by false unit (s ∷ t ∷ sources) is = absurd (cc)
 
 -- a unit that is rendered over its one source
 pub record Renders (e : Entity) (u : UnitKind) (source own : ℕ) : Type 0 where
@@ -111,30 +87,28 @@ pub record Renders (e : Entity) (u : UnitKind) (source own : ℕ) : Type 0 where
   pub one : e.sources ≡ source ∷ []
   pub named : own ≡ e.id
 
-pub renders_is : (e : Entity) (u : UnitKind) (source own : ℕ) → work_of e ≡ Render u source own → Renders e u source own
+pub renders_is : (e : Entity) (u : UnitKind) (source own : ℕ) → is_input e.kind ≡ false → work_of e ≡ Render u source own → Renders e u source own
 unfolding work_of
-renders_is e u source own is =
-    let parts = by (is_input e.kind) (eqb e.cluster.channels 0) (unit_of e.kind) e.sources is in
-    record { signal = parts.0; some = some_of e.cluster.channels parts.1; unit = parts.2; one = parts.3; named = parts.4 }
+renders_is e u source own other is =
+    let parts = by (eqb e.cluster.channels 0) (unit_of e.kind) e.sources is in
+    record { signal = other; some = some_of e.cluster.channels parts.0; unit = parts.1; one = parts.2; named = parts.3 }
   where
     some_of : (n : ℕ) → eqb n 0 ≡ false → 1 ≤ n
     some_of n e = elim (cases_lt 0 n) [ inl below ↦ omega (arith, below) | inr past ↦ absurd (both_ways (eqb n 0) e (eq-eqb n 0 (omega (arith, past)))) ]
 
-    by : (input none : Bool) (unit : Option UnitKind) (sources : List ℕ)
-        → (if input then Nothing else if none then Ask else work_by e.id unit sources) ≡ Render u source own
-        → (input ≡ false) × (none ≡ false) × (unit ≡ Some u) × (sources ≡ source ∷ []) × (own ≡ e.id)
-    by true none unit sources is = absurd (cc)
-    by false true unit sources is = absurd (cc)
-    by false false unit [] is = absurd (cc)
-    by false false None (s ∷ []) is = absurd (cc)
-    by false false (Some v) (s ∷ []) is = (
-      refl,
+    by : (none : Bool) (unit : Option UnitKind) (sources : List ℕ)
+        → (if none then Ask else work_by e.id unit sources) ≡ Render u source own
+        → (none ≡ false) × (unit ≡ Some u) × (sources ≡ source ∷ []) × (own ≡ e.id)
+    by true unit sources is = absurd (cc)
+    by false unit [] is = absurd (cc)
+    by false None (s ∷ []) is = absurd (cc)
+    by false (Some v) (s ∷ []) is = (
       refl,
       (let same : v ≡ u = cc in ap Some same),
       (let same : s ≡ source = cc in ap (λ (m : ℕ). m ∷ []) same),
       (let same : own ≡ e.id = cc in same),
     )
-    by false false unit (s ∷ t ∷ sources) is = absurd (cc)
+    by false unit (s ∷ t ∷ sources) is = absurd (cc)
 
 -- ---- what counts
 
@@ -158,29 +132,6 @@ unit_counted kind.Selector u e = refl
 unit_counted kind.Feature u e = refl
 unit_counted kind.Effect u e = refl
 unit_counted _ u e = absurd (cc)
-
--- ---- the tasks of an order
-
-module _ (entities : List Entity) (places : List ℕ) (tasks : List Task) (are : tasks ≡ map (task_of entities) places) where
-  -- there is a place for each task
-  pub task_below : (i : ℕ) → i < length tasks → i < length places
-  task_below i below = omega (arith, below, ap length are, length-map places (task_of entities))
-
-  -- and a task for each place
-  pub past_tasks : (i : ℕ) → length tasks ≤ i → length places ≤ i
-  past_tasks i past = omega (arith, past, ap length are, length-map places (task_of entities))
-
-  -- the task at a place in the list
-  task_here : (i : ℕ) (task : Task) → i < length tasks → task ≡ get_or tasks i task → task ≡ task_of entities (get_or places i 0)
-  task_here i task below here =
-      here ∙ ap (λ (ts : List Task). get_or ts i task) are ∙ get_or-map (task_of entities) places i 0 task (task_below i below)
-
-  pub task_named : (i : ℕ) (task : Task) → i < length tasks → task ≡ get_or tasks i task → task.place ≡ get_or places i 0
-  task_named i task below here = ap (λ (t : Task). t.place) (task_here i task below here)
-
-  pub task_works : (i : ℕ) (task : Task) → i < length tasks → task ≡ get_or tasks i task → task.work ≡ work_of (at entities task.place)
-  task_works i task below here =
-      ap (λ (t : Task). t.work) (task_here i task below here) ∙ ap (λ (n : ℕ). work_of (at entities n)) (sym (task_named i task below here))
 
 -- the job at a place
 pub job_of : (entities : List Entity) (controls : Controls) (jobs : List Job) (job : Job) (place : ℕ) → AreJobs entities controls jobs → place < length entities

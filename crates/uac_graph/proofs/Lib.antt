@@ -19,3 +19,4 @@ pub mod Ordering
 pub mod Asking
 pub mod Copying
 pub mod CarriedOut
+pub mod Following

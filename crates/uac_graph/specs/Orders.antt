@@ -11,7 +11,7 @@ use Rattle.uac_graph.specs.Meaning.{frame_of}
 use Rattle.uac_graph.specs.Needs.{depended}
 use Rattle.uac_graph.specs.Wiring.{Frames, frame_on, samples_on}
 use Rattle.uac_graph.specs.declared.orders.Order.{Order}
-use Rattle.uac_graph.specs.Tasks.{task_of}
+use Rattle.uac_graph.specs.Tasks.{tasks_at}
 
 -- the entity with an id stands at one of these places
 abbrev pub holds : List Entity → List ℕ → ℕ → Bool
@@ -33,7 +33,7 @@ pub record IsOrderOf (entities : List Entity) (domain : ℕ) (places : List ℕ)
 -- the order of its domain, and what is done at its places
 pub record IsKept (entities : List Entity) (order : Order) : Type 0 where
   pub order_of : IsOrderOf entities order.domain order.places.items
-  pub tasks_of : order.tasks.items ≡ map (task_of entities) order.places.items
+  pub tasks_of : order.tasks.items ≡ tasks_at entities order.places.items
 
 -- an order for each domain that has an output terminal
 pub record AreOrders (entities : List Entity) (orders : List Order) : Type 0 where

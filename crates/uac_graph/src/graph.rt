@@ -1,5 +1,6 @@
 // The signal graph: which unit takes which signals, rendered tick by tick.
 ghost use Rattle.std.specs.Prelude.{◌≡◌, ◌<◌, ◌+◌, ◌^◌, ℕ, List, false, IfOk, length, sum};
+ghost use Rattle.uac_topology_rules.specs.Clusters.{is_input};
 ghost use Rattle.uac_topology_rules.specs.Links.{is_clock};
 ghost use Rattle.uac_topology_rules.specs.Table.{at};
 ghost use Rattle.uac_units.specs.Fitting.{IsFitted};
@@ -153,8 +154,8 @@ impl Graph {
         ensures fitting { AreWiresOf self.now wires.new }
         ensures once { steps.new ≡ steps.old + length (needed self.now order.now.domain) }
     {
-        for at in 0..order.tasks.len() {
-            self.carry_out(&order.tasks[at], jobs, rack, wires, steps);
+        for task in order.tasks.as_slice() {
+            self.carry_out(task, jobs, rack, wires, steps);
         }
     }
 
@@ -165,6 +166,7 @@ impl Graph {
         requires task { task.now.work ≡ work_of (at self.now task.now.place) }
         requires inside { task.now.place < length self.now }
         requires signal { is_clock (at self.now task.now.place).kind ≡ false }
+        requires worked { is_input (at self.now task.now.place).kind ≡ false }
         requires jobs { (controls : Controls) × AreJobs self.now controls jobs.now }
         requires wires { AreWiresOf self.now wires.old }
         requires room { steps.old + unit_count (at self.now task.now.place).kind < 2 ^ 64 }
@@ -174,7 +176,6 @@ impl Graph {
         ensures counted { steps.new ≡ steps.old + unit_count (at self.now task.now.place).kind }
     {
         match task.work {
-            Work::Nothing => {}
             Work::Pass { from, to } => wires.pass(from, to),
             Work::Render { kind, source, id } => {
                 wires.render_one(id, source, rack.unit(kind), jobs.at(task.place), steps);

@@ -1,5 +1,5 @@
 // What is done at the places of an order at each tick, as it follows from the graph.
-ghost use Rattle.std.specs.Prelude.{◌≡◌, ◌<◌, IfOk, length, map};
+ghost use Rattle.std.specs.Prelude.{◌≡◌, ◌<◌, IfOk, length};
 ghost use Rattle.std.specs.List.{All};
 ghost use Rattle.uac_graph.specs.Tasks as spec;
 
@@ -13,8 +13,6 @@ use uac_units::UnitKind;
 /// What is done for an entity at each tick.
 #[derive(Clone, Copy)]
 pub(crate) enum Work {
-    /// Nothing: an input terminal has its frame.
-    Nothing,
     /// An output terminal, `to`, gets its source's frame.
     Pass { from: u8, to: u8 },
     /// A unit of one source is rendered.
@@ -30,33 +28,34 @@ pub(crate) struct Task {
     pub work: Work,
 }
 
-/// What is done for the entities at these places.
+/// What is done for the entities at these places: for an input terminal nothing, since it has its frame.
 pub(crate) fn tasks_of(
     alloc: Global,
     table: &EntityTable,
     places: &[usize],
 ) -> Result<Vec<Task>, NoMemory>
     requires { All (λ place. place < length table.now) places.now }
-    ensures { IfOk result (λ tasks. tasks.items ≡ map (spec.task_of table.now) places.now) }
+    ensures { IfOk result (λ tasks. tasks.items ≡ spec.tasks_at table.now places.now) }
 {
     let mut tasks = Vec::new(alloc);
     for place in places {
+        let entity = table.at(*place);
+        if is_input(entity.kind) {
+            continue;
+        }
         let task = Task {
             place: *place,
-            work: work_of(table.at(*place)),
+            work: work_of(entity),
         };
         tasks.push(task)?;
     }
     Ok(tasks)
 }
 
-// What is done for an entity.
+// What is done for an entity that is no input terminal.
 fn work_of(entity: &Entity) -> Work
     ensures { result ≡ spec.work_of entity.now }
 {
-    if is_input(entity.kind) {
-        return Work::Nothing;
-    }
     let sources = entity.sources.as_slice();
     if entity.cluster.channels == 0 {
         return Work::Ask;

@@ -1,6 +1,6 @@
-use Rattle.std.proofs.Common.{◌∙◌, ◌<◌, ap, map, refl, subst, sym, length}
+use Rattle.std.proofs.Common.{◌∙◌, ◌<◌, ap, refl, subst, sym, length}
 use Rattle.std.specs.List.{All}
-use Rattle.uac_graph.specs.Tasks.{task_of}
+use Rattle.uac_graph.specs.Tasks.{tasks_at}
 use Rattle.uac_graph.proofs.orders.kept_order.Goals as goal
 
 pub tasks_of-requires : goal.tasks_of-requires
@@ -9,5 +9,5 @@ tasks_of-requires c = subst (All (λ place. place < length c.args.table.now)) (s
 pub returns : goal.returns
 returns c = (
   refl,
-  record { order_of = c.in_ok-places.ensures; tasks_of = c.in_ok-tasks.ensures ∙ ap (map (task_of c.args.table.now)) c.deref.ensures.value },
+  record { order_of = c.in_ok-places.ensures; tasks_of = c.in_ok-tasks.ensures ∙ ap (tasks_at c.args.table.now) c.deref.ensures.value },
 )

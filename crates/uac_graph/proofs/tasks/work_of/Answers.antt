@@ -1,25 +1,21 @@
 use Rattle.std.proofs.Common.{◌∙◌, ap, sym, length, get_or, ◌∷◌, []}
 use Rattle.uac_graph.specs.Tasks.{work_by}
-use Rattle.uac_graph.proofs.CarriedOut.{works_many, works_none, works_nothing, works_one}
+use Rattle.uac_graph.proofs.CarriedOut.{works_many, works_none, works_one}
 use Rattle.uac_graph.proofs.tasks.work_of.Goals as goal
 
-pub returns-then-is_input : goal.returns-then-is_input
-returns-then-is_input c = sym (works_nothing c.args.entity.now (sym c.is_input.ensures ∙ c.if-is_input.true))
-
 pub returns-then-entity-eq0 : goal.returns-then-entity-eq0
-returns-then-entity-eq0 c = sym (works_none c.args.entity.now (sym c.is_input.ensures ∙ c.if-is_input.false) c.if-entity-eq0.true)
+returns-then-entity-eq0 c = sym (works_none c.args.entity.now c.if-entity-eq0.true)
 
 pub returns-then-sources-ne1 : goal.returns-then-sources-ne1
 returns-then-sources-ne1 c =
-    sym (works_many c.args.entity.now (sym c.is_input.ensures ∙ c.if-is_input.false) c.if-entity-eq0.false
-    (λ one. c.if-sources-ne1.true (ap length c.as_slice-sources.ensures ∙ one)))
+    sym (works_many c.args.entity.now c.if-entity-eq0.false (λ one. c.if-sources-ne1.true (ap length c.as_slice-sources.ensures ∙ one)))
 
 pub returns-in-Some : goal.returns-in-Some
 returns-in-Some c =
     let e = c.args.entity.now in
     let sources = c.as_slice-sources.result.now in
     sym (
-    works_one e sources (sym c.is_input.ensures ∙ c.if-is_input.false) c.if-entity-eq0.false c.as_slice-sources.ensures c.if-sources-ne1.false
+    works_one e sources c.if-entity-eq0.false c.as_slice-sources.ensures c.if-sources-ne1.false
     ∙ ap (λ unit. work_by e.id unit (get_or sources 0 0 ∷ [])) (sym c.in-Some.ensures))
 
 pub returns-in-None : goal.returns-in-None
@@ -27,5 +23,5 @@ returns-in-None c =
     let e = c.args.entity.now in
     let sources = c.as_slice-sources.result.now in
     sym (
-    works_one e sources (sym c.is_input.ensures ∙ c.if-is_input.false) c.if-entity-eq0.false c.as_slice-sources.ensures c.if-sources-ne1.false
+    works_one e sources c.if-entity-eq0.false c.as_slice-sources.ensures c.if-sources-ne1.false
     ∙ ap (λ unit. work_by e.id unit (get_or sources 0 0 ∷ [])) (sym c.in-None.ensures))

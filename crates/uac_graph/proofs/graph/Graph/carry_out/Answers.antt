@@ -1,14 +1,12 @@
 use Rattle.std.proofs.Common.{◌∙◌, sym, refl, subst, arith}
 use Rattle.uac_topology_rules.specs.Table.{at}
-use Rattle.uac_graph.proofs.InOrder.{fitting_at, kept_at, rendered_at, wire_at}
+use Rattle.uac_graph.proofs.InOrder.{fitting_at, rendered_at, wire_at}
 use Rattle.uac_graph.specs.Wiring.{samples_on}
 use Rattle.uac_units.specs.Rendering.{FitsKind}
 use Rattle.uac_units.specs.declared.jobs.UnitKind.{UnitKind}
 use Rattle.uac_graph.proofs.CarriedOut.{
   by_kind,
-  input_uncounted,
   job_of,
-  nothing_is,
   other_uncounted,
   passed_set,
   passed_there,
@@ -22,25 +20,16 @@ use Rattle.uac_graph.proofs.CarriedOut.{
 }
 use Rattle.uac_graph.proofs.graph.Graph.carry_out.Goals as goal
 
-pub returns-in-Nothing-clause-rendered : goal.returns-in-Nothing-clause-rendered
-returns-in-Nothing-clause-rendered g c controls are =
-    let place = c.args.task.now.place in
-    kept_at c.args.self.now controls place (at c.args.self.now place) c.args.wires.now refl (nothing_is (at c.args.self.now place) (sym c.requires.task ∙ c.in-Nothing.is))
-
-pub returns-in-Nothing-clause-counted : goal.returns-in-Nothing-clause-counted
-returns-in-Nothing-clause-counted g c =
-    let e = at c.args.self.now c.args.task.now.place in input_uncounted e.kind c.args.steps.now (nothing_is e (sym c.requires.task ∙ c.in-Nothing.is))
-
 pub pass-requires : goal.pass-requires
 pass-requires g c =
     let place = c.args.task.now.place in
     passed_there c.args.self.now c.args.wires.now place c.requires.sound c.requires.wires c.requires.inside c.requires.signal
-    c.requires.jobs.0 c.in-Pass.from c.in-Pass.to (passes_is (at c.args.self.now place) c.in-Pass.from c.in-Pass.to (sym c.requires.task ∙ c.in-Pass.is))
+    c.requires.jobs.0 c.in-Pass.from c.in-Pass.to (passes_is (at c.args.self.now place) c.in-Pass.from c.in-Pass.to c.requires.worked (sym c.requires.task ∙ c.in-Pass.is))
 
 pub returns-in-Pass-clause-rendered : goal.returns-in-Pass-clause-rendered
 returns-in-Pass-clause-rendered g c controls are =
     let place = c.args.task.now.place in
-    let passes = passes_is (at c.args.self.now place) c.in-Pass.from c.in-Pass.to (sym c.requires.task ∙ c.in-Pass.is) in
+    let passes = passes_is (at c.args.self.now place) c.in-Pass.from c.in-Pass.to c.requires.worked (sym c.requires.task ∙ c.in-Pass.is) in
     rendered_at c.args.self.now controls place (at c.args.self.now place) c.args.wires.now c.pass.new.self refl passes.signal
     (passed_set c.args.self.now c.args.wires.now place c.requires.sound c.requires.wires c.requires.inside c.requires.signal
     controls c.in-Pass.from c.in-Pass.to c.pass.new.self passes c.pass.ensures)
@@ -50,7 +39,7 @@ returns-in-Pass-clause-fitting g c =
     let place = c.args.task.now.place in
     let controls = c.requires.jobs.0 in
     let sound = c.requires.sound in
-    let passes = passes_is (at c.args.self.now place) c.in-Pass.from c.in-Pass.to (sym c.requires.task ∙ c.in-Pass.is) in
+    let passes = passes_is (at c.args.self.now place) c.in-Pass.from c.in-Pass.to c.requires.worked (sym c.requires.task ∙ c.in-Pass.is) in
     fitting_at c.args.self.now controls (at c.args.self.now place) c.args.wires.now c.pass.new.self c.requires.wires
     (wire_at c.args.self.now c.args.wires.now place (at c.args.self.now place) sound c.requires.wires c.requires.inside c.requires.signal refl)
     (passed_set c.args.self.now c.args.wires.now place sound c.requires.wires c.requires.inside c.requires.signal
@@ -59,7 +48,7 @@ returns-in-Pass-clause-fitting g c =
 pub returns-in-Pass-clause-counted : goal.returns-in-Pass-clause-counted
 returns-in-Pass-clause-counted g c =
     let e = at c.args.self.now c.args.task.now.place in
-    other_uncounted e.kind c.args.steps.now (passes_is e c.in-Pass.from c.in-Pass.to (sym c.requires.task ∙ c.in-Pass.is)).unit
+    other_uncounted e.kind c.args.steps.now (passes_is e c.in-Pass.from c.in-Pass.to c.requires.worked (sym c.requires.task ∙ c.in-Pass.is)).unit
 
 pub at-requires : goal.at-requires
 at-requires g c = omega (arith, c.requires.jobs.1.counted, c.requires.inside)
@@ -68,7 +57,7 @@ pub render_one-requires-clause-few : goal.render_one-requires-clause-few
 render_one-requires-clause-few g c =
     let place = c.args.task.now.place in
     let sound = c.requires.sound in
-    let renders = renders_is (at c.args.self.now place) c.in-Render.kind c.in-Render.source c.in-Render.id (sym c.requires.task ∙ c.in-Render.is) in
+    let renders = renders_is (at c.args.self.now place) c.in-Render.kind c.in-Render.source c.in-Render.id c.requires.worked (sym c.requires.task ∙ c.in-Render.is) in
     renders_few c.args.self.now c.args.wires.now place sound c.requires.wires c.requires.inside c.requires.signal
     c.in-Render.kind c.in-Render.source c.in-Render.id renders
 
@@ -76,7 +65,7 @@ pub render_one-requires-clause-fits : goal.render_one-requires-clause-fits
 render_one-requires-clause-fits g c =
     let place = c.args.task.now.place in
     let sound = c.requires.sound in
-    let renders = renders_is (at c.args.self.now place) c.in-Render.kind c.in-Render.source c.in-Render.id (sym c.requires.task ∙ c.in-Render.is) in
+    let renders = renders_is (at c.args.self.now place) c.in-Render.kind c.in-Render.source c.in-Render.id c.requires.worked (sym c.requires.task ∙ c.in-Render.is) in
     subst (λ (u : UnitKind). FitsKind u c.at.result.now (samples_on c.args.wires.now c.in-Render.source)) (sym c.unit.ensures.kind)
     (renders_fits c.args.self.now c.args.wires.now place sound c.requires.wires c.requires.inside c.requires.signal
     c.requires.jobs.0 c.in-Render.kind c.in-Render.source c.in-Render.id c.at.result.now renders
@@ -86,7 +75,7 @@ pub render_one-requires-clause-there : goal.render_one-requires-clause-there
 render_one-requires-clause-there g c =
     let place = c.args.task.now.place in
     let sound = c.requires.sound in
-    let renders = renders_is (at c.args.self.now place) c.in-Render.kind c.in-Render.source c.in-Render.id (sym c.requires.task ∙ c.in-Render.is) in
+    let renders = renders_is (at c.args.self.now place) c.in-Render.kind c.in-Render.source c.in-Render.id c.requires.worked (sym c.requires.task ∙ c.in-Render.is) in
     renders_there c.args.self.now c.args.wires.now place sound c.requires.wires c.requires.inside c.requires.signal
     c.requires.jobs.0 c.in-Render.kind c.in-Render.source c.in-Render.id c.at.result.now renders
     (job_of c.args.self.now c.requires.jobs.0 c.args.jobs.now c.at.result.now place c.requires.jobs.1 c.requires.inside c.at.ensures)
@@ -95,14 +84,14 @@ pub render_one-requires-clause-room : goal.render_one-requires-clause-room
 render_one-requires-clause-room g c =
     let place = c.args.task.now.place in
     let sound = c.requires.sound in
-    let renders = renders_is (at c.args.self.now place) c.in-Render.kind c.in-Render.source c.in-Render.id (sym c.requires.task ∙ c.in-Render.is) in
+    let renders = renders_is (at c.args.self.now place) c.in-Render.kind c.in-Render.source c.in-Render.id c.requires.worked (sym c.requires.task ∙ c.in-Render.is) in
     omega (arith, c.requires.room, unit_counted (at c.args.self.now place).kind c.in-Render.kind renders.unit)
 
 pub returns-in-Render-clause-rendered : goal.returns-in-Render-clause-rendered
 returns-in-Render-clause-rendered g c controls are =
     let place = c.args.task.now.place in
     let sound = c.requires.sound in
-    let renders = renders_is (at c.args.self.now place) c.in-Render.kind c.in-Render.source c.in-Render.id (sym c.requires.task ∙ c.in-Render.is) in
+    let renders = renders_is (at c.args.self.now place) c.in-Render.kind c.in-Render.source c.in-Render.id c.requires.worked (sym c.requires.task ∙ c.in-Render.is) in
     rendered_at c.args.self.now controls place (at c.args.self.now place) c.args.wires.now c.render_one.new.self refl renders.signal
     (renders_set c.args.self.now c.args.wires.now place sound c.requires.wires c.requires.inside c.requires.signal
     controls c.in-Render.kind c.in-Render.source c.in-Render.id c.at.result.now c.render_one.new.self renders
@@ -113,7 +102,7 @@ pub returns-in-Render-clause-fitting : goal.returns-in-Render-clause-fitting
 returns-in-Render-clause-fitting g c =
     let place = c.args.task.now.place in
     let sound = c.requires.sound in
-    let renders = renders_is (at c.args.self.now place) c.in-Render.kind c.in-Render.source c.in-Render.id (sym c.requires.task ∙ c.in-Render.is) in
+    let renders = renders_is (at c.args.self.now place) c.in-Render.kind c.in-Render.source c.in-Render.id c.requires.worked (sym c.requires.task ∙ c.in-Render.is) in
     let controls = c.requires.jobs.0 in
     fitting_at c.args.self.now controls (at c.args.self.now place) c.args.wires.now c.render_one.new.self c.requires.wires
     (wire_at c.args.self.now c.args.wires.now place (at c.args.self.now place) sound c.requires.wires c.requires.inside c.requires.signal refl)
@@ -126,7 +115,7 @@ pub returns-in-Render-clause-counted : goal.returns-in-Render-clause-counted
 returns-in-Render-clause-counted g c =
     let place = c.args.task.now.place in
     let sound = c.requires.sound in
-    let renders = renders_is (at c.args.self.now place) c.in-Render.kind c.in-Render.source c.in-Render.id (sym c.requires.task ∙ c.in-Render.is) in
+    let renders = renders_is (at c.args.self.now place) c.in-Render.kind c.in-Render.source c.in-Render.id c.requires.worked (sym c.requires.task ∙ c.in-Render.is) in
     omega (arith, c.render_one.ensures.counted, unit_counted (at c.args.self.now place).kind c.in-Render.kind renders.unit)
 
 pub render_by-requires-clause-job : goal.render_by-requires-clause-job
