@@ -9,8 +9,12 @@ use crate::channels::fit;
 use crate::counting::Steps;
 use crate::jobs::{Job, Pins, UnitKind};
 use crate::rendering::Unit;
+use uac_gain::laws::unity_changes_nothing;
 use uac_gain::{saturate, scale};
 use uac_pcm::Frame;
+
+/// A gain of 0 decibels.
+const UNITY: u32 = 1073741824;
 
 /// A mixer (Audio Class 2.0, 3.13.3): each output is the saturated sum of all inputs, each scaled by its node's gain.
 #[derive(Drop)]
@@ -136,7 +140,7 @@ fn render_feature(job: &Job, inputs: &[i32], out: &mut [i32])
     let gains = job.gains.as_slice();
     for channel in 0..out.len() {
         let own = scaled_input(inputs, channel, gains[2 * channel]);
-        out[channel] = scale(own, gains[2 * channel + 1]);
+        out[channel] = scaled_by(own, gains[2 * channel + 1]);
     }
 }
 
@@ -206,5 +210,17 @@ fn scaled_input(inputs: &[i32], at: usize, gain: u32) -> i32
     requires { at < length inputs.now }
     ensures { result ≡ scaled (input inputs.now at) gain }
 {
-    scale(inputs[at], gain)
+    scaled_by(inputs[at], gain)
+}
+
+/// A sample, scaled by a gain. Most gains are 0 decibels, which changes none.
+fn scaled_by(sample: i32, gain: u32) -> i32
+    ensures { result ≡ scaled sample gain }
+{
+    if gain == UNITY {
+        unity_changes_nothing();
+        sample
+    } else {
+        scale(sample, gain)
+    }
 }

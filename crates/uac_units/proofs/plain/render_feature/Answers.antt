@@ -12,7 +12,7 @@ loop-channel-preserved c =
     let gains = c.as_slice-gains.result.now in
     one_more (pins_sample Feature c.args.job.now c.args.inputs.now) c.args.job.now.outputs channel c.loop-channel.out _ (omega arith)
     c.loop-channel.invariant
-    (to_z-of_z w32 c.scale.result (record { sfits = c.scale.type_inv }) ∙ c.scale.ensures
+    (to_z-of_z w32 c.scaled_by.result (record { sfits = c.scaled_by.type_inv }) ∙ c.scaled_by.ensures
     ∙ ap (λ z. scaled z (get_or gains (2 * channel + 1) 0))
     (to_z-of_z w32 c.scaled_input-own.result (record { sfits = c.scaled_input-own.type_inv }) ∙ c.scaled_input-own.ensures)
     ∙ ap (λ (gs : List ℕ). scaled (scaled (input c.args.inputs.now channel) (get_or gs (2 * channel) 0)) (get_or gs (2 * channel + 1) 0)) c.as_slice-gains.ensures.value)
