@@ -1,8 +1,9 @@
 -- What a meter's value is bounded by.
-use Rattle.std.proofs.Common.{arith, ℕ, ◌^◌, ◌<◌, ◌≤◌, ℤ, List}
+use Rattle.std.proofs.Common.{◌≡◌, arith, ℕ, ◌+◌, ◌^◌, ◌<◌, ◌≤◌, cond, if◌then◌else◌, max, ℤ, pos, List, [], ◌∷◌, count_by, get_or, length, unsigned_abs}
+use Rattle.std.specs.List.{sum_by}
 use Rattle.uac_units.specs.declared.hearing.MeterKind.{MeterKind}
 use Rattle.uac_units.specs.declared.hearing.MeterKind.TheVariants.{Peak, Clipped, Sum}
-use Rattle.uac_units.specs.Hearing.{heard}
+use Rattle.uac_units.specs.Hearing.{heard, is_clipped, peak_of}
 
 pub heard-rises : (kind : MeterKind) (value : ℕ) (frame : List ℤ) → value < 2 ^ 64 → value ≤ heard kind value frame
 heard-rises Peak value frame h = omega arith
@@ -13,3 +14,24 @@ pub heard-fits : (kind : MeterKind) (value : ℕ) (frame : List ℤ) → heard k
 heard-fits Peak value frame = omega arith
 heard-fits Clipped value frame = omega arith
 heard-fits Sum value frame = omega arith
+
+-- ---- frames of two samples
+
+pub two_peak : (xs : List ℤ) → length xs ≡ 2 → max (unsigned_abs (get_or xs 0 (pos 0))) (unsigned_abs (get_or xs 1 (pos 0))) ≡ peak_of xs
+two_peak (x ∷ y ∷ []) two = omega arith
+two_peak [] two = absurd (omega (arith, two))
+two_peak (x ∷ []) two = absurd (omega (arith, two))
+two_peak (x ∷ y ∷ z ∷ xs) two = absurd (omega (arith, two))
+
+pub two_clipped : (xs : List ℤ) → length xs ≡ 2
+    → (if is_clipped (get_or xs 0 (pos 0)) then 1 else 0) + (if is_clipped (get_or xs 1 (pos 0)) then 1 else 0) ≡ count_by is_clipped xs
+two_clipped (x ∷ y ∷ []) two = omega arith
+two_clipped [] two = absurd (omega (arith, two))
+two_clipped (x ∷ []) two = absurd (omega (arith, two))
+two_clipped (x ∷ y ∷ z ∷ xs) two = absurd (omega (arith, two))
+
+pub two_added : (xs : List ℤ) → length xs ≡ 2 → unsigned_abs (get_or xs 0 (pos 0)) + unsigned_abs (get_or xs 1 (pos 0)) ≡ sum_by unsigned_abs xs
+two_added (x ∷ y ∷ []) two = omega arith
+two_added [] two = absurd (omega (arith, two))
+two_added (x ∷ []) two = absurd (omega (arith, two))
+two_added (x ∷ y ∷ z ∷ xs) two = absurd (omega (arith, two))

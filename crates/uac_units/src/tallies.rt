@@ -1,6 +1,6 @@
 //! The three meters.
 
-ghost use Rattle.std.specs.Prelude.{◌≡◌, ◌≤◌, unsigned_abs, count_by, length};
+ghost use Rattle.std.specs.Prelude.{◌≡◌, ◌≤◌, ◌<◌, if◌then◌else◌, unsigned_abs, count_by, length, slice_index_or, pos};
 ghost use Rattle.std.specs.List.{sum_by};
 ghost use Rattle.uac_units.specs.Hearing as spec;
 ghost use Rattle.uac_units.specs.Hearing.{is_clipped};
@@ -105,10 +105,16 @@ impl Meter for SumMeter {
     }
 }
 
-// The greatest absolute sample of a frame.
+// The greatest absolute sample of a frame. Most frames have two samples.
+#[tactic(auto, using(crate::proofs::Tallying::two_peak))]
 fn peak_of(samples: &[i32]) -> u32
     ensures { result ≡ spec.peak_of samples.now }
 {
+    if samples.len() == 2 {
+        let left = size_at(samples, 0);
+        let right = size_at(samples, 1);
+        return left.max(right);
+    }
     let mut peak = 0;
     for sample in samples {
         peak = peak.max(sample.unsigned_abs());
@@ -117,10 +123,16 @@ fn peak_of(samples: &[i32]) -> u32
 }
 
 // How many samples of a frame stand at full scale.
+#[tactic(auto, using(crate::proofs::Tallying::two_clipped))]
 fn clipped_among(samples: &[i32]) -> u32
     requires { length samples.now ≤ 32 }
     ensures { result ≡ count_by is_clipped samples.now }
 {
+    if samples.len() == 2 {
+        let left = clips_at(samples, 0);
+        let right = clips_at(samples, 1);
+        return left + right;
+    }
     let mut clipped = 0;
     for sample in samples {
         if *sample == i32::MAX || *sample == i32::MIN {
@@ -131,13 +143,41 @@ fn clipped_among(samples: &[i32]) -> u32
 }
 
 // The absolute samples of a frame together.
+#[tactic(auto, using(crate::proofs::Tallying::two_added))]
 fn sum_of(samples: &[i32]) -> u64
     requires { length samples.now ≤ 32 }
     ensures { result ≡ sum_by unsigned_abs samples.now }
 {
+    if samples.len() == 2 {
+        let left = size_at(samples, 0);
+        let right = size_at(samples, 1);
+        return left as u64 + right as u64;
+    }
     let mut sum = 0;
     for sample in samples {
         sum += sample.unsigned_abs() as u64;
     }
     sum
+}
+
+// The sample at a place without its sign.
+fn size_at(samples: &[i32], at: usize) -> u32
+    requires { at < length samples.now }
+    ensures { result ≡ unsigned_abs (slice_index_or samples.now at (pos 0)) }
+{
+    samples[at].unsigned_abs()
+}
+
+// One where the sample at a place stands at full scale, else none.
+fn clips_at(samples: &[i32], at: usize) -> u32
+    requires { at < length samples.now }
+    ensures clipped { result ≡ (if is_clipped (slice_index_or samples.now at (pos 0)) then 1 else 0) }
+    ensures small { result ≤ 1 }
+{
+    let sample = samples[at];
+    if sample == i32::MAX || sample == i32::MIN {
+        1
+    } else {
+        0
+    }
 }
