@@ -1,5 +1,5 @@
 -- What a meter's value is bounded by.
-use Rattle.std.proofs.Common.{◌≡◌, arith, ℕ, ◌+◌, ◌^◌, ◌<◌, ◌≤◌, cond, if◌then◌else◌, max, ℤ, pos, List, [], ◌∷◌, count_by, get_or, length, unsigned_abs}
+use Rattle.std.proofs.Common.{◌≡◌, arith, ℕ, ◌+◌, ◌^◌, ◌<◌, ◌≤◌, if◌then◌else◌, max, ℤ, pos, List, [], ◌∷◌, count_by, get_or, length, unsigned_abs}
 use Rattle.std.specs.List.{sum_by}
 use Rattle.uac_units.specs.declared.hearing.MeterKind.{MeterKind}
 use Rattle.uac_units.specs.declared.hearing.MeterKind.TheVariants.{Peak, Clipped, Sum}
