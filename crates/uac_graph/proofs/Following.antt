@@ -1,5 +1,5 @@
 -- The tasks of an order, one after the other. Between them stand input terminals, for which nothing is done.
-use Rattle.std.proofs.Common.{◌≡◌, ◌∙◌, sym, ap, subst, refl, arith, ℕ, zero, suc, ◌+◌, ◌-◌, ◌<◌, ◌≤◌, Bool, true, false, not, cond, if◌then◌else◌, ℤ, List, [], ◌∷◌, ◌++◌, length, get_or, map, take, drop, ◌⊎◌, inl, inr}
+use Rattle.std.proofs.Common.{◌≡◌, ◌∙◌, sym, ap, subst, refl, arith, ℕ, zero, suc, ◌+◌, ◌-◌, ◌<◌, ◌≤◌, Bool, true, false, not, cond, ℤ, List, [], ◌∷◌, ◌++◌, length, get_or, map, take, drop, ◌⊎◌, inl, inr}
 use Rattle.std.specs.Prelude.{filter}
 use Rattle.std.proofs.lemmas.List.{append-nil, drop_all, drop_more, map-append}
 use Rattle.std.proofs.lemmas.List.Elements.{filter_more}
@@ -18,7 +18,7 @@ use Rattle.uac_graph.specs.declared.tasks.Task.{Task}
 use Rattle.uac_graph.specs.declared.tasks.Work.TheVariants.{Pass}
 use Rattle.uac_graph.proofs.CarriedOut.{input_uncounted}
 use Rattle.uac_graph.proofs.InOrder.{kept_at, step_rendered}
-use Rattle.uac_graph.proofs.NeedsLemmas.{units_end, units_left, units_next}
+use Rattle.uac_graph.proofs.NeedsLemmas.{units_left, units_next}
 
 either : (b : Bool) → (b ≡ true) ⊎ (b ≡ false)
 either true = inl refl

@@ -1,7 +1,6 @@
 use Rattle.std.proofs.Common.{◌≡◌, ◌∙◌, ◌+◌, ◌<◌, ap, sym, arith, subst, false, ℕ, length}
 use Rattle.uac_topology_rules.specs.Table.{at}
 use Rattle.uac_topology_rules.specs.Links.{is_clock}
-use Rattle.uac_graph.specs.Needs.{unit_count}
 use Rattle.uac_graph.specs.Orders.{frame_after}
 use Rattle.uac_graph.specs.Wiring.{samples_on}
 use Rattle.uac_graph.proofs.Following.{next_counted, next_of, skips_last}
