@@ -84,7 +84,9 @@ impl Meter for ClippedMeter {
 
     #[tactic(auto, unfolding(crate::specs::Hearing::after_hearing))]
     fn hear(&mut self, frame: &Frame) {
-        self.value = self.value.saturating_add(clipped_among(frame.as_slice()) as u64);
+        self.value = self
+            .value
+            .saturating_add(clipped_among(frame.as_slice()) as u64);
     }
 }
 
