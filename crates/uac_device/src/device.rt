@@ -277,8 +277,7 @@ impl Device {
         sound_functions_are_small();
         interfaces_are_numbered();
         entities_have_channels();
-        let met = self.lanes.met(domain);
-        self.lanes.give(domain, &mut self.wires);
+        let met = self.lanes.begin(domain, &mut self.wires);
         self.graph
             .tick_by(domain, &self.derived.jobs, rack, &mut self.wires, steps);
         self.lanes.put(domain, &self.wires);

@@ -31,10 +31,7 @@ pub(crate) fn output_jacks(alloc: Global, entities: &[Entity]) -> Result<Vec<Out
         if !is_output_jack(entity) {
             continue;
         }
-        match jacks.push(jack_of(entity)) {
-            Ok(()) => {}
-            Err(_) => return Err(NoMemory),
-        }
+        jacks.push(jack_of(entity))?;
     }
     Ok(jacks)
 }
@@ -53,7 +50,8 @@ fn jack_of(entity: &Entity) -> OutputJack
 pub(crate) fn hear(jacks: &[OutputJack], wires: &Wires, domain: u8, meters: &mut Meters)
     requires { (entities : List Entity) × AreWiresOf entities wires.now }
     ensures { readings (λ v x. (⟦<dyn Meter as Meter>⟧ v).reading_of x) meters.new
-        ≡ after_frames (spec.frames_heard wires.now domain jacks.now) (readings (λ v x. (⟦<dyn Meter as Meter>⟧ v).reading_of x) meters.old) }
+        ≡ after_frames (spec.frames_heard wires.now domain jacks.now)
+        (readings (λ v x. (⟦<dyn Meter as Meter>⟧ v).reading_of x) meters.old) }
 {
     for jack in jacks {
         if let Some(frame) = heard_frame(jack, wires, domain) {

@@ -1,11 +1,11 @@
 -- What a tick puts on the wires, lane by lane.
-use Rattle.std.proofs.Common.{◌≡◌, ◌∙◌, sym, ap, subst, ℕ, ◌+◌, ◌<◌, ◌≤◌, if◌then◌else◌, ℤ, pos, List, [], ◌∷◌, ◌++◌, Option, Some, None, length, get_or, replicate, take}
+use Rattle.std.proofs.Common.{◌≡◌, ◌∙◌, sym, refl, ap, subst, ℕ, ◌+◌, ◌<◌, ◌≤◌, ◌==◌, ◌&&◌, not, Bool, true, false, is_some, if◌then◌else◌, ℤ, pos, List, [], ◌∷◌, ◌++◌, Option, Some, None, length, get_or, replicate, take}
 use Rattle.std.specs.List.{fold}
 use Rattle.std.specs.Option.{option_map}
 use Rattle.std.proofs.lemmas.List.{take_all, take_more, map-append}
 use Rattle.std.proofs.lemmas.List.Sums.{fold-append}
 use Rattle.uac_graph.specs.Wiring.{Frames, frame_on, silence}
-use Rattle.uac_flow.specs.Streams.{InStream, OutStream}
+use Rattle.uac_flow.specs.Streams.{InStream, OutStream, is_dry, next_taken, out_level}
 use Rattle.uac_lanes.specs.declared.lane.Port.{Port}
 use Rattle.uac_lanes.specs.declared.lane.Lane.{Lane}
 use Rattle.uac_lanes.specs.Lanes.{KeepsLane, KeepsStreams, frame_given, given_by, gives_to, ports}
@@ -49,3 +49,12 @@ hushed None channels fits = cc
 hushed (Some samples) channels fits =
     let as_many : length samples ≡ channels = cc in
     ap (λ (n : ℕ). Some (silence n)) as_many
+
+-- a stream that gives a frame isn't dry
+pub frame_not_dry : (o : OutStream) (frame : List ℤ) → next_taken o ≡ Some frame → is_dry o ≡ false
+frame_not_dry o frame is = by (is_some o.target) (out_level o == 0) (get_or o.arrived o.taken []) is
+  where
+    by : (a b : Bool) (next : List ℤ) → (if a && not (a && b) then Some next else None) ≡ Some frame → (a && b) ≡ false
+    by true true next is = cc
+    by true false next is = refl
+    by false b next is = refl

@@ -3,3 +3,4 @@ pub mod LaneLemmas
 pub mod LanesLemmas
 pub mod TurnedLanes
 pub mod LaneFrames
+pub mod MetLanes

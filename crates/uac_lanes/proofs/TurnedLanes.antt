@@ -1,15 +1,14 @@
 -- Lanes that change one after the other.
-use Rattle.std.proofs.Common.{◌≡◌, ◌∙◌, sym, refl, ap, subst, arith, ℕ, zero, suc, ◌+◌, ◌-◌, ◌*◌, ◌^◌, ◌<◌, ◌≤◌, ◌==◌, Bool, true, false, if◌then◌else◌, ℤ, List, [], ◌∷◌, Option, Some, None, length, get_or, map, set, drop, unwrap_or, inl, inr}
+use Rattle.std.proofs.Common.{◌≡◌, ◌∙◌, sym, refl, ap, subst, arith, ℕ, suc, ◌+◌, ◌<◌, ◌≤◌, ◌==◌, Bool, false, if◌then◌else◌, ℤ, List, [], ◌∷◌, Option, Some, None, length, get_or, map, set, unwrap_or, inl, inr}
 use Rattle.std.specs.List.{All}
 use Rattle.std.specs.Option.{option_map}
 use Rattle.std.proofs.lemmas.Bool.{cases_eq}
-use Rattle.std.proofs.lemmas.List.{drop_all, drop_more, get_or_default, get_or-map, get_or-set_other, get_or-set_same, length-map, length-set}
-use Rattle.std.proofs.lemmas.Nat.{pow-add}
+use Rattle.std.proofs.lemmas.List.{get_or_default, get_or-map, get_or-set_other, get_or-set_same, length-map, length-set}
 use Rattle.uac_graph.specs.Wiring.{Frames, frame_on, samples_on}
 use Rattle.uac_flow.specs.Streams.{InStream, OutStream, after_putting, after_taking, after_ticks}
 use Rattle.uac_lanes.specs.declared.lane.Flow.{Flow}
 use Rattle.uac_lanes.specs.declared.lane.Flow.TheVariants as flow
-use Rattle.uac_lanes.specs.InterfaceStreams.{bits_of, changed_where}
+use Rattle.uac_lanes.specs.InterfaceStreams.{changed_where}
 use Rattle.uac_lanes.specs.declared.lane.Port.{Port}
 use Rattle.uac_lanes.specs.declared.lane.Lane.{Lane}
 use Rattle.uac_lanes.specs.Lanes.{IsFlow, IsLane, KeepsFlow, KeepsLane, KeepsStreams, Turns, counted_on, lane_at, ports, put_on, taken_on}
@@ -207,64 +206,3 @@ put_keeps domain wires now old at turned past sound on played outs ins all there
           (port_holds (λ p. p.out ≡ false → 1 ≤ p.channels → frame_on wires p.terminal ≡ Some (played p.interface)) old l k there below is),
     ))
     (λ n none. none) (λ n none. changed_none (on n) (after_putting (played n)) (ins n) none)
-
--- ---- what a tick meets
-
--- one lane in front of those that were asked
-pub met_more : (test : Port → Bool) (lanes : List Lane) (at : ℕ) (l : Lane) (found : Bool) (bits : ℕ) → at < length lanes → l ≡ get_or lanes at l → found ≡ test l.port
-    → bits ≡ bits_of (map test (drop (at + 1) (ports lanes))) → (if found then 1 else 0) + 2 * bits ≡ bits_of (map test (drop at (ports lanes)))
-unfolding bits_of
-met_more test lanes at l found bits below read is so_far =
-    let own : get_or (ports lanes) at l.port ≡ l.port = get_or-map (λ (m : Lane). m.port) lanes at l l.port below ∙ sym (ap (λ (m : Lane). m.port) read) in
-    ap (λ (b : Bool). (if b then 1 else 0) + 2 * bits) is
-    ∙ ap (λ (n : ℕ). (if test l.port then 1 else 0) + 2 * n) so_far
-    ∙ ap (λ (p : Port). (if test p then 1 else 0) + 2 * bits_of (map test (drop (at + 1) (ports lanes)))) (sym own)
-    ∙ ap (λ (ps : List Port). bits_of (map test ps)) (sym (drop_more (ports lanes) at l.port (omega (arith, below, length-map lanes (λ (m : Lane). m.port)))))
-
-pub met_nothing : (test : Port → Bool) (lanes : List Lane) → 0 ≡ bits_of (map test (drop (length lanes) (ports lanes)))
-unfolding bits_of
-met_nothing test lanes = ap (λ (ps : List Port). bits_of (map test ps)) (sym (drop_all (length lanes) (ports lanes) (omega (arith, length-map lanes (λ (m : Lane). m.port)))))
-
-pub met_further : (test : Port → Bool) (lanes : List Lane) (at : ℕ) (l : Lane) (found : Bool) (bits more : ℕ) → 0 < at → at ≤ length lanes → l ≡ get_or lanes (at - 1) l
-    → found ≡ test l.port → bits ≡ bits_of (map test (drop at (ports lanes))) → more ≡ (if found then 1 else 0) + 2 * bits
-    → more ≡ bits_of (map test (drop (at - 1) (ports lanes)))
-met_further test lanes at l found bits more some inside read is so_far grown =
-    let next : at ≡ at - 1 + 1 = omega (arith, some) in
-    grown ∙ met_more test lanes (at - 1) l found bits (omega (arith, some, inside)) read is (so_far ∙ ap (λ (n : ℕ). bits_of (map test (drop n (ports lanes)))) next)
-
-pub met_all : (test : Port → Bool) (lanes : List Lane) (at bits : ℕ) → at ≡ 0 → bits ≡ bits_of (map test (drop at (ports lanes))) → bits ≡ bits_of (map test (ports lanes))
-met_all test lanes at bits none so_far = so_far ∙ ap (λ (n : ℕ). bits_of (map test (drop n (ports lanes)))) none
-
--- what a lane at a place keeps
-pub keeps_at : (lanes : List Lane) (outs : ℕ → Option OutStream) (ins : ℕ → Option InStream) (at : ℕ) (l : Lane) → KeepsStreams lanes outs ins → at < length lanes → l ≡ get_or lanes at l
-    → KeepsLane l (outs l.port.interface) (ins l.port.interface)
-keeps_at lanes outs ins at l keeps below read =
-    subst (λ (m : Lane). KeepsLane m (outs m.port.interface) (ins m.port.interface)) (sym read) (keeps.each at l below)
-
--- as many bits as lanes
-pub few_bits : (bits count : ℕ) (found : Bool) → bits < 2 ^ count → (if found then 1 else 0) + 2 * bits < 2 ^ (count + 1)
-few_bits bits count found few = by found
-  where
-    double : 2 ^ (count + 1) ≡ 2 ^ count * 2 ^ 1
-    double = pow-add 2 count 1
-
-    by : (b : Bool) → (if b then 1 else 0) + 2 * bits < 2 ^ (count + 1)
-    by true = omega (arith, few, double)
-    by false = omega (arith, few, double)
-
-pub few_further : (bits more size at : ℕ) (found : Bool) → 0 < at → at ≤ size → bits < 2 ^ (size - at) → more ≡ (if found then 1 else 0) + 2 * bits → more < 2 ^ (size - (at - 1))
-few_further bits more size at found some inside few grown =
-    let next : size - at + 1 ≡ size - (at - 1) = omega (arith, some, inside) in
-    subst (λ (n : ℕ). n < 2 ^ (size - (at - 1))) (sym grown)
-    (subst (λ (n : ℕ). (if found then 1 else 0) + 2 * bits < 2 ^ n) next (few_bits bits (size - at) found few))
-
-pub room_for_bits : (bits count : ℕ) → bits < 2 ^ count → count ≤ 7 → bits ≤ 127
-room_for_bits bits zero few most = omega (arith, few)
-room_for_bits bits (suc zero) few most = omega (arith, few)
-room_for_bits bits (suc (suc zero)) few most = omega (arith, few)
-room_for_bits bits (suc (suc (suc zero))) few most = omega (arith, few)
-room_for_bits bits (suc (suc (suc (suc zero)))) few most = omega (arith, few)
-room_for_bits bits (suc (suc (suc (suc (suc zero))))) few most = omega (arith, few)
-room_for_bits bits (suc (suc (suc (suc (suc (suc zero)))))) few most = omega (arith, few)
-room_for_bits bits (suc (suc (suc (suc (suc (suc (suc zero))))))) few most = omega (arith, few)
-room_for_bits bits (suc (suc (suc (suc (suc (suc (suc (suc count)))))))) few most = absurd (omega (arith, most))

@@ -1,11 +1,11 @@
 // What the device keeps of a streaming interface.
-ghost use Rattle.std.specs.Prelude.{◌≡◌, ◌≤◌, ℕ, Option, Some, [], true, if◌then◌else◌, length, replicate, pos, IfOk, IfSome};
+ghost use Rattle.std.specs.Prelude.{◌≡◌, ◌==◌, ◌&&◌, ℕ, Option, Some, [], false, if◌then◌else◌, length, unwrap_or, IfOk, IfSome};
 ghost use Rattle.std.specs.Option.{option_and_then, option_map, option_map_or};
 ghost use Rattle.uac_alt.specs.Streams.{stream_fields};
-ghost use Rattle.uac_graph.specs.Wiring.{frame_on, samples_on};
-ghost use Rattle.uac_flow.specs.Flows.{CanRun, ZerosFit};
+ghost use Rattle.uac_graph.specs.Wiring.{frame_on, samples_on, silence};
+ghost use Rattle.uac_flow.specs.Flows.{CanRun, IsOutFlow, KeepsOut, ZerosFit};
 ghost use Rattle.uac_flow.specs.Streams.{InStream, OutStream, after_packet, after_sending, after_taking, arrival_of, feedback_of};
-ghost use Rattle.uac_flow.specs.Streams.{next_taken, sent_frames, sent_packet, settled_in, settled_out};
+ghost use Rattle.uac_flow.specs.Streams.{is_dry, next_taken, sent_frames, sent_packet, settled_in, settled_out};
 ghost use Rattle.uac_flow.specs.declared.arrival.Arrival.TheVariants as arrival;
 ghost use Rattle.uac_lanes.specs.InterfaceStreams.{either_due, in_from, level_in, out_from};
 ghost use Rattle.uac_lanes.specs.Lanes.{FitsPort, IsFlow, IsLane, KeepsFlow, KeepsLane, Turns, WiredIn, WiredOut, counted_on, found_dry};
@@ -16,7 +16,7 @@ use uac_alt::Stream;
 use uac_descriptor::NoMemory;
 use uac_flow::{Arrival, InFlow, OutFlow};
 use uac_graph::Wires;
-use uac_pcm::{Frame, Packet};
+use uac_pcm::Packet;
 use uac_ring::Ring;
 
 /// A streaming interface, and the terminal of the bus to which it links: its id, its clock and its channels (Audio Class 2.0, 4.9.2).
@@ -44,6 +44,13 @@ pub struct Lane {
     pub port: Port,
     pub ring: Ring,
     pub flow: Flow,
+}
+
+/// What a tick finds of a lane: a ring that is empty, of a primed stream to the device, or one that is full, of a stream from it.
+#[derive(Clone, Copy)]
+pub(crate) struct Found {
+    pub(crate) dry: bool,
+    pub(crate) full: bool,
 }
 
 impl Lane {
@@ -180,51 +187,39 @@ impl Lane {
         }
     }
 
-    /// A tick of a domain: a terminal of the bus in the domain takes the next frame of its stream, or silence where there is none, and
-    /// puts it on its wire.
-    #[tactic(auto, using(crate::proofs::LaneFrames::hushed))]
-    pub(crate) fn give(&mut self, domain: u8, wires: &mut Wires)
+    /// A tick of a domain begins: a terminal of the bus in the domain takes the next frame of its stream, or silence where there is none,
+    /// and puts it on its wire. Answers what the tick finds.
+    pub(crate) fn begin(&mut self, domain: u8, wires: &mut Wires) -> Found
         requires sound { IsLane self.old }
         requires wired { WiredIn wires.old self.old.port }
         ensures turns { Turns (taken_on domain self.old.port) (λ in_. in_) self.old self.new }
+        ensures dry { (out : Option OutStream) (in_ : Option InStream) → KeepsLane self.old out in_
+            → result.dry ≡ found_dry domain out self.old.port }
+        ensures full { (out : Option OutStream) (in_ : Option InStream) → KeepsLane self.old out in_
+            → result.full ≡ found_full domain in_ self.old.port }
         ensures frame { (out : Option OutStream) (in_ : Option InStream) → KeepsLane self.old out in_
             → (id : ℕ) → frame_on wires.new id
             ≡ (if gives_to domain id self.old.port then Some (frame_given out self.old.port) else frame_on wires.old id) }
         ensures lengths { (id : ℕ) → option_map length (frame_on wires.new id) ≡ option_map length (frame_on wires.old id) }
         ensures sound { IsLane self.new }
     {
-        if !self.port.out || self.port.clock != domain {
-            return;
+        let port = self.port;
+        if port.clock != domain {
+            return nothing_found();
         }
-        match self.next_frame() {
-            Some(frame) => wires.set(self.port.terminal, frame),
-            None => wires.silence(self.port.terminal),
-        }
-        self.go_on();
-    }
-
-    // The next frame of the stream to the device, lent, where it is primed and its ring has one.
-    fn next_frame(&self) -> Option<&Frame>
-        requires { IsLane self.now }
-        ensures frame { (out : Option OutStream) (in_ : Option InStream) → KeepsLane self.now out in_
-            → option_map (λ frame. frame.now.items) result ≡ option_and_then next_taken out }
-        ensures channels { IfSome result (λ frame. length frame.now.items ≡ self.now.port.channels) }
-    {
-        match &self.flow {
-            Flow::Out(flow) => flow.next(&self.ring),
-            Flow::Idle | Flow::In(_) => None,
-        }
-    }
-
-    // That frame was taken.
-    fn go_on(&mut self)
-        requires { IsLane self.old }
-        ensures turns { Turns (option_map after_taking) (λ in_. in_) self.old self.new }
-        ensures sound { IsLane self.new }
-    {
         match &mut self.flow {
-            Flow::Out(flow) => flow.go_on(&mut self.ring),
-            Flow::Idle | Flow::In(_) => {}
+            Flow::Idle => {
+                rest(port, wires);
+                nothing_found()
+            }
+            Flow::Out(flow) => Found {
+                dry: take_next(flow, &mut self.ring, port.terminal, wires),
+                full: false,
+            },
+            Flow::In(flow) => Found {
+                dry: false,
+                full: flow.is_full(&self.ring),
+            },
         }
     }
 
@@ -246,29 +241,58 @@ impl Lane {
             Flow::Idle | Flow::Out(_) => {}
         }
     }
+}
 
-    /// Whether the next tick of a domain finds its ring empty: that of a primed stream to the device.
-    pub(crate) fn is_dry(&self, domain: u8) -> bool
-        ensures { (out : Option OutStream) (in_ : Option InStream) → KeepsLane self.now out in_
-            → result ≡ found_dry domain out self.now.port }
-    {
-        self.port.clock == domain
-            && match &self.flow {
-                Flow::Out(flow) => flow.is_dry(&self.ring),
-                Flow::Idle | Flow::In(_) => false,
-            }
+// The terminal of an interface that runs no stream puts silence on its wire, where it gives frames.
+#[tactic(auto, using(crate::proofs::LaneFrames::hushed))]
+fn rest(port: Port, wires: &mut Wires)
+    requires { WiredIn wires.old port }
+    ensures frame { (id : ℕ) → frame_on wires.new id
+        ≡ (if port.out && port.terminal == id then Some (silence port.channels) else frame_on wires.old id) }
+    ensures lengths { (id : ℕ) → option_map length (frame_on wires.new id) ≡ option_map length (frame_on wires.old id) }
+{
+    if port.out {
+        wires.silence(port.terminal);
     }
+}
 
-    /// Whether the next tick of a domain finds its ring full: that of a stream from the device.
-    pub(crate) fn is_full(&self, domain: u8) -> bool
-        ensures { (out : Option OutStream) (in_ : Option InStream) → KeepsLane self.now out in_
-            → result ≡ found_full domain in_ self.now.port }
-    {
-        self.port.clock == domain
-            && match &self.flow {
-                Flow::In(flow) => flow.is_full(&self.ring),
-                Flow::Idle | Flow::Out(_) => false,
-            }
+// A tick that finds nothing.
+fn nothing_found() -> Found
+    ensures dry { result.dry ≡ false }
+    ensures full { result.full ≡ false }
+{
+    Found {
+        dry: false,
+        full: false,
+    }
+}
+
+// The terminal of a stream to the device takes its next frame, or silence where there is none, and puts it on its wire. Answers whether
+// the tick finds the stream dry.
+#[tactic(auto, using(crate::proofs::LaneFrames::hushed, crate::proofs::LaneFrames::frame_not_dry))]
+fn take_next(flow: &mut OutFlow, ring: &mut Ring, terminal: u8, wires: &mut Wires) -> bool
+    requires sound { IsOutFlow ring.old flow.old }
+    requires wired { option_map length (frame_on wires.old terminal) ≡ Some flow.old.stream.format.channels }
+    ensures stands { (o : OutStream) → KeepsOut ring.old flow.old o → KeepsOut ring.new flow.new (after_taking o) }
+    ensures dry { (o : OutStream) → KeepsOut ring.old flow.old o → result ≡ is_dry o }
+    ensures frame { (o : OutStream) → KeepsOut ring.old flow.old o → (id : ℕ) → frame_on wires.new id
+        ≡ (if terminal == id then Some (unwrap_or (next_taken o) (silence flow.old.stream.format.channels)) else frame_on wires.old id) }
+    ensures lengths { (id : ℕ) → option_map length (frame_on wires.new id) ≡ option_map length (frame_on wires.old id) }
+    ensures sound { IsOutFlow ring.new flow.new }
+    ensures stream { flow.new.stream ≡ flow.old.stream }
+{
+    match flow.next(ring) {
+        Some(frame) => {
+            wires.set(terminal, frame);
+            flow.go_on(ring);
+            false
+        }
+        None => {
+            wires.silence(terminal);
+            let dry = flow.is_dry(ring);
+            flow.go_on(ring);
+            dry
+        }
     }
 }
 

@@ -1,5 +1,5 @@
 // One tick of a clock domain, lane by lane.
-ghost use Rattle.std.specs.Prelude.{◌≡◌, ◌≤◌, ◌+◌, ◌*◌, ◌==◌, if◌then◌else◌, ℕ, ℤ, Bool, Option, Some, List, true, false, length};
+ghost use Rattle.std.specs.Prelude.{◌≡◌, ◌≤◌, ◌+◌, ◌==◌, if◌then◌else◌, ℕ, ℤ, Bool, Option, Some, List, false, length};
 ghost use Rattle.std.specs.List.{All};
 ghost use Rattle.std.specs.Option.{option_map};
 ghost use Rattle.uac_graph.specs.Wiring.{frame_on};
@@ -29,18 +29,13 @@ impl Lanes {
         count(&mut self.list, domain, ticks);
     }
 
-    /// What a tick of a domain meets.
-    pub fn met(&self, domain: u8) -> Ticked
-        requires { length self.now ≤ 8 }
-        ensures { (outs : ℕ → Option OutStream) (ins : ℕ → Option InStream) → KeepsStreams self.now outs ins
-            → result ≡ met_by domain outs ins (ports self.now) }
-    {
-        met(&self.list, domain)
-    }
-
-    /// The terminals of the bus in a domain take the next frames of their streams, or silence, and put them on their wires.
-    pub fn give(&mut self, domain: u8, wires: &mut Wires)
+    /// A tick of a domain begins: its terminals of the bus take the next frames of their streams, or silence, and put them on their wires.
+    /// Answers what the tick meets.
+    pub fn begin(&mut self, domain: u8, wires: &mut Wires) -> Ticked
+        requires few { length self.old ≤ 8 }
         requires wired { All (WiredIn wires.old) (ports self.old) }
+        ensures met { (outs : ℕ → Option OutStream) (ins : ℕ → Option InStream) → KeepsStreams self.old outs ins
+            → result ≡ met_by domain outs ins (ports self.old) }
         ensures stands { (on : ℕ → Bool) (outs : ℕ → Option OutStream) (ins : ℕ → Option InStream)
             → All (λ p. on p.interface ≡ (p.clock == domain)) (ports self.old) → KeepsStreams self.old outs ins
             → KeepsStreams self.new (changed_where on (λ interface. after_taking) outs) ins }
@@ -49,7 +44,7 @@ impl Lanes {
         ensures lengths { (id : ℕ) → option_map length (frame_on wires.new id) ≡ option_map length (frame_on wires.old id) }
         ensures ports { ports self.new ≡ ports self.old }
     {
-        give(&mut self.list, domain, wires);
+        begin(&mut self.list, domain, wires)
     }
 
     /// The streams from the terminals of a domain take the frames that these played.
@@ -80,34 +75,13 @@ fn count(lanes: &mut [Lane], domain: u8, ticks: u32)
     }
 }
 
-// What a tick of a domain meets.
-fn met(lanes: &[Lane], domain: u8) -> Ticked
-    requires { length lanes.now ≤ 8 }
-    ensures { (outs : ℕ → Option OutStream) (ins : ℕ → Option InStream) → KeepsStreams lanes.now outs ins
-        → result ≡ met_by domain outs ins (ports lanes.now) }
-{
-    let mut under = 0;
-    let mut over = 0;
-    for at in (0..lanes.len()).rev() {
-        let lane = &lanes[at];
-        under = with_lowest(under, lane.is_dry(domain));
-        over = with_lowest(over, lane.is_full(domain));
-    }
-    Ticked { under, over }
-}
-
-// Bits, each a place higher, with this one below them.
-fn with_lowest(bits: u8, lowest: bool) -> u8
-    requires { bits ≤ 127 }
-    ensures { result ≡ (if lowest then 1 else 0) + 2 * bits }
-{
-    2 * bits + u8::from(lowest)
-}
-
-// The terminals of the bus in a domain take the next frames of their streams, or silence.
-fn give(lanes: &mut [Lane], domain: u8, wires: &mut Wires)
+// The terminals of the bus in a domain take the next frames of their streams, or silence. Answers what the tick meets.
+fn begin(lanes: &mut [Lane], domain: u8, wires: &mut Wires) -> Ticked
+    requires few { length lanes.old ≤ 8 }
     requires sound { All IsLane lanes.old }
     requires wired { All (WiredIn wires.old) (ports lanes.old) }
+    ensures met { (outs : ℕ → Option OutStream) (ins : ℕ → Option InStream) → KeepsStreams lanes.old outs ins
+        → result ≡ met_by domain outs ins (ports lanes.old) }
     ensures stands { (on : ℕ → Bool) (outs : ℕ → Option OutStream) (ins : ℕ → Option InStream)
         → All (λ p. on p.interface ≡ (p.clock == domain)) (ports lanes.old) → KeepsStreams lanes.old outs ins
         → KeepsStreams lanes.new (changed_where on (λ interface. after_taking) outs) ins }
@@ -117,8 +91,35 @@ fn give(lanes: &mut [Lane], domain: u8, wires: &mut Wires)
     ensures ports { ports lanes.new ≡ ports lanes.old }
     ensures sound { All IsLane lanes.new }
 {
+    let mut bit: u16 = 1;
+    let mut under: u16 = 0;
+    let mut over: u16 = 0;
     for lane in lanes.iter_mut() {
-        lane.give(domain, wires);
+        let found = lane.begin(domain, wires);
+        under = with_bit(under, bit, found.dry);
+        over = with_bit(over, bit, found.full);
+        bit = 2 * bit;
+    }
+    told(under, over)
+}
+
+// These bits, and one above them where it was found.
+fn with_bit(bits: u16, bit: u16, found: bool) -> u16
+    requires { bits + bit ≤ 65535 }
+    ensures { result ≡ bits + (if found then bit else 0) }
+{
+    if found { bits + bit } else { bits }
+}
+
+// What a tick met, by a bit for each interface.
+fn told(under: u16, over: u16) -> Ticked
+    requires under { under ≤ 255 }
+    requires over { over ≤ 255 }
+    ensures { result ≡ record { under = under; over = over } }
+{
+    Ticked {
+        under: under as u8,
+        over: over as u8,
     }
 }
 

@@ -1,0 +1,75 @@
+-- What a tick meets, lane by lane.
+use Rattle.std.proofs.Common.{◌≡◌, ◌∙◌, sym, refl, ap, subst, arith, ℕ, zero, suc, ◌+◌, ◌*◌, ◌^◌, ◌<◌, ◌≤◌, Bool, true, false, if◌then◌else◌, List, [], ◌∷◌, ◌++◌, Option, length, get_or, map, take}
+use Rattle.std.proofs.Math.Nat.{pow-suc}
+use Rattle.std.proofs.lemmas.List.{length-map, length-take-le, map-append, take_all, take_more}
+use Rattle.std.proofs.lemmas.Nat.{pow-add}
+use Rattle.uac_flow.specs.Streams.{InStream, OutStream}
+use Rattle.uac_lanes.specs.InterfaceStreams.{bits_of}
+use Rattle.uac_lanes.specs.declared.lane.Port.{Port}
+use Rattle.uac_lanes.specs.declared.lane.Lane.{Lane}
+use Rattle.uac_lanes.specs.Lanes.{KeepsLane, KeepsStreams, ports}
+
+-- one bit above the others
+pub bits_more : (bits : List Bool) (b : Bool) → bits_of (bits ++ b ∷ []) ≡ bits_of bits + (if b then 2 ^ length bits else 0)
+unfolding bits_of
+bits_more [] true = refl
+bits_more [] false = refl
+bits_more (true ∷ bits) true = omega (arith, bits_more bits true, pow-suc 2 (length bits))
+bits_more (false ∷ bits) true = omega (arith, bits_more bits true, pow-suc 2 (length bits))
+bits_more (true ∷ bits) false = omega (arith, bits_more bits false)
+bits_more (false ∷ bits) false = omega (arith, bits_more bits false)
+
+-- before the first lane
+pub met_none : (test : Port → Bool) (lanes : List Lane) → 0 ≡ bits_of (map test (ports (take 0 lanes)))
+unfolding bits_of
+met_none test lanes = refl
+
+-- one lane more
+pub met_more : (test : Port → Bool) (lanes : List Lane) (at : ℕ) (d l : Lane) (found : Bool) (bits weight more : ℕ) → at < length lanes → l ≡ get_or lanes at d → found ≡ test l.port
+    → weight ≡ 2 ^ at → bits ≡ bits_of (map test (ports (take at lanes))) → more ≡ bits + (if found then weight else 0)
+    → more ≡ bits_of (map test (ports (take (at + 1) lanes)))
+met_more test lanes at d l found bits weight more below read is heavy so_far grown =
+    let here : List Bool = map test (ports (take at lanes)) in
+    let longer : map test (ports (take (at + 1) lanes)) ≡ here ++ test (get_or lanes at d).port ∷ [] =
+    ap (λ (ls : List Lane). map test (ports ls)) (take_more lanes at d below)
+    ∙ ap (map test) (map-append (λ (m : Lane). m.port) (take at lanes) (get_or lanes at d ∷ []))
+    ∙ map-append test (ports (take at lanes)) ((get_or lanes at d).port ∷ []) in
+    let sized : length here ≡ at =
+    length-map (ports (take at lanes)) test ∙ length-map (take at lanes) (λ (m : Lane). m.port) ∙ length-take-le at lanes (omega (arith, below)) in
+    grown
+    ∙ ap (λ (n : ℕ). n + (if found then weight else 0)) so_far
+    ∙ ap (λ (b : Bool). bits_of here + (if b then weight else 0)) (is ∙ ap (λ (m : Lane). test m.port) read)
+    ∙ ap (λ (n : ℕ). bits_of here + (if test (get_or lanes at d).port then n else 0)) (heavy ∙ ap (λ (n : ℕ). 2 ^ n) (sym sized))
+    ∙ sym (bits_more here (test (get_or lanes at d).port))
+    ∙ ap bits_of (sym longer)
+
+-- all lanes
+pub met_all : (test : Port → Bool) (lanes : List Lane) (at bits : ℕ) → length lanes ≤ at → bits ≡ bits_of (map test (ports (take at lanes))) → bits ≡ bits_of (map test (ports lanes))
+met_all test lanes at bits past so_far = so_far ∙ ap (λ (ls : List Lane). bits_of (map test (ports ls))) (take_all at lanes past)
+
+-- what a lane at a place keeps
+pub keeps_here : (lanes : List Lane) (outs : ℕ → Option OutStream) (ins : ℕ → Option InStream) (at : ℕ) (d l : Lane) → KeepsStreams lanes outs ins → at < length lanes
+    → l ≡ get_or lanes at d → KeepsLane l (outs l.port.interface) (ins l.port.interface)
+keeps_here lanes outs ins at d l keeps below read =
+    subst (λ (m : Lane). KeepsLane m (outs m.port.interface) (ins m.port.interface)) (sym read) (keeps.each at d below)
+
+-- the bits stay below the next one
+pub few_more : (bits weight more : ℕ) (found : Bool) → bits < weight → more ≡ bits + (if found then weight else 0) → more < 2 * weight
+few_more bits weight more true few grown = omega (arith, few, grown)
+few_more bits weight more false few grown = omega (arith, few, grown)
+
+pub next_weight : (weight at : ℕ) → weight ≡ 2 ^ at → 2 * weight ≡ 2 ^ (at + 1)
+next_weight weight at is = omega (arith, is, pow-add 2 at 1)
+
+-- eight lanes have eight bits
+pub light : (at : ℕ) → at ≤ 8 → 2 ^ at ≤ 256
+light zero most = omega arith
+light (suc zero) most = omega arith
+light (suc (suc zero)) most = omega arith
+light (suc (suc (suc zero))) most = omega arith
+light (suc (suc (suc (suc zero)))) most = omega arith
+light (suc (suc (suc (suc (suc zero))))) most = omega arith
+light (suc (suc (suc (suc (suc (suc zero)))))) most = omega arith
+light (suc (suc (suc (suc (suc (suc (suc zero))))))) most = omega arith
+light (suc (suc (suc (suc (suc (suc (suc (suc zero)))))))) most = omega arith
+light (suc (suc (suc (suc (suc (suc (suc (suc (suc at))))))))) most = absurd (omega (arith, most))
