@@ -1,4 +1,4 @@
-use Rattle.std.proofs.Common.{◌≡◌, ◌∙◌, ◌+◌, ◌*◌, ◌^◌, ◌<◌, ◌≤◌, ap, arith, get_or, length, map, refl, true, ℕ}
+use Rattle.std.proofs.Common.{◌≡◌, ◌∙◌, ◌^◌, ◌<◌, ◌≤◌, ap, arith, get_or, length, map, refl, ℕ}
 use Rattle.uac_graph.specs.Wiring.{frame_on}
 use Rattle.uac_lanes.specs.declared.ticking.Ticked.{Ticked}
 use Rattle.uac_lanes.specs.InterfaceStreams.{bits_of}
