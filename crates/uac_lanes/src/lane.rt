@@ -204,21 +204,23 @@ impl Lane {
         ensures sound { IsLane self.new }
     {
         let port = self.port;
-        if port.clock != domain {
-            return nothing_found();
-        }
         match &mut self.flow {
             Flow::Idle => {
-                rest(port, wires);
+                rest(port, domain, wires);
                 nothing_found()
             }
-            Flow::Out(flow) => Found {
-                dry: take_next(flow, &mut self.ring, port.terminal, wires),
-                full: false,
-            },
+            Flow::Out(flow) => {
+                if port.clock != domain {
+                    return nothing_found();
+                }
+                Found {
+                    dry: take_next(flow, &mut self.ring, port.terminal, wires),
+                    full: false,
+                }
+            }
             Flow::In(flow) => Found {
                 dry: false,
-                full: flow.is_full(&self.ring),
+                full: port.clock == domain && flow.is_full(&self.ring),
             },
         }
     }
@@ -230,28 +232,30 @@ impl Lane {
         ensures turns { Turns (λ out. out) (put_on domain (samples_on wires.now self.old.port.terminal) self.old.port) self.old self.new }
         ensures sound { IsLane self.new }
     {
-        if self.port.clock != domain {
-            return;
-        }
         match &self.flow {
-            Flow::In(flow) => match wires.get(self.port.terminal) {
-                Some(frame) => flow.put(&mut self.ring, frame),
-                None => {}
-            },
+            Flow::In(flow) => {
+                if self.port.clock != domain {
+                    return;
+                }
+                match wires.get(self.port.terminal) {
+                    Some(frame) => flow.put(&mut self.ring, frame),
+                    None => {}
+                }
+            }
             Flow::Idle | Flow::Out(_) => {}
         }
     }
 }
 
-// The terminal of an interface that runs no stream puts silence on its wire, where it gives frames.
+// At a tick of a domain a terminal of the bus in the domain that gets no stream puts silence on its wire.
 #[tactic(auto, using(crate::proofs::LaneFrames::hushed))]
-fn rest(port: Port, wires: &mut Wires)
+fn rest(port: Port, domain: u8, wires: &mut Wires)
     requires { WiredIn wires.old port }
     ensures frame { (id : ℕ) → frame_on wires.new id
-        ≡ (if port.out && port.terminal == id then Some (silence port.channels) else frame_on wires.old id) }
+        ≡ (if gives_to domain id port then Some (silence port.channels) else frame_on wires.old id) }
     ensures lengths { (id : ℕ) → option_map length (frame_on wires.new id) ≡ option_map length (frame_on wires.old id) }
 {
-    if port.out {
+    if port.out && port.clock == domain {
         wires.silence(port.terminal);
     }
 }
