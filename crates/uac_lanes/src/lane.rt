@@ -178,11 +178,13 @@ impl Lane {
         ensures turns { Turns (counted_on domain ticks self.old.port) (λ in_. in_) self.old self.new }
         ensures sound { IsLane self.new }
     {
-        if self.port.clock != domain {
-            return;
-        }
         match &mut self.flow {
-            Flow::Out(flow) => flow.count(ticks),
+            Flow::Out(flow) => {
+                if self.port.clock != domain {
+                    return;
+                }
+                flow.count(ticks);
+            }
             Flow::Idle | Flow::In(_) => {}
         }
     }
