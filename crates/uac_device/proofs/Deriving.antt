@@ -16,7 +16,7 @@ use Rattle.uac_alt.specs.declared.settings.InterfaceSetting.{InterfaceSetting}
 use Rattle.uac_alt.specs.Settings.{with_setting}
 use Rattle.uac_graph.specs.Controls.{held_in}
 use Rattle.uac_graph.specs.Jobs.{AreSameBut}
-use Rattle.uac_request.specs.Requests.{Held, Owner, after_request, controls_set, first_broken, held_by, high, key_named, left_by, low, owner_of, sent_value, sets_cur, sets_interface}
+use Rattle.uac_request.specs.Requests.{Held, Owner, after_request, controls_set, first_broken, held_by, high, key_named, left_by, owner_of, sent_value, sets_cur, sets_interface}
 use Rattle.uac_request.proofs.Staying.{SameClocks, id_of_named, same_rate}
 use Rattle.uac_request.specs.declared.setup.Setup.{Setup}
 use Rattle.uac_device.specs.Following.{IsDerived, IsLeftBy, IsPace, renewed_pace}

@@ -1,11 +1,10 @@
-use Rattle.std.proofs.Common.{◌≡◌, ◌∙◌, ◌/◌, ap, sym, subst, arith, map, List, ℤ}
+use Rattle.std.proofs.Common.{◌∙◌, ◌/◌, sym, subst, arith, List, ℤ}
 use Rattle.std.specs.List.{All}
 use Rattle.uac_store.specs.declared.keys.Key.{Key}
 use Rattle.uac_entities.specs.declared.entity.Entity.{Entity}
 use Rattle.uac_graph.specs.Controls.{held_in}
 use Rattle.uac_graph.specs.Jobs.{AreJobs}
 use Rattle.uac_device.specs.Following.{IsDerived, IsPace, renewed_pace}
-use Rattle.uac_device.specs.declared.derived.Pace.{Pace}
 use Rattle.uac_device.proofs.Deriving.{renewed_paces, same_paces}
 use Rattle.uac_lanes.proofs.Turning.{turned_back}
 use Rattle.uac_device.proofs.derived.Derived.follow.Goals as goal

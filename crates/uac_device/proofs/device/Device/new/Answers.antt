@@ -3,7 +3,6 @@ use Rattle.std.specs.List.{All}
 use Rattle.uac_request.specs.Requests.{AreSettingsOf}
 use Rattle.uac_device.specs.declared.clocks.Clock.{Clock}
 use Rattle.uac_device.specs.Kept.{IsInRange}
-use Rattle.uac_device.specs.Turns.{resting_clock}
 use Rattle.uac_device.proofs.Kept.{resting_domains, resting_phases, resting_range}
 use Rattle.uac_lanes.specs.Lanes.{ports}
 use Rattle.uac_device.proofs.Played.{fresh_stands}

@@ -1,7 +1,5 @@
 use Rattle.std.proofs.Common.{◌≡◌, ◌∙◌, ◌++◌, ◌<◌, ap, arith, drop, length, map, subst, sym, take, ℕ, List}
 use Rattle.std.specs.List.{All}
-use Rattle.std.specs.Option.{option_and_then}
-use Rattle.uac_clock.specs.Nominal.{nominal_of}
 use Rattle.uac_store.specs.Rates.{rate_of}
 use Rattle.uac_device.specs.declared.clocks.Clock.{Clock}
 use Rattle.uac_device.specs.Kept.{DeviceFields, IsInRange, Stands}
