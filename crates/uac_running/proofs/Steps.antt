@@ -19,7 +19,7 @@ use Rattle.uac_streaming.specs.Kept as streaming
 use Rattle.uac_streaming.specs.Telling.{Telling}
 use Rattle.uac_host.specs.HostWorld.{HostWorld}
 use Rattle.uac_streaming.specs.Kept.{StreamingFields}
-use Rattle.uac_streaming.specs.StreamingWorld.{StreamingWorld, found_counts, found_lines, met_in, numbers}
+use Rattle.uac_streaming.specs.StreamingWorld.{StreamingWorld, found_counts, found_lines, met_in, numbers, numbers_in, numbers_out}
 use Rattle.uac_running.specs.declared.counts.TickCount.{TickCount}
 use Rattle.uac_running.specs.declared.jacks.Jack.{Jack}
 use Rattle.uac_topology.specs.Function.{FunctionFields}
@@ -78,6 +78,8 @@ stands_beside s d e w v stands kept same = record {
   host = stands.host;
   same = stands.same ∙ sym same;
   order = stands.order ∙ ap numbers (sym same);
+  outs = stands.outs ∙ ap numbers_out (sym same);
+  ins = stands.ins ∙ ap numbers_in (sym same);
   met = stands.met ∙ ap (met_in w.met) (sym same);
   steady = stands.steady;
 }

@@ -30,7 +30,7 @@ use Rattle.uac_mixer.specs.ViewWorld.{ViewWorld}
 use Rattle.uac_mixer.specs.declared.link.When.{When}
 use Rattle.uac_mixer.specs.declared.link.When.TheVariants as when
 use Rattle.uac_streaming.specs.Kept as streaming
-use Rattle.uac_streaming.specs.StreamingWorld.{StreamingWorld, followed, met_in, numbers}
+use Rattle.uac_streaming.specs.StreamingWorld.{StreamingWorld, followed, met_in, numbers, numbers_in, numbers_out}
 use Rattle.uac_running.specs.RunningWorld.{RunningWorld, streaming_of}
 use Rattle.uac_running.specs.Transfers.{IsRead, acts, break_at, breaks_before, comes_back, holds_setting, reply_in, streams_follow, transferred, with_break}
 use Rattle.uac_running.specs.Kept.{RunningFields, Stands, counted}
@@ -98,6 +98,8 @@ beside s d e w v stands acted same = record {
   host = stands.host;
   same = stands.same ∙ sym same;
   order = stands.order ∙ ap numbers (sym same);
+  outs = stands.outs ∙ ap numbers_out (sym same);
+  ins = stands.ins ∙ ap numbers_in (sym same);
   met = stands.met ∙ ap (met_in w.met) (sym same);
   steady = stands.steady;
 }

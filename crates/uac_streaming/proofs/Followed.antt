@@ -85,6 +85,8 @@ stopped p d w interface stands of_host = record {
   host = of_host;
   same = stands.same;
   order = stands.order;
+  outs = stands.outs;
+  ins = stands.ins;
   met = stands.met;
   steady = stands.steady;
 }

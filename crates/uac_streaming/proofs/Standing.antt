@@ -1,5 +1,5 @@
 -- What is kept after each event stands for the world after it.
-use Rattle.std.proofs.Common.{◌≡◌, ◌∙◌, sym, refl, ap, subst, ℕ, Bool, true, false, if◌then◌else◌, List, Option, Some, None, Result, Ok, Err, OnOk}
+use Rattle.std.proofs.Common.{◌≡◌, ◌∙◌, sym, refl, ap, subst, ℕ, Bool, true, false, if◌then◌else◌, List, filter, Option, Some, None, Result, Ok, Err, OnOk}
 use Rattle.uac_topology.specs.Function.{FunctionFields}
 use Rattle.uac_rate.specs.Steadiness as steadiness
 use Rattle.uac_device.specs.Kept as devices
@@ -9,21 +9,24 @@ use Rattle.uac_host.specs.HostWorld.{HostWorld, fresh_host}
 use Rattle.uac_host.specs.Calls.{packet_of}
 use Rattle.uac_host.specs.declared.lanes.Lane.{Lane}
 use Rattle.uac_transcript.specs.declared.report.StreamCounts.{StreamCounts}
-use Rattle.uac_streaming.specs.StreamingWorld.{StreamingWorld, counted_at, given_at, met_in, nothing_met, numbers, packet_to, place_of, streaming_start}
+use Rattle.uac_streaming.specs.StreamingWorld.{StreamingWorld, comes_in, counted_at, given_at, goes_out, met_in, nothing_met, numbers, numbers_in, numbers_out, packet_to, place_of, streaming_start}
 use Rattle.uac_streaming.specs.Kept.{StreamingFields, Stands}
 use Rattle.uac_streaming.proofs.Counted.{counts_changed, counts_kept}
 
 -- at the start
-pub stands_start : (function : FunctionFields) (d : devices.DeviceFields) (lanes : List Lane) (order packet : List ℕ) (met : List StreamCounts) (steady : steadiness.SteadyFields)
-    → devices.Stands d (fresh function) → hosts.Stands lanes (fresh_host function) → order ≡ numbers function → met ≡ met_in (λ interface. nothing_met) function
+pub stands_start : (function : FunctionFields) (d : devices.DeviceFields) (lanes : List Lane) (order outs ins packet : List ℕ) (met : List StreamCounts) (steady : steadiness.SteadyFields)
+    → devices.Stands d (fresh function) → hosts.Stands lanes (fresh_host function) → order ≡ numbers function → outs ≡ filter (goes_out function) order → ins ≡ filter (comes_in function) order
+    → met ≡ met_in (λ interface. nothing_met) function
     → steadiness.KeepsGiven steady steadiness.nothing_given
-    → Stands (record { host = lanes; order = order; met = met; steady = steady; packet = packet }) d (streaming_start function)
+    → Stands (record { host = lanes; order = order; outs = outs; ins = ins; met = met; steady = steady; packet = packet }) d (streaming_start function)
 unfolding streaming_start fresh fresh_host
-stands_start function d lanes order packet met steady of_device of_host ordered counts given = record {
+stands_start function d lanes order outs ins packet met steady of_device of_host ordered to from counts given = record {
   device = of_device;
   host = of_host;
   same = refl;
   order = ordered;
+  outs = to ∙ ap (filter (goes_out function)) ordered;
+  ins = from ∙ ap (filter (comes_in function)) ordered;
   met = counts;
   steady = given;
 }
@@ -43,6 +46,8 @@ module _ (p : StreamingFields) (d : devices.DeviceFields) (w : StreamingWorld) (
     host = of_host;
     same = same ∙ stands.same;
     order = stands.order;
+    outs = stands.outs;
+    ins = stands.ins;
     met = stands.met;
     steady = stands.steady;
   }
@@ -56,6 +61,8 @@ module _ (p : StreamingFields) (d : devices.DeviceFields) (w : StreamingWorld) (
     host = of_host;
     same = host_same ∙ stands.same ∙ sym device_same;
     order = stands.order ∙ ap numbers (sym device_same);
+    outs = stands.outs ∙ ap numbers_out (sym device_same);
+    ins = stands.ins ∙ ap numbers_in (sym device_same);
     met = stands.met ∙ ap (met_in w.met) (sym device_same);
     steady = stands.steady;
   }
@@ -68,6 +75,8 @@ module _ (p : StreamingFields) (d : devices.DeviceFields) (w : StreamingWorld) (
     host = stands.host;
     same = stands.same;
     order = stands.order;
+    outs = stands.outs;
+    ins = stands.ins;
     met = stands.met;
     steady = kept;
   }
@@ -80,6 +89,8 @@ module _ (p : StreamingFields) (d : devices.DeviceFields) (w : StreamingWorld) (
     host = stands.host;
     same = stands.same;
     order = stands.order;
+    outs = stands.outs;
+    ins = stands.ins;
     met = is;
     steady = stands.steady;
   }

@@ -1,8 +1,8 @@
 -- The events of a microframe at one interface, from what their parts are seen to do.
-use Rattle.std.proofs.Common.{◌≡◌, ◌∙◌, sym, ap, subst, refl, arith, ℕ, ◌+◌, ◌<◌, ◌≤◌, ◌==◌, ◌&&◌, not, nat_le, Bool, true, false, if◌then◌else◌, ℤ, List, [], ◌∷◌, length, map, filter, get_or, Option, Some, None, is_some, Result, Ok, Err, OnOk}
+use Rattle.std.proofs.Common.{◌≡◌, ◌∙◌, sym, ap, subst, refl, arith, ℕ, ◌+◌, ◌<◌, ◌≤◌, ◌==◌, ◌&&◌, not, nat_le, Bool, true, false, if◌then◌else◌, ℤ, List, [], ◌∷◌, length, map, filter, get_or, Option, Some, None, is_some, Result, Ok, Err, OnOk, inl, inr}
 use Rattle.std.specs.List.{range_with_len}
 use Rattle.std.specs.List.Sorted.{IsStrictlyIncreasing}
-use Rattle.std.proofs.lemmas.Bool.{le-leb}
+use Rattle.std.proofs.lemmas.Bool.{cases_Bool, le-leb}
 use Rattle.std.proofs.lemmas.List.FromFn.{get_or-range_with_len, length-range_with_len}
 use Rattle.std.proofs.lemmas.List.Kept.{AllPairs-from_increasing, IsStrictlyIncreasing-filter}
 use Rattle.std.specs.Option.{option_map_or}
@@ -11,7 +11,7 @@ use Rattle.uac_edges.specs.Writing.{AppendsFront}
 use Rattle.uac_topology.specs.Function.{FunctionFields}
 use Rattle.uac_flow.specs.declared.arrival.Arrival.{Arrival}
 use Rattle.uac_device.specs.Kept as devices
-use Rattle.uac_device.specs.DeviceWorld.{DeviceWorld, ZerosFitIn, arrival_in, feedback_in, frames_in, is_due_in, packet_in, settled}
+use Rattle.uac_device.specs.DeviceWorld.{DeviceWorld, ZerosFitIn, arrival_in, feedback_in, frames_in, is_due_in, packet_in, received, sent, settled}
 use Rattle.uac_host.specs.Kept as hosts
 use Rattle.uac_host.specs.HostWorld.{HostWorld}
 use Rattle.uac_host.specs.Calls.{heard_in, interface_in, size_of}
@@ -19,8 +19,8 @@ use Rattle.uac_script.specs.Phrase.{SaidMark}
 use Rattle.uac_transcript.specs.Transcript.{Said, says_feedback, says_frame, says_in}
 use Rattle.uac_transcript.specs.Printing.{Prints, text_of}
 use Rattle.uac_transcript.proofs.PrintingLemmas.{Prints-after}
-use Rattle.uac_streaming.specs.Telling.{Telling, at_rest, in_turn}
-use Rattle.uac_streaming.specs.StreamingWorld.{StreamingWorld, all_reported, all_settled, comes_in, fetched_lines, goes_out, in_lines, in_packet_turn, in_packets, loses_in, loses_out, loses_report, numbers, out_lines, out_packets, out_turn, packet_fetched, packet_sent, packet_to, report_lines, report_made, report_turn, sent_lines, settled_lines, settled_turn}
+use Rattle.uac_streaming.specs.Telling.{Telling, at_rest, in_turn, told_behind}
+use Rattle.uac_streaming.specs.StreamingWorld.{StreamingWorld, all_reported, all_settled, comes_in, fetched_lines, goes_out, in_lines, in_packet_turn, in_packets, inward_turn, is_in_due, is_out_due, loses_in, loses_out, loses_report, numbers, numbers_in, numbers_out, out_lines, out_packets, out_turn, outward_turn, packet_fetched, packet_sent, packet_to, report_lines, report_made, report_turn, sent_lines, settled_lines, settled_turn}
 use Rattle.uac_streaming.specs.Kept.{StreamingFields, Stands, Tells}
 use Rattle.uac_streaming.proofs.SoFar.{Appends-nothing}
 
@@ -37,9 +37,9 @@ rests told p d old w is stands =
 
 -- ---- packets to the device
 
-module _ (detail interface : ℕ) (losses : List SaidMark) (w : StreamingWorld) (due : Bool) (is : due ≡ (goes_out w.device.function interface && is_due_in w.device interface)) where
-  pub out_rests : due ≡ false → at_rest w ≡ out_turn detail losses interface w
-  unfolding out_turn
+module _ (detail interface : ℕ) (losses : List SaidMark) (w : StreamingWorld) (due : Bool) (is : due ≡ is_due_in w.device interface) where
+  pub out_rests : due ≡ false → at_rest w ≡ outward_turn detail losses interface w
+  unfolding outward_turn
   out_rests idle =
       let lost : Bool = loses_out losses interface in
       let runs : Telling StreamingWorld = record { lines = sent_lines detail lost interface w; world = packet_sent lost interface w } in
@@ -47,12 +47,12 @@ module _ (detail interface : ℕ) (losses : List SaidMark) (w : StreamingWorld) 
 
   pub out_told : {T E : Type 0} (q : StreamingFields) (e : devices.DeviceFields) (old new : Option (List ℕ)) (r : Result T E) (frames : ℕ) (arrival : Arrival) (lost : Bool)
       → due ≡ true → lost ≡ loses_out losses interface → frames ≡ size_of w.host interface → arrival ≡ arrival_in w.device interface (packet_to lost interface w)
-      → Stands q e (packet_sent lost interface w) → Prints old new r (out_lines detail interface frames arrival) → Tells (out_turn detail losses interface w) q e old new r
-  unfolding out_turn
+      → Stands q e (packet_sent lost interface w) → Prints old new r (out_lines detail interface frames arrival) → Tells (outward_turn detail losses interface w) q e old new r
+  unfolding outward_turn
   out_told q e old new r frames arrival lost ran own frames_are arrives stands prints =
       let loses : Bool = loses_out losses interface in
       let runs : Telling StreamingWorld = record { lines = sent_lines detail loses interface w; world = packet_sent loses interface w } in
-      let happens : runs ≡ out_turn detail losses interface w = ap (λ (b : Bool). if b then runs else at_rest w) (sym ran ∙ is) in
+      let happens : runs ≡ outward_turn detail losses interface w = ap (λ (b : Bool). if b then runs else at_rest w) (sym ran ∙ is) in
       let lines : out_lines detail interface frames arrival ≡ sent_lines detail loses interface w =
       ap (λ (n : ℕ). out_lines detail interface n arrival) frames_are
       ∙ ap (out_lines detail interface (size_of w.host interface)) (arrives ∙ ap (λ (b : Bool). arrival_in w.device interface (packet_to b interface w)) own) in
@@ -79,9 +79,9 @@ host_still : (lost : Bool) (interface : ℕ) (w : StreamingWorld) → (packet_fe
 unfolding packet_fetched
 host_still lost interface w = refl
 
-module _ (detail interface : ℕ) (losses : List SaidMark) (w : StreamingWorld) (due : Bool) (is : due ≡ (comes_in w.device.function interface && is_due_in w.device interface)) where
-  pub in_rests : due ≡ false → at_rest w ≡ in_packet_turn detail losses interface w
-  unfolding in_packet_turn
+module _ (detail interface : ℕ) (losses : List SaidMark) (w : StreamingWorld) (due : Bool) (is : due ≡ is_due_in w.device interface) where
+  pub in_rests : due ≡ false → at_rest w ≡ inward_turn detail losses interface w
+  unfolding inward_turn
   in_rests idle =
       let lost : Bool = loses_in losses interface in
       let runs : Telling StreamingWorld = record { lines = fetched_lines detail lost interface w; world = packet_fetched lost interface w } in
@@ -91,12 +91,12 @@ module _ (detail interface : ℕ) (losses : List SaidMark) (w : StreamingWorld) 
       → due ≡ true → lost ≡ loses_in losses interface → frames ≡ frames_in w.device interface → q.packet ≡ packet_in w.device interface
       → Stands q e (packet_fetched lost interface w)
       → ((h : HostWorld) → hosts.Stands q.host h → Prints old new r (in_lines detail lost interface frames (heard_in h interface q.packet)))
-      → Tells (in_packet_turn detail losses interface w) q e old new r
-  unfolding in_packet_turn
+      → Tells (inward_turn detail losses interface w) q e old new r
+  unfolding inward_turn
   in_told q e old new r frames lost ran own frames_are packet stands prints =
       let loses : Bool = loses_in losses interface in
       let runs : Telling StreamingWorld = record { lines = fetched_lines detail loses interface w; world = packet_fetched loses interface w } in
-      let happens : runs ≡ in_packet_turn detail losses interface w = ap (λ (b : Bool). if b then runs else at_rest w) (sym ran ∙ is) in
+      let happens : runs ≡ inward_turn detail losses interface w = ap (λ (b : Bool). if b then runs else at_rest w) (sym ran ∙ is) in
       let lines : in_lines detail lost interface frames (heard_in w.host interface q.packet) ≡ fetched_lines detail loses interface w =
       ap (λ (b : Bool). in_lines detail b interface frames (heard_in w.host interface q.packet)) own
       ∙ ap (λ (n : ℕ). in_lines detail loses interface n (heard_in w.host interface q.packet)) frames_are
@@ -141,6 +141,8 @@ settled_stands p d e w detail interface stands after = record {
   host = stands.host;
   same = stands.same;
   order = stands.order;
+  outs = stands.outs;
+  ins = stands.ins;
   met = stands.met;
   steady = stands.steady;
 }
@@ -211,15 +213,82 @@ module _ (p : StreamingFields) (d e : devices.DeviceFields) (detail interface i 
 
 -- ---- of all interfaces, by number
 
-pub out_packets_are : (detail : ℕ) (losses : List SaidMark) (w : StreamingWorld) (order : List ℕ) → order ≡ numbers w.device.function
-    → in_turn (out_turn detail losses) order w ≡ out_packets detail losses w
-unfolding out_packets
-out_packets_are detail losses w order is = ap (λ (ns : List ℕ). in_turn (out_turn detail losses) ns w) is
+-- where those that a test leaves out rest, and the others do as they do, these alone are told
+in_turn_chosen : {W : Type 0} (Kept : W → Type 0) (own event : ℕ → W → Telling W) (test : ℕ → Bool)
+    → ((n : ℕ) (w : W) → Kept w → test n ≡ true → own n w ≡ event n w) → ((n : ℕ) (w : W) → Kept w → test n ≡ false → at_rest w ≡ event n w)
+    → ((n : ℕ) (w : W) → Kept w → Kept (event n w).world) → (ns : List ℕ) (w : W) → Kept w → in_turn own (filter test ns) w ≡ in_turn event ns w
+unfolding in_turn
+in_turn_chosen Kept own event test does rests keeps [] w kept = refl
+in_turn_chosen {W = W} Kept own event test does rests keeps (n ∷ ns) w kept =
+    elim (cases_Bool (test n)) [
+      | inl chosen ↦
+          rw chosen
+          (ap (λ (told : Telling W). told_behind told.lines (in_turn own (filter test ns) told.world)) (does n w kept chosen)
+          ∙ ap (told_behind (event n w).lines) (in_turn_chosen Kept own event test does rests keeps ns (event n w).world (keeps n w kept)))
+      | inr left ↦
+          rw left
+          (in_turn_chosen Kept own event test does rests keeps ns w kept
+          ∙ ap (λ (told : Telling W). told_behind told.lines (in_turn event ns told.world)) (rests n w kept left))
+    ]
 
-pub in_packets_are : (detail : ℕ) (losses : List SaidMark) (w : StreamingWorld) (order : List ℕ) → order ≡ numbers w.device.function
-    → in_turn (in_packet_turn detail losses) order w ≡ in_packets detail losses w
+-- the function of the world is this
+abbrev IsOf : FunctionFields → StreamingWorld → Type 0
+IsOf function w = w.device.function ≡ function
+
+module _ (function : FunctionFields) (detail : ℕ) (losses : List SaidMark) (interface : ℕ) (w : StreamingWorld) (of : IsOf function w) where
+  outward_does : goes_out function interface ≡ true → outward_turn detail losses interface w ≡ out_turn detail losses interface w
+  unfolding outward_turn out_turn
+  outward_does goes =
+      let lost : Bool = loses_out losses interface in
+      let runs : Telling StreamingWorld = record { lines = sent_lines detail lost interface w; world = packet_sent lost interface w } in
+      ap (λ (b : Bool). if (b && is_due_in w.device interface) then runs else at_rest w) (sym (ap (λ (f : FunctionFields). goes_out f interface) of ∙ goes))
+
+  outward_rests : goes_out function interface ≡ false → at_rest w ≡ out_turn detail losses interface w
+  unfolding out_turn
+  outward_rests stays =
+      let lost : Bool = loses_out losses interface in
+      let runs : Telling StreamingWorld = record { lines = sent_lines detail lost interface w; world = packet_sent lost interface w } in
+      ap (λ (b : Bool). if (b && is_due_in w.device interface) then runs else at_rest w) (sym (ap (λ (f : FunctionFields). goes_out f interface) of ∙ stays))
+
+  outward_keeps : IsOf function (out_turn detail losses interface w).world
+  unfolding out_turn packet_sent received
+  outward_keeps = elim (cases_Bool (is_out_due w interface)) [ inl due ↦ rw due of | inr not_due ↦ rw not_due of ]
+
+  inward_does : comes_in function interface ≡ true → inward_turn detail losses interface w ≡ in_packet_turn detail losses interface w
+  unfolding inward_turn in_packet_turn
+  inward_does comes =
+      let lost : Bool = loses_in losses interface in
+      let runs : Telling StreamingWorld = record { lines = fetched_lines detail lost interface w; world = packet_fetched lost interface w } in
+      ap (λ (b : Bool). if (b && is_due_in w.device interface) then runs else at_rest w) (sym (ap (λ (f : FunctionFields). comes_in f interface) of ∙ comes))
+
+  inward_rests : comes_in function interface ≡ false → at_rest w ≡ in_packet_turn detail losses interface w
+  unfolding in_packet_turn
+  inward_rests stays =
+      let lost : Bool = loses_in losses interface in
+      let runs : Telling StreamingWorld = record { lines = fetched_lines detail lost interface w; world = packet_fetched lost interface w } in
+      ap (λ (b : Bool). if (b && is_due_in w.device interface) then runs else at_rest w) (sym (ap (λ (f : FunctionFields). comes_in f interface) of ∙ stays))
+
+  inward_keeps : IsOf function (in_packet_turn detail losses interface w).world
+  unfolding in_packet_turn packet_fetched sent
+  inward_keeps = elim (cases_Bool (is_in_due w interface)) [ inl due ↦ rw due of | inr not_due ↦ rw not_due of ]
+
+pub out_packets_are : (detail : ℕ) (losses : List SaidMark) (w : StreamingWorld) (outs : List ℕ) → outs ≡ numbers_out w.device.function
+    → in_turn (outward_turn detail losses) outs w ≡ out_packets detail losses w
+unfolding out_packets
+out_packets_are detail losses w outs is =
+    let function = w.device.function in
+    ap (λ (ns : List ℕ). in_turn (outward_turn detail losses) ns w) is
+    ∙ in_turn_chosen (IsOf function) (outward_turn detail losses) (out_turn detail losses) (goes_out function) (outward_does function detail losses)
+    (outward_rests function detail losses) (outward_keeps function detail losses) (numbers function) w refl
+
+pub in_packets_are : (detail : ℕ) (losses : List SaidMark) (w : StreamingWorld) (ins : List ℕ) → ins ≡ numbers_in w.device.function
+    → in_turn (inward_turn detail losses) ins w ≡ in_packets detail losses w
 unfolding in_packets
-in_packets_are detail losses w order is = ap (λ (ns : List ℕ). in_turn (in_packet_turn detail losses) ns w) is
+in_packets_are detail losses w ins is =
+    let function = w.device.function in
+    ap (λ (ns : List ℕ). in_turn (inward_turn detail losses) ns w) is
+    ∙ in_turn_chosen (IsOf function) (inward_turn detail losses) (in_packet_turn detail losses) (comes_in function) (inward_does function detail losses)
+    (inward_rests function detail losses) (inward_keeps function detail losses) (numbers function) w refl
 
 pub all_settled_are : (detail : ℕ) (w : StreamingWorld) (order : List ℕ) → order ≡ numbers w.device.function → in_turn (settled_turn detail) order w ≡ all_settled detail w
 unfolding all_settled

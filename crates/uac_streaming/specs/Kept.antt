@@ -7,13 +7,15 @@ use Rattle.uac_host.specs.declared.lanes.Lane.{Lane}
 use Rattle.uac_transcript.specs.declared.report.StreamCounts.{StreamCounts}
 use Rattle.uac_transcript.specs.Printing.{Prints}
 use Rattle.uac_streaming.specs.Telling.{Telling}
-use Rattle.uac_streaming.specs.StreamingWorld.{StreamingWorld, met_in, numbers}
+use Rattle.uac_streaming.specs.StreamingWorld.{StreamingWorld, met_in, numbers, numbers_in, numbers_out}
 
--- what is kept beside the device: the host, the interfaces by number, what each one's streams met, in block order, whether all was
--- steady, and the last packet
+-- what is kept beside the device: the host, the interfaces by number, and of them those to the device and those from it, what each one's
+-- streams met, in block order, whether all was steady, and the last packet
 pub record StreamingFields : Type 0 where
   pub host : List Lane
   pub order : List ℕ
+  pub outs : List ℕ
+  pub ins : List ℕ
   pub met : List StreamCounts
   pub steady : steadiness.SteadyFields
   pub packet : List ℕ
@@ -24,6 +26,8 @@ pub record Stands (streaming : StreamingFields) (beside : devices.DeviceFields) 
   pub host : hosts.Stands streaming.host w.host
   pub same : w.host.function ≡ w.device.function
   pub order : streaming.order ≡ numbers w.device.function
+  pub outs : streaming.outs ≡ numbers_out w.device.function
+  pub ins : streaming.ins ≡ numbers_in w.device.function
   pub met : streaming.met ≡ met_in w.met w.device.function
   pub steady : steadiness.KeepsGiven streaming.steady w.given
 

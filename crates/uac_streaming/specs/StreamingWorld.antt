@@ -57,6 +57,13 @@ goes_out function interface = option_map_or (λ s. s.out) (interface_in function
 abbrev pub comes_in : FunctionFields → ℕ → Bool
 comes_in function interface = option_map_or (λ s. not s.out) (interface_in function interface) false
 
+-- the numbers of those, and of these, the least first
+abbrev pub numbers_out : FunctionFields → List ℕ
+numbers_out function = filter (goes_out function) (numbers function)
+
+abbrev pub numbers_in : FunctionFields → List ℕ
+numbers_in function = filter (comes_in function) (numbers function)
+
 -- the place of an interface among the streaming ones, in block order
 abbrev pub place_of : FunctionFields → ℕ → Option ℕ
 place_of function interface = position (λ s. s.number == interface) function.streams
@@ -178,6 +185,16 @@ out_turn detail losses interface w =
     }
     else at_rest w
 
+-- of an interface that carries a stream to the device, where that is due
+unfoldable pub outward_turn : ℕ → List SaidMark → ℕ → StreamingWorld → Telling StreamingWorld
+outward_turn detail losses interface w =
+    if is_due_in w.device interface
+    then record {
+      lines = sent_lines detail (loses_out losses interface) interface w;
+      world = packet_sent (loses_out losses interface) interface w;
+    }
+    else at_rest w
+
 -- the packets to the device, by interface number
 unfoldable pub out_packets : ℕ → List SaidMark → StreamingWorld → Telling StreamingWorld
 out_packets detail losses w = in_turn (out_turn detail losses) (numbers w.device.function) w
@@ -212,6 +229,16 @@ in_packet_turn detail losses interface w =
       lines = fetched_lines detail (loses_in losses interface) interface w;
       world = packet_fetched
           (loses_in losses interface) interface w;
+    }
+    else at_rest w
+
+-- of an interface that carries a stream from the device, where that is due
+unfoldable pub inward_turn : ℕ → List SaidMark → ℕ → StreamingWorld → Telling StreamingWorld
+inward_turn detail losses interface w =
+    if is_due_in w.device interface
+    then record {
+      lines = fetched_lines detail (loses_in losses interface) interface w;
+      world = packet_fetched (loses_in losses interface) interface w;
     }
     else at_rest w
 

@@ -12,6 +12,8 @@ mod printing;
 mod streaming;
 /// The events of a microframe, interface by interface, printed.
 mod turns;
+/// Which way the streams of interfaces go.
+mod ways;
 
 pub use streaming::Streaming;
 pub use turns::write_found;

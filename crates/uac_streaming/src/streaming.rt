@@ -14,6 +14,7 @@ ghost use Rattle.uac_streaming.specs.StreamingWorld as spec;
 ghost use Rattle.uac_streaming.specs.Kept.{Stands};
 
 use crate::counts::{after_arrival, nothing_met, one_lost, one_missed, one_over, one_under};
+use crate::ways::{inward, outward};
 use std::alloc::Global;
 use std::marker::Model;
 use uac_alt::Stream;
@@ -31,8 +32,10 @@ use uac_transcript::StreamCounts;
 #[derive(Drop)]
 pub struct Streaming {
     pub(crate) host: Host,
-    /// The numbers of the streaming interfaces, the least first.
+    /// The numbers of the streaming interfaces, the least first, and of these those to the device, and those from it.
     pub(crate) order: Vec<u8>,
+    pub(crate) outs: Vec<u8>,
+    pub(crate) ins: Vec<u8>,
     /// What the streams of each interface met, in block order.
     met: Vec<StreamCounts>,
     steady: Steady,
@@ -46,7 +49,7 @@ impl Model for Streaming {
 
     ghost Value = { StreamingFields };
 
-    ghost view = { λ s. record { host = s.host; order = s.order.items; met = s.met.items; steady = s.steady; packet = s.packet.items } };
+    ghost view = { λ s. record { host = s.host; order = s.order.items; outs = s.outs.items; ins = s.ins.items; met = s.met.items; steady = s.steady; packet = s.packet.items } };
 }
 
 /// A packet that was sent to the device: its frames, and how it arrived.
@@ -64,10 +67,14 @@ impl Streaming {
     {
         let host = Host::new(alloc, function)?;
         let order = in_order(alloc, function)?;
+        let outs = outward(alloc, function, &order)?;
+        let ins = inward(alloc, function, &order)?;
         let met = none_met(alloc, function)?;
         Ok(Streaming {
             host,
             order,
+            outs,
+            ins,
             met,
             steady: Steady::new(),
             packet: Packet::new(),
@@ -164,7 +171,7 @@ impl Streaming {
         ensures arrival { (w : StreamingWorld) → Stands self.old device.old w
             → result.arrival ≡ arrival_in w.device interface (packet_to lost interface w) }
         ensures function { device.new.function ≡ device.old.function }
-        ensures order { self.new.order ≡ self.old.order }
+        ensures order { self.new.outs ≡ self.old.outs }
     {
         let frames = self.host.packet(interface, &mut self.packet);
         let arrival = arrive(device, interface, &self.packet, lost);
@@ -179,7 +186,7 @@ impl Streaming {
         ensures frames { (w : StreamingWorld) → Stands self.old device.old w → result ≡ frames_in w.device interface }
         ensures packet { (w : StreamingWorld) → Stands self.old device.old w → self.new.packet ≡ packet_in w.device interface }
         ensures function { device.new.function ≡ device.old.function }
-        ensures order { self.new.order ≡ self.old.order }
+        ensures order { self.new.ins ≡ self.old.ins }
     {
         let frames = device.microframe_in(interface, &mut self.packet);
         self.count_fetched(device.function(), interface, lost);

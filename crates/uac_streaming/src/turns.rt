@@ -5,19 +5,19 @@ ghost use Rattle.uac_script.specs.Line.{said_mark};
 ghost use Rattle.uac_device.specs.DeviceWorld.{DeviceWorld, ZerosFitIn, is_due_in, met_of, settled};
 ghost use Rattle.uac_device.specs.Kept as device_kept;
 ghost use Rattle.uac_transcript.specs.Printing.{Prints};
-ghost use Rattle.uac_streaming.specs.StreamingWorld.{StreamingWorld, all_reported, all_settled, found_lines, in_packet_turn, in_packets};
-ghost use Rattle.uac_streaming.specs.StreamingWorld.{out_packets, out_turn, report_turn, settled_turn};
+ghost use Rattle.uac_streaming.specs.StreamingWorld.{StreamingWorld, all_reported, all_settled, found_lines, in_packets};
+ghost use Rattle.uac_streaming.specs.StreamingWorld.{inward_turn, out_packets, outward_turn, report_turn, settled_turn};
 ghost use Rattle.uac_streaming.specs.StreamingWorld as spec;
 ghost use Rattle.uac_streaming.specs.Kept.{Stands, Tells};
 
 use crate::losses::{loses_in, loses_out, loses_report};
 use crate::printing::{Fetched, write_empty, write_fetched, write_full, write_report, write_sent};
 use crate::streaming::Streaming;
+use crate::ways::goes_out;
 use uac_device::{Device, Ticked};
 use uac_edges::{Failed, Sink};
 use uac_entities::StreamInterface;
 use uac_script::Mark;
-use uac_topology::Function;
 use uac_transcript::write_level;
 
 impl Streaming {
@@ -34,14 +34,14 @@ impl Streaming {
         ensures function { device.new.function ≡ device.old.function }
         ensures cause { HasCause (K.faults sink.old) (K.faults sink.new) result }
     {
-        for at in 0..self.order.len() {
-            let interface = self.order[at];
+        for at in 0..self.outs.len() {
+            let interface = self.outs[at];
             self.out_packet(device, interface, detail, marks, sink)?;
         }
         Ok(())
     }
 
-    /// The packet to the device of an interface, where its stream is due.
+    /// The packet of an interface that carries a stream to the device, where that is due.
     fn out_packet<K: Sink>(
         &mut self,
         device: &mut Device,
@@ -51,13 +51,13 @@ impl Streaming {
         sink: &mut K,
     ) -> Result<(), Failed>
         ensures tells { (w : StreamingWorld) → Stands self.old device.old w
-            → Tells (out_turn detail (map said_mark marks.now) interface w) self.new device.new (K.written sink.old)
+            → Tells (outward_turn detail (map said_mark marks.now) interface w) self.new device.new (K.written sink.old)
             (K.written sink.new) result }
-        ensures order { self.new.order ≡ self.old.order }
+        ensures order { self.new.outs ≡ self.old.outs }
         ensures function { device.new.function ≡ device.old.function }
         ensures cause { HasCause (K.faults sink.old) (K.faults sink.new) result }
     {
-        if !is_out_due(device, interface) {
+        if !device.due(interface) {
             return Ok(());
         }
         let sent = self.send(device, interface, loses_out(marks, interface));
@@ -77,14 +77,14 @@ impl Streaming {
         ensures function { device.new.function ≡ device.old.function }
         ensures cause { HasCause (K.faults sink.old) (K.faults sink.new) result }
     {
-        for at in 0..self.order.len() {
-            let interface = self.order[at];
+        for at in 0..self.ins.len() {
+            let interface = self.ins[at];
             self.in_packet(device, interface, detail, marks, sink)?;
         }
         Ok(())
     }
 
-    /// The packet from the device of an interface, where its stream is due.
+    /// The packet of an interface that carries a stream from the device, where that is due.
     fn in_packet<K: Sink>(
         &mut self,
         device: &mut Device,
@@ -94,13 +94,13 @@ impl Streaming {
         sink: &mut K,
     ) -> Result<(), Failed>
         ensures tells { (w : StreamingWorld) → Stands self.old device.old w
-            → Tells (in_packet_turn detail (map said_mark marks.now) interface w) self.new device.new (K.written sink.old)
+            → Tells (inward_turn detail (map said_mark marks.now) interface w) self.new device.new (K.written sink.old)
             (K.written sink.new) result }
-        ensures order { self.new.order ≡ self.old.order }
+        ensures order { self.new.ins ≡ self.old.ins }
         ensures function { device.new.function ≡ device.old.function }
         ensures cause { HasCause (K.faults sink.old) (K.faults sink.new) result }
     {
-        if !is_in_due(device, interface) {
+        if !device.due(interface) {
             return Ok(());
         }
         let lost = loses_in(marks, interface);
@@ -244,32 +244,4 @@ fn is_out_due(device: &Device, interface: u8) -> bool
         → result ≡ (spec.goes_out w.function interface && is_due_in w interface) }
 {
     goes_out(device.function(), interface) && device.due(interface)
-}
-
-/// Whether an interface runs a stream from the device that is due.
-fn is_in_due(device: &Device, interface: u8) -> bool
-    ensures { (w : DeviceWorld) → device_kept.Stands device.now w
-        → result ≡ (spec.comes_in w.function interface && is_due_in w interface) }
-{
-    comes_in(device.function(), interface) && device.due(interface)
-}
-
-/// Whether an interface carries a stream to the device.
-fn goes_out(function: &Function, interface: u8) -> bool
-    ensures { result ≡ spec.goes_out function.now interface }
-{
-    match function.interface(interface) {
-        Some(stream) => stream.out,
-        None => false,
-    }
-}
-
-/// Whether an interface carries a stream from the device.
-fn comes_in(function: &Function, interface: u8) -> bool
-    ensures { result ≡ spec.comes_in function.now interface }
-{
-    match function.interface(interface) {
-        Some(stream) => !stream.out,
-        None => false,
-    }
 }

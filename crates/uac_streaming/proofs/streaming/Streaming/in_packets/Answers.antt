@@ -4,7 +4,7 @@ use Rattle.uac_edges.specs.Writing.{AppendsFront}
 use Rattle.uac_script.specs.Line.{said_mark}
 use Rattle.uac_transcript.specs.Printing.{text_of}
 use Rattle.uac_streaming.specs.Telling.{Telling, in_turn}
-use Rattle.uac_streaming.specs.StreamingWorld.{StreamingWorld, in_packet_turn}
+use Rattle.uac_streaming.specs.StreamingWorld.{StreamingWorld, inward_turn}
 use Rattle.uac_streaming.specs.Kept.{StreamingFields, Stands}
 use Rattle.uac_streaming.proofs.SoFar.{at_place, begun, turn_more, turn_stopped, turns_finished}
 use Rattle.uac_streaming.proofs.Turned.{in_packets_are}
@@ -14,8 +14,8 @@ use Rattle.uac_streaming.proofs.streaming.Streaming.in_packets.Goals as goal
 pub loop-at-init : goal.loop-at-init
 loop-at-init g c = record {
   told = λ w stands.
-      let event = in_packet_turn c.args.detail (map said_mark c.args.marks.now) in
-      begun (in_turn event c.args.self.now.order w) (in_turn event c.args.self.now.order) (Stands c.args.self.now c.args.device.now) (g.K.Sink.written c.args.sink.now) w stands refl;
+      let event = inward_turn c.args.detail (map said_mark c.args.marks.now) in
+      begun (in_turn event c.args.self.now.ins w) (in_turn event c.args.self.now.ins) (Stands c.args.self.now c.args.device.now) (g.K.Sink.written c.args.sink.now) w stands refl;
   faultless = refl;
   function = refl;
   order = refl;
@@ -23,29 +23,29 @@ loop-at-init g c = record {
 
 pub returns-in_err-in_packet-clause-tells : goal.returns-in_err-in_packet-clause-tells
 returns-in_err-in_packet-clause-tells g c = λ w stands.
-    let event = in_packet_turn c.args.detail (map said_mark c.args.marks.now) in
-    let order = c.args.self.now.order in
-    let many = ap (λ (p : StreamingFields). length p.order) c.self.view_is in
-    let below : c.loop-at.at < length c.args.self.now.order = omega (arith, many, c.len-at-end.ensures, c.self.inside.order.ok.0, c.loop-at-test.true) in
-    let here = at_place order c.self-in-loop-at.inside.order.items c.loop-at.self.order c.loop-at.at c.index-interface.result.now
-    (ap (λ (p : StreamingFields). p.order) c.self-in-loop-at.view_is) c.loop-at.invariant.order below c.index-interface.ensures in
+    let event = inward_turn c.args.detail (map said_mark c.args.marks.now) in
+    let order = c.args.self.now.ins in
+    let many = ap (λ (p : StreamingFields). length p.ins) c.self.view_is in
+    let below : c.loop-at.at < length c.args.self.now.ins = omega (arith, many, c.len-at-end.ensures, c.self.inside.ins.ok.0, c.loop-at-test.true) in
+    let here = at_place order c.self-in-loop-at.inside.ins.items c.loop-at.self.ins c.loop-at.at c.index-interface.result.now
+    (ap (λ (p : StreamingFields). p.ins) c.self-in-loop-at.view_is) c.loop-at.invariant.order below c.index-interface.ensures in
     let all = turn_stopped event order w (Stands c.loop-at.self c.loop-at.device) (Stands c.loop-at.self c.loop-at.device)
     (g.K.Sink.written c.args.sink.now) (g.K.Sink.written c.loop-at.sink) (g.K.Sink.written c.in_packet.new.sink) c.loop-at.at c.index-interface.result.now
     below here (c.loop-at.invariant.told w stands) (λ v s. (c.in_err-in_packet.ensures.tells v s).0) in
     Tells-handed_on _ _ (g.K.Sink.written c.args.sink.now) (g.K.Sink.written c.in_packet.new.sink) c.from_residual.result _ c.from_residual.ensures.1 (
     subst (λ (told : Telling StreamingWorld). AppendsFront (g.K.Sink.written c.args.sink.now) (g.K.Sink.written c.in_packet.new.sink) (text_of told.lines))
-    (in_packets_are c.args.detail (map said_mark c.args.marks.now) w order stands.order) all
+    (in_packets_are c.args.detail (map said_mark c.args.marks.now) w order stands.ins) all
     )
 
 pub loop-at-preserved : goal.loop-at-preserved
 loop-at-preserved g c = record {
   told = λ w stands.
-      let event = in_packet_turn c.args.detail (map said_mark c.args.marks.now) in
-      let order = c.args.self.now.order in
-      let many = ap (λ (p : StreamingFields). length p.order) c.self.view_is in
-      let below : c.loop-at.at < length c.args.self.now.order = omega (arith, many, c.len-at-end.ensures, c.self.inside.order.ok.0, c.loop-at-test.true) in
-      let here = at_place order c.self-in-loop-at.inside.order.items c.loop-at.self.order c.loop-at.at c.index-interface.result.now
-      (ap (λ (p : StreamingFields). p.order) c.self-in-loop-at.view_is) c.loop-at.invariant.order below c.index-interface.ensures in
+      let event = inward_turn c.args.detail (map said_mark c.args.marks.now) in
+      let order = c.args.self.now.ins in
+      let many = ap (λ (p : StreamingFields). length p.ins) c.self.view_is in
+      let below : c.loop-at.at < length c.args.self.now.ins = omega (arith, many, c.len-at-end.ensures, c.self.inside.ins.ok.0, c.loop-at-test.true) in
+      let here = at_place order c.self-in-loop-at.inside.ins.items c.loop-at.self.ins c.loop-at.at c.index-interface.result.now
+      (ap (λ (p : StreamingFields). p.ins) c.self-in-loop-at.view_is) c.loop-at.invariant.order below c.index-interface.ensures in
       turn_more event order w (Stands c.loop-at.self c.loop-at.device) (Stands c.in_packet.new.self c.in_packet.new.device)
       (g.K.Sink.written c.args.sink.now) (g.K.Sink.written c.loop-at.sink) (g.K.Sink.written c.in_packet.new.sink) c.loop-at.at c.index-interface.result.now
       below here (c.loop-at.invariant.told w stands) c.in_ok-in_packet.ensures.tells;
@@ -56,12 +56,12 @@ loop-at-preserved g c = record {
 
 pub returns-clause-tells : goal.returns-clause-tells
 returns-clause-tells g c = λ w stands.
-    let event = in_packet_turn c.args.detail (map said_mark c.args.marks.now) in
-    let order = c.args.self.now.order in
-    let many = ap (λ (p : StreamingFields). length p.order) c.self.view_is in
-    let past : length c.args.self.now.order ≤ c.loop-at.at = omega (arith, many, c.len-at-end.ensures, c.self.inside.order.ok.0, c.loop-at-test.false) in
+    let event = inward_turn c.args.detail (map said_mark c.args.marks.now) in
+    let order = c.args.self.now.ins in
+    let many = ap (λ (p : StreamingFields). length p.ins) c.self.view_is in
+    let past : length c.args.self.now.ins ≤ c.loop-at.at = omega (arith, many, c.len-at-end.ensures, c.self.inside.ins.ok.0, c.loop-at-test.false) in
     let all = turns_finished event order w (Stands c.loop-at.self c.loop-at.device) (g.K.Sink.written c.args.sink.now) (g.K.Sink.written c.loop-at.sink) c.loop-at.at past
     (c.loop-at.invariant.told w stands) in
     subst (λ (told : Telling StreamingWorld). Appends (g.K.Sink.written c.args.sink.now) (g.K.Sink.written c.loop-at.sink) (text_of told.lines)
     × Stands c.loop-at.self c.loop-at.device told.world)
-    (in_packets_are c.args.detail (map said_mark c.args.marks.now) w order stands.order) all
+    (in_packets_are c.args.detail (map said_mark c.args.marks.now) w order stands.ins) all
