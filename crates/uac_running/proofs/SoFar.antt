@@ -34,12 +34,12 @@ pub begun : (Keeps : RunningFields → List Reading → RunningWorld → Type 0)
     → SoFar Keeps whole rest running meters old old
 begun Keeps whole rest running meters old r stands is = record { lines = []; now = r; written = Appends-nothing old; stands = stands; left = is }
 
--- one step more
-pub one_more : (Keeps : RunningFields → List Reading → RunningWorld → Type 0) (whole : Told) (rest next step : RunningWorld → Told) (before after : RunningFields) (shown showing : List Reading) (old mid new : Option (List ℕ))
-    → ((w : RunningWorld) → rest w ≡ with_lines_first (step w).lines (next (step w).world)) → SoFar Keeps whole rest before shown old mid
-    → ((w : RunningWorld) → Keeps before shown w → Appends mid new (text_of (step w).lines) × Keeps after showing (step w).world)
-    → SoFar Keeps whole next after showing old new
-one_more Keeps whole rest next step before after shown showing old mid new splits s tells =
+-- one step more, before and after which this is known
+pub one_more_to : (Before After : RunningFields → List Reading → RunningWorld → Type 0) (whole : Told) (rest next step : RunningWorld → Told) (before after : RunningFields) (shown showing : List Reading) (old mid new : Option (List ℕ))
+    → ((w : RunningWorld) → rest w ≡ with_lines_first (step w).lines (next (step w).world)) → SoFar Before whole rest before shown old mid
+    → ((w : RunningWorld) → Before before shown w → Appends mid new (text_of (step w).lines) × After after showing (step w).world)
+    → SoFar After whole next after showing old new
+one_more_to Before After whole rest next step before after shown showing old mid new splits s tells =
     let t = tells s.now s.stands in
     record {
       lines = s.lines ++ (step s.now).lines;
@@ -48,6 +48,12 @@ one_more Keeps whole rest next step before after shown showing old mid new split
       stands = t.1;
       left = sym (with_lines_first-with_lines_first s.lines (step s.now).lines (next (step s.now).world)) ∙ ap (with_lines_first s.lines) (sym (splits s.now)) ∙ s.left;
     }
+
+pub one_more : (Keeps : RunningFields → List Reading → RunningWorld → Type 0) (whole : Told) (rest next step : RunningWorld → Told) (before after : RunningFields) (shown showing : List Reading) (old mid new : Option (List ℕ))
+    → ((w : RunningWorld) → rest w ≡ with_lines_first (step w).lines (next (step w).world)) → SoFar Keeps whole rest before shown old mid
+    → ((w : RunningWorld) → Keeps before shown w → Appends mid new (text_of (step w).lines) × Keeps after showing (step w).world)
+    → SoFar Keeps whole next after showing old new
+one_more Keeps = one_more_to Keeps Keeps
 
 -- a step that failed: a front of the whole was written
 pub stopped : (Keeps : RunningFields → List Reading → RunningWorld → Type 0) (whole : Told) (rest next step : RunningWorld → Told) (before : RunningFields) (shown : List Reading) (old mid new : Option (List ℕ))

@@ -1,5 +1,5 @@
 -- Each event of a running device, from what its parts are seen to do.
-use Rattle.std.proofs.Common.{◌≡◌, ◌∙◌, sym, ap, subst, refl, arith, ℕ, suc, ◌+◌, ◌-◌, ◌<◌, ◌≤◌, ◌==◌, nat_le, eqb, Bool, if◌then◌else◌, ℤ, List, [], ◌∷◌, ◌++◌, length, map, drop, get_or, Option, Some, Result, Ok, Err, inl, inr, drop-cons, add-one}
+use Rattle.std.proofs.Common.{◌≡◌, ◌∙◌, sym, ap, subst, refl, arith, ℕ, suc, ◌+◌, ◌-◌, ◌<◌, ◌≤◌, ◌==◌, nat_le, eqb, Bool, true, if◌then◌else◌, ℤ, List, [], ◌∷◌, ◌++◌, length, map, drop, get_or, Option, Some, Result, Ok, Err, inl, inr, drop-cons, add-one}
 use Rattle.std.specs.List.{IsDistinct}
 use Rattle.std.proofs.lemmas.Bool.{cases_Bool}
 use Rattle.std.proofs.lemmas.List.{drop_all}
@@ -29,6 +29,7 @@ use Rattle.uac_running.specs.Lines.{played_lines}
 use Rattle.uac_running.specs.Events.{Told, all_given, with_lines_first, domain_microframe, domain_microframes, ends_and_reports, followed_by, given, gone_on, microframe, microframes, next_frame, number_said, of_streams, packets_and_ticks, still, tick, tick_times}
 use Rattle.uac_running.specs.Transfers.{break_at, with_break}
 use Rattle.uac_running.specs.Kept.{RunningFields, Stands, StandsBetween, Tells, TellsBetween, counted, more_counted}
+use Rattle.uac_running.specs.Silence.{AreAtRest}
 use Rattle.uac_running.proofs.Counting.{clocks_of, counted-off, counted-stepped}
 use Rattle.uac_running.proofs.SoFar.{at_ok, front_then, ok_then, tells_behind, tells_then}
 
@@ -236,7 +237,7 @@ module _ (meters : List Reading) (r : RunningWorld) (p q : RunningFields) (stand
   streams_told event old new (Err e) told same jacks counts time detail renders beside = (told.0, tt)
 
 -- giving frames leaves all that setting a jack leaves
-given-kept : {X : Type 0} (f : DeviceWorld → X) → ((terminal : ℕ) (frame : List ℤ) (w : DeviceWorld) → f (set_jack terminal frame w) ≡ f w)
+pub given-kept : {X : Type 0} (f : DeviceWorld → X) → ((terminal : ℕ) (frame : List ℤ) (w : DeviceWorld) → f (set_jack terminal frame w) ≡ f w)
     → (clock : ℕ) (jacks : List Jack) (w : DeviceWorld) → f (given clock jacks w) ≡ f w
 given-kept f keeps clock [] w = refl
 given-kept f keeps clock (j ∷ js) w =
@@ -245,10 +246,16 @@ given-kept f keeps clock (j ∷ js) w =
       | inr other ↦ rw other (given-kept f keeps clock js w)
     ]
 
+-- the jacks of the world gave
+jacks_gave : (rest : Bool) (clock : ℕ) (r : RunningWorld) (jacks : List Jack) (mid : device.DeviceFields) → jacks ≡ r.jacks → (rest ≡ true → AreAtRest clock r.jacks r.device)
+    → ((rest ≡ true → AreAtRest clock jacks r.device) → device.Stands mid (given clock jacks r.device)) → device.Stands mid (given clock r.jacks r.device)
+jacks_gave rest clock r jacks mid are rests gives =
+    subst (λ (js : List Jack). (rest ≡ true → AreAtRest clock js r.device) → device.Stands mid (given clock js r.device)) are gives rests
+
 -- jacks give, the device ticks, meters hear, and what rings were found empty and full is counted
-pub sounded : (clock count : ℕ) (shown showing : List Reading) (r : RunningWorld) (p q : RunningFields) (jacks : List Jack) (mid : device.DeviceFields) (found : Ticked) (f : FunctionFields)
-    → Stands p shown r → jacks ≡ p.jacks → f ≡ q.device.function
-    → ((w : DeviceWorld) → device.Stands p.device w → device.Stands mid (given clock jacks w))
+pub sounded : (rest : Bool) (clock count : ℕ) (shown showing : List Reading) (r : RunningWorld) (p q : RunningFields) (jacks : List Jack) (mid : device.DeviceFields) (found : Ticked) (f : FunctionFields)
+    → Stands p shown r → (rest ≡ true → AreAtRest clock r.jacks r.device) → jacks ≡ p.jacks → f ≡ q.device.function
+    → ((w : DeviceWorld) → device.Stands p.device w → (rest ≡ true → AreAtRest clock jacks w) → device.Stands mid (given clock jacks w))
     → ((w : DeviceWorld) → device.Stands mid w → device.Stands q.device (ticked clock w))
     → ((w : DeviceWorld) → device.Stands mid w → showing ≡ after_frames (heard_of clock (ticked clock w)) shown)
     → ((w : DeviceWorld) → device.Stands mid w → count ≡ renders_of clock w)
@@ -258,9 +265,9 @@ pub sounded : (clock count : ℕ) (shown showing : List Reading) (r : RunningWor
     → q.jacks ≡ gone_on clock jacks → q.counts ≡ p.counts → q.time ≡ p.time → q.detail ≡ p.detail → q.renders ≡ at_most_u64 (p.renders + count)
     → IsBeside p q → Stands q showing (tick clock r).world
 unfolding tick all_given ticked set_jack
-sounded clock count shown showing r p q jacks mid found f stands own is_f gives ticks hears rendered meets finds gone counts time detail renders beside =
+sounded rest clock count shown showing r p q jacks mid found f stands rests own is_f gives ticks hears rendered meets finds gone counts time detail renders beside =
     let all : jacks ≡ r.jacks = own ∙ stands.jacks in
-    let before = subst (λ (js : List Jack). device.Stands mid (given clock js r.device)) all (gives r.device stands.streaming.device) in
+    let before = jacks_gave rest clock r jacks mid all rests (gives r.device stands.streaming.device) in
     let after = ticks (all_given clock r) before in
     let same : (all_given clock r).function ≡ r.device.function = given-kept (λ w. w.function) (λ t frame w. refl) clock r.jacks r.device in
     let here : (all_given clock r).function ≡ f = sym after.function ∙ sym is_f in
@@ -280,12 +287,13 @@ sounded clock count shown showing r p q jacks mid found f stands own is_f gives 
     }
 
 -- what the tick found
-pub sounded_found : (clock : ℕ) (shown : List Reading) (r : RunningWorld) (p : RunningFields) (jacks : List Jack) (mid : device.DeviceFields) (found : Ticked)
-    → Stands p shown r → jacks ≡ p.jacks → ((w : DeviceWorld) → device.Stands p.device w → device.Stands mid (given clock jacks w))
+pub sounded_found : (rest : Bool) (clock : ℕ) (shown : List Reading) (r : RunningWorld) (p : RunningFields) (jacks : List Jack) (mid : device.DeviceFields) (found : Ticked)
+    → Stands p shown r → (rest ≡ true → AreAtRest clock r.jacks r.device) → jacks ≡ p.jacks
+    → ((w : DeviceWorld) → device.Stands p.device w → (rest ≡ true → AreAtRest clock jacks w) → device.Stands mid (given clock jacks w))
     → ((w : DeviceWorld) → device.Stands mid w → found ≡ met_of clock w) → found ≡ met_of clock (all_given clock r)
 unfolding all_given
-sounded_found clock shown r p jacks mid found stands own gives meets =
-    meets (all_given clock r) (subst (λ (js : List Jack). device.Stands mid (given clock js r.device)) (own ∙ stands.jacks) (gives r.device stands.streaming.device))
+sounded_found rest clock shown r p jacks mid found stands rests own gives meets =
+    meets (all_given clock r) (jacks_gave rest clock r jacks mid (own ∙ stands.jacks) rests (gives r.device stands.streaming.device))
 
 -- ---- what is told of an event
 

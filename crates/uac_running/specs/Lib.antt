@@ -6,3 +6,4 @@ pub mod Transfers
 pub mod Events
 -- What the contracts below them cite: steps of the code, no part of what is promised.
 pub mod Kept
+pub mod Silence

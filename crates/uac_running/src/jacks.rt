@@ -7,6 +7,8 @@ ghost use Rattle.uac_device.specs.DeviceWorld.{DeviceWorld};
 ghost use Rattle.uac_device.specs.DeviceWorld as world;
 ghost use Rattle.uac_running.specs.Events.{after_one, given, given_one, gone_on, next_frame};
 ghost use Rattle.uac_running.specs.RunningWorld as spec;
+ghost use Rattle.uac_running.specs.Silence as silence;
+ghost use Rattle.uac_running.specs.Silence.{AreAtRest};
 
 use arrayvec::ArrayVec;
 use std::alloc::Global;
@@ -82,8 +84,53 @@ fn with_tone(jack: Jack, terminal: u8, tone: Tone) -> Jack
     }
 }
 
+/// Whether a jack of a domain gives more than silence.
+pub(crate) fn one_sounds(jacks: &[Jack], clock: u8) -> bool
+    ensures { result ≡ silence.one_sounds clock jacks.now }
+{
+    jacks
+        .iter()
+        .any(|jack| jack.clock == clock && sounds(jack.tone))
+}
+
+fn sounds(tone: Tone) -> bool
+    ensures { result ≡ silence.sounds tone }
+{
+    match tone {
+        Tone::Silent => false,
+        Tone::Ramp { .. } | Tone::Noise { .. } => true,
+    }
+}
+
+/// The jacks of a domain give the device the next frames of their tones. Where they rest, the device has these frames: each is silence, and
+/// so was the last.
+pub(crate) fn next_frames(device: &mut Device, jacks: &mut [Jack], clock: u8, rest: bool)
+    requires kinds { All (λ j. world.is_input_jack (entity device.old.function.entities j.terminal) ≡ true) jacks.old }
+    requires channels { All (λ j. (entity device.old.function.entities j.terminal).cluster.channels ≡ j.channels) jacks.old }
+    requires most { All (λ j. j.channels ≤ 32) jacks.old }
+    ensures stands { (w : DeviceWorld) → Stands device.old w → (rest ≡ true → AreAtRest clock jacks.old w)
+        → Stands device.new (given clock jacks.old w) }
+    ensures jacks { jacks.new ≡ gone_on clock jacks.old }
+    ensures function { device.new.function ≡ device.old.function }
+{
+    if rest {
+        pass_frames(jacks, clock);
+    } else {
+        give_jacks(device, jacks, clock);
+    }
+}
+
+/// The jacks of a domain gave one frame more.
+fn pass_frames(jacks: &mut [Jack], clock: u8)
+    ensures { jacks.new ≡ gone_on clock jacks.old }
+{
+    for passed in jacks.iter_mut() {
+        go_on(passed, clock);
+    }
+}
+
 /// The jacks of a domain give the device the next frames of their tones.
-pub(crate) fn give_jacks(device: &mut Device, jacks: &mut [Jack], clock: u8)
+fn give_jacks(device: &mut Device, jacks: &mut [Jack], clock: u8)
     requires kinds { All (λ j. world.is_input_jack (entity device.old.function.entities j.terminal) ≡ true) jacks.old }
     requires channels { All (λ j. (entity device.old.function.entities j.terminal).cluster.channels ≡ j.channels) jacks.old }
     requires most { All (λ j. j.channels ≤ 32) jacks.old }

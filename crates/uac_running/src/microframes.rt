@@ -1,5 +1,5 @@
 // The microframes of a running device: packets, ticks, and the ends of microframes.
-ghost use Rattle.std.specs.Prelude.{◌≡◌, ◌++◌, ℕ, List, ◌+◌, ◌<◌, nat_le, if◌then◌else◌, [], length, map, slice_index};
+ghost use Rattle.std.specs.Prelude.{◌≡◌, ◌++◌, ℕ, List, ◌+◌, ◌<◌, nat_le, true, false, if◌then◌else◌, [], length, map, slice_index};
 ghost use Rattle.std.specs.List.{All};
 ghost use Rattle.uac_units.specs.Fitting.{IsFitted};
 ghost use Rattle.uac_units.specs.Hearing.{Reading, at_most_u64};
@@ -15,9 +15,11 @@ ghost use Rattle.uac_running.specs.Lines.{played_lines};
 ghost use Rattle.uac_running.specs.Events.{all_given, domain_microframe, domain_microframes, ends_and_reports, microframe, microframes};
 ghost use Rattle.uac_running.specs.Events.{number_said, of_streams, packets_and_ticks, tick, tick_times};
 ghost use Rattle.uac_running.specs.Kept.{Stands, StandsBetween, Tells, TellsBetween};
+ghost use Rattle.uac_running.specs.Silence.{AreAtRest};
+ghost use Rattle.uac_running.specs.Silence as silence;
 
 use crate::counts::count_ticks;
-use crate::jacks::give_jacks;
+use crate::jacks::{next_frames, one_sounds};
 use crate::printing::write_jacks;
 use crate::running::Running;
 use uac_device::Ticked;
@@ -233,7 +235,7 @@ impl Running {
         ticks
     }
 
-    /// So many ticks of a domain.
+    /// So many ticks of a domain. Where its jacks are silent they rest from the second tick on.
     fn ticks<K: Sink>(
         &mut self,
         count: u32,
@@ -249,15 +251,19 @@ impl Running {
         ensures cause { HasCause (K.faults sink.old) (K.faults sink.new) result }
         ensures function { self.new.device.function ≡ self.old.device.function }
     {
+        let silent = !one_sounds(&self.jacks, clock);
+        let mut rest = false;
         for _ticked in 0..count {
-            self.tick(clock, rack, meters, sink)?;
+            self.tick(rest, clock, rack, meters, sink)?;
+            rest = silent;
         }
         Ok(())
     }
 
-    /// One tick of a domain.
+    /// One tick of a domain, whose jacks may rest: each is silent, and gave silence last.
     fn tick<K: Sink>(
         &mut self,
+        rest: bool,
         clock: u8,
         rack: &Rack,
         meters: &mut Meters,
@@ -265,27 +271,32 @@ impl Running {
     ) -> Result<(), Failed>
         requires rack { IsFitted (λ v x. (⟦<dyn Unit as Unit>⟧ v).kind_of x) rack.now }
         ensures tells { (r : RunningWorld) → Stands self.old (readings (λ v x. (⟦<dyn Meter as Meter>⟧ v).reading_of x) meters.old) r
-            → Tells (tick clock r) self.new (readings (λ v x. (⟦<dyn Meter as Meter>⟧ v).reading_of x) meters.new)
+            → (rest ≡ true → AreAtRest clock r.jacks r.device) → Tells (tick clock r) self.new (readings (λ v x. (⟦<dyn Meter as Meter>⟧ v).reading_of x) meters.new)
             (K.written sink.old) (K.written sink.new) result }
+        ensures rests { (meters : List Reading) (r : RunningWorld) → Stands self.old meters r → silence.one_sounds clock r.jacks ≡ false
+            → AreAtRest clock (tick clock r).world.jacks (tick clock r).world.device }
         ensures cause { HasCause (K.faults sink.old) (K.faults sink.new) result }
         ensures function { self.new.device.function ≡ self.old.device.function }
     {
-        let found = self.sound(clock, rack, meters);
+        let found = self.sound(rest, clock, rack, meters);
         self.show(clock, found, sink)
     }
 
-    /// The jacks of a domain give their next frames, the device ticks, and the meters hear its output jacks. The renders are counted, and
-    /// what rings were found empty and full. Answers which.
-    fn sound(&mut self, clock: u8, rack: &Rack, meters: &mut Meters) -> Ticked
+    /// The jacks of a domain give their next frames, unless they rest, the device ticks, and the meters hear its output jacks. The renders are
+    /// counted, and what rings were found empty and full. Answers which.
+    fn sound(&mut self, rest: bool, clock: u8, rack: &Rack, meters: &mut Meters) -> Ticked
         requires rack { IsFitted (λ v x. (⟦<dyn Unit as Unit>⟧ v).kind_of x) rack.now }
         ensures stands { (r : RunningWorld) → Stands self.old (readings (λ v x. (⟦<dyn Meter as Meter>⟧ v).reading_of x) meters.old) r
+            → (rest ≡ true → AreAtRest clock r.jacks r.device)
             → Stands self.new (readings (λ v x. (⟦<dyn Meter as Meter>⟧ v).reading_of x) meters.new) (tick clock r).world }
         ensures found { (r : RunningWorld) → Stands self.old (readings (λ v x. (⟦<dyn Meter as Meter>⟧ v).reading_of x) meters.old) r
-            → result ≡ met_of clock (all_given clock r) }
+            → (rest ≡ true → AreAtRest clock r.jacks r.device) → result ≡ met_of clock (all_given clock r) }
+        ensures rests { (meters : List Reading) (r : RunningWorld) → Stands self.old meters r → silence.one_sounds clock r.jacks ≡ false
+            → AreAtRest clock (tick clock r).world.jacks (tick clock r).world.device }
         ensures function { self.new.device.function ≡ self.old.device.function }
         ensures detail { self.new.detail ≡ self.old.detail }
     {
-        give_jacks(&mut self.device, &mut self.jacks, clock);
+        next_frames(&mut self.device, &mut self.jacks, clock, rest);
         fresh_steps_have_room(self.device.function());
         let mut steps = Steps::new();
         let found = self.device.tick(clock, rack, meters, &mut steps);

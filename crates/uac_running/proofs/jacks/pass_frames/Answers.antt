@@ -1,0 +1,14 @@
+use Rattle.std.proofs.Common.{arith}
+use Rattle.uac_running.specs.Events.{after_one}
+use Rattle.uac_lanes.proofs.Turning.{turned_all, turned_more}
+use Rattle.uac_running.proofs.jacks.pass_frames.Goals as goal
+
+pub loop-passed-preserved : goal.loop-passed-preserved
+loop-passed-preserved c =
+    turned_more (after_one c.args.clock) c.loop-passed.jacks c.args.jacks.now c.loop-passed.passed-index c.go_on.new.jack _
+    (omega (arith, c.loop-passed.invariant.same)) c.loop-passed.invariant c.go_on.ensures
+
+pub returns : goal.returns
+returns c =
+    turned_all (after_one c.args.clock) c.loop-passed.jacks c.args.jacks.now c.loop-passed.passed-index (omega (arith, c.loop-passed.invariant.same))
+    c.loop-passed.invariant

@@ -1,0 +1,6 @@
+use Rattle.uac_running.specs.Events.{after_one}
+use Rattle.uac_lanes.proofs.Turning.{IsTurnedBelow}
+use Rattle.uac_running.proofs.jacks.pass_frames.Given as goal
+
+abbrev pub invariant-loop-passed : goal.invariant-loop-passed
+invariant-loop-passed l = IsTurnedBelow (after_one l.clock) l.jacks l.initial.jacks l.passed-index

@@ -1,0 +1,27 @@
+-- Input jacks that are silent (profile).
+use Rattle.std.specs.Prelude.{◌≡◌, ℕ, ◌==◌, ◌&&◌, Bool, true, false, List}
+use Rattle.std.specs.List.{All, list_any}
+use Rattle.uac_pcm.specs.declared.tones.Tone.{Tone}
+use Rattle.uac_pcm.specs.declared.tones.Tone.TheVariants as tones
+use Rattle.uac_graph.specs.Wiring.{silence}
+use Rattle.uac_device.specs.DeviceWorld.{DeviceWorld}
+use Rattle.uac_running.specs.declared.jacks.Jack.{Jack}
+
+-- a tone is more than silence
+abbrev pub sounds : Tone → Bool
+sounds tones.Silent = false
+sounds (tones.Ramp start step) = true
+sounds (tones.Noise seed) = true
+
+-- of these jacks one of a domain sounds
+abbrev pub one_sounds : ℕ → List Jack → Bool
+one_sounds clock jacks = list_any (λ j. j.clock == clock && sounds j.tone) jacks
+
+-- a jack gave silence last, if it is of a domain
+abbrev pub GaveSilence : ℕ → DeviceWorld → Jack → Type 0
+GaveSilence clock w j = j.clock ≡ clock → w.given j.terminal ≡ silence j.channels
+
+-- each of a domain is silent, and gave silence last
+pub record AreAtRest (clock : ℕ) (jacks : List Jack) (w : DeviceWorld) : Type 0 where
+  pub silent : one_sounds clock jacks ≡ false
+  pub gave : All (GaveSilence clock w) jacks
