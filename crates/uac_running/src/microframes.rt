@@ -49,13 +49,14 @@ impl Running {
             (K.written sink.old) (K.written sink.new) result }
         ensures cause { HasCause (K.faults sink.old) (K.faults sink.new) result }
     {
+        numbers_are_bytes(self.device.function());
         for _passed in 0..count {
             self.microframe(marks, rack, meters, sink)?;
         }
         Ok(())
     }
 
-    /// One microframe.
+    /// One microframe. The numbers of interfaces are bytes.
     fn microframe<K: Sink>(
         &mut self,
         marks: &[Mark],
@@ -64,13 +65,14 @@ impl Running {
         sink: &mut K,
     ) -> Result<(), Failed>
         requires rack { IsFitted (λ v x. (⟦<dyn Unit as Unit>⟧ v).kind_of x) rack.now }
+        requires small { All (λ s. s.number < 256) self.old.device.function.streams }
         ensures tells { (r : RunningWorld) → StandsBetween self.old (readings (λ v x. (⟦<dyn Meter as Meter>⟧ v).reading_of x) meters.old) r
             → TellsBetween (microframe (map said_mark marks.now) r) self.new
             (readings (λ v x. (⟦<dyn Meter as Meter>⟧ v).reading_of x) meters.new)
             (K.written sink.old) (K.written sink.new) result }
         ensures cause { HasCause (K.faults sink.old) (K.faults sink.new) result }
+        ensures function { self.new.device.function ≡ self.old.device.function }
     {
-        numbers_are_bytes(self.device.function());
         self.pass();
         self.write_number(sink)?;
         self.packets_and_ticks(marks, rack, meters, sink)?;
@@ -91,6 +93,7 @@ impl Running {
             (readings (λ v x. (⟦<dyn Meter as Meter>⟧ v).reading_of x) meters.new)
             (K.written sink.old) (K.written sink.new) result }
         ensures cause { HasCause (K.faults sink.old) (K.faults sink.new) result }
+        ensures function { self.new.device.function ≡ self.old.device.function }
     {
         self.out_packets(marks, sink)?;
         self.in_packets(marks, sink)?;
@@ -103,6 +106,7 @@ impl Running {
             → ((interface : ℕ) → ZerosFitIn r.device interface)
             → Tells (ends_and_reports (map said_mark marks.now) r) self.new meters (K.written sink.old) (K.written sink.new) result }
         ensures cause { HasCause (K.faults sink.old) (K.faults sink.new) result }
+        ensures function { self.new.device.function ≡ self.old.device.function }
     {
         self.settle(sink)?;
         self.reports(marks, sink)
@@ -114,6 +118,7 @@ impl Running {
             → Tells (of_streams (out_packets r.detail (map said_mark marks.now)) r) self.new meters
             (K.written sink.old) (K.written sink.new) result }
         ensures cause { HasCause (K.faults sink.old) (K.faults sink.new) result }
+        ensures function { self.new.device.function ≡ self.old.device.function }
     {
         self.streaming
             .out_packets(&mut self.device, self.detail, marks, sink)
@@ -125,6 +130,7 @@ impl Running {
             → Tells (of_streams (in_packets r.detail (map said_mark marks.now)) r) self.new meters
             (K.written sink.old) (K.written sink.new) result }
         ensures cause { HasCause (K.faults sink.old) (K.faults sink.new) result }
+        ensures function { self.new.device.function ≡ self.old.device.function }
     {
         self.streaming
             .in_packets(&mut self.device, self.detail, marks, sink)
@@ -136,6 +142,7 @@ impl Running {
             → ((interface : ℕ) → ZerosFitIn r.device interface)
             → Tells (of_streams (all_settled r.detail) r) self.new meters (K.written sink.old) (K.written sink.new) result }
         ensures cause { HasCause (K.faults sink.old) (K.faults sink.new) result }
+        ensures function { self.new.device.function ≡ self.old.device.function }
     {
         self.streaming.settle(&mut self.device, self.detail, sink)
     }
@@ -146,6 +153,7 @@ impl Running {
             → Tells (of_streams (all_reported r.detail (map said_mark marks.now)) r) self.new meters
             (K.written sink.old) (K.written sink.new) result }
         ensures cause { HasCause (K.faults sink.old) (K.faults sink.new) result }
+        ensures function { self.new.device.function ≡ self.old.device.function }
     {
         self.streaming
             .reports(&self.device, self.detail, marks, sink)
@@ -182,6 +190,7 @@ impl Running {
             (readings (λ v x. (⟦<dyn Meter as Meter>⟧ v).reading_of x) meters.new)
             (K.written sink.old) (K.written sink.new) result }
         ensures cause { HasCause (K.faults sink.old) (K.faults sink.new) result }
+        ensures function { self.new.device.function ≡ self.old.device.function }
     {
         for place in 0..self.domain_count() {
             self.domain_microframe(self.clock_at(place), rack, meters, sink)?;

@@ -1,18 +1,25 @@
-use Rattle.std.proofs.Common.{ap, map, arith, ◌+◌, ◌-◌, ◌∙◌, refl}
+use Rattle.std.proofs.Common.{ap, map, arith, ◌+◌, ◌-◌, ◌∙◌, refl, subst, sym}
 use Rattle.uac_script.specs.Line.{said_mark}
 use Rattle.uac_units.specs.Panel.{readings}
 use Rattle.uac_running.specs.Events.{microframe, microframes}
-use Rattle.uac_running.specs.Kept.{StandsBetween}
+use Rattle.uac_streaming.proofs.RoomOfDevices.{HaveSmallNumbers}
+use Rattle.uac_running.specs.Kept.{RunningFields, StandsBetween}
 use Rattle.uac_running.proofs.SoFar.{begun, finished, one_more, stopped}
 use Rattle.uac_running.proofs.Steps.{microframes_end, microframes_split}
 use Rattle.uac_transcript.proofs.PrintingLemmas.{Tells-handed_on}
 use Rattle.uac_running.proofs.running.Running.microframes.Goals as goal
+
+pub microframe-requires-clause-small : goal.microframe-requires-clause-small
+microframe-requires-clause-small g c =
+    subst HaveSmallNumbers (c.function.ensures ∙ ap (λ (p : RunningFields). p.device.function) c.self.view_is ∙ sym c.loop-passed.invariant.function)
+    c.numbers_are_bytes.ensures
 
 pub loop-passed-init : goal.loop-passed-init
 loop-passed-init g c = record {
   told = λ r stands.
       begun StandsBetween (microframes (map said_mark c.args.marks.now) c.args.count r) (microframes (map said_mark c.args.marks.now) (c.args.count - 0)) c.args.self.now (readings (λ v x. (goal.Meter-dyn g (v, x)).reading_of x) c.args.meters.now) (g.K.Sink.written c.args.sink.now) r stands (ap (λ n. microframes (map said_mark c.args.marks.now) n r) (omega arith));
   faultless = refl;
+  function = refl;
 }
 
 pub returns-in_err-microframe-clause-tells : goal.returns-in_err-microframe-clause-tells
@@ -32,6 +39,7 @@ loop-passed-preserved g c = record {
       (g.K.Sink.written c.args.sink.now) (g.K.Sink.written c.loop-passed.sink) (g.K.Sink.written c.microframe.new.sink)
       (λ w. microframes_split (map said_mark c.args.marks.now) c.args.count c.loop-passed._passed w c.loop-passed-test.true) (c.loop-passed.invariant.told r stands) c.in_ok-microframe.ensures.tells;
   faultless = c.in_ok-microframe.ensures.cause.faultless ∙ c.loop-passed.invariant.faultless;
+  function = c.microframe.ensures.function ∙ c.loop-passed.invariant.function;
 }
 
 pub returns-clause-tells : goal.returns-clause-tells
