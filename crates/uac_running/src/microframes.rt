@@ -280,7 +280,8 @@ impl Running {
     ) -> Result<(), Failed>
         requires rack { IsFitted (λ v x. (⟦<dyn Unit as Unit>⟧ v).kind_of x) rack.now }
         ensures tells { (r : RunningWorld) → Stands self.old (readings (λ v x. (⟦<dyn Meter as Meter>⟧ v).reading_of x) meters.old) r
-            → (rest ≡ true → AreAtRest clock r.jacks r.device) → Tells (tick clock r) self.new (readings (λ v x. (⟦<dyn Meter as Meter>⟧ v).reading_of x) meters.new)
+            → (rest ≡ true → AreAtRest clock r.jacks r.device)
+            → Tells (tick clock r) self.new (readings (λ v x. (⟦<dyn Meter as Meter>⟧ v).reading_of x) meters.new)
             (K.written sink.old) (K.written sink.new) result }
         ensures rests { (meters : List Reading) (r : RunningWorld) → Stands self.old meters r → silence.one_sounds clock r.jacks ≡ false
             → AreAtRest clock (tick clock r).world.jacks (tick clock r).world.device }
@@ -291,8 +292,8 @@ impl Running {
         self.show(clock, found, sink)
     }
 
-    /// The jacks of a domain give their next frames, unless they rest, the device ticks, and the meters hear its output jacks. The renders are
-    /// counted, and what rings were found empty and full. Answers which.
+    /// The jacks of a domain give their next frames, unless they rest, the device ticks, and the meters hear its output jacks. The renders
+    /// are counted, and what rings were found empty and full. Answers which.
     fn sound(&mut self, rest: bool, clock: u8, rack: &Rack, meters: &mut Meters) -> Ticked
         requires rack { IsFitted (λ v x. (⟦<dyn Unit as Unit>⟧ v).kind_of x) rack.now }
         ensures stands { (r : RunningWorld) → Stands self.old (readings (λ v x. (⟦<dyn Meter as Meter>⟧ v).reading_of x) meters.old) r

@@ -49,7 +49,15 @@ impl Model for Streaming {
 
     ghost Value = { StreamingFields };
 
-    ghost view = { λ s. record { host = s.host; order = s.order.items; outs = s.outs.items; ins = s.ins.items; met = s.met.items; steady = s.steady; packet = s.packet.items } };
+    ghost view = { λ s. record {
+      host = s.host;
+      order = s.order.items;
+      outs = s.outs.items;
+      ins = s.ins.items;
+      met = s.met.items;
+      steady = s.steady;
+      packet = s.packet.items;
+    } };
 }
 
 /// A packet that was sent to the device: its frames, and how it arrived.
