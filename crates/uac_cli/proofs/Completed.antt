@@ -85,11 +85,7 @@ module _ (asked : Option Words) (shown : List Reading) (a : Option (List ℕ)) (
   pub unread_whole : Closes no_memory w w' f f' status → IsComplete asked shown a r r' w w' f f' status
   unread_whole closed words bytes outcome is input quiet said = inr (closed_whole no_memory w w' f f' status quiet closed).0
 
-  -- they ask for no command
-  pub unasked_whole : asked ≡ None → IsComplete asked shown a r r' w w' f f' status
-  unasked_whole none words bytes outcome is input quiet said = absurd (let both : None ≡ Some words = sym none ∙ is in cc)
-
-  -- they ask for one, which was done
+  -- they ask for a command, which was done
   pub done_whole : (shown' : List Reading) (b : Option (List ℕ)) → IsCall asked shown shown' a b r r' w w' f f' status → (status ≡ statuses.WriteFault → Rose f f')
       → IsComplete asked shown a r r' w w' f f' status
   done_whole shown' b (inl answered) cause words bytes outcome is input quiet said =

@@ -7,6 +7,7 @@ pub mod Composing
 pub mod Cutting
 pub mod Following
 pub mod Going
+pub mod HandingOn
 pub mod Idle
 pub mod ScriptLemmas
 pub mod LivedLemmas

@@ -1,5 +1,5 @@
 -- What a line of a script comes to, and what stops its lines.
-use Rattle.std.specs.Prelude.{◌≡◌, ℕ, Bool, List, Option, Result, IfErr, OnOk}
+use Rattle.std.specs.Prelude.{◌≡◌, ◌≢◌, ℕ, ◌⊎◌, Bool, List, Option, Result, IfErr, OnOk}
 use Rattle.uac_units.specs.Hearing.{Reading}
 use Rattle.uac_edges.specs.Faults.{Rose}
 use Rattle.uac_script.specs.declared.lines.LineStop.{LineStop}
@@ -9,6 +9,8 @@ use Rattle.uac_bus.specs.declared.fault.BusFault.TheVariants as faults
 use Rattle.uac_bus.specs.World.{Step}
 use Rattle.uac_bus.specs.Kept.{BusFields}
 use Rattle.uac_bus.specs.Kept as kept
+use Rattle.uac_cli.specs.declared.status.Status.{Status}
+use Rattle.uac_cli.specs.declared.status.Status.TheVariants as statuses
 use Rattle.uac_cli.specs.Outcome.{Outcome, read_fault}
 use Rattle.uac_cli.specs.Transcript.{misread, too_long}
 
@@ -36,3 +38,8 @@ abbrev pub stop_outcome : LineStop → ℕ → Outcome
 stop_outcome stop.Long number = misread 1 number
 stop_outcome stop.TooLong number = too_long
 stop_outcome stop.Failed number = read_fault
+
+-- how a run that was to end so ends, once all that waits was to be handed on: so, and that met no fault; or a write failed in that
+abbrev pub HandsOn : Status → ℕ → ℕ → Status → Type 0
+HandsOn status before after status' =
+    ((status' ≡ status) × (after ≡ before)) ⊎ ((status ≢ statuses.WriteFault) × (status' ≡ statuses.WriteFault) × Rose before after)

@@ -19,10 +19,7 @@ pub(crate) fn words(alloc: Global, args: io::Result<Args>) -> Result<Vec<String>
     ensures unread { IfErr args (λ error. error_kind error ≢ ErrorKind.InvalidData → IsErr result) }
 {
     match args {
-        Ok(args) => match behind_the_first(alloc, args) {
-            Ok(words) => Ok(words),
-            Err(_) => Err(NoMemory),
-        },
+        Ok(args) => Ok(behind_the_first(alloc, args)?),
         Err(error) if error.kind() == ErrorKind::InvalidData => Ok(Vec::new(alloc)),
         Err(_) => Err(NoMemory),
     }

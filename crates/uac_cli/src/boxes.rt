@@ -1,5 +1,5 @@
 // The boxes of the program: its units and its meters. They are made where the program is called.
-ghost use Rattle.std.specs.Prelude.{◌≡◌, true, map, string_bytes, IfOk, OnErr};
+ghost use Rattle.std.specs.Prelude.{◌≡◌, ◌≢◌, true, map, string_bytes, IfOk, OnErr};
 ghost use Rattle.std.specs.Io.KnownBytes.{IsAtEnd};
 ghost use Rattle.uac_edges.specs.Faults.{Rose};
 ghost use Rattle.uac_units.specs.Fitting.{IsFitted};
@@ -45,6 +45,9 @@ pub fn run_in_boxes<S: Source, K: Sink>(
         (S.left source.old) (S.faults source.old) (S.faults source.new)
         (K.written sink.old) (K.written sink.new) (K.faults sink.old) (K.faults sink.new) status) }
 
+    // Where no failed write is told, all that was written was handed on.
+    ensures handed_on { IfOk result (λ status. status ≢ Status.WriteFault → K.waiting sink.new ≡ 0) }
+
     // Where there is no memory for the boxes nothing is taken and nothing is written.
     ensures untaken { OnErr result (source.new ≡ source.old) }
     ensures unwritten { OnErr result (sink.new ≡ sink.old) }
@@ -88,6 +91,7 @@ fn run_with_racks<S: Source, K: Sink>(
     ensures complete { IfOk result (λ status. IsComplete (plainly (map (λ word. string_bytes word) words.now)) fresh_readings
         (S.left source.old) (S.faults source.old) (S.faults source.new)
         (K.written sink.old) (K.written sink.new) (K.faults sink.old) (K.faults sink.new) status) }
+    ensures handed_on { IfOk result (λ status. status ≢ Status.WriteFault → K.waiting sink.new ≡ 0) }
     ensures untaken { OnErr result (source.new ≡ source.old) }
     ensures unwritten { OnErr result (sink.new ≡ sink.old) }
 {

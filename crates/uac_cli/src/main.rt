@@ -32,11 +32,11 @@ pub use status::{Status, exit_code};
 use std::env;
 use std::process::ExitCode;
 pub use top::{Racks, uac_main};
-use uac_edges::{StdSink, StdSource};
+use uac_edges::{Gathering, StdSink, StdSource};
 
 fn main(rt: HostRuntime) -> ExitCode {
     let alloc = rt.alloc();
     let mut source = StdSource::new(rt.stdin());
-    let mut sink = StdSink::new(rt.stdout());
+    let mut sink = Gathering::new(StdSink::new(rt.stdout()));
     exit_code(run_program(alloc, env::args(&rt), &mut source, &mut sink))
 }

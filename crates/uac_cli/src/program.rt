@@ -1,5 +1,5 @@
 // The program over any source and sink: from the arguments of its process to its status.
-ghost use Rattle.std.specs.Prelude.{◌≡◌, true};
+ghost use Rattle.std.specs.Prelude.{◌≡◌, ◌≢◌, true};
 ghost use Rattle.std.specs.Io.KnownBytes.{IsAtEnd};
 ghost use Rattle.uac_edges.specs.Faults.{Rose};
 ghost use Rattle.uac_cli.specs.Boxes.{IsFreshCall, fresh_readings};
@@ -12,7 +12,7 @@ use crate::arguments::words;
 use crate::boxes::run_in_boxes;
 use crate::lines::NO_MEMORY;
 use crate::status::Status;
-use crate::top::close;
+use crate::top::conclude;
 use std::alloc::Global;
 use std::env::Args;
 use std::io;
@@ -41,12 +41,15 @@ pub fn run_program<S: Source, K: Sink>(
     // Where no read and no write failed and there was memory, status and text are what the whole input comes to, to its end.
     ensures complete { IsComplete (asked_by args) fresh_readings (S.left source.old) (S.faults source.old) (S.faults source.new)
         (K.written sink.old) (K.written sink.new) (K.faults sink.old) (K.faults sink.new) result }
+
+    // Where no failed write is told, all that was written was handed on.
+    ensures handed_on { result ≢ Status.WriteFault → K.waiting sink.new ≡ 0 }
 {
     match words(alloc, args) {
         Ok(words) => match run_in_boxes(alloc, &words, source, sink) {
             Ok(status) => status,
-            Err(_) => close(sink, NO_MEMORY, Status::NoMemory),
+            Err(_) => conclude(sink, NO_MEMORY, Status::NoMemory),
         },
-        Err(NoMemory) => close(sink, NO_MEMORY, Status::NoMemory),
+        Err(NoMemory) => conclude(sink, NO_MEMORY, Status::NoMemory),
     }
 }

@@ -1,6 +1,6 @@
 // Running a script, line by line.
-ghost use Rattle.std.specs.Prelude.{◌≡◌, ◌≢◌, ◌≤◌, false, [], None, length, IfOk, List};
-ghost use Rattle.std.specs.Io.KnownBytes.{IsAtEnd};
+ghost use Rattle.std.specs.Prelude.{◌≡◌, ◌≢◌, ◌≤◌, false, [], None, length, IfErr, IfOk, List, OnErr, OnOk};
+ghost use Rattle.std.specs.Io.KnownBytes.{IsAtEnd, Keeps};
 ghost use Rattle.uac_edges.specs.Faults.{Rose};
 ghost use Rattle.uac_script.specs.Lent.{lent_said, LentKeeps};
 ghost use Rattle.uac_script.specs.Lines.{most_of_input};
@@ -22,7 +22,7 @@ use crate::status::Status;
 use crate::top::close;
 use std::alloc::Global;
 use uac_bus::{Bus, BusFault};
-use uac_edges::{Sink, Source};
+use uac_edges::{Failed, Sink, Source};
 use uac_script::{LentLine, LineRoom, LineStop, Lines, Next, is_idle};
 use uac_units::{Meter, Meters, Rack, Unit};
 
@@ -89,7 +89,7 @@ fn run_lines<S: Source, K: Sink>(
     }
 }
 
-/// Does the line that a text spells. `room` is for its long parts.
+/// Does the line that a text spells, and hands on what it printed. `room` is for its long parts.
 fn do_line<K: Sink>(
     bus: &mut Bus,
     text: &[u8],
@@ -106,6 +106,7 @@ fn do_line<K: Sink>(
         (readings (λ v x. (⟦<dyn Meter as Meter>⟧ v).reading_of x) meters.new)
         (K.written sink.old) (K.written sink.new) (K.faults sink.old) (K.faults sink.new) result }
     ensures never_falls { K.faults sink.old ≤ K.faults sink.new }
+    ensures handed_on { K.waiting sink.old ≡ 0 → OnOk result (K.waiting sink.new ≡ 0) }
 {
     if is_idle(text) {
         return Ok(());
@@ -113,8 +114,47 @@ fn do_line<K: Sink>(
     do_said(bus, LentLine::read(text, room), rack, meters, sink)
 }
 
-/// Does a line that was read, or answers the rule that its spelling breaks.
+/// Does a line that was read, and hands on all that it printed; or answers the rule that its spelling breaks.
 fn do_said<K: Sink>(
+    bus: &mut Bus,
+    said: Result<LentLine<'_>, u8>,
+    rack: &Rack,
+    meters: &mut Meters,
+    sink: &mut K,
+) -> Result<(), BusFault>
+    requires rack { IsFitted (λ v x. (⟦<dyn Unit as Unit>⟧ v).kind_of x) rack.now }
+    requires keeps { IfOk said LentKeeps }
+    ensures does { (w : World) → Stands bus.old (readings (λ v x. (⟦<dyn Meter as Meter>⟧ v).reading_of x) meters.old) w
+        → Does (said_step (lent_said said.entry) w) (wants (lent_said said.entry) w) bus.new
+        (readings (λ v x. (⟦<dyn Meter as Meter>⟧ v).reading_of x) meters.old)
+        (readings (λ v x. (⟦<dyn Meter as Meter>⟧ v).reading_of x) meters.new)
+        (K.written sink.old) (K.written sink.new) (K.faults sink.old) (K.faults sink.new) result }
+    ensures never_falls { K.faults sink.old ≤ K.faults sink.new }
+    ensures handed_on { OnOk result (K.waiting sink.new ≡ 0) }
+{
+    match do_read(bus, said, rack, meters, sink) {
+        Ok(()) => hand_on_line(sink),
+        Err(fault) => Err(fault),
+    }
+}
+
+/// Hands on what a line printed.
+fn hand_on_line<K: Sink>(sink: &mut K) -> Result<(), BusFault>
+    ensures kept { Keeps (K.written sink.old) (K.written sink.new) }
+    ensures handed_on { OnOk result (K.waiting sink.new ≡ 0) }
+    ensures never_falls { K.faults sink.old ≤ K.faults sink.new }
+    ensures faultless { OnOk result (K.faults sink.new ≡ K.faults sink.old) }
+    ensures fault { IfErr result (λ fault. fault ≡ BusFault.WriteFault) }
+    ensures cause { OnErr result (Rose (K.faults sink.old) (K.faults sink.new)) }
+{
+    match sink.settle() {
+        Ok(()) => Ok(()),
+        Err(Failed) => Err(BusFault::WriteFault),
+    }
+}
+
+/// Does a line that was read, or answers the rule that its spelling breaks.
+fn do_read<K: Sink>(
     bus: &mut Bus,
     said: Result<LentLine<'_>, u8>,
     rack: &Rack,

@@ -1,6 +1,6 @@
 // The top call: from the words and the bytes of a source to the text in a sink and a status.
 ghost use Rattle.std.specs.Prelude.{◌≡◌, ◌≢◌, ◌⊎◌, ℕ, true, List, Option, flat_map, map, string_bytes};
-ghost use Rattle.std.specs.Io.KnownBytes.{IsAtEnd};
+ghost use Rattle.std.specs.Io.KnownBytes.{IsAtEnd, Keeps};
 ghost use Rattle.uac_descriptor.specs.Spelling.{spelling};
 ghost use Rattle.uac_descriptor.specs.WellFormed.{AreWellFormed};
 ghost use Rattle.uac_edges.specs.Faults.{Rose, HasCause};
@@ -13,6 +13,7 @@ ghost use Rattle.uac_cli.specs.Call.{IsCall, IsDone, IsGenerated, ask_to_read, r
 ghost use Rattle.uac_cli.specs.Completeness.{IsComplete};
 ghost use Rattle.uac_cli.specs.Outcome.{no_memory, sound, text_of};
 ghost use Rattle.uac_cli.specs.Run.{IsAnswered, IsFaultless, Closes, Judges, Refuses, RefusesFunction};
+ghost use Rattle.uac_cli.specs.Running.{HandsOn};
 
 use crate::jobs::Description;
 use crate::lines::{NO_MEMORY, READ_FAULT, USAGE, refusal_line, sound_line, unsound_line};
@@ -78,6 +79,35 @@ pub fn uac_main<S: Source, K: Sink>(
         (readings (λ v x. (⟦<dyn Meter as Meter>⟧ v).reading_of x) meters.old)
         (S.left source.old) (S.faults source.old) (S.faults source.new)
         (K.written sink.old) (K.written sink.new) (K.faults sink.old) (K.faults sink.new) result }
+
+    // Where no failed write is told, all that was written was handed on.
+    ensures handed_on { result ≢ Status.WriteFault → K.waiting sink.new ≡ 0 }
+{
+    let status = answer_words(alloc, words, source, sink, racks, meters);
+    hand_on(status, sink)
+}
+
+/// The same, but for what waits in the sink at the end.
+fn answer_words<S: Source, K: Sink>(
+    alloc: Global,
+    words: &[String],
+    source: &mut S,
+    sink: &mut K,
+    racks: &Racks,
+    meters: &mut Meters,
+) -> Status
+    requires plain { IsFitted (λ v x. (⟦<dyn Unit as Unit>⟧ v).kind_of x) racks.now.plain }
+    requires lanes { IsFitted (λ v x. (⟦<dyn Unit as Unit>⟧ v).kind_of x) racks.now.lanes }
+    ensures call { IsCall (plainly (map (λ word. string_bytes word) words.now))
+        (readings (λ v x. (⟦<dyn Meter as Meter>⟧ v).reading_of x) meters.old)
+        (readings (λ v x. (⟦<dyn Meter as Meter>⟧ v).reading_of x) meters.new)
+        (S.left source.old) (S.left source.new) (S.faults source.old) (S.faults source.new)
+        (K.written sink.old) (K.written sink.new) (K.faults sink.old) (K.faults sink.new) result }
+    ensures read_fault { result ≡ Status.ReadFault → Rose (S.faults source.old) (S.faults source.new) }
+    ensures write_fault { result ≡ Status.WriteFault → Rose (K.faults sink.old) (K.faults sink.new) }
+    ensures faultless { IsFaultless (S.faults source.old) (S.faults source.new) (K.faults sink.old) (K.faults sink.new) result }
+    ensures ok { result ≡ Status.Ok → ask_to_read (plainly (map (λ word. string_bytes word) words.now)) ≡ true
+        → IsAtEnd (S.left source.new) }
 {
     match uac_words::read(alloc, words) {
         Ok(words) => perform(alloc, words, source, sink, racks, meters),
@@ -299,5 +329,30 @@ pub fn close<K: Sink>(sink: &mut K, text: &[u8], status: Status) -> Status
     match give_all(sink, text) {
         Ok(()) => status,
         Err(_) => Status::WriteFault,
+    }
+}
+
+/// The same, and then all that waits in the sink is handed on.
+pub fn conclude<K: Sink>(sink: &mut K, text: &[u8], status: Status) -> Status
+    ensures closed { Closes (record { text = text.now; status = status }) (K.written sink.old) (K.written sink.new) (K.faults sink.old)
+        (K.faults sink.new) result }
+    ensures handed_on { result ≢ Status.WriteFault → K.waiting sink.new ≡ 0 }
+{
+    let status = close(sink, text, status);
+    hand_on(status, sink)
+}
+
+/// Hands on all that waits in the sink at the end of a run, and returns how that ends then. After a write that failed nothing is handed on.
+fn hand_on<K: Sink>(status: Status, sink: &mut K) -> Status
+    ensures kept { Keeps (K.written sink.old) (K.written sink.new) }
+    ensures ends { HandsOn status (K.faults sink.old) (K.faults sink.new) result }
+    ensures handed_on { result ≢ Status.WriteFault → K.waiting sink.new ≡ 0 }
+{
+    if status == Status::WriteFault {
+        return status;
+    }
+    match sink.settle() {
+        Ok(()) => status,
+        Err(Failed) => Status::WriteFault,
     }
 }

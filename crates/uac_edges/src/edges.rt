@@ -1,6 +1,6 @@
 // The source of the program's bytes and the sink of its text.
-ghost use Rattle.std.specs.Prelude.{◌≡◌, ℕ, ◌<◌, ◌≤◌, List, [], length, Option, IfOk};
-ghost use Rattle.std.specs.Io.KnownBytes.{ReadConsumes, WriteAppends};
+ghost use Rattle.std.specs.Prelude.{◌≡◌, ℕ, ◌<◌, ◌≤◌, List, [], length, Option, IfOk, OnOk};
+ghost use Rattle.std.specs.Io.KnownBytes.{Keeps, ReadConsumes, WriteAppends};
 ghost use Rattle.uac_edges.specs.Faults.{HasCause};
 ghost use Rattle.uac_edges.specs.Writing.{Writes};
 
@@ -28,11 +28,14 @@ pub trait Source {
         ensures cause { HasCause (faults self.old) (faults self.new) result };
 }
 
-/// Where text goes. It has the bytes written, where it tells them, and a count of faults that
-/// never falls.
+/// Where text goes. It has the bytes written, where it tells them, how many of these aren't handed
+/// on yet, and a count of faults that never falls.
 pub trait Sink {
     // The bytes written so far, where the sink tells them.
     ghost written: { Self → Option (List ℕ) };
+
+    // How many of these, from the end, wait: they weren't handed on yet.
+    ghost waiting: { Self → ℕ };
 
     // The faults so far. The count stands still at 18446744073709551615.
     ghost faults: { Self → ℕ };
@@ -45,6 +48,14 @@ pub trait Sink {
         ensures some { IfOk result (λ n. 0 < n) }
         ensures fits { IfOk result (λ n. n ≤ length piece.now) }
         ensures bytes { WriteAppends (written self.old) (written self.new) result piece.now }
+        ensures cause { HasCause (faults self.old) (faults self.new) result };
+
+    /// Hands on all that waits. The bytes written stay as they are, also where it fails. `Failed`
+    /// comes only where the count of faults rose in this call; a call that isn't `Failed` met no
+    /// fault, and then nothing waits.
+    fn settle(&mut self) -> Result<(), Failed>
+        ensures kept { Keeps (written self.old) (written self.new) }
+        ensures settled { OnOk result (waiting self.new ≡ 0) }
         ensures cause { HasCause (faults self.old) (faults self.new) result };
 }
 

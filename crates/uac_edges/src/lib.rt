@@ -5,6 +5,8 @@
 mod calls;
 /// What is asked of a source and of a sink, and the writing of a whole text.
 mod edges;
+/// A sink that gathers bytes before another.
+mod gathering;
 /// The sink in memory.
 mod sinks;
 /// The sources in memory.
@@ -15,6 +17,7 @@ mod streams;
 mod text;
 
 pub use edges::{Failed, Sink, Source, give_all};
+pub use gathering::Gathering;
 pub use sinks::MemorySink;
 pub use sources::{MemorySource, SteadySource};
 pub use streams::{StdSink, StdSource};

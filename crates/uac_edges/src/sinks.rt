@@ -1,6 +1,6 @@
 // The sink in memory, whose cut, room and faults the caller chooses.
 ghost use Rattle.std.specs.Prelude.{◌≡◌, ◌<◌, ◌≤◌, ◌↔◌, [], length, take, Some, IsOk, IsErr, IfOk, OnErr};
-ghost use Rattle.std.specs.Io.KnownBytes.{WriteAppends};
+ghost use Rattle.std.specs.Io.KnownBytes.{Keeps, WriteAppends};
 ghost use Rattle.uac_edges.specs.Faults.{HasCause};
 ghost use Rattle.uac_edges.specs.Memory.{appended_count, after_appending, after_refusing, IsRefusing};
 
@@ -52,17 +52,15 @@ impl MemorySink {
         requires { 1 ≤ cut }
         ensures { IfOk result (λ s. s ≡ record { written = []; cut = cut; room = room; failing = failing; calls = 0; faults = 0 }) }
     {
-        match Vec::with_capacity(alloc, room) {
-            Ok(bytes) => Ok(MemorySink {
-                bytes,
-                cut,
-                room,
-                failing,
-                calls: 0,
-                faults: 0,
-            }),
-            Err(_) => Err(NoMemory),
-        }
+        let bytes = Vec::with_capacity(alloc, room)?;
+        Ok(MemorySink {
+            bytes,
+            cut,
+            room,
+            failing,
+            calls: 0,
+            faults: 0,
+        })
     }
 
     /// The bytes written so far.
@@ -75,6 +73,8 @@ impl MemorySink {
 
 impl Sink for MemorySink {
     ghost written = { λ s. Some s.written };
+
+    ghost waiting = { λ _. 0 };
 
     ghost faults = { λ s. s.faults };
 
@@ -108,5 +108,15 @@ impl Sink for MemorySink {
             Ok(()) => Ok(count),
             Err(_) => unreachable!(),
         }
+    }
+
+    /// Does nothing, since nothing waits.
+    fn settle(&mut self) -> Result<(), Failed>
+        ensures ok { result ≡ Ok tt }
+        ensures same { self.new ≡ self.old }
+        ensures kept { Keeps (Some self.old.written) (Some self.new.written) }
+        ensures cause { HasCause self.old.faults self.new.faults result }
+    {
+        Ok(())
     }
 }

@@ -96,6 +96,8 @@ impl<W: Write + Drop> StdSink<W> {
 impl<W: Write + Drop> Sink for StdSink<W> {
     ghost written = { λ s. without_last s.unflushed (W.contents s.output) };
 
+    ghost waiting = { λ _. 0 };
+
     ghost faults = { λ s. s.faults };
 
     /// Appends what one write takes. It fails exactly where that write or its flush does, and from
@@ -114,6 +116,18 @@ impl<W: Write + Drop> Sink for StdSink<W> {
         let given = self.write(piece);
         self.faults = faults_after(self.faults, given);
         given
+    }
+
+    /// Does nothing, since each write was flushed and nothing waits.
+    #[tactic(auto, using(crate::proofs::KeepingLemmas::keeping))]
+    fn settle(&mut self) -> Result<(), Failed>
+        ensures ok { result ≡ Ok tt }
+        ensures same { self.new ≡ self.old }
+        ensures kept { Keeps (without_last self.old.unflushed (W.contents self.old.output))
+            (without_last self.new.unflushed (W.contents self.new.output)) }
+        ensures cause { HasCause self.old.faults self.new.faults result }
+    {
+        Ok(())
     }
 }
 

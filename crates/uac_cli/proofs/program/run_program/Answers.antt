@@ -17,7 +17,7 @@ returns-in-Ok-run_in_boxes-clause-complete g c =
 pub returns-in-Ok-clause-call : goal.returns-in-Ok-clause-call
 returns-in-Ok-clause-call g c =
     let lost = c.in-Err-run_in_boxes.ensures in
-    call_unread _ _ _ _ _ _ _ _ _ _ _ _ (ap g.S.Source.left lost.untaken) (ap g.S.Source.faults lost.untaken) (ap g.K.Sink.written lost.unwritten) (ap g.K.Sink.faults lost.unwritten) c.close.ensures
+    call_unread _ _ _ _ _ _ _ _ _ _ _ _ (ap g.S.Source.left lost.untaken) (ap g.S.Source.faults lost.untaken) (ap g.K.Sink.written lost.unwritten) (ap g.K.Sink.faults lost.unwritten) c.conclude.ensures.closed
 
 pub returns-clause-call : goal.returns-clause-call
-returns-clause-call g c = call_unread _ _ _ _ _ _ _ _ _ _ _ _ refl refl refl refl c.close-in-Err.ensures
+returns-clause-call g c = call_unread _ _ _ _ _ _ _ _ _ _ _ _ refl refl refl refl c.conclude-in-Err.ensures.closed
