@@ -98,7 +98,7 @@ module _ (w m w' : Option (List ℕ)) (f g f' : ℕ) (status status' : Status) (
   answered_on : (asked : Option Words) (shown shown' : List Reading) (left left' : Option (List ℕ)) (reads reads' : ℕ)
       → AreAnswered asked shown shown' left left' reads reads' w m f g status → AreAnswered asked shown shown' left left' reads reads' w w' f f' status'
   answered_on None shown shown' left left' reads reads' run = run_on _ shown shown' left left' reads reads' run
-  answered_on (Some words) shown shown' left left' reads reads' done = done_on words.command shown shown' left left' reads reads' done
+  answered_on (Some words) shown shown' left left' reads reads' answered = done_on words.command shown shown' left left' reads reads' answered
 
   pub call_on : (asked : Option Words) (shown shown' : List Reading) (left left' : Option (List ℕ)) (reads reads' : ℕ)
       → IsCall asked shown shown' left left' reads reads' w m f g status → IsCall asked shown shown' left left' reads reads' w w' f f' status'
@@ -120,7 +120,7 @@ module _ (shown shown' : List Reading) (left left' : Option (List ℕ)) (reads r
 
   answered_quiet : (asked : Option Words) → AreAnswered asked shown shown' left left' reads reads' w w' f f' status → f' ≡ f
   answered_quiet None run = closes_faultless run.ending.outcome w w' f f' status run.closed other
-  answered_quiet (Some words) done = done_quiet words.command done
+  answered_quiet (Some words) answered = done_quiet words.command answered
 
   call_quiet : (asked : Option Words) → IsCall asked shown shown' left left' reads reads' w w' f f' status → f' ≡ f
   call_quiet asked (inl answered) = answered_quiet asked answered

@@ -4,19 +4,19 @@ use Rattle.uac_cli.proofs.HandingOn.{call_on, faultless_on, status_before, write
 use Rattle.uac_cli.proofs.top.uac_main.Goals as goal
 
 pub returns-clause-call : goal.returns-clause-call
-returns-clause-call g c = call_on _ _ _ _ _ _ _ _ c.hand_on.ensures.kept c.hand_on.ensures.ends _ _ _ _ _ _ _ c.answer_words.ensures.call
+returns-clause-call g c = call_on _ _ _ _ _ _ _ _ c.hand_on.ensures.kept c.hand_on.ensures.ends _ _ _ _ _ _ _ c.answer_words-status.ensures.call
 
 pub returns-clause-read_fault : goal.returns-clause-read_fault
-returns-clause-read_fault g c is = c.answer_words.ensures.read_fault (sym (status_before _ _ _ _ c.hand_on.ensures.ends (λ e. cc)) ∙ is)
+returns-clause-read_fault g c is = c.answer_words-status.ensures.read_fault (sym (status_before _ _ _ _ c.hand_on.ensures.ends (λ e. cc)) ∙ is)
 
 pub returns-clause-write_fault : goal.returns-clause-write_fault
-returns-clause-write_fault g c = write_fault_on _ _ _ _ _ _ _ _ _ _ _ _ _ _ c.hand_on.ensures.ends c.answer_words.ensures.call c.answer_words.ensures.write_fault
+returns-clause-write_fault g c = write_fault_on _ _ _ _ _ _ _ _ _ _ _ _ _ _ c.hand_on.ensures.ends c.answer_words-status.ensures.call c.answer_words-status.ensures.write_fault
 
 pub returns-clause-faultless : goal.returns-clause-faultless
-returns-clause-faultless g c = faultless_on _ _ _ _ _ _ _ c.hand_on.ensures.ends c.answer_words.ensures.faultless
+returns-clause-faultless g c = faultless_on _ _ _ _ _ _ _ c.hand_on.ensures.ends c.answer_words-status.ensures.faultless
 
 pub returns-clause-ok : goal.returns-clause-ok
-returns-clause-ok g c is = c.answer_words.ensures.ok (sym (status_before _ _ _ _ c.hand_on.ensures.ends (λ e. cc)) ∙ is)
+returns-clause-ok g c is = c.answer_words-status.ensures.ok (sym (status_before _ _ _ _ c.hand_on.ensures.ends (λ e. cc)) ∙ is)
 
 pub returns-clause-complete : goal.returns-clause-complete
 returns-clause-complete g c = done_whole _ _ _ _ _ _ _ _ _ _ _ _ (returns-clause-call g c) (returns-clause-write_fault g c)
