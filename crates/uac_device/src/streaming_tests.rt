@@ -3,18 +3,17 @@
 
 ghost use Rattle.uac_units.specs.Fitting.{IsFitted};
 
-use crate::tests::{ask, give, played, push, tick};
+use crate::tests::{Trial, ask, give, played, push, tick, try_out};
 use crate::*;
 use arrayvec::ArrayVec;
-use std::alloc::{AllocError, Global};
+use std::alloc::AllocError;
+use std::process::Abort;
 use std::test::Fail;
 use uac_descriptor::{
     Block, ClockSource, Endpoint, General, InputTerminal, Interface, OutputTerminal, TypeOne,
 };
 use uac_pcm::Packet;
-use uac_sentence::are_well_formed;
-use uac_topology::check;
-use uac_units::{Meters, PlainEffect, PlainFeature, PlainMixer, PlainSelector, Rack, Unit};
+use uac_units::{Meters, Rack, Unit};
 
 fn interface(number: u8, subclass: u8, setting: u8, endpoints: u8) -> Block {
     Block::Interface(Interface {
@@ -93,7 +92,7 @@ fn push_setting(
     push(blocks, endpoint(address, 5, 20, 1))
 }
 
-fn blocks(alloc: Global) -> Result<Vec<Block>, AllocError> {
+pub(crate) fn push_blocks(blocks: &mut Vec<Block>) -> Result<(), AllocError> {
     let clock = ClockSource {
         id: 1,
         attributes: 3,
@@ -101,32 +100,15 @@ fn blocks(alloc: Global) -> Result<Vec<Block>, AllocError> {
         assoc: 0,
         name: 0,
     };
-    let mut blocks = Vec::new(alloc);
-    push(&mut blocks, interface(0, 1, 0, 0))?;
-    push(&mut blocks, Block::ClockSource(clock))?;
-    push(&mut blocks, input(2, 0x0101))?;
-    push(&mut blocks, output(3, 0x0301, 2))?;
-    push(&mut blocks, input(4, 0x0201))?;
-    push(&mut blocks, output(5, 0x0101, 4))?;
-    push_setting(&mut blocks, 7, 2, 2, 0x01)?;
-    push(&mut blocks, endpoint(0x81, 0x11, 4, 4))?;
-    push_setting(&mut blocks, 8, 5, 1, 0x82)?;
-    Ok(blocks)
-}
-
-fn device(alloc: Global) -> Result<Device, AllocError> {
-    let blocks = blocks(alloc)?;
-    if !are_well_formed(blocks.as_slice()) {
-        return Err(AllocError);
-    }
-    let function = match check(alloc, blocks.as_slice()) {
-        Ok(function) => function,
-        Err(_) => return Err(AllocError),
-    };
-    match Device::new(alloc, function) {
-        Ok(device) => Ok(device),
-        Err(_) => Err(AllocError),
-    }
+    push(blocks, interface(0, 1, 0, 0))?;
+    push(blocks, Block::ClockSource(clock))?;
+    push(blocks, input(2, 0x0101))?;
+    push(blocks, output(3, 0x0301, 2))?;
+    push(blocks, input(4, 0x0201))?;
+    push(blocks, output(5, 0x0101, 4))?;
+    push_setting(blocks, 7, 2, 2, 0x01)?;
+    push(blocks, endpoint(0x81, 0x11, 4, 4))?;
+    push_setting(blocks, 8, 5, 1, 0x82)
 }
 
 /// A packet of so many frames of one sample, whose word tells its number.
@@ -248,19 +230,21 @@ fn records(device: &mut Device, rack: &Rack, meters: &mut Meters) -> bool
         && ticks_on(device, rack, meters, 1).over == 2
 }
 
+pub(crate) fn play_and_record(
+    rt: &impl Abort,
+    device: &mut Device,
+    rack: &Rack,
+    meters: &mut Meters,
+)
+    requires { IsFitted (λ v x. (⟦<dyn Unit as Unit>⟧ v).kind_of x) rack.now }
+{
+    assert!(rt; plays(device, rack, meters));
+    assert!(rt; records(device, rack, meters));
+}
+
 #[test]
 fn streams_play_and_record(rt: HostRuntime) -> Result<(), Fail> {
-    let alloc = rt.alloc();
-    let rack = Rack::new(
-        Box::new(alloc, PlainMixer)?,
-        Box::new(alloc, PlainSelector)?,
-        Box::new(alloc, PlainFeature)?,
-        Box::new(alloc, PlainEffect)?,
-    );
-    let mut meters = Meters::new(Vec::new(alloc));
-    let mut device = device(alloc)?;
-    assert!(rt; plays(&mut device, &rack, &mut meters));
-    assert!(rt; records(&mut device, &rack, &mut meters));
+    try_out(&rt, rt.alloc(), Trial::Streams)?;
     Ok(())
 }
 
@@ -283,11 +267,14 @@ fn starts_anew(device: &mut Device) -> bool {
         && !device.due(7)
 }
 
+pub(crate) fn lose_a_packet(rt: &impl Abort, device: &mut Device) {
+    assert!(rt; set(device, 7, 1));
+    assert!(rt; replaces(device));
+    assert!(rt; starts_anew(device));
+}
+
 #[test]
 fn a_lost_packet_is_replaced(rt: HostRuntime) -> Result<(), Fail> {
-    let mut device = device(rt.alloc())?;
-    assert!(rt; set(&mut device, 7, 1));
-    assert!(rt; replaces(&mut device));
-    assert!(rt; starts_anew(&mut device));
+    try_out(&rt, rt.alloc(), Trial::Loss)?;
     Ok(())
 }

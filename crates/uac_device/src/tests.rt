@@ -1,6 +1,6 @@
 //! A small function: a jack through a feature to a jack and to a terminal of the bus, under one clock.
 
-ghost use Rattle.std.specs.Prelude.{◌≡◌, IsTrue, length, true};
+ghost use Rattle.std.specs.Prelude.{◌≡◌, IfOk, IsTrue, length, true};
 ghost use Rattle.uac_graph.specs.Meaning.{entity};
 ghost use Rattle.uac_units.specs.Fitting.{IsFitted};
 ghost use Rattle.uac_device.specs.DeviceWorld.{is_input_jack};
@@ -8,6 +8,7 @@ ghost use Rattle.uac_device.specs.DeviceWorld.{is_input_jack};
 use crate::*;
 use arrayvec::ArrayVec;
 use std::alloc::{AllocError, Global};
+use std::process::Abort;
 use std::test::Fail;
 use uac_descriptor::{
     Block, ClockSource, Feature, InputTerminal, Interface, OutputTerminal, WordList,
@@ -56,37 +57,38 @@ fn output(id: u8, terminal_type: u16) -> Block {
     })
 }
 
+fn clock() -> Block {
+    Block::ClockSource(ClockSource {
+        id: 1,
+        attributes: 3,
+        controls: 7,
+        assoc: 0,
+        name: 0,
+    })
+}
+
+fn jack() -> Block {
+    Block::InputTerminal(InputTerminal {
+        id: 2,
+        terminal_type: 0x0201,
+        assoc: 0,
+        clock: 1,
+        channels: 3,
+        locations: 3,
+        names: 0,
+        controls: 0,
+        name: 0,
+    })
+}
+
 /// Clock 1; jack 2 of three channels feeds feature 3, which feeds jack 4 and the terminal 5 of the bus.
-fn blocks(alloc: Global) -> Result<Vec<Block>, AllocError> {
-    let mut blocks = Vec::new(alloc);
-    push(&mut blocks, control())?;
-    push(
-        &mut blocks,
-        Block::ClockSource(ClockSource {
-            id: 1,
-            attributes: 3,
-            controls: 7,
-            assoc: 0,
-            name: 0,
-        }),
-    )?;
-    push(
-        &mut blocks,
-        Block::InputTerminal(InputTerminal {
-            id: 2,
-            terminal_type: 0x0201,
-            assoc: 0,
-            clock: 1,
-            channels: 3,
-            locations: 3,
-            names: 0,
-            controls: 0,
-            name: 0,
-        }),
-    )?;
+fn push_blocks(alloc: Global, blocks: &mut Vec<Block>) -> Result<(), AllocError> {
+    push(blocks, control())?;
+    push(blocks, clock())?;
+    push(blocks, jack())?;
     let words = Vec::from_slice(alloc, &[15, 15, 15, 15])?;
     push(
-        &mut blocks,
+        blocks,
         Block::Feature(Feature {
             id: 3,
             source: 2,
@@ -94,23 +96,118 @@ fn blocks(alloc: Global) -> Result<Vec<Block>, AllocError> {
             name: 0,
         }),
     )?;
-    push(&mut blocks, output(4, 0x0301))?;
-    push(&mut blocks, output(5, 0x0101))?;
-    Ok(blocks)
+    push(blocks, output(4, 0x0301))?;
+    push(blocks, output(5, 0x0101))
 }
 
-fn device(alloc: Global) -> Result<Device, AllocError> {
-    let blocks = blocks(alloc)?;
-    if !are_well_formed(blocks.as_slice()) {
+/// What is tried on a new device.
+#[derive(Clone, Copy)]
+pub(crate) enum Trial {
+    Frame,
+    FastClock,
+    Control,
+    Start,
+    Streams,
+    Loss,
+}
+
+fn push_for(trial: Trial, alloc: Global, blocks: &mut Vec<Block>) -> Result<(), AllocError> {
+    match trial {
+        Trial::Frame | Trial::FastClock | Trial::Control | Trial::Start => {
+            push_blocks(alloc, blocks)
+        }
+        Trial::Streams | Trial::Loss => streaming_tests::push_blocks(blocks),
+    }
+}
+
+fn device_of(alloc: Global, blocks: &[Block]) -> Result<Device, AllocError> {
+    if !are_well_formed(blocks) {
         return Err(AllocError);
     }
-    let function = match check(alloc, blocks.as_slice()) {
+    let function = match check(alloc, blocks) {
         Ok(function) => function,
         Err(_) => return Err(AllocError),
     };
     match Device::new(alloc, function) {
         Ok(device) => Ok(device),
         Err(_) => Err(AllocError),
+    }
+}
+
+fn device(alloc: Global, trial: Trial) -> Result<Device, AllocError> {
+    let mut blocks = Vec::new(alloc);
+    push_for(trial, alloc, &mut blocks)?;
+    device_of(alloc, blocks.as_slice())
+}
+
+/// A rack of plain units.
+fn rack(alloc: Global) -> Result<Rack, AllocError>
+    ensures { IfOk result (λ rack. IsFitted (λ v x. (⟦<dyn Unit as Unit>⟧ v).kind_of x) rack) }
+{
+    Ok(Rack::new(
+        Box::new(alloc, PlainMixer)?,
+        Box::new(alloc, PlainSelector)?,
+        Box::new(alloc, PlainFeature)?,
+        Box::new(alloc, PlainEffect)?,
+    ))
+}
+
+fn push_meters(alloc: Global, list: &mut Vec<Box<dyn Meter>>) -> Result<(), AllocError> {
+    list.push(Box::new(alloc, PeakMeter::new())?)?;
+    list.push(Box::new(alloc, ClippedMeter::new())?)?;
+    list.push(Box::new(alloc, SumMeter::new())?)?;
+    Ok(())
+}
+
+fn meters(alloc: Global) -> Result<Meters, AllocError> {
+    let mut list: Vec<Box<dyn Meter>> = Vec::new(alloc);
+    push_meters(alloc, &mut list)?;
+    Ok(Meters::new(list))
+}
+
+// The device, the rack and the meters are each let go of at one place, since a proof has every step of that at each.
+fn try_on_device(
+    rt: &impl Abort,
+    alloc: Global,
+    trial: Trial,
+    rack: &Rack,
+    meters: &mut Meters,
+) -> Result<(), AllocError>
+    requires { IsFitted (λ v x. (⟦<dyn Unit as Unit>⟧ v).kind_of x) rack.now }
+{
+    let mut device = device(alloc, trial)?;
+    act(rt, trial, &mut device, rack, meters);
+    Ok(())
+}
+
+fn try_with_rack(
+    rt: &impl Abort,
+    alloc: Global,
+    trial: Trial,
+    rack: &Rack,
+) -> Result<(), AllocError>
+    requires { IsFitted (λ v x. (⟦<dyn Unit as Unit>⟧ v).kind_of x) rack.now }
+{
+    let mut meters = meters(alloc)?;
+    try_on_device(rt, alloc, trial, rack, &mut meters)
+}
+
+/// Tries this on a new device.
+pub(crate) fn try_out(rt: &impl Abort, alloc: Global, trial: Trial) -> Result<(), AllocError> {
+    let rack = rack(alloc)?;
+    try_with_rack(rt, alloc, trial, &rack)
+}
+
+fn act(rt: &impl Abort, trial: Trial, device: &mut Device, rack: &Rack, meters: &mut Meters)
+    requires { IsFitted (λ v x. (⟦<dyn Unit as Unit>⟧ v).kind_of x) rack.now }
+{
+    match trial {
+        Trial::Frame => play_a_frame(rt, device, rack, meters),
+        Trial::FastClock => run_fast(rt, device),
+        Trial::Control => set_a_control(rt, device),
+        Trial::Start => look_at_the_start(rt, device),
+        Trial::Streams => streaming_tests::play_and_record(rt, device, rack, meters),
+        Trial::Loss => streaming_tests::lose_a_packet(rt, device),
     }
 }
 
@@ -178,46 +275,40 @@ pub(crate) fn tick(
     (ticked, steps.count())
 }
 
-#[test]
-fn a_frame_is_played_and_heard(rt: HostRuntime) -> Result<(), Fail> {
-    let alloc = rt.alloc();
-    let rack = Rack::new(
-        Box::new(alloc, PlainMixer)?,
-        Box::new(alloc, PlainSelector)?,
-        Box::new(alloc, PlainFeature)?,
-        Box::new(alloc, PlainEffect)?,
-    );
-    let mut list: Vec<Box<dyn Meter>> = Vec::new(alloc);
-    list.push(Box::new(alloc, PeakMeter::new())?)?;
-    list.push(Box::new(alloc, ClippedMeter::new())?)?;
-    list.push(Box::new(alloc, SumMeter::new())?)?;
-    let mut meters = Meters::new(list);
-    let mut device = device(alloc)?;
-
-    assert!(rt; played(&device, 4, &[0, 0, 0]));
-    assert!(rt; give(&mut device, 2, &[-3, 100, 2147483647]));
-    assert_eq!(rt; tick(&mut device, 9, &rack, &mut meters).1, 0);
-    assert!(rt; played(&device, 4, &[0, 0, 0]));
+fn play_a_frame(rt: &impl Abort, device: &mut Device, rack: &Rack, meters: &mut Meters)
+    requires { IsFitted (λ v x. (⟦<dyn Unit as Unit>⟧ v).kind_of x) rack.now }
+{
+    assert!(rt; played(device, 4, &[0, 0, 0]));
+    assert!(rt; give(device, 2, &[-3, 100, 2147483647]));
+    assert_eq!(rt; tick(device, 9, rack, meters).1, 0);
+    assert!(rt; played(device, 4, &[0, 0, 0]));
     for _each in 0..2 {
-        let (ticked, steps) = tick(&mut device, 1, &rack, &mut meters);
+        let (ticked, steps) = tick(device, 1, rack, meters);
         assert_eq!(rt; ticked, Ticked { under: 0, over: 0 });
         assert_eq!(rt; steps, 1);
     }
-    assert!(rt; played(&device, 4, &[-3, 100, 2147483647]));
+    assert!(rt; played(device, 4, &[-3, 100, 2147483647]));
     assert!(rt; device.played(2).is_none());
     assert!(rt; device.played(5).is_none());
+    expect_readings(rt, meters);
+}
+
+fn expect_readings(rt: &impl Abort, meters: &Meters) {
     for (at, value) in [(0, 2147483647), (1, 2), (2, 4294967500)] {
         assert!(rt; at < meters.len());
         assert_eq!(rt; meters.value(at), value);
     }
+}
+
+#[test]
+fn a_frame_is_played_and_heard(rt: HostRuntime) -> Result<(), Fail> {
+    try_out(&rt, rt.alloc(), Trial::Frame)?;
     Ok(())
 }
 
 /// At 48000 Hz a microframe has 6 frames, 393216 parts of 65536. A clock that is fast by 1000 millionths gives 393 parts
 /// more, and 167 times that is a frame: 65631 parts.
-#[test]
-fn a_fast_clock_ticks_once_more(rt: HostRuntime) -> Result<(), Fail> {
-    let mut device = device(rt.alloc())?;
+fn run_fast(rt: &impl Abort, device: &mut Device) {
     assert_eq!(rt; device.ticks(1), 6);
     assert_eq!(rt; device.ticks(9), 0);
     device.deviate(9, 100000);
@@ -227,6 +318,11 @@ fn a_fast_clock_ticks_once_more(rt: HostRuntime) -> Result<(), Fail> {
     }
     assert_eq!(rt; device.ticks(1), 7);
     assert_eq!(rt; device.ticks(1), 6);
+}
+
+#[test]
+fn a_fast_clock_ticks_once_more(rt: HostRuntime) -> Result<(), Fail> {
+    try_out(&rt, rt.alloc(), Trial::FastClock)?;
     Ok(())
 }
 
@@ -239,35 +335,27 @@ pub(crate) fn ask(device: &mut Device, setup: [u8; 8], sent: &[u8]) -> Option<bo
     }
 }
 
-#[test]
-fn a_request_sets_a_control(rt: HostRuntime) -> Result<(), Fail> {
-    let mut device = device(rt.alloc())?;
+fn set_a_control(rt: &impl Abort, device: &mut Device) {
     let mute = Key {
         entity: 3,
         selector: 1,
         channel: 0,
     };
-    assert_eq!(rt;
-        ask(&mut device, [0x21, 1, 0, 1, 0, 3, 1, 0], &[2]),
-        Some(false)
-    );
+    assert_eq!(rt; ask(device, [0x21, 1, 0, 1, 0, 3, 1, 0], &[2]), Some(false));
     assert_eq!(rt; device.store().cur(mute), Some(0));
-    assert_eq!(rt;
-        ask(&mut device, [0x21, 1, 0, 1, 0, 3, 1, 0], &[1]),
-        Some(true)
-    );
+    assert_eq!(rt; ask(device, [0x21, 1, 0, 1, 0, 3, 1, 0], &[1]), Some(true));
     assert_eq!(rt; device.store().cur(mute), Some(1));
-    assert_eq!(rt; ask(&mut device, [0xa1, 1, 0, 1, 0, 3, 1, 0], &[]), None);
-    assert_eq!(rt;
-        ask(&mut device, [1, 11, 0, 0, 0, 0, 0, 0], &[]),
-        Some(true)
-    );
-    Ok(())
+    assert_eq!(rt; ask(device, [0xa1, 1, 0, 1, 0, 3, 1, 0], &[]), None);
+    assert_eq!(rt; ask(device, [1, 11, 0, 0, 0, 0, 0, 0], &[]), Some(true));
 }
 
 #[test]
-fn a_new_device_is_at_its_start(rt: HostRuntime) -> Result<(), Fail> {
-    let device = device(rt.alloc())?;
+fn a_request_sets_a_control(rt: HostRuntime) -> Result<(), Fail> {
+    try_out(&rt, rt.alloc(), Trial::Control)?;
+    Ok(())
+}
+
+fn look_at_the_start(rt: &impl Abort, device: &Device) {
     let frequency = Key {
         entity: 1,
         selector: 1,
@@ -279,5 +367,10 @@ fn a_new_device_is_at_its_start(rt: HostRuntime) -> Result<(), Fail> {
     assert_eq!(rt; device.level(1), 0);
     assert_eq!(rt; device.target(1), None);
     assert_eq!(rt; device.function().domains().len(), 1);
+}
+
+#[test]
+fn a_new_device_is_at_its_start(rt: HostRuntime) -> Result<(), Fail> {
+    try_out(&rt, rt.alloc(), Trial::Start)?;
     Ok(())
 }
