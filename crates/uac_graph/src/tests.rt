@@ -13,6 +13,7 @@ use crate::*;
 use arrayvec::ArrayVec;
 use std::alloc::{AllocError, Global};
 use std::cell::Cell;
+use std::process::Abort;
 use std::rc::Rc;
 use std::test::Fail;
 use uac_descriptor::{
@@ -219,26 +220,38 @@ fn hold(store: &mut Store, entity: u8, selector: u8, channel: u8, value: i32) {
     }
 }
 
-/// The sound function of the two groups of blocks.
-fn function(alloc: Global) -> Result<Function, AllocError> {
-    let mut blocks = Vec::new(alloc);
-    push(&mut blocks, control())?;
-    ends(alloc, &mut blocks)?;
-    chain(alloc, &mut blocks)?;
-    checked(alloc, &blocks)
+/// A function with one tick or more to be tried on it.
+#[derive(Clone, Copy)]
+enum Trial {
+    Small,
+    Row,
+}
+
+fn push_for(trial: Trial, alloc: Global, blocks: &mut Vec<Block>) -> Result<(), AllocError> {
+    push(blocks, control())?;
+    match trial {
+        Trial::Small => {
+            ends(alloc, blocks)?;
+            chain(alloc, blocks)
+        }
+        Trial::Row => push_row(alloc, blocks),
+    }
 }
 
 /// Mixer 3 has two pins on jack 2, which is stereo, and each mixer up to 42 two pins on the one before. Terminal 43 plays the last.
-fn mixers_in_a_row(alloc: Global) -> Result<Function, AllocError> {
-    let mut blocks = Vec::new(alloc);
-    push(&mut blocks, control())?;
-    push(&mut blocks, clock())?;
-    push(&mut blocks, input(2, 2, 3))?;
+fn push_row(alloc: Global, blocks: &mut Vec<Block>) -> Result<(), AllocError> {
+    push(blocks, clock())?;
+    push(blocks, input(2, 2, 3))?;
     for before in 2..42u8 {
         let next = mixer(alloc, before + 1, before)?;
-        push(&mut blocks, next)?;
+        push(blocks, next)?;
     }
-    push(&mut blocks, output(43, 42))?;
+    push(blocks, output(43, 42))
+}
+
+fn function(alloc: Global, trial: Trial) -> Result<Function, AllocError> {
+    let mut blocks = Vec::new(alloc);
+    push_for(trial, alloc, &mut blocks)?;
     checked(alloc, &blocks)
 }
 
@@ -252,17 +265,12 @@ fn checked(alloc: Global, blocks: &[Block]) -> Result<Function, AllocError> {
     }
 }
 
-/// One tick of a function, by jobs at hand or not, after these changes of controls, with (1, -1) at jack 2 and 65536 at jack 5, and how
-/// often units were rendered.
-fn play_on(
+/// The controls of a function after these changes.
+fn changed(
     alloc: Global,
     function: &Function,
-    rack: &Rack,
     changes: &[(u8, u8, u8, i32)],
-    by_jobs: bool,
-) -> Result<(Wires, u64), AllocError>
-    requires { IsFitted (λ v x. (⟦<dyn Unit as Unit>⟧ v).kind_of x) rack.now }
-{
+) -> Result<Store, AllocError> {
     let mut store = match Store::new(alloc, function) {
         Ok(store) => store,
         Err(_) => return Err(AllocError),
@@ -270,42 +278,50 @@ fn play_on(
     for (entity, selector, channel, value) in changes {
         hold(&mut store, *entity, *selector, *channel, *value);
     }
-    let graph = match Graph::build(alloc, function) {
-        Ok(graph) => graph,
-        Err(_) => return Err(AllocError),
-    };
+    Ok(store)
+}
+
+/// The wires of a function with (1, -1) at jack 2 and 65536 at jack 5.
+fn fed(alloc: Global, function: &Function) -> Result<Wires, AllocError>
+    ensures { IfOk result (λ wires. AreWiresOf function.now.entities wires) }
+{
     let mut wires = match Wires::new(alloc, function) {
         Ok(wires) => wires,
         Err(_) => return Err(AllocError),
     };
     give(&mut wires, 2, &[1, -1]);
     give(&mut wires, 5, &[65536]);
+    Ok(wires)
+}
+
+/// One tick, by jobs at hand or not, and how often units were rendered.
+fn tick_once(
+    alloc: Global,
+    function: &Function,
+    store: &Store,
+    rack: &Rack,
+    by_jobs: bool,
+    wires: &mut Wires,
+) -> Result<u64, AllocError>
+    requires rack { IsFitted (λ v x. (⟦<dyn Unit as Unit>⟧ v).kind_of x) rack.now }
+    requires wires { AreWiresOf function.now.entities wires.old }
+{
+    let graph = match Graph::build(alloc, function) {
+        Ok(graph) => graph,
+        Err(_) => return Err(AllocError),
+    };
     let mut steps = Steps::new();
     fresh_steps_have_room(function);
     if by_jobs {
-        let jobs = match graph.jobs(alloc, &store) {
+        let jobs = match graph.jobs(alloc, store) {
             Ok(jobs) => jobs,
             Err(_) => return Err(AllocError),
         };
-        graph.tick_by(1, &jobs, rack, &mut wires, &mut steps);
+        graph.tick_by(1, &jobs, rack, wires, &mut steps);
     } else {
-        graph.tick(1, &store, rack, &mut wires, &mut steps);
+        graph.tick(1, store, rack, wires, &mut steps);
     }
-    Ok((wires, steps.count()))
-}
-
-/// One tick of the small function after these changes of controls.
-fn play(
-    alloc: Global,
-    rack: &Rack,
-    changes: &[(u8, u8, u8, i32)],
-    by_jobs: bool,
-) -> Result<Wires, AllocError>
-    requires { IsFitted (λ v x. (⟦<dyn Unit as Unit>⟧ v).kind_of x) rack.now }
-{
-    let function = function(alloc)?;
-    let (wires, _steps) = play_on(alloc, &function, rack, changes, by_jobs)?;
-    Ok(wires)
+    Ok(steps.count())
 }
 
 /// Whether the wire of an entity has these samples.
@@ -316,52 +332,172 @@ fn has(wires: &Wires, entity: u8, samples: &[i32]) -> bool {
     }
 }
 
-#[test]
-fn ticks_of_a_small_function(rt: HostRuntime) -> Result<(), Fail> {
-    let alloc = rt.alloc();
-    let rack = Rack::new(
+/// What is wanted of a tick.
+#[derive(Clone, Copy)]
+struct Wanted<'a> {
+    /// Samples, by the entity on whose wire they are.
+    samples: &'a [(u8, &'a [i32])],
+    /// How often units are rendered.
+    renders: u64,
+}
+
+/// What a tick gave is what is wanted. The clock has no wire.
+fn look(
+    rt: &impl Abort,
+    wires: &Wires,
+    ticked: Result<u64, AllocError>,
+    wanted: &Wanted<'_>,
+) -> Result<(), AllocError> {
+    assert_eq!(rt; ticked?, wanted.renders);
+    for (entity, samples) in wanted.samples {
+        assert!(rt; has(wires, *entity, samples), "{entity}");
+    }
+    assert!(rt; wires.get(1).is_none());
+    Ok(())
+}
+
+// The wires, the store and the function are each let go of at one place, since a proof has every step of that at each.
+fn tick_wires(
+    rt: &impl Abort,
+    alloc: Global,
+    function: &Function,
+    store: &Store,
+    rack: &Rack,
+    by_jobs: bool,
+    wanted: &Wanted<'_>,
+) -> Result<(), AllocError>
+    requires { IsFitted (λ v x. (⟦<dyn Unit as Unit>⟧ v).kind_of x) rack.now }
+{
+    let mut wires = fed(alloc, function)?;
+    let ticked = tick_once(alloc, function, store, rack, by_jobs, &mut wires);
+    look(rt, &wires, ticked, wanted)
+}
+
+/// One tick of a function after these changes of controls, by jobs at hand or not, gives what is wanted.
+fn expect_tick(
+    rt: &impl Abort,
+    alloc: Global,
+    function: &Function,
+    rack: &Rack,
+    changes: &[(u8, u8, u8, i32)],
+    by_jobs: bool,
+    wanted: &Wanted<'_>,
+) -> Result<(), AllocError>
+    requires { IsFitted (λ v x. (⟦<dyn Unit as Unit>⟧ v).kind_of x) rack.now }
+{
+    let store = changed(alloc, function, changes)?;
+    tick_wires(rt, alloc, function, &store, rack, by_jobs, wanted)
+}
+
+/// Ticks of the small function: as it is, by the selector's other pin, and muted beside a volume of one decibel less.
+fn tick_small(
+    rt: &impl Abort,
+    alloc: Global,
+    function: &Function,
+    rack: &Rack,
+    by_jobs: bool,
+) -> Result<(), AllocError>
+    requires { IsFitted (λ v x. (⟦<dyn Unit as Unit>⟧ v).kind_of x) rack.now }
+{
+    let rows: [(&[(u8, u8, u8, i32)], &[(u8, &[i32])]); 3] = [
+        (&[], &[(4, &[65536]), (8, &[2, -2]), (7, &[1, -1])]),
+        (&[(9, 1, 0, 2)], &[(7, &[2, -2])]),
+        (
+            &[(3, 1, 0, 1), (6, 2, 1, -256)],
+            &[(7, &[0, 0]), (4, &[58409])],
+        ),
+    ];
+    for (changes, samples) in rows {
+        let wanted = Wanted {
+            samples,
+            renders: 5,
+        };
+        expect_tick(rt, alloc, function, rack, changes, by_jobs, &wanted)?;
+    }
+    Ok(())
+}
+
+fn try_function(rt: &impl Abort, alloc: Global, trial: Trial, rack: &Rack) -> Result<(), AllocError>
+    requires { IsFitted (λ v x. (⟦<dyn Unit as Unit>⟧ v).kind_of x) rack.now }
+{
+    let function = function(alloc, trial)?;
+    act(rt, alloc, trial, &function, rack)
+}
+
+fn act(
+    rt: &impl Abort,
+    alloc: Global,
+    trial: Trial,
+    function: &Function,
+    rack: &Rack,
+) -> Result<(), AllocError>
+    requires { IsFitted (λ v x. (⟦<dyn Unit as Unit>⟧ v).kind_of x) rack.now }
+{
+    match trial {
+        Trial::Small => {
+            tick_small(rt, alloc, function, rack, false)?;
+            tick_small(rt, alloc, function, rack, true)
+        }
+        Trial::Row => {
+            let full: [i32; 2] = [2147483647, -2147483648];
+            let wanted = Wanted {
+                samples: &[(42, &full), (43, &full)],
+                renders: 40,
+            };
+            expect_tick(rt, alloc, function, rack, &[], true, &wanted)
+        }
+    }
+}
+
+/// A rack of plain units.
+fn plain_rack(alloc: Global) -> Result<Rack, AllocError>
+    ensures { IfOk result (λ rack. IsFitted (λ v x. (⟦<dyn Unit as Unit>⟧ v).kind_of x) rack) }
+{
+    Ok(Rack::new(
         Box::new(alloc, PlainMixer)?,
         Box::new(alloc, PlainSelector)?,
         Box::new(alloc, PlainFeature)?,
         Box::new(alloc, PlainEffect)?,
-    );
-    for by_jobs in [false, true] {
-        let wires = play(alloc, &rack, &[], by_jobs)?;
-        assert!(rt; has(&wires, 4, &[65536]));
-        assert!(rt; has(&wires, 8, &[2, -2]));
-        assert!(rt; has(&wires, 7, &[1, -1]));
-        assert!(rt; wires.get(1).is_none());
+    ))
+}
 
-        let wires = play(alloc, &rack, &[(9, 1, 0, 2)], by_jobs)?;
-        assert!(rt; has(&wires, 7, &[2, -2]));
+fn try_small(rt: &impl Abort, alloc: Global) -> Result<(), AllocError> {
+    let rack = plain_rack(alloc)?;
+    try_function(rt, alloc, Trial::Small, &rack)
+}
 
-        let wires = play(alloc, &rack, &[(3, 1, 0, 1), (6, 2, 1, -256)], by_jobs)?;
-        assert!(rt; has(&wires, 7, &[0, 0]));
-        assert!(rt; has(&wires, 4, &[58409]));
-    }
+#[test]
+fn ticks_of_a_small_function(rt: HostRuntime) -> Result<(), Fail> {
+    try_small(&rt, rt.alloc())?;
     Ok(())
+}
+
+/// A rack of plain units and a mixer that counts.
+fn counting_rack(alloc: Global, renders: &Rc<Cell<u64>>) -> Result<Rack, AllocError>
+    ensures { IfOk result (λ rack. IsFitted (λ v x. (⟦<dyn Unit as Unit>⟧ v).kind_of x) rack) }
+{
+    let counting = CountingMixer {
+        renders: renders.clone()?,
+    };
+    Ok(Rack::new(
+        Box::new(alloc, counting)?,
+        Box::new(alloc, PlainSelector)?,
+        Box::new(alloc, PlainFeature)?,
+        Box::new(alloc, PlainEffect)?,
+    ))
+}
+
+fn try_row(rt: &impl Abort, alloc: Global, renders: &Rc<Cell<u64>>) -> Result<(), AllocError> {
+    let rack = counting_rack(alloc, renders)?;
+    try_function(rt, alloc, Trial::Row, &rack)
 }
 
 /// Each mixer doubles what the one before gives, so the samples reach full scale on the way. Rendered once for each pin, the first
 /// mixer alone would be asked 2^39 times.
 #[test]
 fn each_of_forty_mixers_is_rendered_once(rt: HostRuntime) -> Result<(), Fail> {
-    let alloc = rt.alloc();
-    let renders = Rc::new(alloc, Cell::new(0u64))?;
-    let counting = CountingMixer {
-        renders: renders.clone()?,
-    };
-    let rack = Rack::new(
-        Box::new(alloc, counting)?,
-        Box::new(alloc, PlainSelector)?,
-        Box::new(alloc, PlainFeature)?,
-        Box::new(alloc, PlainEffect)?,
-    );
-    let function = mixers_in_a_row(alloc)?;
-    let (wires, steps) = play_on(alloc, &function, &rack, &[], true)?;
-    assert_eq!(rt; steps, 40);
+    let renders = Rc::new(rt.alloc(), Cell::new(0u64))?;
+    try_row(&rt, rt.alloc(), &renders)?;
     assert_eq!(rt; renders.get(), 40);
-    assert!(rt; has(&wires, 42, &[2147483647, -2147483648]));
-    assert!(rt; has(&wires, 43, &[2147483647, -2147483648]));
     Ok(())
 }
