@@ -1,5 +1,6 @@
 -- Steps of the world, and what the bus answers them.
-use Rattle.std.proofs.Common.{◌≡◌, ℕ, Bool, true, false, List, ◌++◌, refl, ap, subst, ◌∙◌, Option, None, Result, Ok, Err}
+use Rattle.std.proofs.Common.{◌≡◌, ℕ, Bool, true, false, List, ◌++◌, refl, ap, subst, ◌∙◌, ◌⊎◌, inl, inr, Option, None, Result, Ok, Err}
+use Rattle.std.proofs.lemmas.Bool.{false≢true}
 use Rattle.std.specs.Prelude.{OnOk}
 use Rattle.std.proofs.KnownBytes.{Appends-nil}
 use Rattle.uac_grammar.specs.Reading as reader
@@ -94,26 +95,49 @@ gone_before p shown (describing bytes heard) s = absurd s
 gone_before p shown (running r) s = refl
 
 -- any other line
+abbrev pub is_later : LentLine → Bool
+is_later lines.Nothing = false
+is_later (lines.Bytes b) = false
+is_later lines.Go = false
+is_later (lines.Control a b) = true
+is_later (lines.Get a) = true
+is_later (lines.Set a b) = true
+is_later (lines.Show a) = true
+is_later (lines.Break a) = true
+is_later (lines.Append a b) = true
+is_later (lines.Track a b) = true
+is_later (lines.Jack a b) = true
+is_later (lines.Deviate a b) = true
+is_later (lines.Run a b) = true
+is_later (lines.Detail a) = true
+is_later lines.Report = true
+
+pub later_as : {line other : LentLine} → line ≡ other → is_later other ≡ true → is_later line ≡ true
+later_as same later = ap is_later same ∙ later
+
+pub out_of : {A B P : Type 0} → A ⊎ B → (A → P) → (B → P) → P
+out_of (inl a) f g = f a
+out_of (inr b) f g = g b
+
 pub early_in : (r : reader.ReaderFields) (line : LentLine) (shown : List Reading) (w : World) → StandsFor (stages.Describing r) shown w
-    → (line ≡ lines.Nothing → ⊥) → ((bytes : _) → line ≡ lines.Bytes bytes → ⊥) → (line ≡ lines.Go → ⊥)
-    → step (lent_phrase line) w ≡ breaks_rule 5
+    → is_later line ≡ true → step (lent_phrase line) w ≡ breaks_rule 5
 unfolding step
-early_in r line shown (running world) s nothing bytes go = absurd s
-early_in r lines.Nothing shown (describing bs heard) s nothing bytes go = absurd (nothing refl)
-early_in r (lines.Bytes b) shown (describing bs heard) s nothing bytes go = absurd (bytes b refl)
-early_in r lines.Go shown (describing bs heard) s nothing bytes go = absurd (go refl)
-early_in r (lines.Control a b) shown (describing bs heard) s nothing bytes go = refl
-early_in r (lines.Get a) shown (describing bs heard) s nothing bytes go = refl
-early_in r (lines.Set a b) shown (describing bs heard) s nothing bytes go = refl
-early_in r (lines.Show a) shown (describing bs heard) s nothing bytes go = refl
-early_in r (lines.Break a) shown (describing bs heard) s nothing bytes go = refl
-early_in r (lines.Append a b) shown (describing bs heard) s nothing bytes go = refl
-early_in r (lines.Track a b) shown (describing bs heard) s nothing bytes go = refl
-early_in r (lines.Jack a b) shown (describing bs heard) s nothing bytes go = refl
-early_in r (lines.Deviate a b) shown (describing bs heard) s nothing bytes go = refl
-early_in r (lines.Run a b) shown (describing bs heard) s nothing bytes go = refl
-early_in r (lines.Detail a) shown (describing bs heard) s nothing bytes go = refl
-early_in r lines.Report shown (describing bs heard) s nothing bytes go = refl
+early_in r line shown (running world) s later = absurd s
+early_in r lines.Nothing shown (describing bs heard) s later = absurd (false≢true later)
+early_in r (lines.Bytes b) shown (describing bs heard) s later = absurd (false≢true later)
+early_in r lines.Go shown (describing bs heard) s later = absurd (false≢true later)
+early_in r (lines.Control a b) shown (describing bs heard) s later = refl
+early_in r (lines.Get a) shown (describing bs heard) s later = refl
+early_in r (lines.Set a b) shown (describing bs heard) s later = refl
+early_in r (lines.Show a) shown (describing bs heard) s later = refl
+early_in r (lines.Break a) shown (describing bs heard) s later = refl
+early_in r (lines.Append a b) shown (describing bs heard) s later = refl
+early_in r (lines.Track a b) shown (describing bs heard) s later = refl
+early_in r (lines.Jack a b) shown (describing bs heard) s later = refl
+early_in r (lines.Deviate a b) shown (describing bs heard) s later = refl
+early_in r (lines.Run a b) shown (describing bs heard) s later = refl
+early_in r (lines.Detail a) shown (describing bs heard) s later = refl
+early_in r lines.Report shown (describing bs heard) s later = refl
 
 -- a line of the running device
 pub played_in : (p p' : RunningFields) (phrase : Phrase) (shown shown' : List Reading) (w : World) (written written' : Option (List ℕ)) (result : Result (Unit {0}) BusFault)

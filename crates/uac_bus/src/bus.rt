@@ -181,7 +181,8 @@ fn is_kept(fault: BusFault) -> bool
 {
     match fault {
         BusFault::Script(_) => false,
-        _ => true,
+        BusFault::Grammar(_) | BusFault::Topology(_) => true,
+        BusFault::WriteFault | BusFault::NoMemory => true,
     }
 }
 
@@ -238,7 +239,18 @@ fn advance<K: Sink>(
             LentLine::Nothing => Ok(()),
             LentLine::Bytes(bytes) => feed(reader, bytes),
             LentLine::Go => go(alloc, stage, sink),
-            _ => Err(BusFault::Script(5)),
+            LentLine::Control { .. }
+            | LentLine::Get(_)
+            | LentLine::Set(_, _)
+            | LentLine::Show(_)
+            | LentLine::Break { .. }
+            | LentLine::Append { .. }
+            | LentLine::Track { .. }
+            | LentLine::Jack { .. }
+            | LentLine::Deviate { .. }
+            | LentLine::Run { .. }
+            | LentLine::Detail(_)
+            | LentLine::Report => Err(BusFault::Script(5)),
         },
         BusStage::Running(running) => play(running, line, rack, meters, sink),
     }

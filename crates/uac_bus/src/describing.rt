@@ -120,7 +120,7 @@ fn configuration_of(alloc: Global, bytes: &[u8]) -> Result<ByteList, NoMemory>
 {
     let front = if begins_with_device(bytes) { 18 } else { 0 };
     let rest = &bytes[bytes.len().min(front)..];
-    let configuration = Vec::from_slice(alloc, rest).map_err(|_| NoMemory)?;
+    let configuration = Vec::from_slice(alloc, rest)?;
     Ok(ByteList::from_vec(configuration))
 }
 
