@@ -5,6 +5,7 @@ ghost use Rattle.uac_store.specs.Controls.{IsStoreOf};
 
 use crate::*;
 use std::alloc::{AllocError, Global};
+use std::process::Abort;
 use std::test::Fail;
 use uac_descriptor::{
     Block, ClockSource, Feature, InputTerminal, Interface, OutputTerminal, WordList,
@@ -12,14 +13,12 @@ use uac_descriptor::{
 use uac_device::Device;
 use uac_request::{Answer, Setup};
 use uac_sentence::are_well_formed;
-use uac_topology::check;
 use uac_topology::laws::functions_are_sound;
+use uac_topology::{Function, check};
 
 fn push(blocks: &mut Vec<Block>, block: Block) -> Result<(), AllocError> {
-    match blocks.push(block) {
-        Ok(()) => Ok(()),
-        Err(_) => Err(AllocError),
-    }
+    blocks.push(block)?;
+    Ok(())
 }
 
 // The control interface, with which blocks begin.
@@ -61,25 +60,25 @@ fn output() -> Block {
     })
 }
 
+fn clock() -> Block {
+    Block::ClockSource(ClockSource {
+        id: 1,
+        attributes: 3,
+        controls: 7,
+        assoc: 0,
+        name: 0,
+    })
+}
+
 /// Clock 1, whose frequency can be set; jack 2 of two channels feeds feature 3, which feeds jack 4. The feature's mute is on
 /// the master alone, and can only be read; its volume is on both channels, and on the second can only be read.
-fn blocks(alloc: Global) -> Result<Vec<Block>, AllocError> {
-    let mut blocks = Vec::new(alloc);
-    push(&mut blocks, control())?;
-    push(
-        &mut blocks,
-        Block::ClockSource(ClockSource {
-            id: 1,
-            attributes: 3,
-            controls: 7,
-            assoc: 0,
-            name: 0,
-        }),
-    )?;
-    push(&mut blocks, input())?;
+fn push_blocks(alloc: Global, blocks: &mut Vec<Block>) -> Result<(), AllocError> {
+    push(blocks, control())?;
+    push(blocks, clock())?;
+    push(blocks, input())?;
     let words = Vec::from_slice(alloc, &[1, 12, 4])?;
     push(
-        &mut blocks,
+        blocks,
         Block::Feature(Feature {
             id: 3,
             source: 2,
@@ -87,21 +86,29 @@ fn blocks(alloc: Global) -> Result<Vec<Block>, AllocError> {
             name: 0,
         }),
     )?;
-    push(&mut blocks, output())?;
-    Ok(blocks)
+    push(blocks, output())
+}
+
+fn function_of(alloc: Global, blocks: &[Block]) -> Result<Function, AllocError> {
+    if !are_well_formed(blocks) {
+        return Err(AllocError);
+    }
+    match check(alloc, blocks) {
+        Ok(function) => Ok(function),
+        Err(_) => Err(AllocError),
+    }
+}
+
+fn function(alloc: Global) -> Result<Function, AllocError> {
+    let mut blocks = Vec::new(alloc);
+    push_blocks(alloc, &mut blocks)?;
+    function_of(alloc, blocks.as_slice())
 }
 
 fn device(alloc: Global) -> Result<Device, AllocError>
     ensures { IfOk result (λ device. IsStoreOf device.function.entities device.controls) }
 {
-    let blocks = blocks(alloc)?;
-    if !are_well_formed(blocks.as_slice()) {
-        return Err(AllocError);
-    }
-    let function = match check(alloc, blocks.as_slice()) {
-        Ok(function) => function,
-        Err(_) => return Err(AllocError),
-    };
+    let function = function(alloc)?;
     functions_are_sound(&function);
     laws::controls_start_with_values();
     match Device::new(alloc, function) {
@@ -110,13 +117,33 @@ fn device(alloc: Global) -> Result<Device, AllocError>
     }
 }
 
-/// The view of a device, where nothing breaks.
-fn view(alloc: Global, device: &mut Device) -> Result<View, AllocError>
+/// What is tried on a new device.
+#[derive(Clone, Copy)]
+enum Trial {
+    Listing,
+    BrokenLink,
+    Transfer,
+}
+
+// The device is let go of at one place, since a proof has every step of that at each.
+fn try_out(rt: &impl Abort, alloc: Global, trial: Trial) -> Result<(), AllocError> {
+    let mut device = device(alloc)?;
+    act(rt, alloc, trial, &mut device)
+}
+
+fn act(rt: &impl Abort, alloc: Global, trial: Trial, device: &mut Device) -> Result<(), AllocError>
     requires { IsStoreOf device.old.function.entities device.old.controls }
 {
-    match View::read(alloc, &mut DeviceLink::new(device, None)) {
-        Ok(view) => Ok(view),
-        Err(_) => Err(AllocError),
+    match trial {
+        Trial::Listing => list(rt, alloc, device),
+        Trial::BrokenLink => {
+            break_the_link(rt, alloc, device);
+            Ok(())
+        }
+        Trial::Transfer => {
+            transfer(rt, alloc, device);
+            Ok(())
+        }
     }
 }
 
@@ -132,18 +159,31 @@ fn is_at(view: &View, at: usize, name: &[u8], writable: bool, value: i32) -> boo
     }
 }
 
+// The elements of the small device, in their order.
+fn expect_elements(rt: &impl Abort, view: &View) {
+    assert!(rt; view.elements().len() == 4);
+    assert!(rt; is_at(view, 0, b"rate.1.0", true, 48000));
+    assert!(rt; is_at(view, 1, b"mute.3.0", false, 0));
+    assert!(rt; is_at(view, 2, b"volume.3.1", true, 0));
+    assert!(rt; is_at(view, 3, b"volume.3.2", false, 0));
+    assert!(rt; view.find(b"volume.3.2") == Some(3));
+    assert!(rt; view.find(b"volume.3.0") == None);
+}
+
+fn list(rt: &impl Abort, alloc: Global, device: &mut Device) -> Result<(), AllocError>
+    requires { IsStoreOf device.old.function.entities device.old.controls }
+{
+    let view = match View::read(alloc, &mut DeviceLink::new(device, None)) {
+        Ok(view) => view,
+        Err(_) => return Err(AllocError),
+    };
+    expect_elements(rt, &view);
+    Ok(())
+}
+
 #[test]
 fn a_view_lists_what_is_declared(rt: HostRuntime) -> Result<(), Fail> {
-    let alloc = rt.alloc();
-    let mut device = device(alloc)?;
-    let view = view(alloc, &mut device)?;
-    assert_eq!(rt; view.elements().len(), 4);
-    assert!(rt; is_at(&view, 0, b"rate.1.0", true, 48000));
-    assert!(rt; is_at(&view, 1, b"mute.3.0", false, 0));
-    assert!(rt; is_at(&view, 2, b"volume.3.1", true, 0));
-    assert!(rt; is_at(&view, 3, b"volume.3.2", false, 0));
-    assert_eq!(rt; view.find(b"volume.3.2"), Some(3));
-    assert_eq!(rt; view.find(b"volume.3.0"), None);
+    try_out(&rt, rt.alloc(), Trial::Listing)?;
     Ok(())
 }
 
@@ -155,15 +195,19 @@ fn is_read<L: Link>(alloc: Global, link: &mut L) -> bool {
     }
 }
 
-#[test]
-fn nothing_is_read_over_a_broken_link(rt: HostRuntime) -> Result<(), Fail> {
-    let alloc = rt.alloc();
-    let mut device = device(alloc)?;
-    let mut link = DeviceLink::new(&mut device, Some(When::Before));
+fn break_the_link(rt: &impl Abort, alloc: Global, device: &mut Device)
+    requires { IsStoreOf device.old.function.entities device.old.controls }
+{
+    let mut link = DeviceLink::new(device, Some(When::Before));
     assert!(rt; !is_read(alloc, &mut link));
     assert!(rt; link.last().is_none());
     assert!(rt; is_read(alloc, &mut link));
     assert!(rt; link.last().is_some());
+}
+
+#[test]
+fn nothing_is_read_over_a_broken_link(rt: HostRuntime) -> Result<(), Fail> {
+    try_out(&rt, rt.alloc(), Trial::BrokenLink)?;
     Ok(())
 }
 
@@ -186,14 +230,18 @@ fn volume_after<L: Link>(alloc: Global, link: &mut L, sent: &[u8]) -> Option<i32
     view.elements().get(2)?.value
 }
 
+fn transfer(rt: &impl Abort, alloc: Global, device: &mut Device)
+    requires { IsStoreOf device.old.function.entities device.old.controls }
+{
+    let mut link = DeviceLink::new(device, None);
+    assert!(rt; volume_after(alloc, &mut link, &[0, 0xFF]) == Some(-256));
+    assert!(rt; matches!(link.last(), Some(Answer::Done)));
+    assert!(rt; volume_after(alloc, &mut link, &[1, 0xFF]) == Some(-256));
+    assert!(rt; matches!(link.last(), Some(Answer::Stall(9))));
+}
+
 #[test]
 fn a_transfer_keeps_the_view_right(rt: HostRuntime) -> Result<(), Fail> {
-    let alloc = rt.alloc();
-    let mut device = device(alloc)?;
-    let mut link = DeviceLink::new(&mut device, None);
-    assert_eq!(rt; volume_after(alloc, &mut link, &[0, 0xFF]), Some(-256));
-    assert!(rt; matches!(link.last(), Some(Answer::Done)));
-    assert_eq!(rt; volume_after(alloc, &mut link, &[1, 0xFF]), Some(-256));
-    assert!(rt; matches!(link.last(), Some(Answer::Stall(9))));
+    try_out(&rt, rt.alloc(), Trial::Transfer)?;
     Ok(())
 }
