@@ -1,9 +1,9 @@
 -- The bytes of a frame, and the samples of its bytes.
-use Rattle.std.proofs.Common.{add-one, ◌≡◌, ℕ, zero, suc, ◌+◌, ◌*◌, ◌<◌, ◌≤◌, ℤ, FitsSigned, w32, List, [], ◌∷◌, ◌++◌, length, take, drop, set, map, arith, ap, ◌∙◌, sym, refl, Result, Ok, Err, true, is_ok, OnOk, append_assoc, length-append}
+use Rattle.std.proofs.Common.{get_or, pos, add-one, ◌≡◌, ℕ, zero, suc, ◌+◌, ◌*◌, ◌<◌, ◌≤◌, ℤ, FitsSigned, w32, List, [], ◌∷◌, ◌++◌, length, take, drop, set, map, arith, ap, ◌∙◌, sym, refl, Result, Ok, Err, true, is_ok, OnOk, append_assoc, length-append}
 use Rattle.std.proofs.Math.Nat.{suc-mul, zero-mul}
 use Rattle.std.proofs.Math.Seq.{take-append_seam, drop-append_seam}
 use Rattle.std.specs.List.{All}
-use Rattle.std.proofs.lemmas.List.{drop-drop, take_more_set}
+use Rattle.std.proofs.lemmas.List.{append-nil, drop-drop, length-drop, take_all, take_more_set}
 use Rattle.byteorder.specs.Numbers.{length-bytes_low_first}
 use Rattle.uac_pcm.specs.Words.{cut, word_of, sample_of_word}
 use Rattle.uac_pcm.proofs.Cutting.{sample_of_word-word_of}
@@ -72,3 +72,36 @@ frame_of_bytes-bytes_of_frame size resolution (x ∷ xs) rest room low high fits
     ∙ ap (λ (z : ℤ). z ∷ frame_of_bytes (length xs) size resolution (drop size (word ++ others))) (sample_of_word-word_of size resolution x room low high first)
     ∙ ap (λ (bs : List ℕ). cut resolution x ∷ frame_of_bytes (length xs) size resolution bs) back
     ∙ ap (λ (zs : List ℤ). cut resolution x ∷ zs) (frame_of_bytes-bytes_of_frame size resolution xs rest room low high further)
+
+-- one sample is its word
+pub only_written : (size resolution : ℕ) (xs : List ℤ) → length xs ≡ 1 → word_of size resolution (get_or xs 0 (pos 0)) ≡ bytes_of_frame size resolution xs
+only_written size resolution (x ∷ []) one = sym (append-nil (word_of size resolution x))
+only_written size resolution [] one = absurd (omega (arith, one))
+only_written size resolution (x ∷ y ∷ xs) one = absurd (omega (arith, one))
+
+-- two samples are the word of one and then that of the other
+pub pair_written : (size resolution : ℕ) (xs : List ℤ) → length xs ≡ 2
+    → word_of size resolution (get_or xs 0 (pos 0)) ++ word_of size resolution (get_or xs 1 (pos 0)) ≡ bytes_of_frame size resolution xs
+pair_written size resolution (x ∷ y ∷ []) two = ap (λ (bs : List ℕ). word_of size resolution x ++ bs) (sym (append-nil (word_of size resolution y)))
+pair_written size resolution [] two = absurd (omega (arith, two))
+pair_written size resolution (x ∷ []) two = absurd (omega (arith, two))
+pair_written size resolution (x ∷ y ∷ z ∷ xs) two = absurd (omega (arith, two))
+
+-- one word is one sample
+pub only_read : (size resolution : ℕ) (bytes : List ℕ) (xs : List ℤ) → length xs ≡ 1 → length bytes ≡ size
+    → set xs 0 (sample_of_word size resolution bytes) ≡ frame_of_bytes (length xs) size resolution bytes
+only_read size resolution bytes (x ∷ []) one whole = ap (λ (bs : List ℕ). sample_of_word size resolution bs ∷ []) (sym (take_all size bytes (omega (arith, whole))))
+only_read size resolution bytes [] one whole = absurd (omega (arith, one))
+only_read size resolution bytes (x ∷ y ∷ xs) one whole = absurd (omega (arith, one))
+
+-- two words are two samples
+pub pair_read : (size resolution : ℕ) (bytes : List ℕ) (xs : List ℤ) → length xs ≡ 2 → length bytes ≡ 2 * size
+    → set (set xs 0 (sample_of_word size resolution (take size bytes))) 1 (sample_of_word size resolution (drop size bytes))
+    ≡ frame_of_bytes (length xs) size resolution bytes
+pair_read size resolution bytes (x ∷ y ∷ []) two whole =
+    let back : length (drop size bytes) ≡ size = length-drop size bytes ∙ omega (arith, whole) in
+    ap (λ (bs : List ℕ). sample_of_word size resolution (take size bytes) ∷ sample_of_word size resolution bs ∷ [])
+    (sym (take_all size (drop size bytes) (omega (arith, back))))
+pair_read size resolution bytes [] two whole = absurd (omega (arith, two))
+pair_read size resolution bytes (x ∷ []) two whole = absurd (omega (arith, two))
+pair_read size resolution bytes (x ∷ y ∷ z ∷ xs) two whole = absurd (omega (arith, two))

@@ -1,5 +1,5 @@
 //! The word of one sample, and the sample of one word.
-ghost use Rattle.std.specs.Prelude.{◌≡◌, ◌≤◌, ◌*◌, length};
+ghost use Rattle.std.specs.Prelude.{◌≡◌, ◌≤◌, ◌<◌, ◌*◌, length, slice_index_or, pos};
 ghost use Rattle.byteorder.specs.Endian.{little_number};
 ghost use Rattle.uac_pcm.specs.Frames.{bytes_of_frame, frame_of_bytes};
 ghost use Rattle.uac_pcm.specs.Words.{cut, word_of, sample_of_word};
@@ -25,6 +25,53 @@ pub fn write_words<const SIZE: usize>(samples: &[i32], resolution: u8, words: &m
     requires sized { length words.old ≡ length samples.now * SIZE }
     ensures { words.new ≡ bytes_of_frame SIZE resolution samples.now }
 {
+    match samples.len() {
+        1 => write_only::<SIZE>(samples, resolution, words),
+        2 => write_pair::<SIZE>(samples, resolution, words),
+        _ => write_each::<SIZE>(samples, resolution, words),
+    }
+}
+
+// The same of one sample.
+#[tactic(auto, using(crate::proofs::Packing::only_written))]
+fn write_only<const SIZE: usize>(samples: &[i32], resolution: u8, words: &mut [u8])
+    requires one { length samples.now ≡ 1 }
+    requires some { 1 ≤ SIZE }
+    requires four { SIZE ≤ 4 }
+    requires low { 1 ≤ resolution }
+    requires high { resolution ≤ 8 * SIZE }
+    requires sized { length words.old ≡ SIZE }
+    ensures { words.new ≡ bytes_of_frame SIZE resolution samples.now }
+{
+    write_word(sample_at(samples, 0), SIZE, resolution, words);
+}
+
+// The same of two samples.
+#[tactic(auto, using(crate::proofs::Packing::pair_written))]
+fn write_pair<const SIZE: usize>(samples: &[i32], resolution: u8, words: &mut [u8])
+    requires two { length samples.now ≡ 2 }
+    requires some { 1 ≤ SIZE }
+    requires four { SIZE ≤ 4 }
+    requires low { 1 ≤ resolution }
+    requires high { resolution ≤ 8 * SIZE }
+    requires sized { length words.old ≡ 2 * SIZE }
+    ensures { words.new ≡ bytes_of_frame SIZE resolution samples.now }
+{
+    let (left, right) = words.split_at_mut(SIZE);
+    write_word(sample_at(samples, 0), SIZE, resolution, left);
+    write_word(sample_at(samples, 1), SIZE, resolution, right);
+}
+
+// The same of as many samples as there are.
+#[inline(never)]
+fn write_each<const SIZE: usize>(samples: &[i32], resolution: u8, words: &mut [u8])
+    requires some { 1 ≤ SIZE }
+    requires four { SIZE ≤ 4 }
+    requires low { 1 ≤ resolution }
+    requires high { resolution ≤ 8 * SIZE }
+    requires sized { length words.old ≡ length samples.now * SIZE }
+    ensures { words.new ≡ bytes_of_frame SIZE resolution samples.now }
+{
     for place in 0..samples.len() {
         let start = place * SIZE;
         write_word(
@@ -34,6 +81,14 @@ pub fn write_words<const SIZE: usize>(samples: &[i32], resolution: u8, words: &m
             &mut words[start..start + SIZE],
         );
     }
+}
+
+// The sample at a place.
+fn sample_at(samples: &[i32], at: usize) -> i32
+    requires { at < length samples.now }
+    ensures { result ≡ slice_index_or samples.now at (pos 0) }
+{
+    samples[at]
 }
 
 // Writes the bytes of the sample in a subslot of `size` bytes over so many bytes.
@@ -53,6 +108,51 @@ fn write_word(sample: i32, size: usize, resolution: u8, word: &mut [u8])
 
 /// Writes the samples of the words, in subslots of `SIZE` bytes, over so many samples.
 pub fn read_words<const SIZE: usize>(words: &[u8], resolution: u8, samples: &mut [i32])
+    requires some { 1 ≤ SIZE }
+    requires four { SIZE ≤ 4 }
+    requires low { 1 ≤ resolution }
+    requires high { resolution ≤ 8 * SIZE }
+    requires sized { length words.now ≡ length samples.old * SIZE }
+    ensures { samples.new ≡ frame_of_bytes (length samples.old) SIZE resolution words.now }
+{
+    match samples.len() {
+        1 => read_only::<SIZE>(words, resolution, samples),
+        2 => read_pair::<SIZE>(words, resolution, samples),
+        _ => read_each::<SIZE>(words, resolution, samples),
+    }
+}
+
+// The same of one word.
+fn read_only<const SIZE: usize>(words: &[u8], resolution: u8, samples: &mut [i32])
+    requires one { length samples.old ≡ 1 }
+    requires some { 1 ≤ SIZE }
+    requires four { SIZE ≤ 4 }
+    requires low { 1 ≤ resolution }
+    requires high { resolution ≤ 8 * SIZE }
+    requires sized { length words.now ≡ SIZE }
+    ensures { samples.new ≡ frame_of_bytes (length samples.old) SIZE resolution words.now }
+{
+    samples[0] = sample_of(words, SIZE, resolution);
+}
+
+// The same of two words.
+fn read_pair<const SIZE: usize>(words: &[u8], resolution: u8, samples: &mut [i32])
+    requires two { length samples.old ≡ 2 }
+    requires some { 1 ≤ SIZE }
+    requires four { SIZE ≤ 4 }
+    requires low { 1 ≤ resolution }
+    requires high { resolution ≤ 8 * SIZE }
+    requires sized { length words.now ≡ 2 * SIZE }
+    ensures { samples.new ≡ frame_of_bytes (length samples.old) SIZE resolution words.now }
+{
+    let (left, right) = words.split_at(SIZE);
+    samples[0] = sample_of(left, SIZE, resolution);
+    samples[1] = sample_of(right, SIZE, resolution);
+}
+
+// The same of as many words as there are samples.
+#[inline(never)]
+fn read_each<const SIZE: usize>(words: &[u8], resolution: u8, samples: &mut [i32])
     requires some { 1 ≤ SIZE }
     requires four { SIZE ≤ 4 }
     requires low { 1 ≤ resolution }

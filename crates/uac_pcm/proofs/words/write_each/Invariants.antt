@@ -1,6 +1,6 @@
 use Rattle.std.proofs.Common.{◌≡◌, ◌*◌, length, take}
 use Rattle.uac_pcm.specs.Frames.{bytes_of_frame}
-use Rattle.uac_pcm.proofs.words.write_words.Given as goal
+use Rattle.uac_pcm.proofs.words.write_each.Given as goal
 
 abbrev pub invariant-loop-place : goal.invariant-loop-place
 invariant-loop-place g l = record {

@@ -1,6 +1,6 @@
 use Rattle.std.proofs.Common.{◌≡◌, length, take}
 use Rattle.uac_pcm.specs.Frames.{frame_of_bytes}
-use Rattle.uac_pcm.proofs.words.read_words.Given as goal
+use Rattle.uac_pcm.proofs.words.read_each.Given as goal
 
 abbrev pub invariant-loop-place : goal.invariant-loop-place
 invariant-loop-place g l = record {
