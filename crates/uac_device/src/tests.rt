@@ -39,10 +39,8 @@ fn control() -> Block {
 }
 
 pub(crate) fn push(blocks: &mut Vec<Block>, block: Block) -> Result<(), AllocError> {
-    match blocks.push(block) {
-        Ok(()) => Ok(()),
-        Err(_) => Err(AllocError),
-    }
+    blocks.push(block)?;
+    Ok(())
 }
 
 fn output(id: u8, terminal_type: u16) -> Block {
@@ -280,12 +278,12 @@ fn play_a_frame(rt: &impl Abort, device: &mut Device, rack: &Rack, meters: &mut 
 {
     assert!(rt; played(device, 4, &[0, 0, 0]));
     assert!(rt; give(device, 2, &[-3, 100, 2147483647]));
-    assert_eq!(rt; tick(device, 9, rack, meters).1, 0);
+    assert!(rt; tick(device, 9, rack, meters).1 == 0);
     assert!(rt; played(device, 4, &[0, 0, 0]));
     for _each in 0..2 {
         let (ticked, steps) = tick(device, 1, rack, meters);
-        assert_eq!(rt; ticked, Ticked { under: 0, over: 0 });
-        assert_eq!(rt; steps, 1);
+        assert!(rt; ticked == (Ticked { under: 0, over: 0 }));
+        assert!(rt; steps == 1);
     }
     assert!(rt; played(device, 4, &[-3, 100, 2147483647]));
     assert!(rt; device.played(2).is_none());
@@ -309,15 +307,15 @@ fn a_frame_is_played_and_heard(rt: HostRuntime) -> Result<(), Fail> {
 /// At 48000 Hz a microframe has 6 frames, 393216 parts of 65536. A clock that is fast by 1000 millionths gives 393 parts
 /// more, and 167 times that is a frame: 65631 parts.
 fn run_fast(rt: &impl Abort, device: &mut Device) {
-    assert_eq!(rt; device.ticks(1), 6);
-    assert_eq!(rt; device.ticks(9), 0);
+    assert!(rt; device.ticks(1) == 6);
+    assert!(rt; device.ticks(9) == 0);
     device.deviate(9, 100000);
     device.deviate(1, 1000);
     for _each in 0..166 {
-        assert_eq!(rt; device.ticks(1), 6);
+        assert!(rt; device.ticks(1) == 6);
     }
-    assert_eq!(rt; device.ticks(1), 7);
-    assert_eq!(rt; device.ticks(1), 6);
+    assert!(rt; device.ticks(1) == 7);
+    assert!(rt; device.ticks(1) == 6);
 }
 
 #[test]
@@ -341,12 +339,12 @@ fn set_a_control(rt: &impl Abort, device: &mut Device) {
         selector: 1,
         channel: 0,
     };
-    assert_eq!(rt; ask(device, [0x21, 1, 0, 1, 0, 3, 1, 0], &[2]), Some(false));
-    assert_eq!(rt; device.store().cur(mute), Some(0));
-    assert_eq!(rt; ask(device, [0x21, 1, 0, 1, 0, 3, 1, 0], &[1]), Some(true));
-    assert_eq!(rt; device.store().cur(mute), Some(1));
-    assert_eq!(rt; ask(device, [0xa1, 1, 0, 1, 0, 3, 1, 0], &[]), None);
-    assert_eq!(rt; ask(device, [1, 11, 0, 0, 0, 0, 0, 0], &[]), Some(true));
+    assert!(rt; ask(device, [0x21, 1, 0, 1, 0, 3, 1, 0], &[2]) == Some(false));
+    assert!(rt; device.store().cur(mute) == Some(0));
+    assert!(rt; ask(device, [0x21, 1, 0, 1, 0, 3, 1, 0], &[1]) == Some(true));
+    assert!(rt; device.store().cur(mute) == Some(1));
+    assert!(rt; ask(device, [0xa1, 1, 0, 1, 0, 3, 1, 0], &[]) == None);
+    assert!(rt; ask(device, [1, 11, 0, 0, 0, 0, 0, 0], &[]) == Some(true));
 }
 
 #[test]
@@ -361,12 +359,12 @@ fn look_at_the_start(rt: &impl Abort, device: &Device) {
         selector: 1,
         channel: 0,
     };
-    assert_eq!(rt; device.store().cur(frequency), Some(48000));
-    assert_eq!(rt; device.settings().get(0), Some(0));
-    assert_eq!(rt; device.settings().get(1), None);
-    assert_eq!(rt; device.level(1), 0);
-    assert_eq!(rt; device.target(1), None);
-    assert_eq!(rt; device.function().domains().len(), 1);
+    assert!(rt; device.store().cur(frequency) == Some(48000));
+    assert!(rt; device.settings().get(0) == Some(0));
+    assert!(rt; device.settings().get(1) == None);
+    assert!(rt; device.level(1) == 0);
+    assert!(rt; device.target(1).is_none());
+    assert!(rt; device.function().domains().len() == 1);
 }
 
 #[test]
