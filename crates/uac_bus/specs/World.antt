@@ -16,7 +16,8 @@ use Rattle.uac_graph.specs.Meaning.{entity}
 use Rattle.uac_units.specs.Hearing.{Reading}
 use Rattle.uac_script.specs.declared.line.MarkKind.{MarkKind}
 use Rattle.uac_script.specs.declared.line.MarkKind.TheVariants.{Out, In, Feedback}
-use Rattle.uac_script.specs.Phrase.{SaidTone, silent, ramps, hisses, SaidMark, Phrase, idle, feeds, goes, controls, gets, sets, shows, breaks}
+use Rattle.uac_script.specs.Phrase.{SaidTone, silent, ramps, hisses, SaidMark}
+use Rattle.uac_script.specs.Phrase.{Phrase, idle, feeds, goes, controls, gets, sets, shows, breaks}
 use Rattle.uac_script.specs.Phrase.{appends, tracks, jacks, deviates, runs, details, reports}
 use Rattle.uac_transcript.specs.Transcript.{Said}
 use Rattle.uac_running.specs.RunningWorld.{RunningWorld, at_start, has_jack, has_domain, with_tone, with_deviation, with_detail}

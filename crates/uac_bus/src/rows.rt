@@ -105,8 +105,8 @@ fn run<K: Sink>(
     requires rack { IsFitted (λ v x. (⟦<dyn Unit as Unit>⟧ v).kind_of x) rack.now }
     ensures does { (r : RunningWorld) → StandsBetween running.old (readings (λ v x. (⟦<dyn Meter as Meter>⟧ v).reading_of x) meters.old) r
         → Does (step_running r (phrase.runs (pos count) (map said_mark marks.now))) false
-        (StandsFor (BusStage.Running running.new) (readings (λ v x. (⟦<dyn Meter as Meter>⟧ v).reading_of x) meters.new)) (K.written sink.old)
-        (K.written sink.new) result }
+        (StandsFor (BusStage.Running running.new) (readings (λ v x. (⟦<dyn Meter as Meter>⟧ v).reading_of x) meters.new))
+        (K.written sink.old) (K.written sink.new) result }
     ensures script { IfErr result (λ fault. is_final fault ≡ false → running.new ≡ running.old) }
     ensures unwritten { IfErr result (λ fault. fault ≢ BusFault.WriteFault → sink.new ≡ sink.old) }
     ensures unheard { IfErr result (λ fault. fault ≢ BusFault.WriteFault → meters.new ≡ meters.old) }
@@ -127,8 +127,8 @@ fn run<K: Sink>(
 fn report<K: Sink>(running: &Running, meters: &Meters, sink: &mut K) -> Result<(), BusFault>
     ensures does { (r : RunningWorld) → StandsBetween running.now (readings (λ v x. (⟦<dyn Meter as Meter>⟧ v).reading_of x) meters.now) r
         → Does (step_running r phrase.reports) false
-        (StandsFor (BusStage.Running running.now) (readings (λ v x. (⟦<dyn Meter as Meter>⟧ v).reading_of x) meters.now)) (K.written sink.old)
-        (K.written sink.new) result }
+        (StandsFor (BusStage.Running running.now) (readings (λ v x. (⟦<dyn Meter as Meter>⟧ v).reading_of x) meters.now))
+        (K.written sink.old) (K.written sink.new) result }
     ensures cause { IfErr result (λ fault. (fault ≡ BusFault.WriteFault) × Rose (K.faults sink.old) (K.faults sink.new)) }
     ensures never_falls { K.faults sink.old ≤ K.faults sink.new }
     ensures faultless { OnOk result (K.faults sink.new ≡ K.faults sink.old) }
@@ -151,8 +151,8 @@ pub(crate) fn play<K: Sink>(
     requires keeps { LentKeeps line }
     ensures does { (r : RunningWorld) → StandsBetween running.old (readings (λ v x. (⟦<dyn Meter as Meter>⟧ v).reading_of x) meters.old) r
         → Does (step_running r (lent_phrase line.entry)) (is_append (lent_phrase line.entry))
-        (StandsFor (BusStage.Running running.new) (readings (λ v x. (⟦<dyn Meter as Meter>⟧ v).reading_of x) meters.new)) (K.written sink.old)
-        (K.written sink.new) result }
+        (StandsFor (BusStage.Running running.new) (readings (λ v x. (⟦<dyn Meter as Meter>⟧ v).reading_of x) meters.new))
+        (K.written sink.old) (K.written sink.new) result }
     ensures script { IfErr result (λ fault. is_final fault ≡ false → running.new ≡ running.old) }
     ensures unwritten { IfErr result (λ fault. fault ≢ BusFault.WriteFault → sink.new ≡ sink.old) }
     ensures unheard { IfErr result (λ fault. fault ≢ BusFault.WriteFault → meters.new ≡ meters.old) }

@@ -21,7 +21,8 @@ use Rattle.uac_cli.specs.Transcript.{Ending, transcript}
 use Rattle.uac_cli.specs.Script.{IsWanted}
 use Rattle.uac_cli.specs.Lived.{IsLived}
 
--- why no more was taken shows on the source: what is left, and its counts of faults before and after. Unless a read failed, no fault was met
+-- why no more was taken shows on the source: what is left, and its counts of faults before and after. Unless a read failed, no fault
+-- was met
 abbrev pub HasEnded : End → Option (List ℕ) → ℕ → ℕ → Type 0
 HasEnded at_end left before after = IsAtEnd left × (after ≡ before)
 HasEnded read_failed left before after = Rose before after

@@ -114,7 +114,8 @@ ends_and_reports losses r = followed_by (of_streams (all_settled r.detail)) (of_
 unfoldable pub microframe : List SaidMark → RunningWorld → Told
 microframe losses r =
     let time = at_most_u64 (r.time + 1) in
-    with_lines_first (number_said r.detail time) (followed_by (packets_and_ticks losses) (ends_and_reports losses) (record r { time = time }))
+    with_lines_first (number_said r.detail time)
+    (followed_by (packets_and_ticks losses) (ends_and_reports losses) (record r { time = time }))
 
 -- so many microframes, with these losses in each
 unfoldable pub microframes : List SaidMark → ℕ → RunningWorld → Told

@@ -58,11 +58,45 @@ impl Model for Running {
 
     ghost Value = { RunningFields };
 
-    ghost view = { λ p. record { device = p.device; streaming = p.streaming; view = p.view; configuration = p.configuration; breaks = p.breaks; jacks = p.jacks.items; counts = p.counts.items; time = p.time; detail = p.detail; renders = p.renders } };
+    ghost view = { λ p. record {
+      device = p.device;
+      streaming = p.streaming;
+      view = p.view;
+      configuration = p.configuration;
+      breaks = p.breaks;
+      jacks = p.jacks.items;
+      counts = p.counts.items;
+      time = p.time;
+      detail = p.detail;
+      renders = p.renders;
+    } };
 
     ghost invariant = { λ p. HasItsJacks
-        (record { device = p.device; streaming = p.streaming; view = p.view; configuration = p.configuration; breaks = p.breaks; jacks = p.jacks.items; counts = p.counts.items; time = p.time; detail = p.detail; renders = p.renders })
-        × HasItsDomains (record { device = p.device; streaming = p.streaming; view = p.view; configuration = p.configuration; breaks = p.breaks; jacks = p.jacks.items; counts = p.counts.items; time = p.time; detail = p.detail; renders = p.renders })
+        (record {
+          device = p.device;
+          streaming = p.streaming;
+          view = p.view;
+          configuration = p.configuration;
+          breaks = p.breaks;
+          jacks = p.jacks.items;
+          counts = p.counts.items;
+          time = p.time;
+          detail = p.detail;
+          renders = p.renders;
+        })
+        × HasItsDomains
+        (record {
+          device = p.device;
+          streaming = p.streaming;
+          view = p.view;
+          configuration = p.configuration;
+          breaks = p.breaks;
+          jacks = p.jacks.items;
+          counts = p.counts.items;
+          time = p.time;
+          detail = p.detail;
+          renders = p.renders;
+        })
         × IsViewOf p.device.function.entities p.view };
 }
 

@@ -81,7 +81,8 @@ pub(crate) fn fresh_viewed(alloc: Global, function: Function) -> Result<Viewed, 
 
 /// Whether a device holds another setting of an interface after a transfer, of which it answered this last.
 fn holds_setting(setup: &Setup, last: Option<&Answer>) -> bool
-    ensures { result ≡ (sets_interface setup.now && option_map_or tells_done (option_map (λ answer. answer_fields answer.now) last.entry) false) }
+    ensures { result ≡ (sets_interface setup.now
+        && option_map_or tells_done (option_map (λ answer. answer_fields answer.now) last.entry) false) }
 {
     match last {
         Some(answer) => sets_interface(setup) && is_done(answer),
