@@ -134,7 +134,16 @@ impl Model for Mixer {
 
     ghost Value = { MixerFields };
 
-    ghost view = { λ m. record { id = m.id; sources = m.sources; channels = m.channels; locations = m.locations; names = m.names; mix_bits = m.mix_bits; controls = m.controls; name = m.name } };
+    ghost view = { λ m. record {
+      id = m.id;
+      sources = m.sources;
+      channels = m.channels;
+      locations = m.locations;
+      names = m.names;
+      mix_bits = m.mix_bits;
+      controls = m.controls;
+      name = m.name;
+    } };
 
     ghost invariant = { λ m. IsMixer m.sources m.mix_bits };
 }

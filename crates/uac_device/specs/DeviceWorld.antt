@@ -23,8 +23,8 @@ use Rattle.uac_units.specs.Hearing.{Reading, after_hearing}
 use Rattle.uac_alt.specs.declared.settings.InterfaceSetting.{InterfaceSetting}
 use Rattle.uac_alt.specs.Settings.{initial_settings}
 use Rattle.uac_alt.specs.Streams.{StreamFields, stream_of}
-use Rattle.uac_request.specs.Requests.{AnswerFields, after_request, held_by, is_done, is_stalled, rate_at, reply_of, with_bytes}
-use Rattle.uac_request.specs.Requests.{with_descriptor}
+use Rattle.uac_request.specs.Requests.{AnswerFields, after_request, held_by, is_done, is_stalled, rate_at, reply_of}
+use Rattle.uac_request.specs.Requests.{with_bytes, with_descriptor}
 use Rattle.uac_request.specs.declared.setup.Setup.{Setup}
 use Rattle.uac_flow.specs.Streams.{InStream, OutStream, after_packet, after_putting, after_sending, after_taking, after_ticks, arrival_of}
 use Rattle.uac_flow.specs.Streams.{feedback_of, is_dry, is_full, next_taken, sent_frames, sent_packet, settled_in, settled_out}

@@ -16,7 +16,8 @@ clock_source = row.ClockSource (record { id = 1; attributes = 3; controls = 7; a
 -- the frames of the stream
 abbrev pub input_terminal : block.Block
 input_terminal =
-    row.InputTerminal (record { id = 2; terminal_type = 257; assoc = 0; clock = 1; channels = 2; locations = 3; names = 0; controls = 0; name = 0 })
+    row.InputTerminal
+    (record { id = 2; terminal_type = 257; assoc = 0; clock = 1; channels = 2; locations = 3; names = 0; controls = 0; name = 0 })
 
 -- the unit at this distance from unit 3, fed by the entity before it: at even distance a feature with a mute and two
 -- volumes, at odd distance a mixer with two pins on the same source

@@ -5,7 +5,8 @@ ghost use Rattle.uac_store.specs.Controls.{IsStoreOf};
 ghost use Rattle.uac_store.specs.declared.keys.Key.{Key};
 ghost use Rattle.uac_request.specs.Owners.{owned};
 ghost use Rattle.uac_request.specs.Requests as spec;
-ghost use Rattle.uac_request.specs.Requests.{AreSettingsOf, Held, after_request, first_broken, held_by, is_to_control, low, reply_of, answer_fields};
+ghost use Rattle.uac_request.specs.Requests.{AreSettingsOf, Held, after_request, answer_fields, first_broken};
+ghost use Rattle.uac_request.specs.Requests.{held_by, is_to_control, low, reply_of};
 
 use crate::current::{cur_bytes, one_byte};
 use crate::owner::{Owner, has_interface, interface_named, owner_of, setting_named};
@@ -131,7 +132,8 @@ pub(crate) fn get_interface(
 ) -> Answer
     requires asked { setup.now.request_type ≡ 129 }
     requires number { setup.now.request ≡ 10 }
-    ensures told { (controls : List (Key × ℤ)) → answer_fields result ≡ reply_of function.now (held_by controls settings.now) setup.now sent.now }
+    ensures told { (controls : List (Key × ℤ)) → answer_fields result
+        ≡ reply_of function.now (held_by controls settings.now) setup.now sent.now }
     ensures held { (controls : List (Key × ℤ))
         → held_by controls settings.now ≡ after_request function.now (held_by controls settings.now) setup.now sent.now }
 {

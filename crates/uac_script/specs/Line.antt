@@ -12,7 +12,8 @@ use Rattle.uac_script.specs.declared.line.Line.TheVariants.{Nothing, Bytes, Go, 
 use Rattle.uac_script.specs.declared.line.Line.TheVariants.{Deviate, Run, Detail, Report}
 use Rattle.uac_script.specs.Words.{Word, words_of, is_idle, hex_of}
 use Rattle.uac_edges.specs.Numerals.{numeral}
-use Rattle.uac_script.specs.Phrase.{SaidTone, silent, ramps, hisses, SaidMark, Phrase, idle, feeds, goes, controls, gets, sets, shows, breaks}
+use Rattle.uac_script.specs.Phrase.{SaidTone, silent, ramps, hisses, SaidMark}
+use Rattle.uac_script.specs.Phrase.{Phrase, idle, feeds, goes, controls, gets, sets, shows, breaks}
 use Rattle.uac_script.specs.Phrase.{appends, tracks, jacks, deviates, runs, details, reports, is_in_range}
 
 -- ---- how a line is spelt

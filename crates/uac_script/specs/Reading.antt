@@ -11,7 +11,8 @@ use Rattle.uac_script.specs.declared.line.MarkKind.TheVariants.{Out, In, Feedbac
 use Rattle.uac_script.specs.declared.line.Line.{Line}
 use Rattle.uac_script.specs.Words.{Word, words_of, is_idle, hex_of}
 use Rattle.uac_script.specs.Numerals.{is_number, value_of}
-use Rattle.uac_script.specs.Phrase.{SaidTone, silent, ramps, hisses, SaidMark, Phrase, idle, feeds, goes, controls, gets, sets, shows, breaks}
+use Rattle.uac_script.specs.Phrase.{SaidTone, silent, ramps, hisses, SaidMark}
+use Rattle.uac_script.specs.Phrase.{Phrase, idle, feeds, goes, controls, gets, sets, shows, breaks}
 use Rattle.uac_script.specs.Phrase.{appends, tracks, jacks, deviates, runs, details, reports, is_id, is_signed, is_tone_in_range}
 use Rattle.uac_script.specs.Phrase.{is_in_range}
 use Rattle.uac_script.specs.Line.{phrase_of, said_tone_of}

@@ -57,7 +57,14 @@ impl Model for Lines {
 
     ghost Value = { Splitting };
 
-    ghost view = { λ l. record { text = l.line.items; number = l.number; unread = l.unread; spare = l.spare; stop = l.stop; ended = l.ended } };
+    ghost view = { λ l. record {
+      text = l.line.items;
+      number = l.number;
+      unread = l.unread;
+      spare = l.spare;
+      stop = l.stop;
+      ended = l.ended;
+    } };
 
     ghost invariant = { λ l. (l.stop ≡ None → l.number + l.spare ≤ most_of_input) × (l.spare ≤ most_of_input)
         × (length l.unread ≤ l.spare + 1) };

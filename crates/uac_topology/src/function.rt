@@ -25,10 +25,22 @@ impl Model for Function {
 
     ghost Value = { FunctionFields };
 
-    ghost view = { λ f. record { entities = f.table; domains = f.domains.items; streams = f.streams.items; control_interface = f.control_interface; total = f.total } };
+    ghost view = { λ f. record {
+      entities = f.table;
+      domains = f.domains.items;
+      streams = f.streams.items;
+      control_interface = f.control_interface;
+      total = f.total;
+    } };
 
     ghost invariant = { λ f. IsSoundFunction
-        (record { entities = f.table; domains = f.domains.items; streams = f.streams.items; control_interface = f.control_interface; total = f.total }) };
+        (record {
+          entities = f.table;
+          domains = f.domains.items;
+          streams = f.streams.items;
+          control_interface = f.control_interface;
+          total = f.total;
+        }) };
 }
 
 impl Function {
