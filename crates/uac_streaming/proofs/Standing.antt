@@ -14,13 +14,13 @@ use Rattle.uac_streaming.specs.Kept.{StreamingFields, Stands}
 use Rattle.uac_streaming.proofs.Counted.{counts_changed, counts_kept}
 
 -- at the start
-pub stands_start : (function : FunctionFields) (d : devices.DeviceFields) (lanes : List Lane) (order outs ins packet : List ℕ) (met : List StreamCounts) (steady : steadiness.SteadyFields)
+pub stands_start : (function : FunctionFields) (d : devices.DeviceFields) (lanes : List Lane) (order outs ins to_device from_device : List ℕ) (met : List StreamCounts) (steady : steadiness.SteadyFields)
     → devices.Stands d (fresh function) → hosts.Stands lanes (fresh_host function) → order ≡ numbers function → outs ≡ filter (goes_out function) order → ins ≡ filter (comes_in function) order
     → met ≡ met_in (λ interface. nothing_met) function
     → steadiness.KeepsGiven steady steadiness.nothing_given
-    → Stands (record { host = lanes; order = order; outs = outs; ins = ins; met = met; steady = steady; packet = packet }) d (streaming_start function)
+    → Stands (record { host = lanes; order = order; outs = outs; ins = ins; met = met; steady = steady; sent_packet = to_device; fetched_packet = from_device }) d (streaming_start function)
 unfolding streaming_start fresh fresh_host
-stands_start function d lanes order outs ins packet met steady of_device of_host ordered to from counts given = record {
+stands_start function d lanes order outs ins to_device from_device met steady of_device of_host ordered to from counts given = record {
   device = of_device;
   host = of_host;
   same = refl;
@@ -52,11 +52,11 @@ module _ (p : StreamingFields) (d : devices.DeviceFields) (w : StreamingWorld) (
     steady = stands.steady;
   }
 
-  -- the device and the host change, and the last packet
-  pub carried : (after : devices.DeviceFields) (lanes : List Lane) (packet : List ℕ) (device : DeviceWorld) (host : HostWorld) → devices.Stands after device
+  -- the device and the host change, and the last packets
+  pub carried : (after : devices.DeviceFields) (lanes : List Lane) (to_device from_device : List ℕ) (device : DeviceWorld) (host : HostWorld) → devices.Stands after device
       → hosts.Stands lanes host → device.function ≡ w.device.function → host.function ≡ w.host.function
-      → Stands (record p { host = lanes; packet = packet }) after (record w { device = device; host = host })
-  carried after lanes packet device host of_device of_host device_same host_same = record {
+      → Stands (record p { host = lanes; sent_packet = to_device; fetched_packet = from_device }) after (record w { device = device; host = host })
+  carried after lanes to_device from_device device host of_device of_host device_same host_same = record {
     device = of_device;
     host = of_host;
     same = host_same ∙ stands.same ∙ sym device_same;

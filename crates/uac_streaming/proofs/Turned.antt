@@ -88,18 +88,18 @@ module _ (detail interface : ℕ) (losses : List SaidMark) (w : StreamingWorld) 
       ap (λ (b : Bool). if b then runs else at_rest w) (sym idle ∙ is)
 
   pub in_told : {T E : Type 0} (q : StreamingFields) (e : devices.DeviceFields) (old new : Option (List ℕ)) (r : Result T E) (frames : ℕ) (lost : Bool)
-      → due ≡ true → lost ≡ loses_in losses interface → frames ≡ frames_in w.device interface → q.packet ≡ packet_in w.device interface
+      → due ≡ true → lost ≡ loses_in losses interface → frames ≡ frames_in w.device interface → q.fetched_packet ≡ packet_in w.device interface
       → Stands q e (packet_fetched lost interface w)
-      → ((h : HostWorld) → hosts.Stands q.host h → Prints old new r (in_lines detail lost interface frames (heard_in h interface q.packet)))
+      → ((h : HostWorld) → hosts.Stands q.host h → Prints old new r (in_lines detail lost interface frames (heard_in h interface q.fetched_packet)))
       → Tells (inward_turn detail losses interface w) q e old new r
   unfolding inward_turn
   in_told q e old new r frames lost ran own frames_are packet stands prints =
       let loses : Bool = loses_in losses interface in
       let runs : Telling StreamingWorld = record { lines = fetched_lines detail loses interface w; world = packet_fetched loses interface w } in
       let happens : runs ≡ inward_turn detail losses interface w = ap (λ (b : Bool). if b then runs else at_rest w) (sym ran ∙ is) in
-      let lines : in_lines detail lost interface frames (heard_in w.host interface q.packet) ≡ fetched_lines detail loses interface w =
-      ap (λ (b : Bool). in_lines detail b interface frames (heard_in w.host interface q.packet)) own
-      ∙ ap (λ (n : ℕ). in_lines detail loses interface n (heard_in w.host interface q.packet)) frames_are
+      let lines : in_lines detail lost interface frames (heard_in w.host interface q.fetched_packet) ≡ fetched_lines detail loses interface w =
+      ap (λ (b : Bool). in_lines detail b interface frames (heard_in w.host interface q.fetched_packet)) own
+      ∙ ap (λ (n : ℕ). in_lines detail loses interface n (heard_in w.host interface q.fetched_packet)) frames_are
       ∙ ap (λ (bytes : List ℕ). in_lines detail loses interface (frames_in w.device interface) (heard_in w.host interface bytes)) packet in
       let of_host = subst (hosts.Stands q.host) (host_still lost interface w) stands.host in
       subst (λ (told : Telling StreamingWorld). Tells told q e old new r) happens (

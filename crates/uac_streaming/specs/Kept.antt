@@ -10,7 +10,7 @@ use Rattle.uac_streaming.specs.Telling.{Telling}
 use Rattle.uac_streaming.specs.StreamingWorld.{StreamingWorld, met_in, numbers, numbers_in, numbers_out}
 
 -- what is kept beside the device: the host, the interfaces by number, and of them those to the device and those from it, what each one's
--- streams met, in block order, whether all was steady, and the last packet
+-- streams met, in block order, whether all was steady, the last packet to the device, and the last that was fetched from it
 pub record StreamingFields : Type 0 where
   pub host : List Lane
   pub order : List ℕ
@@ -18,7 +18,8 @@ pub record StreamingFields : Type 0 where
   pub ins : List ℕ
   pub met : List StreamCounts
   pub steady : steadiness.SteadyFields
-  pub packet : List ℕ
+  pub sent_packet : List ℕ
+  pub fetched_packet : List ℕ
 
 -- it stands, beside a device, for this world
 pub record Stands (streaming : StreamingFields) (beside : devices.DeviceFields) (w : StreamingWorld) : Type 0 where

@@ -39,8 +39,11 @@ pub struct Streaming {
     /// What the streams of each interface met, in block order.
     met: Vec<StreamCounts>,
     steady: Steady,
-    /// The last packet, and its last frame.
-    pub(crate) packet: Packet,
+    /// The last packet to the device, and the last that was fetched from it. Each is written by its own direction alone, so that a packet
+    /// as long as the one before it needs no other size.
+    sent_packet: Packet,
+    pub(crate) fetched_packet: Packet,
+    /// The last frame that the host heard.
     pub(crate) frame: Frame,
 }
 
@@ -56,7 +59,8 @@ impl Model for Streaming {
       ins = s.ins.items;
       met = s.met.items;
       steady = s.steady;
-      packet = s.packet.items;
+      sent_packet = s.sent_packet.items;
+      fetched_packet = s.fetched_packet.items;
     } };
 }
 
@@ -85,7 +89,8 @@ impl Streaming {
             ins,
             met,
             steady: Steady::new(),
-            packet: Packet::new(),
+            sent_packet: Packet::new(),
+            fetched_packet: Packet::new(),
             frame: Frame::new(),
         })
     }
@@ -181,8 +186,8 @@ impl Streaming {
         ensures function { device.new.function ≡ device.old.function }
         ensures order { self.new.outs ≡ self.old.outs }
     {
-        let frames = self.host.packet(interface, &mut self.packet);
-        let arrival = arrive(device, interface, &self.packet, lost);
+        let frames = self.host.packet(interface, &mut self.sent_packet);
+        let arrival = arrive(device, interface, &self.sent_packet, lost);
         self.count_arrival(device.function(), interface, arrival);
         Sent { frames, arrival }
     }
@@ -192,11 +197,11 @@ impl Streaming {
         ensures stands { (w : StreamingWorld) → Stands self.old device.old w
             → Stands self.new device.new (packet_fetched lost interface w) }
         ensures frames { (w : StreamingWorld) → Stands self.old device.old w → result ≡ frames_in w.device interface }
-        ensures packet { (w : StreamingWorld) → Stands self.old device.old w → self.new.packet ≡ packet_in w.device interface }
+        ensures packet { (w : StreamingWorld) → Stands self.old device.old w → self.new.fetched_packet ≡ packet_in w.device interface }
         ensures function { device.new.function ≡ device.old.function }
         ensures order { self.new.ins ≡ self.old.ins }
     {
-        let frames = device.microframe_in(interface, &mut self.packet);
+        let frames = device.microframe_in(interface, &mut self.fetched_packet);
         self.count_fetched(device.function(), interface, lost);
         frames
     }

@@ -13,6 +13,6 @@ returns-clause-stands c w stands =
     let here = subst (λ (p : StreamingFields). Stands p c.args.device.now w) (sym c.self.view_is) stands in
     let device = c.microframe_in-frames.ensures.stands w.device here.device in
     let sent_so : StreamingWorld = record w { device = sent c.args.interface w.device } in
-    let mid : Stands (record p { packet = c.microframe_in-frames.new.packet.items }) c.microframe_in-frames.new.self sent_so =
-    carried p c.args.device.now w here c.microframe_in-frames.new.self p.host c.microframe_in-frames.new.packet.items (sent c.args.interface w.device) w.host device here.host refl refl in
+    let mid : Stands (record p { fetched_packet = c.microframe_in-frames.new.packet.items }) c.microframe_in-frames.new.self sent_so =
+    carried p c.args.device.now w here c.microframe_in-frames.new.self p.host p.sent_packet c.microframe_in-frames.new.packet.items (sent c.args.interface w.device) w.host device here.host refl refl in
     c.count_fetched.ensures.stands c.microframe_in-frames.new.self sent_so mid (sym (c.function.ensures ∙ device.function))

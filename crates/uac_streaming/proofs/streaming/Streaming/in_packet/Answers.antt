@@ -17,7 +17,7 @@ returns-clause-tells g c = λ w stands.
     let losses = map said_mark c.args.marks.now in
     let q = the_view c.self.inside in
     let here = subst (λ (p : StreamingFields). Stands p c.fetch-frames.new.device (packet_fetched c.loses_in-lost.result c.args.interface w)) (sym c.self.view_is) (c.fetch-frames.ensures.stands w stands) in
-    let packet = ap (λ (p : StreamingFields). p.packet) c.self.view_is ∙ c.fetch-frames.ensures.packet w stands in
+    let packet = ap (λ (p : StreamingFields). p.fetched_packet) c.self.view_is ∙ c.fetch-frames.ensures.packet w stands in
     in_told c.args.detail c.args.interface losses w c.due.result (c.due.ensures w.device stands.device) q c.fetch-frames.new.device
     (g.K.Sink.written c.args.sink.now) (g.K.Sink.written c.write_fetched.new.sink) c.write_fetched.result c.fetch-frames.result c.loses_in-lost.result
     c.if-not-due.false c.loses_in-lost.ensures (c.fetch-frames.ensures.frames w stands) packet here c.write_fetched.ensures.printed

@@ -5,5 +5,5 @@ use Rattle.uac_streaming.proofs.streaming.Streaming.new.Goals as goal
 
 pub returns : goal.returns
 returns c d of_device =
-    stands_start c.args.function.now d c.in_ok-host.host c.in_ok-order.order.items c.in_ok-outs.outs.items c.in_ok-ins.ins.items c.new-3.result.items c.in_ok-met.met.items c.new-2.result of_device c.in_ok-host.ensures
+    stands_start c.args.function.now d c.in_ok-host.host c.in_ok-order.order.items c.in_ok-outs.outs.items c.in_ok-ins.ins.items c.new-3.result.items c.new-4.result.items c.in_ok-met.met.items c.new-2.result of_device c.in_ok-host.ensures
     c.in_ok-order.ensures (c.in_ok-outs.ensures ∙ ap (filter (goes_out c.args.function.now)) c.deref.ensures.value) (c.in_ok-ins.ensures ∙ ap (filter (comes_in c.args.function.now)) c.deref-2.ensures.value) c.in_ok-met.ensures c.new-2.ensures.stands

@@ -14,7 +14,7 @@ unfolding packet_sent received after_packet
 returns-clause-stands c w stands =
     let p = the_view c.self.inside in
     let here = subst (λ (p : StreamingFields). Stands p c.args.device.now w) (sym c.self.view_is) stands in
-    let q : StreamingFields = record p { host = c.packet-frames.new.self; packet = c.packet-frames.new.packet.items } in
+    let q : StreamingFields = record p { host = c.packet-frames.new.self; sent_packet = c.packet-frames.new.packet.items } in
     let to = packet_to c.args.lost c.args.interface w in
     let comes = packet_is c.args.lost c.args.interface w c.packet-frames.new.packet.items (c.packet-frames.ensures.packet w.host here.host) in
     let device : devices.Stands c.arrive-arrival.new.device (received c.args.interface to w.device) =
@@ -23,7 +23,7 @@ returns-clause-stands c w stands =
     c.arrive-arrival.ensures.arrival w.device here.device ∙ ap (arrival_in w.device c.args.interface) comes in
     let after : StreamingWorld = record w { device = received c.args.interface to w.device; host = after_packet c.args.interface w.host } in
     let mid : Stands q c.arrive-arrival.new.device after =
-    carried p c.args.device.now w here c.arrive-arrival.new.device c.packet-frames.new.self c.packet-frames.new.packet.items (received c.args.interface to w.device)
+    carried p c.args.device.now w here c.arrive-arrival.new.device c.packet-frames.new.self c.packet-frames.new.packet.items p.fetched_packet (received c.args.interface to w.device)
     (after_packet c.args.interface w.host) device (c.packet-frames.ensures.stands w.host here.host) refl refl in
     subst (λ (a : Arrival). Stands c.count_arrival.new.self c.arrive-arrival.new.device (record after { met = counted_at c.args.interface (after_arrival a) after.met })) arrival
     (c.count_arrival.ensures.stands c.arrive-arrival.new.device after mid (sym (c.function.ensures ∙ device.function)))
