@@ -1,6 +1,8 @@
 // The jacks' tones.
-ghost use Rattle.std.specs.Prelude.{◌≡◌, ◌==◌, ◌≤◌, true, IfOk, map, filter};
-ghost use Rattle.std.specs.List.{All, list_any};
+ghost use Rattle.std.specs.Prelude.{◌≡◌, ◌==◌, ◌≤◌, true, IfOk, map, filter, length};
+ghost use Rattle.std.specs.List.{All, list_any, range_with_len};
+ghost use Rattle.arrayvec.specs.ArrayVec.{array_vec_len};
+ghost use Rattle.uac_pcm.specs.Tones.{tone_sample};
 ghost use Rattle.uac_graph.specs.Meaning.{entity};
 ghost use Rattle.uac_device.specs.Kept.{Stands};
 ghost use Rattle.uac_device.specs.DeviceWorld.{DeviceWorld};
@@ -10,12 +12,14 @@ ghost use Rattle.uac_running.specs.RunningWorld as spec;
 ghost use Rattle.uac_running.specs.Silence as silence;
 ghost use Rattle.uac_running.specs.Silence.{AreAtRest};
 
-use arrayvec::ArrayVec;
 use std::alloc::Global;
 use uac_descriptor::NoMemory;
 use uac_device::{Device, is_input_jack};
 use uac_entities::Entity;
 use uac_pcm::{Frame, Tone};
+
+/// A zero for each channel of the widest frame.
+const SILENCE: [i32; 32] = [0; 32];
 
 /// An input jack: its terminal's id, its clock domain and its channels, and the tone that it gives, of which so many frames were
 /// given since it was set; the count stands still at 18446744073709551615.
@@ -103,8 +107,14 @@ fn sounds(tone: Tone) -> bool
 }
 
 /// The jacks of a domain give the device the next frames of their tones. Where they rest, the device has these frames: each is silence, and
-/// so was the last.
-pub(crate) fn next_frames(device: &mut Device, jacks: &mut [Jack], clock: u8, rest: bool)
+/// so was the last. A frame is written over for each.
+pub(crate) fn next_frames(
+    device: &mut Device,
+    jacks: &mut [Jack],
+    clock: u8,
+    rest: bool,
+    frame: &mut Frame,
+)
     requires kinds { All (λ j. world.is_input_jack (entity device.old.function.entities j.terminal) ≡ true) jacks.old }
     requires channels { All (λ j. (entity device.old.function.entities j.terminal).cluster.channels ≡ j.channels) jacks.old }
     requires most { All (λ j. j.channels ≤ 32) jacks.old }
@@ -116,7 +126,7 @@ pub(crate) fn next_frames(device: &mut Device, jacks: &mut [Jack], clock: u8, re
     if rest {
         pass_frames(jacks, clock);
     } else {
-        give_jacks(device, jacks, clock);
+        give_jacks(device, jacks, clock, frame);
     }
 }
 
@@ -130,7 +140,7 @@ fn pass_frames(jacks: &mut [Jack], clock: u8)
 }
 
 /// The jacks of a domain give the device the next frames of their tones.
-fn give_jacks(device: &mut Device, jacks: &mut [Jack], clock: u8)
+fn give_jacks(device: &mut Device, jacks: &mut [Jack], clock: u8, frame: &mut Frame)
     requires kinds { All (λ j. world.is_input_jack (entity device.old.function.entities j.terminal) ≡ true) jacks.old }
     requires channels { All (λ j. (entity device.old.function.entities j.terminal).cluster.channels ≡ j.channels) jacks.old }
     requires most { All (λ j. j.channels ≤ 32) jacks.old }
@@ -139,13 +149,13 @@ fn give_jacks(device: &mut Device, jacks: &mut [Jack], clock: u8)
     ensures function { device.new.function ≡ device.old.function }
 {
     for jack in jacks.iter_mut() {
-        give_jack(device, jack, clock);
+        give_jack(device, jack, clock, frame);
         go_on(jack, clock);
     }
 }
 
 /// A jack of the domain gives the device the next frame of its tone.
-fn give_jack(device: &mut Device, jack: &Jack, clock: u8)
+fn give_jack(device: &mut Device, jack: &Jack, clock: u8, frame: &mut Frame)
     requires kind { world.is_input_jack (entity device.old.function.entities jack.now.terminal) ≡ true }
     requires channels { (entity device.old.function.entities jack.now.terminal).cluster.channels ≡ jack.now.channels }
     requires most { jack.now.channels ≤ 32 }
@@ -158,7 +168,10 @@ fn give_jack(device: &mut Device, jack: &Jack, clock: u8)
     }
     match jack.tone {
         Tone::Silent => device.hush(jack.terminal),
-        Tone::Ramp { .. } | Tone::Noise { .. } => device.jack(jack.terminal, &next_frame(jack)),
+        Tone::Ramp { .. } | Tone::Noise { .. } => {
+            next_frame(jack, frame);
+            device.jack(jack.terminal, frame);
+        }
     }
 }
 
@@ -171,15 +184,33 @@ fn go_on(jack: &mut Jack, clock: u8)
     }
 }
 
-/// The frame that a jack's tone gives next.
-#[tactic(auto, unfolding(crate::specs::Events::next_frame))]
-fn next_frame(jack: &Jack) -> Frame
+/// Makes a frame the next that a jack's tone gives. Where it has as many channels they are written over.
+fn next_frame(jack: &Jack, frame: &mut Frame)
     requires { jack.now.channels ≤ 32 }
-    ensures { result.items ≡ next_frame jack.now }
+    ensures { frame.new.items ≡ next_frame jack.now }
 {
-    let mut frame = ArrayVec::new();
-    for channel in 0..jack.channels {
-        frame.push(jack.tone.sample(jack.place, channel as u32));
+    set_channels(frame, jack.channels);
+    write_tone(jack.tone, jack.place, frame.as_mut_slice());
+}
+
+/// Gives a frame so many channels, whatever they sound.
+fn set_channels(frame: &mut Frame, channels: u8)
+    requires { channels ≤ 32 }
+    ensures { array_vec_len frame.new ≡ channels }
+{
+    if frame.len() == usize::from(channels) {
+        return;
     }
-    frame
+    frame.clear();
+    let _ = frame.try_extend_from_slice(&SILENCE[..usize::from(channels)]);
+}
+
+/// Writes the frame of a tone at a place over so many samples.
+fn write_tone(tone: Tone, place: u64, samples: &mut [i32])
+    requires { length samples.old ≤ 32 }
+    ensures { samples.new ≡ map (tone_sample tone place) (range_with_len 0 (length samples.old)) }
+{
+    for channel in 0..samples.len() {
+        samples[channel] = tone.sample(place, channel as u32);
+    }
 }

@@ -306,7 +306,13 @@ impl Running {
         ensures function { self.new.device.function ≡ self.old.device.function }
         ensures detail { self.new.detail ≡ self.old.detail }
     {
-        next_frames(&mut self.device, &mut self.jacks, clock, rest);
+        next_frames(
+            &mut self.device,
+            &mut self.jacks,
+            clock,
+            rest,
+            &mut self.frame,
+        );
         fresh_steps_have_room(self.device.function());
         let mut steps = Steps::new();
         let found = self.device.tick(clock, rack, meters, &mut steps);
