@@ -34,7 +34,23 @@ impl Context {
                     Context::ForeignInterface
                 }
             }
-            _ => self,
+            Block::Configuration(_)
+            | Block::Endpoint(_)
+            | Block::Header(_)
+            | Block::InputTerminal(_)
+            | Block::OutputTerminal(_)
+            | Block::Mixer(_)
+            | Block::Selector(_)
+            | Block::Feature(_)
+            | Block::Effect(_)
+            | Block::ClockSource(_)
+            | Block::ClockSelector(_)
+            | Block::ClockMultiplier(_)
+            | Block::General(_)
+            | Block::TypeOne(_)
+            | Block::Extra(_)
+            | Block::ClassEndpoint(_)
+            | Block::Foreign(_) => self,
         }
     }
 

@@ -1,6 +1,6 @@
 // The stream that a request starts.
-ghost use Rattle.std.specs.Prelude.{◌≡◌, ◌==◌, if◌then◌else◌, Some, None};
-ghost use Rattle.std.specs.List.{find, list_any};
+ghost use Rattle.std.specs.Prelude.{◌≡◌, ◌==◌, Some};
+ghost use Rattle.std.specs.List.{find};
 ghost use Rattle.std.specs.Option.{option_and_then, option_map};
 ghost use Rattle.uac_alt.specs.Streams.{stream_fields, stream_of};
 ghost use Rattle.uac_request.specs.Requests as requests;
@@ -8,9 +8,10 @@ ghost use Rattle.uac_device.specs.DeviceWorld as spec;
 ghost use Rattle.uac_device.specs.DeviceWorld.{stream_in_setting};
 
 use uac_alt::{Stream, stream};
+use uac_entities::number_among;
 use uac_request::{Answer, Setup};
 use uac_store::Store;
-use uac_topology::{Function, Setting, StreamInterface};
+use uac_topology::{Function, StreamInterface};
 
 /// Whether a request sets an interface's setting (USB 2.0, 9.4.10).
 pub fn sets_interface(setup: &Setup) -> bool
@@ -93,16 +94,4 @@ fn rate_of(function: &Function, store: &Store, streaming: &StreamInterface) -> O
 {
     let terminal = function.entity(streaming.terminal)?;
     store.rate(function, terminal.clock)
-}
-
-// A number as that of one of the settings.
-fn number_among(settings: &[Setting], number: u16) -> Option<u8>
-    ensures { result ≡ (if list_any (λ t. t.number == number) settings.now then Some number else None) }
-{
-    for setting in settings {
-        if u16::from(setting.number) == number {
-            return Some(setting.number);
-        }
-    }
-    None
 }

@@ -134,19 +134,17 @@ fn endpoints_behind(blocks: &[Block]) -> usize
 fn ends_setting(block: &Block) -> bool
     ensures { result ≡ spec.ends_setting block.now }
 {
-    match block {
-        Block::Interface(_) | Block::Association(_) => true,
-        _ => false,
-    }
+    matches!(block, Block::Interface(_) | Block::Association(_))
 }
 
 #[tactic(auto, unfolding(crate::specs::Settings::general_of))]
 fn general_of(block: &Block) -> Option<General>
     ensures { result ≡ spec.general_of block.now }
 {
-    match block {
-        Block::General(g) => Some(copy_general(g)),
-        _ => None,
+    if let Block::General(g) = block {
+        Some(copy_general(g))
+    } else {
+        None
     }
 }
 
@@ -154,9 +152,10 @@ fn general_of(block: &Block) -> Option<General>
 fn format_of(block: &Block) -> Option<TypeOne>
     ensures { result ≡ spec.format_of block.now }
 {
-    match block {
-        Block::TypeOne(t) => Some(copy_format(t)),
-        _ => None,
+    if let Block::TypeOne(t) = block {
+        Some(copy_format(t))
+    } else {
+        None
     }
 }
 
@@ -164,9 +163,10 @@ fn format_of(block: &Block) -> Option<TypeOne>
 fn endpoint_of(block: &Block) -> Option<Endpoint>
     ensures { result ≡ spec.endpoint_of block.now }
 {
-    match block {
-        Block::Endpoint(e) => Some(copy_endpoint(e)),
-        _ => None,
+    if let Block::Endpoint(e) = block {
+        Some(copy_endpoint(e))
+    } else {
+        None
     }
 }
 

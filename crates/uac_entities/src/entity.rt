@@ -1,4 +1,7 @@
 // Entities, their kinds and clusters.
+ghost use Rattle.std.specs.Prelude.{◌≡◌};
+ghost use Rattle.uac_entities.specs.Streams as spec;
+
 use uac_descriptor::{ByteList, WordList};
 
 /// USB Terminal Types 2.0, 2.1: a terminal that carries the data of a streaming interface.
@@ -25,6 +28,23 @@ pub enum EntityKind {
     Feature,
     /// 3.13.7
     Effect,
+}
+
+/// Whether it is an input terminal (Audio Class 2.0, 3.13.1).
+pub fn is_input(kind: EntityKind) -> bool
+    ensures { result ≡ spec.is_input kind }
+{
+    match kind {
+        EntityKind::InputTerminal => true,
+        EntityKind::ClockSource
+        | EntityKind::ClockSelector
+        | EntityKind::ClockMultiplier
+        | EntityKind::OutputTerminal
+        | EntityKind::Mixer
+        | EntityKind::Selector
+        | EntityKind::Feature
+        | EntityKind::Effect => false,
+    }
 }
 
 /// The channels that an entity puts out (Audio Class 2.0, 4.1, the cluster descriptor).

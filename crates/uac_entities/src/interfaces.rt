@@ -4,7 +4,7 @@ ghost use Rattle.std.specs.Option.{option_map, option_map_or};
 ghost use Rattle.uac_entities.specs.Streams as spec;
 
 use crate::alternate::{Alternate, copy_setting};
-use crate::entity::{Entity, EntityKind};
+use crate::entity::{Entity, EntityKind, is_input};
 use crate::lists::keep;
 use crate::stream::{Setting, SettingList, StreamInterface};
 use std::alloc::Global;
@@ -57,7 +57,7 @@ fn stream_of(
     Ok(StreamInterface {
         number,
         terminal,
-        out: is_input(kind_of(entities, terminal)),
+        out: is_input_terminal(kind_of(entities, terminal)),
         settings,
     })
 }
@@ -121,21 +121,11 @@ fn kind_of(entities: &[Entity], id: u8) -> Option<EntityKind>
     None
 }
 
-fn is_input(kind: Option<EntityKind>) -> bool
+fn is_input_terminal(kind: Option<EntityKind>) -> bool
     ensures { result ≡ option_map_or spec.is_input kind false }
 {
     match kind {
-        Some(EntityKind::InputTerminal) => true,
-        Some(
-            EntityKind::ClockSource
-            | EntityKind::ClockSelector
-            | EntityKind::ClockMultiplier
-            | EntityKind::OutputTerminal
-            | EntityKind::Mixer
-            | EntityKind::Selector
-            | EntityKind::Feature
-            | EntityKind::Effect,
-        ) => false,
+        Some(kind) => is_input(kind),
         None => false,
     }
 }

@@ -16,6 +16,6 @@ mod interfaces;
 
 pub use alternate::{Alternate, alternates_of};
 pub use describe::entities_of;
-pub use entity::{Cluster, Entity, EntityKind, USB_STREAMING};
+pub use entity::{Cluster, Entity, EntityKind, USB_STREAMING, is_input};
 pub use interfaces::{link_of, streams_of};
-pub use stream::{Setting, SettingList, StreamInterface};
+pub use stream::{Setting, SettingList, StreamInterface, number_among};

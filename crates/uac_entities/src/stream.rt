@@ -1,5 +1,6 @@
 // Streaming interfaces and their settings.
-ghost use Rattle.std.specs.Prelude.{◌≡◌};
+ghost use Rattle.std.specs.Prelude.{◌≡◌, ◌==◌, if◌then◌else◌, Some, None};
+ghost use Rattle.std.specs.List.{list_any};
 
 use std::marker::Model;
 use uac_descriptor::{Endpoint, General, TypeOne};
@@ -57,4 +58,16 @@ pub struct StreamInterface {
     /// Whether it goes from the host to the device: it links to an input terminal.
     pub out: bool,
     pub settings: SettingList,
+}
+
+/// A number as that of one of these settings, None where none has it.
+pub fn number_among(settings: &[Setting], number: u16) -> Option<u8>
+    ensures { result ≡ (if list_any (λ t. t.number == number) settings.now then Some number else None) }
+{
+    for setting in settings {
+        if u16::from(setting.number) == number {
+            return Some(setting.number);
+        }
+    }
+    None
 }

@@ -1,12 +1,12 @@
 // What keeps a control.
 ghost use Rattle.std.specs.Prelude.{◌≡◌, ◌==◌, None, Some, if◌then◌else◌};
-ghost use Rattle.std.specs.List.{list_any};
 ghost use Rattle.std.specs.Option.{option_map};
 ghost use Rattle.uac_request.specs.Owners as owners;
 ghost use Rattle.uac_request.specs.Requests as spec;
 
 use crate::setup::{high_byte, low_byte};
-use uac_topology::{Entity, Function, Setting, StreamInterface};
+use uac_entities::number_among;
+use uac_topology::{Entity, Function, StreamInterface};
 
 /// What keeps a request's control: an entity, or a streaming interface.
 #[derive(Clone, Copy)]
@@ -71,16 +71,4 @@ pub(crate) fn setting_named(function: &Function, interface: u8, number: u16) -> 
     }
     let stream = function.interface(interface)?;
     number_among(stream.settings.as_slice(), number)
-}
-
-// A number as that of one of the settings.
-fn number_among(settings: &[Setting], number: u16) -> Option<u8>
-    ensures { result ≡ (if list_any (λ t. t.number == number) settings.now then Some number else None) }
-{
-    for setting in settings {
-        if u16::from(setting.number) == number {
-            return Some(setting.number);
-        }
-    }
-    None
 }

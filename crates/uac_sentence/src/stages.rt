@@ -84,8 +84,27 @@ impl Stage {
             ) => None,
             (Stage::Behind, Letter::StreamingInterface) => Some(Stage::Setting),
             (Stage::Behind, _) => Some(Stage::Behind),
-            (_, Letter::Other) => Some(Stage::Closing),
-            (_, letter) => begin_part(letter),
+            (
+                Stage::Formats
+                | Stage::Formatted
+                | Stage::FirstEndpoint
+                | Stage::FirstDone
+                | Stage::SecondEndpoint
+                | Stage::Closing,
+                Letter::Other,
+            ) => Some(Stage::Closing),
+            (
+                Stage::Listing
+                | Stage::Quiet
+                | Stage::Setting
+                | Stage::Formats
+                | Stage::Formatted
+                | Stage::FirstEndpoint
+                | Stage::FirstDone
+                | Stage::SecondEndpoint
+                | Stage::Closing,
+                letter,
+            ) => begin_part(letter),
         }
     }
 }

@@ -68,18 +68,16 @@ pub fn use_number(used: &mut [bool; 256], block: &Block)
 pub fn latest_after(latest: Option<Latest>, block: &Block) -> Option<Latest>
     ensures { result ≡ latest_after latest block.now }
 {
-    match block {
-        Block::Interface(interface) => {
-            if is_streaming_interface(interface) {
-                Some(Latest {
-                    number: interface.number,
-                    setting: interface.setting,
-                })
-            } else {
-                None
-            }
-        }
-        _ => latest,
+    let Block::Interface(interface) = block else {
+        return latest;
+    };
+    if is_streaming_interface(interface) {
+        Some(Latest {
+            number: interface.number,
+            setting: interface.setting,
+        })
+    } else {
+        None
     }
 }
 
@@ -101,16 +99,14 @@ fn continues(latest: Option<Latest>, interface: &Interface) -> bool
 pub fn is_in_turn(used: &[bool; 256], latest: Option<Latest>, block: &Block) -> bool
     ensures { result ≡ is_in_turn used.now latest block.now }
 {
-    match block {
-        Block::Interface(interface) => {
-            if !is_streaming_interface(interface) {
-                true
-            } else if interface.setting == 0 {
-                !used[interface.number as usize]
-            } else {
-                continues(latest, interface)
-            }
-        }
-        _ => true,
+    let Block::Interface(interface) = block else {
+        return true;
+    };
+    if !is_streaming_interface(interface) {
+        true
+    } else if interface.setting == 0 {
+        !used[interface.number as usize]
+    } else {
+        continues(latest, interface)
     }
 }

@@ -68,8 +68,8 @@ fn are_in_turn(blocks: &[Block]) -> bool
 fn has_flag(block: &Block) -> bool
     ensures { OnTrue result (HasSmallNumbers (block.now ∷ [])) }
 {
-    match block {
-        Block::Interface(interface) => usize::from(interface.number) < 256,
-        _ => true,
-    }
+    let Block::Interface(interface) = block else {
+        return true;
+    };
+    usize::from(interface.number) < 256
 }

@@ -33,24 +33,21 @@ pub(crate) fn total_of(blocks: &[Block]) -> u16
 fn control_number(block: &Block) -> Option<u8>
     ensures { result ≡ spec.control_number block.now }
 {
-    match block {
-        Block::Interface(interface) => {
-            if is_control_interface(interface) {
-                Some(interface.number)
-            } else {
-                None
-            }
+    if let Block::Interface(interface) = block {
+        if is_control_interface(interface) {
+            return Some(interface.number);
         }
-        _ => None,
     }
+    None
 }
 
 #[tactic(auto, unfolding(crate::specs::Topology::total_length))]
 fn total_length(block: &Block) -> Option<u16>
     ensures { result ≡ spec.total_length block.now }
 {
-    match block {
-        Block::Configuration(configuration) => Some(configuration.total),
-        _ => None,
+    if let Block::Configuration(configuration) = block {
+        Some(configuration.total)
+    } else {
+        None
     }
 }

@@ -1,6 +1,5 @@
 // What kind an entity is of.
 ghost use Rattle.std.specs.Prelude.{◌≡◌};
-ghost use Rattle.uac_topology_rules.specs.Clusters as clusters;
 ghost use Rattle.uac_topology_rules.specs.Links as links;
 ghost use Rattle.uac_topology_rules.specs.Rules as rules;
 
@@ -13,23 +12,6 @@ pub fn is_clock(kind: EntityKind) -> bool
     match kind {
         EntityKind::ClockSource | EntityKind::ClockSelector | EntityKind::ClockMultiplier => true,
         EntityKind::InputTerminal
-        | EntityKind::OutputTerminal
-        | EntityKind::Mixer
-        | EntityKind::Selector
-        | EntityKind::Feature
-        | EntityKind::Effect => false,
-    }
-}
-
-/// Whether it is an input terminal (Audio Class 2.0, 3.13.1).
-pub fn is_input(kind: EntityKind) -> bool
-    ensures { result ≡ clusters.is_input kind }
-{
-    match kind {
-        EntityKind::InputTerminal => true,
-        EntityKind::ClockSource
-        | EntityKind::ClockSelector
-        | EntityKind::ClockMultiplier
         | EntityKind::OutputTerminal
         | EntityKind::Mixer
         | EntityKind::Selector

@@ -1,6 +1,0 @@
-use Rattle.std.proofs.Common.{◌≡◌, ◌==◌, drop}
-use Rattle.std.specs.List.{list_any}
-use Rattle.uac_device.proofs.streams.number_among.Given as goal
-
-abbrev pub invariant-loop-setting : goal.invariant-loop-setting
-invariant-loop-setting l = list_any (λ t. t.number == l.number) (drop l.setting-index l.settings) ≡ list_any (λ t. t.number == l.number) l.settings
