@@ -5,7 +5,6 @@ ghost use Rattle.arrayvec.specs.ArrayVec.{array_vec_len};
 ghost use Rattle.uac_pcm.specs.Packets.{packed};
 ghost use Rattle.std.specs.VecDeque.{deque_capacity};
 ghost use Rattle.uac_host.specs.HostWorld as world;
-ghost use Rattle.uac_host.specs.Calls as spec;
 ghost use Rattle.uac_host.specs.Calls.{after_frames, next_frames};
 ghost use Rattle.uac_host.specs.Kept.{kept_track};
 
@@ -71,7 +70,7 @@ impl Track {
             → (next_frames (array_vec_len frame.old) 1 t ≡ frame.new.items ∷ []) × (self.new ≡ kept_track (after_frames 1 t)) }
     {
         if self.samples.len() < frame.len() {
-            sound(self.tone, self.place, frame.as_mut_slice());
+            self.tone.write(u64::from(self.place), frame.as_mut_slice());
             self.place = self.place.wrapping_add(1);
             return;
         }
@@ -116,15 +115,5 @@ fn take_first(waiting: &mut VecDeque<i32>, samples: &mut [i32])
         if let Some(sample) = waiting.pop_front() {
             samples[place] = sample;
         }
-    }
-}
-
-// Writes the frame of a tone at a place over so many samples.
-fn sound(tone: Tone, place: u32, samples: &mut [i32])
-    requires { length samples.old ≤ 32 }
-    ensures { samples.new ≡ spec.tone_frame (length samples.old) tone place }
-{
-    for channel in 0..samples.len() {
-        samples[channel] = tone.sample(u64::from(place), channel as u32);
     }
 }

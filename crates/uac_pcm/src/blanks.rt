@@ -18,7 +18,15 @@ pub fn silence(frame: &mut Frame, channels: u8)
     ensures len { array_vec_len frame.new ≡ channels }
 {
     frame.clear();
-    let _ = frame.try_extend_from_slice(&SILENCE[..usize::from(channels)]);
+    // Most frames have one channel or two.
+    if channels == 1 {
+        frame.push(0);
+    } else if channels == 2 {
+        frame.push(0);
+        frame.push(0);
+    } else {
+        let _ = frame.try_extend_from_slice(&SILENCE[..usize::from(channels)]);
+    }
 }
 
 /// Gives a packet so many bytes, whatever they are.

@@ -104,9 +104,22 @@ impl Format {
         ensures samples { frame.new.items ≡ frame_of_bytes self.now.channels self.now.subslot self.now.bits bytes.now }
         ensures len { array_vec_len frame.new ≡ self.now.channels }
     {
-        if frame.len() != usize::from(self.channels) {
-            silence(frame, self.channels);
+        if frame.len() == usize::from(self.channels) {
+            self.read(bytes, frame.as_mut_slice());
+        } else {
+            self.unpack_anew(bytes, frame);
         }
+    }
+
+    // Makes `frame` the samples of these bytes, which are one frame's, where it hasn't as many.
+    #[cold]
+    #[inline(never)]
+    fn unpack_anew(&self, bytes: &[u8], frame: &mut Frame)
+        requires { length bytes.now ≡ self.now.channels * self.now.subslot }
+        ensures samples { frame.new.items ≡ frame_of_bytes self.now.channels self.now.subslot self.now.bits bytes.now }
+        ensures len { array_vec_len frame.new ≡ self.now.channels }
+    {
+        silence(frame, self.channels);
         self.read(bytes, frame.as_mut_slice());
     }
 

@@ -1,5 +1,6 @@
 //! Test tones: samples that are a function of their place.
-ghost use Rattle.std.specs.Prelude.{◌≡◌};
+ghost use Rattle.std.specs.Prelude.{◌≡◌, ◌≤◌, length, map};
+ghost use Rattle.std.specs.List.{range_with_len};
 ghost use Rattle.uac_pcm.specs.Tones.{tone_sample};
 
 /// What a track or a jack plays where nothing else is given (profile).
@@ -31,6 +32,32 @@ impl Tone {
                     .wrapping_add(channel);
                 number.wrapping_mul(2654435761).cast_signed()
             }
+        }
+    }
+
+    /// Writes the frame at a place, which counts frames from 0, over so many samples: a channel each.
+    pub fn write(&self, place: u64, samples: &mut [i32])
+        requires { length samples.old ≤ 32 }
+        ensures { samples.new ≡ map (tone_sample self.now place) (range_with_len 0 (length samples.old)) }
+    {
+        // Most frames have one channel or two.
+        if samples.len() == 1 {
+            samples[0] = self.sample(place, 0);
+        } else if samples.len() == 2 {
+            samples[0] = self.sample(place, 0);
+            samples[1] = self.sample(place, 1);
+        } else {
+            self.write_each(place, samples);
+        }
+    }
+
+    // The same of any number.
+    fn write_each(&self, place: u64, samples: &mut [i32])
+        requires { length samples.old ≤ 32 }
+        ensures { samples.new ≡ map (tone_sample self.now place) (range_with_len 0 (length samples.old)) }
+    {
+        for channel in 0..samples.len() {
+            samples[channel] = self.sample(place, channel as u32);
         }
     }
 }

@@ -80,6 +80,7 @@ impl Ring {
 
     // Appends a copy of a frame, whose samples are written where an empty frame was put; `Full` exactly where the ring holds all that it
     // can, and then it stays as it was.
+    #[inline(never)]
     fn put_wide(&mut self, frame: &Frame) -> Result<(), Full>
         ensures full { IsErr result ↔ (length self.old ≡ ring_frames) }
         ensures appended { OnOk result (self.new ≡ self.old ++ frame.now.items ∷ []) }

@@ -1,8 +1,7 @@
 // The jacks' tones.
-ghost use Rattle.std.specs.Prelude.{◌≡◌, ◌==◌, ◌≤◌, true, IfOk, map, filter, length};
-ghost use Rattle.std.specs.List.{All, list_any, range_with_len};
+ghost use Rattle.std.specs.Prelude.{◌≡◌, ◌==◌, ◌≤◌, true, IfOk, map, filter};
+ghost use Rattle.std.specs.List.{All, list_any};
 ghost use Rattle.arrayvec.specs.ArrayVec.{array_vec_len};
-ghost use Rattle.uac_pcm.specs.Tones.{tone_sample};
 ghost use Rattle.uac_graph.specs.Meaning.{entity};
 ghost use Rattle.uac_device.specs.Kept.{Stands};
 ghost use Rattle.uac_device.specs.DeviceWorld.{DeviceWorld};
@@ -16,10 +15,7 @@ use std::alloc::Global;
 use uac_descriptor::NoMemory;
 use uac_device::{Device, is_input_jack};
 use uac_entities::Entity;
-use uac_pcm::{Frame, Tone};
-
-/// A zero for each channel of the widest frame.
-const SILENCE: [i32; 32] = [0; 32];
+use uac_pcm::{Frame, Tone, silence};
 
 /// An input jack: its terminal's id, its clock domain and its channels, and the tone that it gives, of which so many frames were
 /// given since it was set; the count stands still at 18446744073709551615.
@@ -190,7 +186,7 @@ fn next_frame(jack: &Jack, frame: &mut Frame)
     ensures { frame.new.items ≡ next_frame jack.now }
 {
     set_channels(frame, jack.channels);
-    write_tone(jack.tone, jack.place, frame.as_mut_slice());
+    jack.tone.write(jack.place, frame.as_mut_slice());
 }
 
 /// Gives a frame so many channels, whatever they sound.
@@ -198,19 +194,7 @@ fn set_channels(frame: &mut Frame, channels: u8)
     requires { channels ≤ 32 }
     ensures { array_vec_len frame.new ≡ channels }
 {
-    if frame.len() == usize::from(channels) {
-        return;
-    }
-    frame.clear();
-    let _ = frame.try_extend_from_slice(&SILENCE[..usize::from(channels)]);
-}
-
-/// Writes the frame of a tone at a place over so many samples.
-fn write_tone(tone: Tone, place: u64, samples: &mut [i32])
-    requires { length samples.old ≤ 32 }
-    ensures { samples.new ≡ map (tone_sample tone place) (range_with_len 0 (length samples.old)) }
-{
-    for channel in 0..samples.len() {
-        samples[channel] = tone.sample(place, channel as u32);
+    if frame.len() != usize::from(channels) {
+        silence(frame, channels);
     }
 }

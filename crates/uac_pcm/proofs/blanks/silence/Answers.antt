@@ -3,8 +3,8 @@ use Rattle.std.proofs.lemmas.List.{length-take-le, take-replicate}
 use Rattle.uac_pcm.proofs.Packing.{where_ok}
 use Rattle.uac_pcm.proofs.blanks.silence.Goals as goal
 
-pub returns-clause-samples : goal.returns-clause-samples
-returns-clause-samples c =
+pub returns-else-channels-eq2-clause-samples : goal.returns-else-channels-eq2-clause-samples
+returns-else-channels-eq2-clause-samples c =
     let zeros : List ℤ = take c.from.result (replicate 32 (pos 0)) in
     let within : c.from.result ≤ 32 = omega (arith, c.from.ensures, c.requires) in
     let few : length zeros ≡ c.from.result = length-take-le c.from.result (replicate 32 (pos 0)) within in

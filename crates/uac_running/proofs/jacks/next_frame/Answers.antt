@@ -13,8 +13,8 @@ returns c =
     let n : ℕ = c.args.jack.now.channels in
     let sample : ℕ → ℤ = tone_sample c.args.jack.now.tone c.args.jack.now.place in
     let as_many : length c.as_mut_slice.result.now ≡ n = ap length c.as_mut_slice.ensures.value ∙ c.set_channels.ensures in
-    let sounds : c.write_tone.new.samples ≡ map sample (range_with_len 0 n) =
-    c.write_tone.ensures ∙ ap (λ (m : ℕ). map sample (range_with_len 0 m)) as_many in
-    let whole : length c.write_tone.new.samples ≡ length before =
+    let sounds : c.write.new.samples ≡ map sample (range_with_len 0 n) =
+    c.write.ensures ∙ ap (λ (m : ℕ). map sample (range_with_len 0 m)) as_many in
+    let whole : length c.write.new.samples ≡ length before =
     ap length sounds ∙ length-map-range_with_len sample 0 n ∙ sym c.set_channels.ensures in
-    take_front (length before) c.write_tone.new.samples (drop (length c.write_tone.new.samples) before) whole ∙ sounds
+    take_front (length before) c.write.new.samples (drop (length c.write.new.samples) before) whole ∙ sounds

@@ -16,11 +16,11 @@ returns-then-len-clause-stands c t even kept =
     let tone = c.self.inside.tone in
     let place : ℕ = c.self.inside.place in
     let as_many : length c.as_mut_slice.result.now ≡ n = ap length c.as_mut_slice.ensures.value in
-    let sounds : c.sound.new.samples ≡ tone_frame n tone place = c.sound.ensures ∙ ap (λ (m : ℕ). tone_frame m tone place) as_many in
-    let whole : length c.sound.new.samples ≡ n = ap length sounds ∙ length-map-range_with_len (tone_sample tone place) 0 n in
+    let sounds : c.write.new.samples ≡ tone_frame n tone place = c.write.ensures ∙ ap (λ (m : ℕ). tone_frame (length c.as_mut_slice.result.now) tone m) c.from.ensures ∙ ap (λ (m : ℕ). tone_frame m tone place) as_many in
+    let whole : length c.write.new.samples ≡ n = ap length sounds ∙ length-map-range_with_len (tone_sample tone place) 0 n in
     next_sounds n n t (the_view c.self.inside) _ even (c.self.view_is ∙ kept) refl
     (omega (arith, c.if-len.true, c.len.ensures, c.len-2.ensures.value, c.self.inside.samples.ok))
-    (take_front n c.sound.new.samples (drop (length c.sound.new.samples) old) whole ∙ sounds)
+    (take_front n c.write.new.samples (drop (length c.write.new.samples) old) whole ∙ sounds)
 
 pub returns-clause-stands : goal.returns-clause-stands
 returns-clause-stands c t even kept =
