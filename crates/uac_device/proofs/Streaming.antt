@@ -1,7 +1,8 @@
 -- A device whose lanes change stands for the world in which their streams do.
-use Rattle.std.proofs.Common.{◌≡◌, ◌∙◌, sym, refl, ap, subst, arith, ℕ, ◌<◌, ◌≤◌, ◌==◌, true, false, nat_eq, ℤ, List, [], ◌∷◌, Option, Some, length, get_or, map}
-use Rattle.std.specs.List.{All, find}
-use Rattle.std.specs.Option.{option_map_or}
+use Rattle.std.proofs.Common.{◌≡◌, ◌∙◌, sym, refl, ap, subst, arith, ℕ, ◌<◌, ◌≤◌, ◌==◌, ◌||◌, Bool, true, false, nat_eq, ℤ, List, [], ◌∷◌, Option, Some, None, length, get_or, map, inl, inr}
+use Rattle.std.specs.List.{All, find, list_any}
+use Rattle.std.specs.Option.{option_map, option_map_or}
+use Rattle.std.proofs.lemmas.Bool.{cases_Bool}
 use Rattle.std.proofs.lemmas.List.{get_or-map, length-map}
 use Rattle.std.proofs.lemmas.Map.Keys.{IsDistinct-tail}
 use Rattle.uac_entities.specs.declared.entity.Entity.{Entity}
@@ -16,11 +17,11 @@ use Rattle.uac_graph.proofs.Walking.{signal_channels}
 use Rattle.uac_flow.specs.Streams.{InStream, OutStream, after_packet, after_sending, settled_in, settled_out}
 use Rattle.uac_lanes.specs.declared.lane.Lane.{Lane}
 use Rattle.uac_lanes.specs.declared.lane.Port.{Port}
-use Rattle.uac_lanes.specs.InterfaceStreams.{changed_at}
+use Rattle.uac_lanes.specs.InterfaceStreams.{NoneRuns, changed_at, runs_either}
 use Rattle.uac_device.specs.DeviceWorld.{DeviceWorld, interface_in, is_on, played_to, received, sent, settled}
 use Rattle.uac_device.specs.Kept.{DeviceFields, IsDevice, Stands}
 use Rattle.uac_device.specs.Linked.{AreLinked}
-use Rattle.uac_lanes.specs.Lanes.{KeepsStreams, WiredIn, WiredOut, idle_lane, port_of, ports}
+use Rattle.uac_lanes.specs.Lanes.{KeepsLane, KeepsStreams, WiredIn, WiredOut, idle_lane, port_of, ports}
 use Rattle.uac_device.proofs.GivenFrames.{find_own}
 
 pub stands_streams : (device : DeviceFields) (lanes : List Lane) (w : DeviceWorld) (outs : ℕ → Option OutStream) (ins : ℕ → Option InStream) → Stands device w
@@ -35,6 +36,41 @@ stands_streams device lanes w outs ins stands keeps = record {
   inputs = stands.inputs;
   outputs = stands.outputs;
 }
+
+-- an interface's port runs a stream where the interface does
+pub one_port_runs : (outs : ℕ → Option OutStream) (ins : ℕ → Option InStream) (entities : List Entity) (streams : List StreamInterface)
+    → list_any (λ (p : Port). runs_either (outs p.interface) (ins p.interface)) (map (port_of entities) streams)
+    ≡ list_any (λ (s : StreamInterface). runs_either (outs s.number) (ins s.number)) streams
+one_port_runs outs ins entities [] = refl
+one_port_runs outs ins entities (s ∷ ss) = ap (λ (b : Bool). runs_either (outs s.number) (ins s.number) || b) (one_port_runs outs ins entities ss)
+
+-- lanes keep streams of which each is as it was
+same_streams : (lanes : List Lane) (outs others : ℕ → Option OutStream) (ins more : ℕ → Option InStream) → KeepsStreams lanes outs ins → ((k : ℕ) → others k ≡ outs k)
+    → ((k : ℕ) → more k ≡ ins k) → KeepsStreams lanes others more
+same_streams lanes outs others ins more keeps same alike = record {
+  each = λ place d below.
+      let n = (get_or lanes place d).port.interface in
+      subst (λ (o : Option OutStream). KeepsLane (get_or lanes place d) o (more n)) (sym (same n))
+      (subst (λ (i : Option InStream). KeepsLane (get_or lanes place d) (outs n) i) (sym (alike n)) (keeps.each place d below));
+  none = λ k is. let before = keeps.none k is in (same k ∙ before.0, alike k ∙ before.1);
+}
+
+none_changed : {S : Type 0} (interface k : ℕ) (change : S → S) (streams : ℕ → Option S) → streams k ≡ None → changed_at interface change streams k ≡ None
+none_changed interface k change streams none =
+    elim (cases_Bool (k == interface)) [ inl same ↦ rw same (ap (option_map change) none) | inr other ↦ rw other none ]
+
+-- where no interface runs a stream none does when a microframe ended, and the device stands as it is for the world in which it did
+pub none_settled : (w : DeviceWorld) (interface : ℕ) → NoneRuns w.outs w.ins → NoneRuns (settled interface w).outs (settled interface w).ins
+unfolding settled
+none_settled w interface none k =
+    (none_changed interface k settled_out w.outs (none k).0, none_changed interface k settled_in w.ins (none k).1)
+
+pub quiet_settled : (device : DeviceFields) (w : DeviceWorld) (interface : ℕ) → NoneRuns w.outs w.ins → Stands device w → Stands device (settled interface w)
+unfolding settled
+quiet_settled device w interface none stands =
+    stands_streams device device.lanes w (changed_at interface settled_out w.outs) (changed_at interface settled_in w.ins) stands
+    (same_streams device.lanes w.outs (changed_at interface settled_out w.outs) w.ins (changed_at interface settled_in w.ins) stands.streams
+    (λ k. none_changed interface k settled_out w.outs (none k).0 ∙ sym (none k).0) (λ k. none_changed interface k settled_in w.ins (none k).1 ∙ sym (none k).1))
 
 pub received_stands : (device : DeviceFields) (lanes : List Lane) (w : DeviceWorld) (interface : ℕ) (packet : Option (List ℕ)) → Stands device w
     → KeepsStreams lanes (changed_at interface (after_packet packet) w.outs) w.ins → Stands (record device { lanes = lanes }) (received interface packet w)

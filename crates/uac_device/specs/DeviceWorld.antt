@@ -2,7 +2,7 @@
 -- Profile: the events and their order; the terms are those of Audio Class 2.0, 3.13.
 use Rattle.std.specs.Prelude.{ℕ, ◌==◌, ◌&&◌, not, Bool, false, true, if◌then◌else◌, ℤ, pos, List, [], ◌∷◌, ◌++◌, map, filter}
 use Rattle.std.specs.Prelude.{length, Option, Some, None, IfSome, unwrap_or}
-use Rattle.std.specs.List.{fold, find}
+use Rattle.std.specs.List.{fold, find, list_any}
 use Rattle.std.specs.Option.{option_and_then, option_map_or}
 use Rattle.uac_clock.specs.Nominal.{nominal_of, step_of}
 use Rattle.uac_clock.specs.Ticks.{ticks_in}
@@ -31,7 +31,7 @@ use Rattle.uac_flow.specs.Streams.{feedback_of, is_dry, is_full, next_taken, sen
 use Rattle.uac_flow.specs.Flows.{ZerosFit}
 use Rattle.uac_flow.specs.declared.arrival.Arrival.{Arrival}
 use Rattle.uac_flow.specs.declared.arrival.Arrival.TheVariants as arrival
-use Rattle.uac_lanes.specs.InterfaceStreams.{bits_of, changed_at, changed_where, either_due, in_from, level_in, out_from, replaced_at}
+use Rattle.uac_lanes.specs.InterfaceStreams.{bits_of, changed_at, changed_where, either_due, in_from, level_in, out_from, replaced_at, runs_either}
 use Rattle.uac_lanes.specs.declared.ticking.Ticked.{Ticked}
 
 -- a clock domain: the clock that its terminals name, what that is off by in millionths, and its steps since the start, one
@@ -246,6 +246,10 @@ is_due_in w interface = either_due (w.outs interface) (w.ins interface)
 -- where a packet of an interface was lost, the ring of its stream to the device has room for the zeros that are due
 unfoldable pub ZerosFitIn : DeviceWorld → ℕ → Type 0
 ZerosFitIn w interface = IfSome (w.outs interface) ZerosFit
+
+-- an interface runs a stream, to the device or from it
+unfoldable pub runs_one : DeviceWorld → Bool
+runs_one w = list_any (λ s. runs_either (w.outs s.number) (w.ins s.number)) w.function.streams
 
 -- the report that is due of an interface's stream to the device
 unfoldable pub feedback_in : DeviceWorld → ℕ → Option ℕ

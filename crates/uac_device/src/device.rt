@@ -1,5 +1,5 @@
 // The device and its events.
-ghost use Rattle.std.specs.Prelude.{◌≡◌, ◌≤◌, ◌<◌, ◌+◌, ◌^◌, ◌≤ℤ◌, ℕ, true, pos, negsuc, IfOk, length};
+ghost use Rattle.std.specs.Prelude.{◌≡◌, ◌≤◌, ◌<◌, ◌+◌, ◌^◌, ◌≤ℤ◌, ℕ, false, true, pos, negsuc, IfOk, length};
 ghost use Rattle.std.specs.Option.{option_map};
 ghost use Rattle.uac_graph.specs.Meaning.{entity};
 ghost use Rattle.uac_graph.specs.Needs.{needed};
@@ -8,9 +8,10 @@ ghost use Rattle.uac_units.specs.Fitting.{IsFitted};
 ghost use Rattle.uac_units.specs.Panel.{readings};
 ghost use Rattle.uac_device.specs.DeviceWorld.{DeviceWorld, ZerosFitIn, advanced, after_frames, arrival_in, deviated, feedback_in};
 ghost use Rattle.uac_device.specs.DeviceWorld.{frames_in, fresh, heard_of, is_due_in, is_input_jack, is_output_jack, level_of, met_of};
-ghost use Rattle.uac_device.specs.DeviceWorld.{next_ticks, packet_in, played_at, received, renders_of, sent, set_jack, settled, target_of};
-ghost use Rattle.uac_device.specs.DeviceWorld.{ticked};
+ghost use Rattle.uac_device.specs.DeviceWorld.{next_ticks, packet_in, played_at, received, renders_of, runs_one, sent, set_jack, settled};
+ghost use Rattle.uac_device.specs.DeviceWorld.{target_of, ticked};
 ghost use Rattle.uac_device.specs.Kept.{IsControlled, Stands};
+ghost use Rattle.uac_lanes.specs.InterfaceStreams.{NoneRuns};
 ghost use Rattle.uac_request.specs.Requests.{answer_fields};
 
 use crate::clocks::{Clock, advance, deviate};
@@ -144,6 +145,14 @@ impl Device {
         ensures { (w : DeviceWorld) → Stands self.now w → result ≡ is_due_in w interface }
     {
         self.lanes.due(interface)
+    }
+
+    /// Whether an interface runs a stream.
+    pub fn runs(&self) -> bool
+        ensures value { (w : DeviceWorld) → Stands self.now w → result ≡ runs_one w }
+        ensures none { (w : DeviceWorld) → Stands self.now w → result ≡ false → NoneRuns w.outs w.ins }
+    {
+        self.lanes.run_one()
     }
 
     /// The report that is due of an interface's stream to the device (USB 2.0, 5.12.4.2); None where none is.

@@ -3,4 +3,5 @@ pub mod LaneLemmas
 pub mod LanesLemmas
 pub mod TurnedLanes
 pub mod LaneFrames
+pub mod RunningLanes
 pub mod MetLanes

@@ -1,5 +1,5 @@
 -- The streams that interfaces run: what is read of those of one interface, and what changes in those of all.
-use Rattle.std.specs.Prelude.{ℕ, ◌+◌, ◌*◌, ◌==◌, Bool, false, if◌then◌else◌, List, [], ◌∷◌, Option, Some, None, unwrap_or}
+use Rattle.std.specs.Prelude.{◌≡◌, ℕ, ◌+◌, ◌*◌, ◌==◌, ◌||◌, Bool, false, if◌then◌else◌, List, [], ◌∷◌, Option, Some, None, is_some, unwrap_or}
 use Rattle.std.specs.Option.{option_map, option_map_or, option_or}
 use Rattle.uac_alt.specs.Streams.{StreamFields}
 use Rattle.uac_flow.specs.Streams.{InStream, OutStream, in_level, is_due, out_level, started_in, started_out}
@@ -15,6 +15,10 @@ abbrev pub either_due : Option OutStream → Option InStream → Bool
 either_due out in_ =
     option_map_or (λ o. is_due o.stream o.microframes) out (option_map_or (λ i. is_due i.stream i.microframes) in_ false)
 
+-- an interface runs a stream, to the device or from it
+abbrev pub runs_either : Option OutStream → Option InStream → Bool
+runs_either out in_ = is_some out || is_some in_
+
 -- a stream at its start, where it goes to the device, and where it comes from it
 abbrev pub out_from : StreamFields → Option OutStream
 out_from s = if s.out then Some (started_out s) else None
@@ -23,6 +27,10 @@ abbrev pub in_from : StreamFields → Option InStream
 in_from s = if s.out then None else Some (started_in s)
 
 -- ---- by interface
+
+-- no interface runs a stream
+abbrev pub NoneRuns : (ℕ → Option OutStream) → (ℕ → Option InStream) → Type 0
+NoneRuns outs ins = (interface : ℕ) → (outs interface ≡ None) × (ins interface ≡ None)
 
 -- streams of which that of one interface changes, or is another
 abbrev pub changed_at : {S : Type 0} → ℕ → (S → S) → (ℕ → Option S) → ℕ → Option S

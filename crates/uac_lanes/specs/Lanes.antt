@@ -38,6 +38,12 @@ KeepsFlow ring (flow.In f) out in_ = (i : InStream) × (in_ ≡ Some i) × (out 
 abbrev pub KeepsLane : Lane → Option OutStream → Option InStream → Type 0
 KeepsLane l out in_ = KeepsFlow l.ring l.flow out in_
 
+-- its interface runs a stream
+abbrev pub is_running : Flow → Bool
+is_running flow.Idle = false
+is_running (flow.Out f) = true
+is_running (flow.In f) = true
+
 -- a lane before and after an event that changes streams so
 pub record Turns (outs : Option OutStream → Option OutStream) (ins : Option InStream → Option InStream) (old new : Lane) : Type 0 where
   pub port : new.port ≡ old.port

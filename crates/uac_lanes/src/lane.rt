@@ -9,7 +9,7 @@ ghost use Rattle.uac_flow.specs.Streams.{is_dry, next_taken, sent_frames, sent_p
 ghost use Rattle.uac_flow.specs.declared.arrival.Arrival.TheVariants as arrival;
 ghost use Rattle.uac_lanes.specs.InterfaceStreams.{either_due, in_from, level_in, out_from};
 ghost use Rattle.uac_lanes.specs.Lanes.{FitsPort, IsFlow, IsLane, KeepsFlow, KeepsLane, Turns, WiredIn, WiredOut, counted_on, found_dry};
-ghost use Rattle.uac_lanes.specs.Lanes.{found_full, frame_given, gives_to, idle_lane, put_on, taken_on};
+ghost use Rattle.uac_lanes.specs.Lanes.{found_full, frame_given, gives_to, idle_lane, is_running, put_on, taken_on};
 
 use std::alloc::Global;
 use uac_alt::Stream;
@@ -246,6 +246,16 @@ impl Lane {
             }
             Flow::Idle | Flow::Out(_) => {}
         }
+    }
+}
+
+/// Whether an interface runs a stream.
+pub(crate) fn is_running(flow: &Flow) -> bool
+    ensures { result ≡ is_running flow.now }
+{
+    match flow {
+        Flow::Idle => false,
+        Flow::Out(_) | Flow::In(_) => true,
     }
 }
 

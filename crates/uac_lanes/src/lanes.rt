@@ -1,17 +1,17 @@
 // What the device keeps of all streaming interfaces.
-ghost use Rattle.std.specs.Prelude.{◌≡◌, ◌==◌, ℕ, Option, Some, [], map, IfOk, IfSome};
-ghost use Rattle.std.specs.List.{find};
+ghost use Rattle.std.specs.Prelude.{◌≡◌, ◌==◌, ℕ, Option, Some, [], false, map, IfOk, IfSome};
+ghost use Rattle.std.specs.List.{find, list_any};
 ghost use Rattle.std.specs.Option.{option_and_then, option_map, option_map_or};
 ghost use Rattle.uac_alt.specs.Streams.{stream_fields};
 ghost use Rattle.uac_flow.specs.Flows.{ZerosFit};
 ghost use Rattle.uac_flow.specs.Streams.{InStream, OutStream, after_packet, after_sending, arrival_of, feedback_of, sent_frames};
 ghost use Rattle.uac_flow.specs.Streams.{sent_packet, settled_in, settled_out};
 ghost use Rattle.uac_flow.specs.declared.arrival.Arrival.TheVariants as arrival;
-ghost use Rattle.uac_lanes.specs.InterfaceStreams.{changed_at, either_due, in_from, level_in, out_from, replaced_at};
-ghost use Rattle.uac_lanes.specs.Lanes.{FitsPort, KeepsStreams, idle_lane, lane_at, port_of, port_with, ports};
+ghost use Rattle.uac_lanes.specs.InterfaceStreams.{NoneRuns, changed_at, either_due, in_from, level_in, out_from, replaced_at, runs_either};
+ghost use Rattle.uac_lanes.specs.Lanes.{FitsPort, KeepsStreams, idle_lane, is_running, lane_at, port_of, port_with, ports};
 ghost use Rattle.uac_lanes.specs.declared.lane.Port as ported;
 
-use crate::lane::{Lane, Port};
+use crate::lane::{Lane, Port, is_running};
 use std::alloc::Global;
 use std::marker::Model;
 use uac_alt::Stream;
@@ -61,6 +61,16 @@ impl Lanes {
         self.list
             .iter()
             .position(|lane| u16::from(lane.port.interface) == interface)
+    }
+
+    /// Whether an interface runs a stream.
+    pub fn run_one(&self) -> bool
+        ensures value { (outs : ℕ → Option OutStream) (ins : ℕ → Option InStream) → KeepsStreams self.now outs ins
+            → result ≡ list_any (λ p. runs_either (outs p.interface) (ins p.interface)) (ports self.now) }
+        ensures none { (outs : ℕ → Option OutStream) (ins : ℕ → Option InStream) → KeepsStreams self.now outs ins → result ≡ false
+            → NoneRuns outs ins }
+    {
+        run_one(&self.list)
     }
 
     /// How many frames lie in the ring of an interface's stream.
@@ -190,4 +200,11 @@ fn port_to(stream: &StreamInterface, clock: u8, channels: u8) -> Port
         channels,
         out: stream.out,
     }
+}
+
+// Whether one of these runs a stream.
+fn run_one(lanes: &[Lane]) -> bool
+    ensures { result ≡ list_any (λ l. is_running l.flow) lanes.now }
+{
+    lanes.iter().any(|lane| is_running(&lane.flow))
 }

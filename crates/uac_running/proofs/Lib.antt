@@ -5,6 +5,7 @@ pub mod Counting
 pub mod Start
 pub mod Steps
 pub mod StreamSteps
+pub mod Quiet
 pub mod RoomSteps
 pub mod TransferLemmas
 pub mod OutcomeLemmas

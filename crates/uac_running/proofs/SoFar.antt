@@ -22,10 +22,10 @@ pub record SoFar (Keeps : RunningFields → List Reading → RunningWorld → Ty
   pub stands : Keeps running meters now
   pub left : with_lines_first lines (rest now) ≡ whole
 
-with_lines_first-with_lines_first : (front back : List Said) (told : Told) → with_lines_first front (with_lines_first back told) ≡ with_lines_first (front ++ back) told
+pub with_lines_first-with_lines_first : (front back : List Said) (told : Told) → with_lines_first front (with_lines_first back told) ≡ with_lines_first (front ++ back) told
 with_lines_first-with_lines_first front back told = ap (told_of told.world) (sym (append_assoc front back told.lines))
 
-Appends-nothing : (old : Option (List ℕ)) → Appends old old []
+pub Appends-nothing : (old : Option (List ℕ)) → Appends old old []
 Appends-nothing None = tt
 Appends-nothing (Some xs) = sym (append-nil xs)
 

@@ -1,11 +1,15 @@
--- Input jacks that are silent (profile).
+-- Input jacks that are silent, and the packets that there are where a stream runs (profile).
 use Rattle.std.specs.Prelude.{◌≡◌, ℕ, ◌==◌, ◌&&◌, Bool, true, false, List}
 use Rattle.std.specs.List.{All, list_any}
 use Rattle.uac_pcm.specs.declared.tones.Tone.{Tone}
 use Rattle.uac_pcm.specs.declared.tones.Tone.TheVariants as tones
 use Rattle.uac_graph.specs.Wiring.{silence}
 use Rattle.uac_device.specs.DeviceWorld.{DeviceWorld}
+use Rattle.uac_script.specs.Phrase.{SaidMark}
+use Rattle.uac_streaming.specs.StreamingWorld.{in_packets, out_packets}
 use Rattle.uac_running.specs.declared.jacks.Jack.{Jack}
+use Rattle.uac_running.specs.RunningWorld.{RunningWorld}
+use Rattle.uac_running.specs.Events.{Told, followed_by, of_streams}
 
 -- a tone is more than silence
 abbrev pub sounds : Tone → Bool
@@ -25,3 +29,7 @@ GaveSilence clock w j = j.clock ≡ clock → w.given j.terminal ≡ silence j.c
 pub record AreAtRest (clock : ℕ) (jacks : List Jack) (w : DeviceWorld) : Type 0 where
   pub silent : one_sounds clock jacks ≡ false
   pub gave : All (GaveSilence clock w) jacks
+
+-- the packets of a microframe: those to the device, and those from it
+abbrev pub packets : List SaidMark → RunningWorld → Told
+packets losses r = followed_by (of_streams (out_packets r.detail losses)) (of_streams (in_packets r.detail losses)) r

@@ -15,7 +15,7 @@ ghost use Rattle.uac_running.specs.Lines.{played_lines};
 ghost use Rattle.uac_running.specs.Events.{all_given, domain_microframe, domain_microframes, ends_and_reports, microframe, microframes};
 ghost use Rattle.uac_running.specs.Events.{number_said, of_streams, packets_and_ticks, tick, tick_times};
 ghost use Rattle.uac_running.specs.Kept.{Stands, StandsBetween, Tells, TellsBetween};
-ghost use Rattle.uac_running.specs.Silence.{AreAtRest};
+ghost use Rattle.uac_running.specs.Silence.{AreAtRest, packets};
 ghost use Rattle.uac_running.specs.Silence as silence;
 
 use crate::counts::count_ticks;
@@ -95,12 +95,26 @@ impl Running {
         ensures cause { HasCause (K.faults sink.old) (K.faults sink.new) result }
         ensures function { self.new.device.function ≡ self.old.device.function }
     {
-        self.out_packets(marks, sink)?;
-        self.in_packets(marks, sink)?;
+        self.packets(marks, sink)?;
         self.domain_microframes(rack, meters, sink)
     }
 
-    /// The end of a microframe for each stream, and the feedback reports. Where a packet was lost, its ring has room for the zeros.
+    /// The packets of a microframe: those to the device, and those from it. Where no stream runs there are none.
+    fn packets<K: Sink>(&mut self, marks: &[Mark], sink: &mut K) -> Result<(), Failed>
+        ensures tells { (meters : List Reading) (r : RunningWorld) → Stands self.old meters r
+            → Tells (packets (map said_mark marks.now) r) self.new meters (K.written sink.old) (K.written sink.new) result }
+        ensures cause { HasCause (K.faults sink.old) (K.faults sink.new) result }
+        ensures function { self.new.device.function ≡ self.old.device.function }
+    {
+        if !self.device.runs() {
+            return Ok(());
+        }
+        self.out_packets(marks, sink)?;
+        self.in_packets(marks, sink)
+    }
+
+    /// The end of a microframe for each stream, and the feedback reports; nothing happens where no stream runs. Where a packet was lost,
+    /// its ring has room for the zeros.
     fn ends_and_reports<K: Sink>(&mut self, marks: &[Mark], sink: &mut K) -> Result<(), Failed>
         ensures tells { (meters : List Reading) (r : RunningWorld) → Stands self.old meters r
             → ((interface : ℕ) → ZerosFitIn r.device interface)
@@ -108,6 +122,9 @@ impl Running {
         ensures cause { HasCause (K.faults sink.old) (K.faults sink.new) result }
         ensures function { self.new.device.function ≡ self.old.device.function }
     {
+        if !self.device.runs() {
+            return Ok(());
+        }
         self.settle(sink)?;
         self.reports(marks, sink)
     }

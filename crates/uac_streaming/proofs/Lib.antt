@@ -7,6 +7,7 @@ pub mod SoFar
 pub mod Lost
 pub mod PacketLines
 pub mod Turned
+pub mod Quiet
 pub mod Ticking
 pub mod RoomLemmas
 pub mod RoomOfDevices

@@ -355,6 +355,16 @@ fn count_found(met: &mut [StreamCounts], found: Ticked)
     if found.under == 0 && found.over == 0 {
         return;
     }
+    count_some(met, found);
+}
+
+/// The same of a tick that found some.
+#[cold]
+#[inline(never)]
+fn count_some(met: &mut [StreamCounts], found: Ticked)
+    ensures { (before : ℕ → counted.StreamCounts) (w : DeviceWorld) (clock : ℕ) → met.old ≡ spec.met_in before w.function
+        → found ≡ met_of clock w → met.new ≡ spec.met_in (found_counts clock w before) w.function }
+{
     let mut empty = found.under;
     let mut full = found.over;
     for counts in met.iter_mut() {

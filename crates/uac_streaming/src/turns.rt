@@ -234,6 +234,21 @@ pub fn write_found<K: Sink>(
     if found.under == 0 && found.over == 0 {
         return Ok(());
     }
+    write_some(sink, streams, found)
+}
+
+/// Prints what a tick found that found some.
+#[cold]
+#[inline(never)]
+fn write_some<K: Sink>(
+    sink: &mut K,
+    streams: &[StreamInterface],
+    found: Ticked,
+) -> Result<(), Failed>
+    ensures printed { (w : DeviceWorld) (clock : ℕ) → w.function.streams ≡ streams.now → found ≡ met_of clock w
+        → Prints (K.written sink.old) (K.written sink.new) result (found_lines clock w) }
+    ensures cause { HasCause (K.faults sink.old) (K.faults sink.new) result }
+{
     write_empty(sink, streams, found.under)?;
     write_full(sink, streams, found.over)
 }

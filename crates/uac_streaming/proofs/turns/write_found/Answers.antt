@@ -1,12 +1,9 @@
 use Rattle.std.proofs.Common.{subst, List, arith}
 use Rattle.std.specs.Io.KnownBytes.{Appends}
-use Rattle.uac_edges.specs.Writing.{AppendsFront}
 use Rattle.uac_transcript.specs.Transcript.{Said}
-use Rattle.uac_transcript.specs.Printing.{Prints, text_of}
-use Rattle.uac_transcript.proofs.PrintingLemmas.{Prints-after, front_of_more}
+use Rattle.uac_transcript.specs.Printing.{text_of}
 use Rattle.uac_streaming.proofs.SoFar.{Appends-nothing}
-use Rattle.uac_streaming.proofs.Ticking.{bits_over, bits_under, empty_lines, found_are, found_none, full_lines, is_empty_at, is_full_at}
-use Rattle.uac_edges.proofs.WritingLemmas.{Writes-handed_on}
+use Rattle.uac_streaming.proofs.Ticking.{found_none}
 use Rattle.uac_streaming.proofs.turns.write_found.Goals as goal
 
 pub returns-then-found-eq0-2-clause-printed : goal.returns-then-found-eq0-2-clause-printed
@@ -14,20 +11,3 @@ returns-then-found-eq0-2-clause-printed g c = λ w clock same is.
     subst (λ (lines : List Said). Appends (g.K.Sink.written c.args.sink.now) (g.K.Sink.written c.args.sink.now) (text_of lines))
     (found_none clock w c.args.streams.now c.args.found same is (omega (arith, c.if-found-eq0.true)) (omega (arith, c.if-found-eq0-2.true)))
     (Appends-nothing (g.K.Sink.written c.args.sink.now))
-
-pub returns-in_err-write_empty-clause-printed : goal.returns-in_err-write_empty-clause-printed
-returns-in_err-write_empty-clause-printed g c = λ w clock same is.
-    let streams = c.args.streams.now in
-    Writes-handed_on _ (g.K.Sink.written c.args.sink.now) (g.K.Sink.written c.write_empty.new.sink) c.from_residual.result _ c.from_residual.ensures.1 (
-    subst (λ (lines : List Said). AppendsFront (g.K.Sink.written c.args.sink.now) (g.K.Sink.written c.write_empty.new.sink) (text_of lines)) (found_are clock w streams same)
-    (front_of_more (g.K.Sink.written c.args.sink.now) (g.K.Sink.written c.write_empty.new.sink) (empty_lines clock w streams) (full_lines clock w streams)
-    (c.in_err-write_empty.ensures.printed (is_empty_at clock w) (bits_under clock w streams c.args.found same is)))
-    )
-
-pub returns-clause-printed : goal.returns-clause-printed
-returns-clause-printed g c = λ w clock same is.
-    let streams = c.args.streams.now in
-    subst (λ (lines : List Said). Prints (g.K.Sink.written c.args.sink.now) (g.K.Sink.written c.write_full.new.sink) c.write_full.result lines) (found_are clock w streams same)
-    (Prints-after (g.K.Sink.written c.args.sink.now) (g.K.Sink.written c.write_empty.new.sink) (g.K.Sink.written c.write_full.new.sink) c.write_full.result
-    (empty_lines clock w streams) (full_lines clock w streams) (c.in_ok-write_empty.ensures.printed (is_empty_at clock w) (bits_under clock w streams c.args.found same is))
-    (c.write_full.ensures.printed (is_full_at clock w) (bits_over clock w streams c.args.found same is)))
