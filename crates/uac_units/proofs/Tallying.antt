@@ -35,3 +35,20 @@ two_added (x ∷ y ∷ []) two = omega arith
 two_added [] two = absurd (omega (arith, two))
 two_added (x ∷ []) two = absurd (omega (arith, two))
 two_added (x ∷ y ∷ z ∷ xs) two = absurd (omega (arith, two))
+
+-- ---- frames of one
+
+pub one_peak : (xs : List ℤ) → length xs ≡ 1 → unsigned_abs (get_or xs 0 (pos 0)) ≡ peak_of xs
+one_peak (x ∷ []) one = omega arith
+one_peak [] one = absurd (omega (arith, one))
+one_peak (x ∷ y ∷ xs) one = absurd (omega (arith, one))
+
+pub one_clipped : (xs : List ℤ) → length xs ≡ 1 → (if is_clipped (get_or xs 0 (pos 0)) then 1 else 0) ≡ count_by is_clipped xs
+one_clipped (x ∷ []) one = omega arith
+one_clipped [] one = absurd (omega (arith, one))
+one_clipped (x ∷ y ∷ xs) one = absurd (omega (arith, one))
+
+pub one_added : (xs : List ℤ) → length xs ≡ 1 → unsigned_abs (get_or xs 0 (pos 0)) ≡ sum_by unsigned_abs xs
+one_added (x ∷ []) one = omega arith
+one_added [] one = absurd (omega (arith, one))
+one_added (x ∷ y ∷ xs) one = absurd (omega (arith, one))

@@ -107,8 +107,8 @@ impl Meter for SumMeter {
     }
 }
 
-// The greatest absolute sample of a frame. Most frames have two samples.
-#[tactic(auto, using(crate::proofs::Tallying::two_peak))]
+// The greatest absolute sample of a frame. Most frames have two samples or one.
+#[tactic(auto, using(crate::proofs::Tallying::two_peak, crate::proofs::Tallying::one_peak))]
 fn peak_of(samples: &[i32]) -> u32
     ensures { result ≡ spec.peak_of samples.now }
 {
@@ -116,6 +116,9 @@ fn peak_of(samples: &[i32]) -> u32
         let left = size_at(samples, 0);
         let right = size_at(samples, 1);
         return left.max(right);
+    }
+    if samples.len() == 1 {
+        return size_at(samples, 0);
     }
     let mut peak = 0;
     for sample in samples {
@@ -125,7 +128,7 @@ fn peak_of(samples: &[i32]) -> u32
 }
 
 // How many samples of a frame stand at full scale.
-#[tactic(auto, using(crate::proofs::Tallying::two_clipped))]
+#[tactic(auto, using(crate::proofs::Tallying::two_clipped, crate::proofs::Tallying::one_clipped))]
 fn clipped_among(samples: &[i32]) -> u32
     requires { length samples.now ≤ 32 }
     ensures { result ≡ count_by is_clipped samples.now }
@@ -134,6 +137,9 @@ fn clipped_among(samples: &[i32]) -> u32
         let left = clips_at(samples, 0);
         let right = clips_at(samples, 1);
         return left + right;
+    }
+    if samples.len() == 1 {
+        return clips_at(samples, 0);
     }
     let mut clipped = 0;
     for sample in samples {
@@ -145,7 +151,7 @@ fn clipped_among(samples: &[i32]) -> u32
 }
 
 // The absolute samples of a frame together.
-#[tactic(auto, using(crate::proofs::Tallying::two_added))]
+#[tactic(auto, using(crate::proofs::Tallying::two_added, crate::proofs::Tallying::one_added))]
 fn sum_of(samples: &[i32]) -> u64
     requires { length samples.now ≤ 32 }
     ensures { result ≡ sum_by unsigned_abs samples.now }
@@ -154,6 +160,9 @@ fn sum_of(samples: &[i32]) -> u64
         let left = size_at(samples, 0);
         let right = size_at(samples, 1);
         return left as u64 + right as u64;
+    }
+    if samples.len() == 1 {
+        return size_at(samples, 0) as u64;
     }
     let mut sum = 0;
     for sample in samples {
