@@ -1,5 +1,5 @@
 -- A number's digits are its numeral.
-use Rattle.std.proofs.Common.{◌≡◌, ℕ, zero, suc, ◌^◌, ◌<◌, false, true, ℤ, pos, negsuc, SFits, w32, ◌∷◌, decimal, unsigned_abs, sym, ap, ◌∙◌, arith, add-one}
+use Rattle.std.proofs.Common.{◌≡◌, ℕ, zero, suc, ◌^◌, ◌+◌, ◌<◌, [], false, true, Bool, if◌then◌else◌, ℤ, pos, negsuc, SFits, w32, ◌∷◌, decimal, unsigned_abs, sym, ap, ◌∙◌, arith, add-one}
 use Rattle.std.specs.Prelude.{int_lt}
 use Rattle.std.proofs.lemmas.Bool.{cond-false, ltb-true, ne_eqb}
 use Rattle.std.proofs.lemmas.Fmt.{decimal-digits_of, decimal_digit}
@@ -22,3 +22,13 @@ negative-numeral (pos n) fits h = let less = ltb-true n 0 h in absurd (omega ari
 negative-numeral (negsuc n) fits h =
     let small = fits.sfits in
     ap (λ xs. 45 ∷ xs) (decimal-natural (suc n) (omega arith) ∙ ap natural (sym (add-one n)))
+
+-- where the sign is asked for
+pub signed-numeral : (z : ℤ) → SFits w32 z → (b : Bool) → int_lt z (pos 0) ≡ b →
+    numeral z ≡ (if b then 45 ∷ decimal (unsigned_abs z) else decimal (unsigned_abs z))
+signed-numeral z fits true h = sym (negative-numeral z fits h)
+signed-numeral z fits false h = sym (positive-numeral z fits h)
+
+-- one digit
+pub decimal_of_one : (n : ℕ) → n < 10 → decimal n ≡ (48 + n) ∷ []
+decimal_of_one n h = decimal_digit n h

@@ -1,6 +1,6 @@
 // A line of text in a buffer of fixed size, which takes no memory.
 ghost use Rattle.hex.specs.Hex.{encode_lower};
-ghost use Rattle.std.specs.Prelude.{◌≡◌, ℕ, ◌+◌, ◌*◌, ◌≤◌, List, [], ◌++◌, length, unsigned_abs, decimal};
+ghost use Rattle.std.specs.Prelude.{◌≡◌, ◌+◌, ◌*◌, ◌<◌, ◌≤◌, if◌then◌else◌, [], ◌∷◌, ◌++◌, length, unsigned_abs, decimal};
 ghost use Rattle.uac_edges.specs.Numerals.{numeral};
 
 use arrayvec::ArrayVec;
@@ -44,8 +44,32 @@ impl<const N: usize> TextLine<N> {
         }
     }
 
+    /// Appends a byte, for which there has to be room.
+    pub fn push_byte(&mut self, byte: u8)
+        requires { length self.old + 1 ≤ N }
+        ensures text { self.new ≡ self.old ++ byte ∷ [] }
+        ensures len { length self.new ≡ length self.old + 1 }
+    {
+        self.bytes.push(byte);
+    }
+
     /// Appends `number` in decimal digits, for at most 20 of which there has to be room.
+    #[inline]
     pub fn push_number(&mut self, number: u64)
+        requires { length self.old + 20 ≤ N }
+        ensures text { self.new ≡ self.old ++ decimal number }
+        ensures len { length self.new ≤ length self.old + 20 }
+    {
+        if number < 10 {
+            self.push_byte(digit(number));
+        } else {
+            self.push_digits(number);
+        }
+    }
+
+    // Appends the digits of a number of any size, which are made in an array of their own.
+    #[inline(never)]
+    fn push_digits(&mut self, number: u64)
         requires { length self.old + 20 ≤ N }
         ensures text { self.new ≡ self.old ++ decimal number }
         ensures len { length self.new ≤ length self.old + 20 }
@@ -60,7 +84,9 @@ impl<const N: usize> TextLine<N> {
         ensures text { self.new ≡ self.old ++ numeral number }
         ensures len { length self.new ≤ length self.old + 21 }
     {
-        self.push(sign(number));
+        if is_negative(number) {
+            self.push_byte(b'-');
+        }
         self.push_number(u64::from(number.unsigned_abs()));
     }
 
@@ -88,10 +114,17 @@ impl<const N: usize> TextLine<N> {
     }
 }
 
-/// What stands before the size of a number: a minus sign where it is negative.
-fn sign(number: i32) -> &'static [u8]
-    ensures text { result.now ++ decimal (unsigned_abs number) ≡ numeral number }
-    ensures short { length result.now ≤ 1 }
+/// The digit of a value, in ASCII.
+fn digit(value: u64) -> u8
+    requires { value < 10 }
+    ensures { result ≡ 48 + value }
 {
-    if number < 0 { b"-" } else { b"" }
+    b'0' + value as u8
+}
+
+/// Whether a minus sign stands before the size of a number.
+fn is_negative(number: i32) -> bool
+    ensures { numeral number ≡ (if result then 45 ∷ decimal (unsigned_abs number) else decimal (unsigned_abs number)) }
+{
+    number < 0
 }

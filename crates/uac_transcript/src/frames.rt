@@ -1,5 +1,5 @@
 // The lines of frames.
-ghost use Rattle.std.specs.Prelude.{◌≡◌, ◌+◌, ◌*◌, ◌≤◌, ◌++◌, length};
+ghost use Rattle.std.specs.Prelude.{◌≡◌, ◌+◌, ◌*◌, ◌≤◌, [], ◌++◌, length};
 ghost use Rattle.uac_edges.specs.Faults.{HasCause};
 ghost use Rattle.uac_edges.specs.Writing.{Writes};
 ghost use Rattle.uac_transcript.specs.Transcript.{samples_text, says_frame, says_played, spelled};
@@ -12,19 +12,28 @@ pub fn write_played<K: Sink>(sink: &mut K, terminal: u8, frame: &Frame) -> Resul
     ensures written { Writes (K.written sink.old) (K.written sink.new) result (spelled (says_played terminal frame.now.items)) }
     ensures cause { HasCause (K.faults sink.old) (K.faults sink.new) result }
 {
-    give_all(sink, played(terminal, frame).as_bytes())
+    let samples = frame.as_slice();
+    if samples.len() <= 4 {
+        let mut text: TextLine<112> = TextLine::new();
+        push_played(&mut text, terminal, samples);
+        give_all(sink, text.as_bytes())
+    } else {
+        let mut text: TextLine<768> = TextLine::new();
+        push_played(&mut text, terminal, samples);
+        give_all(sink, text.as_bytes())
+    }
 }
 
 #[tactic(auto, unfolding(crate::specs::Transcript::spelled))]
-fn played(terminal: u8, frame: &Frame) -> TextLine<768>
-    ensures { result ≡ spelled (says_played terminal frame.now.items) }
+fn push_played<const N: usize>(text: &mut TextLine<N>, terminal: u8, samples: &[i32])
+    requires empty { text.old ≡ [] }
+    requires room { 23 + 22 * length samples.now ≤ N }
+    ensures { text.new ≡ spelled (says_played terminal samples.now) }
 {
-    let mut text = TextLine::new();
     text.push(b"p ");
     text.push_number(u64::from(terminal));
-    push_samples(&mut text, frame.as_slice());
-    text.push(b"\n");
-    text
+    push_samples(text, samples);
+    text.push_byte(b'\n');
 }
 
 /// Prints a frame that came from an interface.
@@ -32,30 +41,38 @@ pub fn write_frame<K: Sink>(sink: &mut K, interface: u8, frame: &Frame) -> Resul
     ensures written { Writes (K.written sink.old) (K.written sink.new) result (spelled (says_frame interface frame.now.items)) }
     ensures cause { HasCause (K.faults sink.old) (K.faults sink.new) result }
 {
-    give_all(sink, from_interface(interface, frame).as_bytes())
+    let samples = frame.as_slice();
+    if samples.len() <= 4 {
+        let mut text: TextLine<112> = TextLine::new();
+        push_frame(&mut text, interface, samples);
+        give_all(sink, text.as_bytes())
+    } else {
+        let mut text: TextLine<768> = TextLine::new();
+        push_frame(&mut text, interface, samples);
+        give_all(sink, text.as_bytes())
+    }
 }
 
 #[tactic(auto, unfolding(crate::specs::Transcript::spelled))]
-fn from_interface(interface: u8, frame: &Frame) -> TextLine<768>
-    ensures { result ≡ spelled (says_frame interface frame.now.items) }
+fn push_frame<const N: usize>(text: &mut TextLine<N>, interface: u8, samples: &[i32])
+    requires empty { text.old ≡ [] }
+    requires room { 23 + 22 * length samples.now ≤ N }
+    ensures { text.new ≡ spelled (says_frame interface samples.now) }
 {
-    let mut text = TextLine::new();
     text.push(b"r ");
     text.push_number(u64::from(interface));
-    push_samples(&mut text, frame.as_slice());
-    text.push(b"\n");
-    text
+    push_samples(text, samples);
+    text.push_byte(b'\n');
 }
 
 /// Appends a space and a sample, for each.
-fn push_samples(text: &mut TextLine<768>, samples: &[i32])
-    requires few { length samples.now ≤ 32 }
-    requires room { length text.old ≤ 22 }
+fn push_samples<const N: usize>(text: &mut TextLine<N>, samples: &[i32])
+    requires { length text.old + 22 * length samples.now ≤ N }
     ensures text { text.new ≡ text.old ++ samples_text samples.now }
     ensures len { length text.new ≤ length text.old + 22 * length samples.now }
 {
     for sample in samples {
-        text.push(b" ");
+        text.push_byte(b' ');
         text.push_signed(*sample);
     }
 }

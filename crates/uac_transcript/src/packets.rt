@@ -1,11 +1,11 @@
 // The lines of packets, levels and feedback.
-ghost use Rattle.std.specs.Prelude.{◌≡◌, ◌≤◌, length};
+ghost use Rattle.std.specs.Prelude.{◌≡◌, ◌+◌, ◌≤◌, [], ◌++◌, length};
 ghost use Rattle.uac_edges.specs.Faults.{HasCause};
 ghost use Rattle.uac_edges.specs.Writing.{Writes};
 ghost use Rattle.uac_transcript.specs.Transcript.{arrival_name, says_feedback, says_in, says_level, says_out, says_over, says_under};
 ghost use Rattle.uac_transcript.specs.Transcript.{spelled};
 
-use crate::words::{lost_or_ok, number_or_dash};
+use crate::words::{push_lost_or_ok, push_number_or_dash};
 use uac_edges::{Failed, Sink, TextLine, give_all};
 
 /// How a packet to the device arrived.
@@ -19,14 +19,16 @@ pub enum Arrival {
     Over,
 }
 
-fn arrival_name(arrival: Arrival) -> &'static [u8]
-    ensures text { result.now ≡ arrival_name arrival }
-    ensures short { length result.now ≤ 4 }
+// Appends how a packet to the device arrived.
+fn push_arrival<const N: usize>(text: &mut TextLine<N>, arrival: Arrival)
+    requires { length text.old + 4 ≤ N }
+    ensures text { text.new ≡ text.old ++ arrival_name arrival }
+    ensures len { length text.new ≤ length text.old + 4 }
 {
     match arrival {
-        Arrival::Ok => b"ok",
-        Arrival::Lost => b"lost",
-        Arrival::Over => b"over",
+        Arrival::Ok => text.push(b"ok"),
+        Arrival::Lost => text.push(b"lost"),
+        Arrival::Over => text.push(b"over"),
     }
 }
 
@@ -40,22 +42,23 @@ pub fn write_out<K: Sink>(
     ensures written { Writes (K.written sink.old) (K.written sink.new) result (spelled (says_out interface frames arrival)) }
     ensures cause { HasCause (K.faults sink.old) (K.faults sink.new) result }
 {
-    give_all(sink, out_packet(interface, frames, arrival).as_bytes())
+    let mut text: TextLine<64> = TextLine::new();
+    push_out(&mut text, interface, frames, arrival);
+    give_all(sink, text.as_bytes())
 }
 
 #[tactic(auto, unfolding(crate::specs::Transcript::spelled))]
-fn out_packet(interface: u8, frames: u32, arrival: Arrival) -> TextLine<64>
-    ensures { result ≡ spelled (says_out interface frames arrival) }
+fn push_out(text: &mut TextLine<64>, interface: u8, frames: u32, arrival: Arrival)
+    requires { text.old ≡ [] }
+    ensures { text.new ≡ spelled (says_out interface frames arrival) }
 {
-    let mut text = TextLine::new();
     text.push(b"o ");
     text.push_number(u64::from(interface));
-    text.push(b" ");
+    text.push_byte(b' ');
     text.push_number(u64::from(frames));
-    text.push(b" ");
-    text.push(arrival_name(arrival));
-    text.push(b"\n");
-    text
+    text.push_byte(b' ');
+    push_arrival(text, arrival);
+    text.push_byte(b'\n');
 }
 
 /// Prints the packet from the device of an interface: its frames and whether it was lost.
@@ -63,22 +66,23 @@ pub fn write_in<K: Sink>(sink: &mut K, interface: u8, frames: u32, lost: bool) -
     ensures written { Writes (K.written sink.old) (K.written sink.new) result (spelled (says_in interface frames lost)) }
     ensures cause { HasCause (K.faults sink.old) (K.faults sink.new) result }
 {
-    give_all(sink, in_packet(interface, frames, lost).as_bytes())
+    let mut text: TextLine<64> = TextLine::new();
+    push_in(&mut text, interface, frames, lost);
+    give_all(sink, text.as_bytes())
 }
 
 #[tactic(auto, unfolding(crate::specs::Transcript::spelled))]
-fn in_packet(interface: u8, frames: u32, lost: bool) -> TextLine<64>
-    ensures { result ≡ spelled (says_in interface frames lost) }
+fn push_in(text: &mut TextLine<64>, interface: u8, frames: u32, lost: bool)
+    requires { text.old ≡ [] }
+    ensures { text.new ≡ spelled (says_in interface frames lost) }
 {
-    let mut text = TextLine::new();
     text.push(b"i ");
     text.push_number(u64::from(interface));
-    text.push(b" ");
+    text.push_byte(b' ');
     text.push_number(u64::from(frames));
-    text.push(b" ");
-    text.push(lost_or_ok(lost));
-    text.push(b"\n");
-    text
+    text.push_byte(b' ');
+    push_lost_or_ok(text, lost);
+    text.push_byte(b'\n');
 }
 
 /// Prints that the ring of an interface was found empty.
@@ -86,18 +90,19 @@ pub fn write_under<K: Sink>(sink: &mut K, interface: u8) -> Result<(), Failed>
     ensures written { Writes (K.written sink.old) (K.written sink.new) result (spelled (says_under interface)) }
     ensures cause { HasCause (K.faults sink.old) (K.faults sink.new) result }
 {
-    give_all(sink, under(interface).as_bytes())
+    let mut text: TextLine<32> = TextLine::new();
+    push_under(&mut text, interface);
+    give_all(sink, text.as_bytes())
 }
 
 #[tactic(auto, unfolding(crate::specs::Transcript::spelled))]
-fn under(interface: u8) -> TextLine<32>
-    ensures { result ≡ spelled (says_under interface) }
+fn push_under(text: &mut TextLine<32>, interface: u8)
+    requires { text.old ≡ [] }
+    ensures { text.new ≡ spelled (says_under interface) }
 {
-    let mut text = TextLine::new();
     text.push(b"under ");
     text.push_number(u64::from(interface));
-    text.push(b"\n");
-    text
+    text.push_byte(b'\n');
 }
 
 /// Prints that the ring of an interface had no room.
@@ -105,18 +110,19 @@ pub fn write_over<K: Sink>(sink: &mut K, interface: u8) -> Result<(), Failed>
     ensures written { Writes (K.written sink.old) (K.written sink.new) result (spelled (says_over interface)) }
     ensures cause { HasCause (K.faults sink.old) (K.faults sink.new) result }
 {
-    give_all(sink, over(interface).as_bytes())
+    let mut text: TextLine<32> = TextLine::new();
+    push_over(&mut text, interface);
+    give_all(sink, text.as_bytes())
 }
 
 #[tactic(auto, unfolding(crate::specs::Transcript::spelled))]
-fn over(interface: u8) -> TextLine<32>
-    ensures { result ≡ spelled (says_over interface) }
+fn push_over(text: &mut TextLine<32>, interface: u8)
+    requires { text.old ≡ [] }
+    ensures { text.new ≡ spelled (says_over interface) }
 {
-    let mut text = TextLine::new();
     text.push(b"over ");
     text.push_number(u64::from(interface));
-    text.push(b"\n");
-    text
+    text.push_byte(b'\n');
 }
 
 /// Prints the level of a stream to the device in frames, and its target once it is primed.
@@ -129,22 +135,23 @@ pub fn write_level<K: Sink>(
     ensures written { Writes (K.written sink.old) (K.written sink.new) result (spelled (says_level interface level target)) }
     ensures cause { HasCause (K.faults sink.old) (K.faults sink.new) result }
 {
-    give_all(sink, level_text(interface, level, target).as_bytes())
+    let mut text: TextLine<80> = TextLine::new();
+    push_level(&mut text, interface, level, target);
+    give_all(sink, text.as_bytes())
 }
 
 #[tactic(auto, unfolding(crate::specs::Transcript::spelled))]
-fn level_text(interface: u8, level: u32, target: Option<u32>) -> TextLine<128>
-    ensures { result ≡ spelled (says_level interface level target) }
+fn push_level(text: &mut TextLine<80>, interface: u8, level: u32, target: Option<u32>)
+    requires { text.old ≡ [] }
+    ensures { text.new ≡ spelled (says_level interface level target) }
 {
-    let mut text = TextLine::new();
     text.push(b"l ");
     text.push_number(u64::from(interface));
-    text.push(b" ");
+    text.push_byte(b' ');
     text.push_number(u64::from(level));
-    text.push(b" ");
-    text.push(number_or_dash(target).as_bytes());
-    text.push(b"\n");
-    text
+    text.push_byte(b' ');
+    push_number_or_dash(text, target);
+    text.push_byte(b'\n');
 }
 
 /// Prints the value that a stream's feedback reports, in 65,536ths of a frame in a microframe, and whether the report was lost.
@@ -157,20 +164,21 @@ pub fn write_feedback<K: Sink>(
     ensures written { Writes (K.written sink.old) (K.written sink.new) result (spelled (says_feedback interface value lost)) }
     ensures cause { HasCause (K.faults sink.old) (K.faults sink.new) result }
 {
-    give_all(sink, feedback(interface, value, lost).as_bytes())
+    let mut text: TextLine<64> = TextLine::new();
+    push_feedback(&mut text, interface, value, lost);
+    give_all(sink, text.as_bytes())
 }
 
 #[tactic(auto, unfolding(crate::specs::Transcript::spelled))]
-fn feedback(interface: u8, value: u32, lost: bool) -> TextLine<64>
-    ensures { result ≡ spelled (says_feedback interface value lost) }
+fn push_feedback(text: &mut TextLine<64>, interface: u8, value: u32, lost: bool)
+    requires { text.old ≡ [] }
+    ensures { text.new ≡ spelled (says_feedback interface value lost) }
 {
-    let mut text = TextLine::new();
     text.push(b"f ");
     text.push_number(u64::from(interface));
-    text.push(b" ");
+    text.push_byte(b' ');
     text.push_hex(&value.to_be_bytes());
-    text.push(b" ");
-    text.push(lost_or_ok(lost));
-    text.push(b"\n");
-    text
+    text.push_byte(b' ');
+    push_lost_or_ok(text, lost);
+    text.push_byte(b'\n');
 }

@@ -5,7 +5,7 @@ ghost use Rattle.uac_edges.specs.Writing.{Writes};
 ghost use Rattle.uac_transcript.specs.Transcript.{meter_name, says_domain, says_in_stream, says_meter, says_out_stream, says_passed};
 ghost use Rattle.uac_transcript.specs.Transcript.{says_renders, says_steady, spelled};
 
-use crate::words::{number_or_dash, yes_or_no};
+use crate::words::{push_number_or_dash, yes_or_no};
 use uac_edges::{Failed, Sink, TextLine, give_all};
 use uac_units::MeterKind;
 
@@ -34,7 +34,7 @@ fn passed(time: u64) -> TextLine<32>
     let mut text = TextLine::new();
     text.push(b"time ");
     text.push_number(time);
-    text.push(b"\n");
+    text.push_byte(b'\n');
     text
 }
 
@@ -53,7 +53,7 @@ fn steadiness(steady: bool) -> TextLine<32>
     let mut text = TextLine::new();
     text.push(b"steady ");
     text.push(yes_or_no(steady));
-    text.push(b"\n");
+    text.push_byte(b'\n');
     text
 }
 
@@ -78,10 +78,10 @@ fn domain(clock: u8, rate: Option<u32>, ticks: u64) -> TextLine<128>
     text.push(b"domain ");
     text.push_number(u64::from(clock));
     text.push(b" rate ");
-    text.push(number_or_dash(rate).as_bytes());
+    push_number_or_dash(&mut text, rate);
     text.push(b" ticks ");
     text.push_number(ticks);
-    text.push(b"\n");
+    text.push_byte(b'\n');
     text
 }
 
@@ -122,7 +122,7 @@ fn out_stream(
     text.push(b" level ");
     text.push_number(u64::from(level));
     text.push(b" target ");
-    text.push(number_or_dash(target).as_bytes());
+    push_number_or_dash(&mut text, target);
     text.push(b" under ");
     text.push_number(met.under);
     text.push(b" over ");
@@ -131,7 +131,7 @@ fn out_stream(
     text.push_number(met.lost);
     text.push(b" missed ");
     text.push_number(met.missed);
-    text.push(b"\n");
+    text.push_byte(b'\n');
     text
 }
 
@@ -164,7 +164,7 @@ fn in_stream(interface: u8, setting: u8, level: u32, met: StreamCounts) -> TextL
     text.push_number(met.over);
     text.push(b" lost ");
     text.push_number(met.lost);
-    text.push(b"\n");
+    text.push_byte(b'\n');
     text
 }
 
@@ -184,9 +184,9 @@ fn meter(kind: MeterKind, value: u64) -> TextLine<64>
     let mut text = TextLine::new();
     text.push(b"meter ");
     text.push(meter_name(kind));
-    text.push(b" ");
+    text.push_byte(b' ');
     text.push_number(value);
-    text.push(b"\n");
+    text.push_byte(b'\n');
     text
 }
 
@@ -216,6 +216,6 @@ fn renders(count: u64) -> TextLine<32>
     let mut text = TextLine::new();
     text.push(b"renders ");
     text.push_number(count);
-    text.push(b"\n");
+    text.push_byte(b'\n');
     text
 }

@@ -1,5 +1,5 @@
 // The lines of the descriptor's end and of a microframe's number.
-ghost use Rattle.std.specs.Prelude.{◌≡◌};
+ghost use Rattle.std.specs.Prelude.{◌≡◌, []};
 ghost use Rattle.uac_edges.specs.Faults.{HasCause};
 ghost use Rattle.uac_edges.specs.Writing.{Writes};
 ghost use Rattle.uac_transcript.specs.Transcript.{says_ready, says_time, spelled};
@@ -30,7 +30,7 @@ fn ready(entities: usize, streams: usize, domains: usize) -> TextLine<128>
     text.push_number(streams as u64);
     text.push(b" domains ");
     text.push_number(domains as u64);
-    text.push(b"\n");
+    text.push_byte(b'\n');
     text
 }
 
@@ -39,16 +39,17 @@ pub fn write_time<K: Sink>(sink: &mut K, number: u64) -> Result<(), Failed>
     ensures written { Writes (K.written sink.old) (K.written sink.new) result (spelled (says_time number)) }
     ensures cause { HasCause (K.faults sink.old) (K.faults sink.new) result }
 {
-    give_all(sink, time(number).as_bytes())
+    let mut text: TextLine<32> = TextLine::new();
+    push_time(&mut text, number);
+    give_all(sink, text.as_bytes())
 }
 
 #[tactic(auto, unfolding(crate::specs::Transcript::spelled))]
-fn time(number: u64) -> TextLine<32>
-    ensures { result ≡ spelled (says_time number) }
+fn push_time(text: &mut TextLine<32>, number: u64)
+    requires { text.old ≡ [] }
+    ensures { text.new ≡ spelled (says_time number) }
 {
-    let mut text = TextLine::new();
     text.push(b"u ");
     text.push_number(number);
-    text.push(b"\n");
-    text
+    text.push_byte(b'\n');
 }

@@ -81,7 +81,7 @@ fn stalled_text(rule: u8) -> TextLine<64>
     let mut text = TextLine::new();
     text.push(b"c stall Q");
     text.push_number(u64::from(rule));
-    text.push(b"\n");
+    text.push_byte(b'\n');
     text
 }
 

@@ -23,9 +23,9 @@ fn value_text(name: &[u8], value: i32) -> TextLine<128>
     let mut text = TextLine::new();
     text.push(b"h ");
     text.push(name);
-    text.push(b" ");
+    text.push_byte(b' ');
     text.push_signed(value);
-    text.push(b"\n");
+    text.push_byte(b'\n');
     text
 }
 
@@ -74,7 +74,7 @@ fn set_stalled_text(rule: u8) -> TextLine<64>
     let mut text = TextLine::new();
     text.push(b"h stall Q");
     text.push_number(u64::from(rule));
-    text.push(b"\n");
+    text.push_byte(b'\n');
     text
 }
 

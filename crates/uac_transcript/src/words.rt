@@ -1,5 +1,5 @@
 // Words of several lines.
-ghost use Rattle.std.specs.Prelude.{◌≡◌, ◌≤◌, length};
+ghost use Rattle.std.specs.Prelude.{◌≡◌, ◌+◌, ◌≤◌, ◌++◌, length};
 ghost use Rattle.uac_transcript.specs.Transcript.{lost_or_ok, number_or_dash, yes_or_no};
 
 use uac_edges::TextLine;
@@ -11,21 +11,27 @@ pub(crate) fn yes_or_no(answer: bool) -> &'static [u8]
     if answer { b"yes" } else { b"no" }
 }
 
-pub(crate) fn lost_or_ok(lost: bool) -> &'static [u8]
-    ensures text { result.now ≡ lost_or_ok lost }
-    ensures short { length result.now ≤ 4 }
+/// Appends whether a packet or a report was lost.
+pub(crate) fn push_lost_or_ok<const N: usize>(text: &mut TextLine<N>, lost: bool)
+    requires { length text.old + 4 ≤ N }
+    ensures text { text.new ≡ text.old ++ lost_or_ok lost }
+    ensures len { length text.new ≤ length text.old + 4 }
 {
-    if lost { b"lost" } else { b"ok" }
+    if lost {
+        text.push(b"lost");
+    } else {
+        text.push(b"ok");
+    }
 }
 
-/// A number, or a dash where there is none.
-pub(crate) fn number_or_dash(number: Option<u32>) -> TextLine<32>
-    ensures { result ≡ number_or_dash number }
+/// Appends a number, or a dash where there is none.
+pub(crate) fn push_number_or_dash<const N: usize>(text: &mut TextLine<N>, number: Option<u32>)
+    requires { length text.old + 20 ≤ N }
+    ensures text { text.new ≡ text.old ++ number_or_dash number }
+    ensures len { length text.new ≤ length text.old + 20 }
 {
-    let mut text = TextLine::new();
     match number {
         Some(number) => text.push_number(u64::from(number)),
-        None => text.push(b"-"),
+        None => text.push_byte(b'-'),
     }
-    text
 }

@@ -1,6 +1,6 @@
 use Rattle.std.proofs.Common.{◌++◌, codes}
 use Rattle.uac_edges.proofs.WritingLemmas.{AppendsFront-after, AppendsFront-longer, Writes-after, Writes-handed_on}
-use Rattle.uac_transcript.specs.Transcript.{gave, hex_or_dash, says_answer, spelled}
+use Rattle.uac_transcript.specs.Transcript.{hex_or_dash, spelled}
 use Rattle.uac_transcript.proofs.transfers.write_given.Goals as goal
 
 pub returns-in_err-give_all-clause-written : goal.returns-in_err-give_all-clause-written
