@@ -7,6 +7,7 @@ pub mod Fastest
 pub mod Played
 pub mod Streaming
 pub mod TickLemmas
+pub mod Stillness
 pub mod Asked
 pub mod Controlled
 pub mod Worked

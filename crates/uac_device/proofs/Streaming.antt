@@ -45,7 +45,7 @@ one_port_runs outs ins entities [] = refl
 one_port_runs outs ins entities (s ∷ ss) = ap (λ (b : Bool). runs_either (outs s.number) (ins s.number) || b) (one_port_runs outs ins entities ss)
 
 -- lanes keep streams of which each is as it was
-same_streams : (lanes : List Lane) (outs others : ℕ → Option OutStream) (ins more : ℕ → Option InStream) → KeepsStreams lanes outs ins → ((k : ℕ) → others k ≡ outs k)
+pub same_streams : (lanes : List Lane) (outs others : ℕ → Option OutStream) (ins more : ℕ → Option InStream) → KeepsStreams lanes outs ins → ((k : ℕ) → others k ≡ outs k)
     → ((k : ℕ) → more k ≡ ins k) → KeepsStreams lanes others more
 same_streams lanes outs others ins more keeps same alike = record {
   each = λ place d below.

@@ -6,3 +6,4 @@ pub mod Linked
 pub mod Kept
 pub mod Turns
 pub mod Following
+pub mod Stillness

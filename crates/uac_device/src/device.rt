@@ -11,6 +11,7 @@ ghost use Rattle.uac_device.specs.DeviceWorld.{frames_in, fresh, heard_of, is_du
 ghost use Rattle.uac_device.specs.DeviceWorld.{next_ticks, packet_in, played_at, received, renders_of, runs_one, sent, set_jack, settled};
 ghost use Rattle.uac_device.specs.DeviceWorld.{target_of, ticked};
 ghost use Rattle.uac_device.specs.Kept.{IsControlled, Stands};
+ghost use Rattle.uac_device.specs.Stillness.{IsStill};
 ghost use Rattle.uac_lanes.specs.InterfaceStreams.{NoneRuns};
 ghost use Rattle.uac_request.specs.Requests.{answer_fields};
 
@@ -292,6 +293,25 @@ impl Device {
         self.lanes.put(domain, &self.wires);
         hear(self.derived.jacks(), &self.wires, domain, meters);
         met
+    }
+
+    /// The same tick where the device is still: no interface runs a stream, and the terminals of the bus in the domain gave silence last.
+    /// So these have their frames, no stream takes one, and no ring is found empty or full.
+    pub fn tick_still(&mut self, domain: u8, rack: &Rack, meters: &mut Meters, steps: &mut Steps)
+        requires rack { IsFitted (λ v x. (⟦<dyn Unit as Unit>⟧ v).kind_of x) rack.now }
+        requires room { steps.old + length (needed self.old.function.entities domain) < 2 ^ 64 }
+        ensures stands { (w : DeviceWorld) → Stands self.old w → IsStill domain w → Stands self.new (ticked domain w) }
+        ensures once { (w : DeviceWorld) → Stands self.old w → steps.new ≡ steps.old + renders_of domain w }
+        ensures heard { (w : DeviceWorld) → Stands self.old w → IsStill domain w
+            → readings (λ v x. (⟦<dyn Meter as Meter>⟧ v).reading_of x) meters.new
+            ≡ after_frames (heard_of domain (ticked domain w)) (readings (λ v x. (⟦<dyn Meter as Meter>⟧ v).reading_of x) meters.old) }
+        ensures met { (w : DeviceWorld) → Stands self.old w → IsStill domain w → met_of domain w ≡ record { under = 0; over = 0 } }
+        ensures function { self.new.function ≡ self.old.function }
+    {
+        functions_are_sound(&self.function);
+        self.graph
+            .tick_by(domain, &self.derived.jobs, rack, &mut self.wires, steps);
+        hear(self.derived.jacks(), &self.wires, domain, meters);
     }
 
     /// The frame of the last tick of an output jack; None exactly for ids of no output jack.

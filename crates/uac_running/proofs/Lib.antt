@@ -1,5 +1,6 @@
 pub mod SoFar
 pub mod JackSteps
+pub mod Stillness
 pub mod Resting
 pub mod Counting
 pub mod Start

@@ -1,5 +1,5 @@
 -- Where no stream runs, no packet comes and a microframe's end changes nothing.
-use Rattle.std.proofs.Common.{◌≡◌, ◌∙◌, sym, ap, subst, refl, ℕ, List, [], Option, Result, Ok}
+use Rattle.std.proofs.Common.{◌≡◌, ◌∙◌, sym, ap, subst, refl, ℕ, List, Option, Ok}
 use Rattle.std.specs.Io.KnownBytes.{Appends}
 use Rattle.uac_units.specs.Hearing.{Reading}
 use Rattle.uac_script.specs.Phrase.{SaidMark}

@@ -10,8 +10,10 @@ use Rattle.uac_topology.specs.Function.{FunctionFields}
 use Rattle.uac_graph.specs.Meaning.{entity}
 use Rattle.uac_graph.specs.Wiring.{silence}
 use Rattle.uac_units.specs.Hearing.{Reading}
+use Rattle.uac_lanes.specs.InterfaceStreams.{NoneRuns}
 use Rattle.uac_device.specs.Kept as device
 use Rattle.uac_device.specs.DeviceWorld.{DeviceWorld, entity_in, input_of, is_input_jack, is_jack, is_streamed, set_jack, streamed, ticked}
+use Rattle.uac_device.specs.Stillness.{IsStill}
 use Rattle.uac_device.proofs.Kept.{all_changed}
 use Rattle.uac_running.specs.declared.jacks.Jack.{Jack}
 use Rattle.uac_running.specs.RunningWorld.{RunningWorld}
@@ -20,6 +22,7 @@ use Rattle.uac_running.specs.Silence.{AreAtRest, GaveSilence, one_sounds, sounds
 use Rattle.uac_running.specs.Kept.{HasItsJacks, RunningFields, Stands}
 use Rattle.uac_running.proofs.JackSteps.{silent_frame}
 use Rattle.uac_running.proofs.Steps.{given-kept}
+use Rattle.uac_running.proofs.Stillness.{stills_after}
 
 silent_tone : (t : Tone) → sounds t ≡ false → t ≡ tones.Silent
 silent_tone tones.Silent quiet = refl
@@ -191,30 +194,38 @@ rests_after clock meters r p stands jacks quiet =
 
 -- ---- the ticks of a microframe
 
--- a running device between two ticks: where a domain is silent none of its jacks sounds, and where its jacks rest they gave silence last
-pub record RestsSo (silent rest : Bool) (clock : ℕ) (p : RunningFields) (meters : List Reading) (r : RunningWorld) : Type 0 where
+-- a running device between two ticks: where a domain is silent none of its jacks sounds, and where its jacks rest they gave silence last; where
+-- it is still no interface runs a stream, and where its lanes rest the terminals of the bus gave silence last
+pub record RestsSo (silent still jacks lanes : Bool) (clock : ℕ) (p : RunningFields) (meters : List Reading) (r : RunningWorld) : Type 0 where
   pub now : Stands p meters r
   pub quiet : silent ≡ true → one_sounds clock r.jacks ≡ false
-  pub rests : rest ≡ true → AreAtRest clock r.jacks r.device
+  pub none : still ≡ true → NoneRuns r.device.outs r.device.ins
+  pub rests : jacks ≡ true → AreAtRest clock r.jacks r.device
+  pub stills : lanes ≡ true → IsStill clock r.device
 
 not_so : (b : Bool) → not b ≡ true → b ≡ false
 not_so true e = absurd (true≢false (sym e))
 not_so false e = refl
 
-pub begun_to_tick : (sounding silent : Bool) (clock : ℕ) (p : RunningFields) (jacks : List Jack) (meters : List Reading) (r : RunningWorld) → Stands p meters r → silent ≡ not sounding
-    → sounding ≡ one_sounds clock jacks → jacks ≡ p.jacks → RestsSo silent false clock p meters r
-begun_to_tick sounding silent clock p jacks meters r stands is heard own = record {
+pub begun_to_tick : (sounding running : Bool) (clock : ℕ) (p : RunningFields) (jacks : List Jack) (meters : List Reading) (r : RunningWorld) → Stands p meters r
+    → sounding ≡ one_sounds clock jacks → jacks ≡ p.jacks → (running ≡ false → NoneRuns r.device.outs r.device.ins)
+    → RestsSo (not sounding) (not running) false false clock p meters r
+begun_to_tick sounding running clock p jacks meters r stands heard own none = record {
   now = stands;
-  quiet = λ e. ap (one_sounds clock) (sym (own ∙ stands.jacks)) ∙ sym heard ∙ not_so sounding (sym is ∙ e);
+  quiet = λ e. ap (one_sounds clock) (sym (own ∙ stands.jacks)) ∙ sym heard ∙ not_so sounding e;
+  none = λ e. none (not_so running e);
   rests = λ e. absurd (true≢false (sym e));
+  stills = λ e. absurd (true≢false (sym e));
 }
 
-pub after_tick : (silent rest : Bool) (clock : ℕ) (p q : RunningFields) (shown showing : List Reading) (r : RunningWorld) → RestsSo silent rest clock p shown r
+pub after_tick : (silent still jacks lanes : Bool) (clock : ℕ) (p q : RunningFields) (shown showing : List Reading) (r : RunningWorld) → RestsSo silent still jacks lanes clock p shown r
     → Stands q showing (tick clock r).world
     → (one_sounds clock r.jacks ≡ false → AreAtRest clock (tick clock r).world.jacks (tick clock r).world.device)
-    → RestsSo silent silent clock q showing (tick clock r).world
-after_tick silent rest clock p q shown showing r s stands rests = record {
+    → RestsSo silent still silent still clock q showing (tick clock r).world
+after_tick silent still jacks lanes clock p q shown showing r s stands rests = record {
   now = stands;
   quiet = λ e. (rests (s.quiet e)).silent;
+  none = λ e. (stills_after clock r (s.none e)).none;
   rests = λ e. rests (s.quiet e);
+  stills = λ e. stills_after clock r (s.none e);
 }

@@ -246,6 +246,10 @@ given-kept f keeps clock (j ∷ js) w =
       | inr other ↦ rw other (given-kept f keeps clock js w)
     ]
 
+-- the device's world after the jacks of a domain gave
+abbrev pub gave : ℕ → RunningWorld → DeviceWorld
+gave clock r = given clock r.jacks r.device
+
 -- the jacks of the world gave
 jacks_gave : (rest : Bool) (clock : ℕ) (r : RunningWorld) (jacks : List Jack) (mid : device.DeviceFields) → jacks ≡ r.jacks → (rest ≡ true → AreAtRest clock r.jacks r.device)
     → ((rest ≡ true → AreAtRest clock jacks r.device) → device.Stands mid (given clock jacks r.device)) → device.Stands mid (given clock r.jacks r.device)
@@ -256,10 +260,10 @@ jacks_gave rest clock r jacks mid are rests gives =
 pub sounded : (rest : Bool) (clock count : ℕ) (shown showing : List Reading) (r : RunningWorld) (p q : RunningFields) (jacks : List Jack) (mid : device.DeviceFields) (found : Ticked) (f : FunctionFields)
     → Stands p shown r → (rest ≡ true → AreAtRest clock r.jacks r.device) → jacks ≡ p.jacks → f ≡ q.device.function
     → ((w : DeviceWorld) → device.Stands p.device w → (rest ≡ true → AreAtRest clock jacks w) → device.Stands mid (given clock jacks w))
-    → ((w : DeviceWorld) → device.Stands mid w → device.Stands q.device (ticked clock w))
-    → ((w : DeviceWorld) → device.Stands mid w → showing ≡ after_frames (heard_of clock (ticked clock w)) shown)
-    → ((w : DeviceWorld) → device.Stands mid w → count ≡ renders_of clock w)
-    → ((w : DeviceWorld) → device.Stands mid w → found ≡ met_of clock w)
+    → (device.Stands mid (gave clock r) → device.Stands q.device (ticked clock (gave clock r)))
+    → (device.Stands mid (gave clock r) → showing ≡ after_frames (heard_of clock (ticked clock (gave clock r))) shown)
+    → (device.Stands mid (gave clock r) → count ≡ renders_of clock (gave clock r))
+    → (device.Stands mid (gave clock r) → found ≡ met_of clock (gave clock r))
     → ((w : StreamingWorld) (before : DeviceWorld) → streaming.Stands p.streaming q.device w → w.device.function ≡ f → before.function ≡ f → found ≡ met_of clock before
     → streaming.Stands q.streaming q.device (record w { met = found_counts clock before w.met }))
     → q.jacks ≡ gone_on clock jacks → q.counts ≡ p.counts → q.time ≡ p.time → q.detail ≡ p.detail → q.renders ≡ at_most_u64 (p.renders + count)
@@ -268,12 +272,12 @@ unfolding tick all_given ticked set_jack
 sounded rest clock count shown showing r p q jacks mid found f stands rests own is_f gives ticks hears rendered meets finds gone counts time detail renders beside =
     let all : jacks ≡ r.jacks = own ∙ stands.jacks in
     let before = jacks_gave rest clock r jacks mid all rests (gives r.device stands.streaming.device) in
-    let after = ticks (all_given clock r) before in
+    let after = ticks before in
     let same : (all_given clock r).function ≡ r.device.function = given-kept (λ w. w.function) (λ t frame w. refl) clock r.jacks r.device in
     let here : (all_given clock r).function ≡ f = sym after.function ∙ sym is_f in
     let there = stands_beside p.streaming p.device q.device (streaming_of r) (ticked clock (all_given clock r)) stands.streaming after same in
     record {
-      streaming = finds (record (streaming_of r) { device = ticked clock (all_given clock r) }) (all_given clock r) there here here (meets (all_given clock r) before);
+      streaming = finds (record (streaming_of r) { device = ticked clock (all_given clock r) }) (all_given clock r) there here here (meets before);
       view = beside.view ∙ stands.view;
       configuration = beside.configuration ∙ stands.configuration;
       breaks = beside.breaks ∙ stands.breaks;
@@ -281,19 +285,19 @@ sounded rest clock count shown showing r p q jacks mid found f stands rests own 
       counts = counts ∙ stands.counts ∙ ap (map counted) (sym (given-kept (λ w. w.domains) (λ t frame w. refl) clock r.jacks r.device));
       time = time ∙ stands.time;
       detail = detail ∙ stands.detail;
-      meters = hears (all_given clock r) before ∙ ap (after_frames (heard_of clock (ticked clock (all_given clock r)))) stands.meters;
+      meters = hears before ∙ ap (after_frames (heard_of clock (ticked clock (all_given clock r)))) stands.meters;
       renders =
-          renders ∙ ap (λ n. at_most_u64 (n + count)) stands.renders ∙ ap (λ n. at_most_u64 (r.renders + n)) (rendered (all_given clock r) before);
+          renders ∙ ap (λ n. at_most_u64 (n + count)) stands.renders ∙ ap (λ n. at_most_u64 (r.renders + n)) (rendered before);
     }
 
 -- what the tick found
 pub sounded_found : (rest : Bool) (clock : ℕ) (shown : List Reading) (r : RunningWorld) (p : RunningFields) (jacks : List Jack) (mid : device.DeviceFields) (found : Ticked)
     → Stands p shown r → (rest ≡ true → AreAtRest clock r.jacks r.device) → jacks ≡ p.jacks
     → ((w : DeviceWorld) → device.Stands p.device w → (rest ≡ true → AreAtRest clock jacks w) → device.Stands mid (given clock jacks w))
-    → ((w : DeviceWorld) → device.Stands mid w → found ≡ met_of clock w) → found ≡ met_of clock (all_given clock r)
+    → (device.Stands mid (gave clock r) → found ≡ met_of clock (gave clock r)) → found ≡ met_of clock (all_given clock r)
 unfolding all_given
 sounded_found rest clock shown r p jacks mid found stands rests own gives meets =
-    meets (all_given clock r) (jacks_gave rest clock r jacks mid (own ∙ stands.jacks) rests (gives r.device stands.streaming.device))
+    meets (jacks_gave rest clock r jacks mid (own ∙ stands.jacks) rests (gives r.device stands.streaming.device))
 
 -- ---- what is told of an event
 

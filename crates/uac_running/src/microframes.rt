@@ -8,6 +8,7 @@ ghost use Rattle.uac_edges.specs.Faults.{HasCause};
 ghost use Rattle.uac_script.specs.Line.{said_mark};
 ghost use Rattle.uac_device.specs.Kept as device;
 ghost use Rattle.uac_device.specs.DeviceWorld.{DeviceWorld, ZerosFitIn, advanced, met_of, next_ticks};
+ghost use Rattle.uac_device.specs.Stillness.{IsStill};
 ghost use Rattle.uac_transcript.specs.Printing.{Prints};
 ghost use Rattle.uac_streaming.specs.StreamingWorld.{all_reported, all_settled, found_lines, in_packets, out_packets};
 ghost use Rattle.uac_running.specs.RunningWorld.{RunningWorld};
@@ -31,6 +32,14 @@ use uac_streaming::write_found;
 use uac_topology::Function;
 use uac_transcript::write_time;
 use uac_units::{Meter, Meters, Rack, Steps, Unit};
+
+/// What of a domain rests at a tick: its jacks, where each is silent and gave silence last, and the lanes, where no stream runs and the
+/// terminals of the bus gave silence last.
+#[derive(Clone, Copy)]
+struct Rest {
+    jacks: bool,
+    lanes: bool,
+}
 
 impl Running {
     /// So many microframes, printed as they come; in each of them these packets and reports are lost. It takes no memory.
@@ -261,7 +270,7 @@ impl Running {
         ticks
     }
 
-    /// So many ticks of a domain. Where its jacks are silent they rest from the second tick on.
+    /// So many ticks of a domain. Where its jacks are silent they rest from the second tick on, and so do the lanes where no stream runs.
     fn ticks<K: Sink>(
         &mut self,
         count: u32,
@@ -278,18 +287,25 @@ impl Running {
         ensures function { self.new.device.function ≡ self.old.device.function }
     {
         let silent = !one_sounds(&self.jacks, clock);
-        let mut rest = false;
+        let still = !self.device.runs();
+        let mut rest = Rest {
+            jacks: false,
+            lanes: false,
+        };
         for _ticked in 0..count {
             self.tick(rest, clock, rack, meters, sink)?;
-            rest = silent;
+            rest = Rest {
+                jacks: silent,
+                lanes: still,
+            };
         }
         Ok(())
     }
 
-    /// One tick of a domain, whose jacks may rest: each is silent, and gave silence last.
+    /// One tick of a domain, of which some may rest.
     fn tick<K: Sink>(
         &mut self,
-        rest: bool,
+        rest: Rest,
         clock: u8,
         rack: &Rack,
         meters: &mut Meters,
@@ -297,7 +313,7 @@ impl Running {
     ) -> Result<(), Failed>
         requires rack { IsFitted (λ v x. (⟦<dyn Unit as Unit>⟧ v).kind_of x) rack.now }
         ensures tells { (r : RunningWorld) → Stands self.old (readings (λ v x. (⟦<dyn Meter as Meter>⟧ v).reading_of x) meters.old) r
-            → (rest ≡ true → AreAtRest clock r.jacks r.device)
+            → (rest.jacks ≡ true → AreAtRest clock r.jacks r.device) → (rest.lanes ≡ true → IsStill clock r.device)
             → Tells (tick clock r) self.new (readings (λ v x. (⟦<dyn Meter as Meter>⟧ v).reading_of x) meters.new)
             (K.written sink.old) (K.written sink.new) result }
         ensures rests { (meters : List Reading) (r : RunningWorld) → Stands self.old meters r → silence.one_sounds clock r.jacks ≡ false
@@ -306,18 +322,22 @@ impl Running {
         ensures function { self.new.device.function ≡ self.old.device.function }
     {
         let found = self.sound(rest, clock, rack, meters);
+        if rest.lanes {
+            return self.show_played(clock, sink);
+        }
         self.show(clock, found, sink)
     }
 
     /// The jacks of a domain give their next frames, unless they rest, the device ticks, and the meters hear its output jacks. The renders
-    /// are counted, and what rings were found empty and full. Answers which.
-    fn sound(&mut self, rest: bool, clock: u8, rack: &Rack, meters: &mut Meters) -> Ticked
+    /// are counted, and what rings were found empty and full. Answers which: none where the lanes rest.
+    fn sound(&mut self, rest: Rest, clock: u8, rack: &Rack, meters: &mut Meters) -> Ticked
         requires rack { IsFitted (λ v x. (⟦<dyn Unit as Unit>⟧ v).kind_of x) rack.now }
         ensures stands { (r : RunningWorld) → Stands self.old (readings (λ v x. (⟦<dyn Meter as Meter>⟧ v).reading_of x) meters.old) r
-            → (rest ≡ true → AreAtRest clock r.jacks r.device)
+            → (rest.jacks ≡ true → AreAtRest clock r.jacks r.device) → (rest.lanes ≡ true → IsStill clock r.device)
             → Stands self.new (readings (λ v x. (⟦<dyn Meter as Meter>⟧ v).reading_of x) meters.new) (tick clock r).world }
         ensures found { (r : RunningWorld) → Stands self.old (readings (λ v x. (⟦<dyn Meter as Meter>⟧ v).reading_of x) meters.old) r
-            → (rest ≡ true → AreAtRest clock r.jacks r.device) → result ≡ met_of clock (all_given clock r) }
+            → (rest.jacks ≡ true → AreAtRest clock r.jacks r.device) → (rest.lanes ≡ true → IsStill clock r.device)
+            → result ≡ met_of clock (all_given clock r) }
         ensures rests { (meters : List Reading) (r : RunningWorld) → Stands self.old meters r → silence.one_sounds clock r.jacks ≡ false
             → AreAtRest clock (tick clock r).world.jacks (tick clock r).world.device }
         ensures function { self.new.device.function ≡ self.old.device.function }
@@ -327,11 +347,16 @@ impl Running {
             &mut self.device,
             &mut self.jacks,
             clock,
-            rest,
+            rest.jacks,
             &mut self.frame,
         );
         fresh_steps_have_room(self.device.function());
         let mut steps = Steps::new();
+        if rest.lanes {
+            self.device.tick_still(clock, rack, meters, &mut steps);
+            self.renders = self.renders.saturating_add(steps.count());
+            return Ticked { under: 0, over: 0 };
+        }
         let found = self.device.tick(clock, rack, meters, &mut steps);
         self.renders = self.renders.saturating_add(steps.count());
         self.streaming.find(self.device.function(), found);

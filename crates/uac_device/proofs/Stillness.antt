@@ -1,0 +1,111 @@
+-- A device where no interface runs a stream: a tick gives its terminals of the bus silence again, and finds nothing.
+use Rattle.std.proofs.Common.{◌≡◌, ◌∙◌, sym, refl, ap, subst, ℕ, ◌+◌, ◌*◌, ◌==◌, ◌&&◌, not, Bool, true, false, if◌then◌else◌, ℤ, List, [], ◌∷◌, Option, Some, None, map, unwrap_or, inl, inr}
+use Rattle.std.proofs.Math.Bool.{and-false}
+use Rattle.std.specs.List.{find}
+use Rattle.std.specs.Option.{option_and_then, option_map, option_map_or}
+use Rattle.std.proofs.lemmas.Bool.{and_parts, cases_Bool, eqb-true, true≢false}
+use Rattle.uac_entities.specs.declared.stream.StreamInterface.{StreamInterface}
+use Rattle.uac_topology_rules.specs.Clusters.{is_input}
+use Rattle.uac_graph.specs.Wiring.{Frames, silence}
+use Rattle.uac_flow.specs.Streams.{OutStream, InStream, after_putting, after_taking, is_dry, is_full, next_taken}
+use Rattle.uac_lanes.specs.declared.ticking.Ticked.{Ticked}
+use Rattle.uac_lanes.specs.InterfaceStreams.{NoneRuns, bits_of, changed_where}
+use Rattle.uac_device.specs.DeviceWorld.{DeviceWorld, entity_in, input_of, is_input_jack, is_jack, is_on, is_streamed, met_of, played_to, set_jack, streamed, ticked}
+use Rattle.uac_device.specs.Kept.{DeviceFields, Stands}
+use Rattle.uac_device.specs.Stillness.{IsStill}
+use Rattle.uac_device.proofs.Played.{Rendered, tick_stands}
+use Rattle.uac_device.proofs.Streaming.{same_streams}
+
+-- ---- where no interface runs a stream
+
+streamed_silent : (w : DeviceWorld) (id : ℕ) → NoneRuns w.outs w.ins → streamed w id ≡ silence (entity_in w id).cluster.channels
+unfolding streamed
+streamed_silent w id none = by (find (λ s. s.terminal == id) w.function.streams)
+  where
+    rest : List ℤ
+    rest = silence (entity_in w id).cluster.channels
+
+    by : (o : Option StreamInterface) → unwrap_or (option_and_then next_taken (option_and_then (λ (s : StreamInterface). w.outs s.number) o)) rest ≡ rest
+    by None = refl
+    by (Some s) = ap (λ (o : Option OutStream). unwrap_or (option_and_then next_taken o) rest) (none s.number).0
+
+none_where : {S : Type 0} (test : ℕ → Bool) (change : ℕ → S → S) (streams : ℕ → Option S) (k : ℕ) → streams k ≡ None → changed_where test change streams k ≡ None
+none_where test change streams k none = ap (option_map (λ s. if test k then change k s else s)) none
+
+bits_none : (test : StreamInterface → Bool) (streams : List StreamInterface) → ((s : StreamInterface) → test s ≡ false) → bits_of (map test streams) ≡ 0
+unfolding bits_of
+bits_none test [] none = refl
+bits_none test (s ∷ ss) none =
+    ap (λ (b : Bool). (if b then 1 else 0) + 2 * bits_of (map test ss)) (none s) ∙ ap (λ (n : ℕ). 0 + 2 * n) (bits_none test ss none)
+
+-- a tick finds nothing
+pub nothing_met : (domain : ℕ) (w : DeviceWorld) → NoneRuns w.outs w.ins → met_of domain w ≡ record { under = 0; over = 0 }
+unfolding met_of
+nothing_met domain w none =
+    let dry : StreamInterface → Bool = λ s. is_on w domain s.number && option_map_or is_dry (w.outs s.number) false in
+    let full : StreamInterface → Bool = λ s. is_on w domain s.number && option_map_or is_full (w.ins s.number) false in
+    let met : ℕ → ℕ → Ticked = λ under over. record { under = under; over = over } in
+    ap (λ (n : ℕ). met n (bits_of (map full w.function.streams)))
+    (bits_none dry w.function.streams
+    (λ s. ap (λ (o : Option OutStream). is_on w domain s.number && option_map_or is_dry o false) (none s.number).0 ∙ and-false (is_on w domain s.number)))
+    ∙ ap (λ (n : ℕ). met 0 n)
+    (bits_none full w.function.streams
+    (λ s. ap (λ (o : Option InStream). is_on w domain s.number && option_map_or is_full o false) (none s.number).1 ∙ and-false (is_on w domain s.number)))
+
+-- ---- between two ticks
+
+-- after a tick it is still
+pub still_after : (domain : ℕ) (w : DeviceWorld) → NoneRuns w.outs w.ins → IsStill domain (ticked domain w)
+unfolding ticked input_of
+still_after domain w none = record {
+  none = λ k. (
+    none_where (is_on w domain) (λ interface. after_taking) w.outs k (none k).0,
+    none_where (is_on w domain) (λ interface. after_putting (played_to w (ticked domain w).played interface)) w.ins k (none k).1,
+  );
+  gave = λ id bus. ap (λ (b : Bool). if b then streamed w id else w.given id) bus ∙ streamed_silent w id none;
+}
+
+-- and so it is after a jack was given a frame
+pub still_given : (domain terminal : ℕ) (frame : List ℤ) (w : DeviceWorld) → is_input_jack (entity_in w terminal) ≡ true → IsStill domain w → IsStill domain (set_jack terminal frame w)
+unfolding set_jack
+still_given domain terminal frame w jack still = record { none = still.none; gave = gave }
+  where
+    gave : (id : ℕ) → is_streamed domain (entity_in w id) ≡ true → (if id == terminal then frame else w.given id) ≡ silence (entity_in w id).cluster.channels
+    gave id bus =
+        elim (cases_Bool (id == terminal)) [
+          | inl there ↦
+              (let e = entity_in w id in
+              let other : not (is_jack e) ≡ true = (and_parts (not (is_jack e)) _ (and_parts (is_input e.kind) _ bus).1).0 in
+              let is : is_jack e ≡ true =
+              subst (λ (n : ℕ). is_jack (entity_in w n) ≡ true) (sym (eqb-true id terminal there)) (and_parts (is_input (entity_in w terminal).kind) _ jack).1 in
+              absurd (true≢false (sym other ∙ ap not is)))
+          | inr away ↦ ap (λ (b : Bool). if b then frame else w.given id) away ∙ still.gave id bus
+        ]
+
+-- ---- a tick
+
+-- an input terminal gives what it gave
+given_stays : (domain : ℕ) (w : DeviceWorld) (id : ℕ) → IsStill domain w → input_of domain w id ≡ w.given id
+unfolding input_of
+given_stays domain w id still =
+    elim (cases_Bool (is_streamed domain (entity_in w id))) [
+      | inl bus ↦
+          ap (λ (b : Bool). if b then streamed w id else w.given id) bus ∙ streamed_silent w id still.none ∙ sym (still.gave id bus)
+      | inr other ↦ ap (λ (b : Bool). if b then streamed w id else w.given id) other
+    ]
+
+-- where the graph alone is rendered the device stands for the world in which the domain ticked
+pub still_stands : (device : DeviceFields) (wires : Frames) (domain : ℕ) (w : DeviceWorld) → Rendered device device.wires wires domain → IsStill domain w → Stands device w
+    → Stands (record device { wires = wires }) (ticked domain w)
+unfolding ticked
+still_stands device wires domain w rendered still stands =
+    tick_stands device device.wires wires domain w rendered
+    (record {
+      inputs = λ id input. stands.inputs id input ∙ ap (λ (f : List ℤ). Some f) (sym (given_stays domain w id still));
+      outputs = stands.outputs;
+    })
+    stands.function stands.controls device.lanes
+    (same_streams device.lanes w.outs (ticked domain w).outs w.ins (ticked domain w).ins stands.streams
+    (λ k. none_where (is_on w domain) (λ interface. after_taking) w.outs k (still.none k).0 ∙ sym (still.none k).0)
+    (λ k. none_where (is_on w domain) (λ interface. after_putting (played_to w (ticked domain w).played interface)) w.ins k (still.none k).1 ∙ sym (still.none k).1))
+    stands

@@ -1,0 +1,86 @@
+-- Ticks of a device where no interface runs a stream: they find nothing, and leave it so.
+use Rattle.std.proofs.Common.{◌≡◌, ◌∙◌, sym, ap, subst, refl, ℕ, ◌==◌, true, List, [], ◌∷◌, Option, inl, inr}
+use Rattle.std.specs.List.{All}
+use Rattle.std.proofs.lemmas.Bool.{cases_Bool}
+use Rattle.std.proofs.lemmas.List.Elements.{All-head, All-tail}
+use Rattle.uac_topology.specs.Function.{FunctionFields}
+use Rattle.uac_graph.specs.Meaning.{entity}
+use Rattle.uac_units.specs.Hearing.{Reading}
+use Rattle.uac_flow.specs.Streams.{InStream, OutStream}
+use Rattle.uac_lanes.specs.InterfaceStreams.{NoneRuns}
+use Rattle.uac_lanes.specs.declared.ticking.Ticked.{Ticked}
+use Rattle.uac_device.specs.Kept as device
+use Rattle.uac_device.specs.DeviceWorld.{DeviceWorld, is_input_jack, met_of, set_jack}
+use Rattle.uac_device.specs.Stillness.{IsStill}
+use Rattle.uac_device.proofs.Stillness.{still_after, still_given}
+use Rattle.uac_streaming.specs.Kept as streaming
+use Rattle.uac_streaming.specs.Kept.{StreamingFields}
+use Rattle.uac_streaming.specs.StreamingWorld.{StreamingWorld, found_counts, found_lines, met_in}
+use Rattle.uac_streaming.proofs.Founds.{found_nothing, found_of}
+use Rattle.uac_streaming.proofs.Ticking.{found_none}
+use Rattle.uac_running.specs.declared.jacks.Jack.{Jack}
+use Rattle.uac_running.specs.RunningWorld.{RunningWorld}
+use Rattle.uac_running.specs.Events.{all_given, given, next_frame, tick}
+use Rattle.uac_running.specs.Kept.{HasItsJacks, RunningFields, Stands}
+use Rattle.uac_running.proofs.Steps.{gave, given-kept}
+
+-- ---- the jacks give
+
+still_jacks : (f : FunctionFields) (clock : ℕ) (jacks : List Jack) (w : DeviceWorld) → All (λ (j : Jack). is_input_jack (entity f.entities j.terminal) ≡ true) jacks → w.function ≡ f
+    → IsStill clock w → IsStill clock (given clock jacks w)
+unfolding set_jack
+still_jacks f clock [] w kinds same still = still
+still_jacks f clock (j ∷ js) w kinds same still =
+    let kind : Jack → Type 0 = λ j. is_input_jack (entity f.entities j.terminal) ≡ true in
+    let more : All kind js = All-tail kind j js kinds in
+    let input : is_input_jack (entity w.function.entities j.terminal) ≡ true =
+    subst (λ (g : FunctionFields). is_input_jack (entity g.entities j.terminal) ≡ true) (sym same) (All-head kind j js kinds) in
+    elim (cases_Bool (j.clock == clock)) [
+      | inl here ↦ rw here (still_jacks f clock js (set_jack j.terminal (next_frame j) w) more same (still_given clock j.terminal (next_frame j) w input still))
+      | inr away ↦ rw away (still_jacks f clock js w more same still)
+    ]
+
+pub still_gave : (clock : ℕ) (shown : List Reading) (r : RunningWorld) (p : RunningFields) → Stands p shown r → HasItsJacks p → IsStill clock r.device → IsStill clock (gave clock r)
+still_gave clock shown r p stands jacks still =
+    still_jacks r.device.function clock r.jacks r.device
+    (subst (λ (js : List Jack). All (λ (j : Jack). is_input_jack (entity r.device.function.entities j.terminal) ≡ true) js) stands.jacks
+    (subst (λ (g : FunctionFields). All (λ (j : Jack). is_input_jack (entity g.entities j.terminal) ≡ true) p.jacks) stands.streaming.device.function jacks.kinds))
+    refl still
+
+pub none_given : (clock : ℕ) (r : RunningWorld) → NoneRuns r.device.outs r.device.ins → NoneRuns (all_given clock r).outs (all_given clock r).ins
+unfolding all_given set_jack
+none_given clock r none k = (
+  ap (λ (outs : ℕ → Option OutStream). outs k) (given-kept (λ w. w.outs) (λ t frame w. refl) clock r.jacks r.device) ∙ (none k).0,
+  ap (λ (ins : ℕ → Option InStream). ins k) (given-kept (λ w. w.ins) (λ t frame w. refl) clock r.jacks r.device) ∙ (none k).1,
+)
+
+-- after a tick the device is still
+pub stills_after : (clock : ℕ) (r : RunningWorld) → NoneRuns r.device.outs r.device.ins → IsStill clock (tick clock r).world.device
+unfolding tick
+stills_after clock r none = still_after clock (all_given clock r) (none_given clock r none)
+
+-- ---- nothing is found
+
+abbrev pub nothing : Ticked
+nothing = record { under = 0; over = 0 }
+
+pub nothing_said : (clock : ℕ) (before : DeviceWorld) → nothing ≡ met_of clock before → [] ≡ found_lines clock before
+nothing_said clock before is = found_none clock before before.function.streams nothing refl is refl refl
+
+pub nothing_counted : (clock : ℕ) (s : StreamingFields) (d : device.DeviceFields) (w : StreamingWorld) (before : DeviceWorld) (f : FunctionFields) → streaming.Stands s d w
+    → w.device.function ≡ f → before.function ≡ f → nothing ≡ met_of clock before → streaming.Stands s d (record w { met = found_counts clock before w.met })
+nothing_counted clock s d w before f stands here there is =
+    let same : before.function ≡ w.device.function = there ∙ sym here in
+    record {
+      device = stands.device;
+      host = stands.host;
+      same = stands.same;
+      order = stands.order;
+      outs = stands.outs;
+      ins = stands.ins;
+      met =
+          sym (found_nothing s.met)
+          ∙ found_of w.met before clock nothing s.met (stands.met ∙ ap (met_in w.met) (sym same)) is
+          ∙ ap (met_in (found_counts clock before w.met)) same;
+      steady = stands.steady;
+    }
