@@ -302,7 +302,7 @@ impl Running {
         Ok(())
     }
 
-    /// One tick of a domain, of which some may rest.
+    /// One tick of a domain, whose jacks and lanes may rest.
     fn tick<K: Sink>(
         &mut self,
         rest: Rest,
