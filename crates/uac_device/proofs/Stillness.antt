@@ -11,10 +11,15 @@ use Rattle.uac_flow.specs.Streams.{OutStream, InStream, after_putting, after_tak
 use Rattle.uac_lanes.specs.declared.ticking.Ticked.{Ticked}
 use Rattle.uac_lanes.specs.InterfaceStreams.{NoneRuns, bits_of, changed_where}
 use Rattle.uac_device.specs.DeviceWorld.{DeviceWorld, entity_in, input_of, is_input_jack, is_jack, is_on, is_streamed, met_of, played_to, set_jack, streamed, ticked}
-use Rattle.uac_device.specs.Kept.{DeviceFields, Stands}
-use Rattle.uac_device.specs.Stillness.{IsStill}
+use Rattle.uac_device.specs.Kept.{DeviceFields, IsDevice, Stands}
+use Rattle.uac_topology.specs.Kept.{AreNumbered, HaveChannels}
+use Rattle.uac_lanes.specs.Lanes.{ports}
+use Rattle.uac_lanes.specs.declared.lane.Lane.{Lane}
+use Rattle.uac_device.specs.Linked.{AreLinked}
+use Rattle.uac_device.specs.Stillness.{HasBegun, HasEnded, IsStill}
 use Rattle.uac_device.proofs.Played.{Rendered, tick_stands}
 use Rattle.uac_device.proofs.Streaming.{same_streams}
+use Rattle.uac_device.proofs.TickLemmas.{met_here, ticked_stands}
 
 -- ---- where no interface runs a stream
 
@@ -109,3 +114,43 @@ still_stands device wires domain w rendered still stands =
     (λ k. none_where (is_on w domain) (λ interface. after_taking) w.outs k (still.none k).0 ∙ sym (still.none k).0)
     (λ k. none_where (is_on w domain) (λ interface. after_putting (played_to w (ticked domain w).played interface)) w.ins k (still.none k).1 ∙ sym (still.none k).1))
     stands
+
+-- ---- a tick, of a device that may be still
+
+module _ (still : Bool) (device : DeviceFields) (mid wires : Frames) (between lanes : List Lane) (domain : ℕ) (w : DeviceWorld) (found : Ticked) where
+  -- nothing was begun
+  abbrev Rests : Type 0
+  Rests = still ≡ true → (between ≡ device.lanes) × (mid ≡ device.wires) × (found ≡ record { under = 0; over = 0 })
+
+  pub ticked_or_still : AreNumbered device.function → AreLinked device.function → HaveChannels device.function.entities → IsDevice device
+      → Rendered device mid wires domain → ports between ≡ ports device.lanes → (still ≡ false → HasBegun domain device.lanes between device.wires mid found) → Rests
+      → (still ≡ false → HasEnded domain between lanes wires) → (still ≡ true → lanes ≡ between) → (still ≡ true → IsStill domain w) → Stands device w
+      → Stands (record device { wires = wires; lanes = lanes }) (ticked domain w)
+  ticked_or_still numbered linked have is rendered same begun rests ended left quiet stands =
+      elim (cases_Bool still) [
+        | inl rested ↦
+            (let kept = rests rested in
+            let own : Rendered device device.wires wires domain = subst (λ (frames : Frames). Rendered device frames wires domain) kept.1 rendered in
+            subst (λ (ls : List Lane). Stands (record device { wires = wires; lanes = ls }) (ticked domain w)) (sym (left rested ∙ kept.0))
+            (still_stands device wires domain w own (quiet rested) stands))
+        | inr moves ↦
+            ticked_stands device mid wires between lanes domain w numbered linked have is
+            (record {
+              frames = (begun moves).frames;
+              given = (begun moves).stands;
+              same = same;
+              rendered = rendered;
+              put = (ended moves).stands;
+            })
+            stands
+      ]
+
+module _ (still : Bool) (device : DeviceFields) (mid : Frames) (between : List Lane) (domain : ℕ) (w : DeviceWorld) (found : Ticked) where
+  pub found_or_still : AreNumbered device.function → IsDevice device → (still ≡ false → HasBegun domain device.lanes between device.wires mid found)
+      → (still ≡ true → (between ≡ device.lanes) × (mid ≡ device.wires) × (found ≡ record { under = 0; over = 0 })) → (still ≡ true → IsStill domain w) → Stands device w
+      → found ≡ met_of domain w
+  found_or_still numbered is begun rests quiet stands =
+      elim (cases_Bool still) [
+        | inl rested ↦ (rests rested).2 ∙ sym (nothing_met domain w (quiet rested).none)
+        | inr moves ↦ (begun moves).met w.outs w.ins stands.streams ∙ met_here device w domain numbered is stands
+      ]

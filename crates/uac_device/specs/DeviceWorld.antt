@@ -31,7 +31,8 @@ use Rattle.uac_flow.specs.Streams.{feedback_of, is_dry, is_full, next_taken, sen
 use Rattle.uac_flow.specs.Flows.{ZerosFit}
 use Rattle.uac_flow.specs.declared.arrival.Arrival.{Arrival}
 use Rattle.uac_flow.specs.declared.arrival.Arrival.TheVariants as arrival
-use Rattle.uac_lanes.specs.InterfaceStreams.{bits_of, changed_at, changed_where, either_due, in_from, level_in, out_from, replaced_at, runs_either}
+use Rattle.uac_lanes.specs.InterfaceStreams.{bits_of, changed_at, changed_where, either_due, in_from, level_in, out_from, replaced_at}
+use Rattle.uac_lanes.specs.InterfaceStreams.{runs_either}
 use Rattle.uac_lanes.specs.declared.ticking.Ticked.{Ticked}
 
 -- a clock domain: the clock that its terminals name, what that is off by in millionths, and its steps since the start, one

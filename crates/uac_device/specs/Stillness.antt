@@ -1,10 +1,35 @@
--- A device where no interface runs a stream, between two ticks of a domain.
-use Rattle.std.specs.Prelude.{◌≡◌, ℕ, true}
-use Rattle.uac_graph.specs.Wiring.{silence}
-use Rattle.uac_lanes.specs.InterfaceStreams.{NoneRuns}
+-- The beginning and the end of a tick in a device's lanes, and a device that is still, where neither changes anything.
+use Rattle.std.specs.Prelude.{◌≡◌, ℕ, ◌≤◌, ◌==◌, Bool, true, false, ℤ, List, Option, Some}
+use Rattle.std.specs.List.{All}
+use Rattle.uac_graph.specs.Wiring.{Frames, frame_on, silence}
+use Rattle.uac_flow.specs.Streams.{InStream, OutStream, after_putting, after_taking}
+use Rattle.uac_lanes.specs.InterfaceStreams.{NoneRuns, changed_where}
+use Rattle.uac_lanes.specs.Lanes.{KeepsStreams, given_by, met_by, ports}
+use Rattle.uac_lanes.specs.declared.lane.Lane.{Lane}
+use Rattle.uac_lanes.specs.declared.ticking.Ticked.{Ticked}
 use Rattle.uac_device.specs.DeviceWorld.{DeviceWorld, entity_in, is_streamed}
 
 -- no interface runs a stream, and each terminal of the bus in the domain gave silence last
 pub record IsStill (domain : ℕ) (w : DeviceWorld) : Type 0 where
   pub none : NoneRuns w.outs w.ins
   pub gave : (id : ℕ) → is_streamed domain (entity_in w id) ≡ true → w.given id ≡ silence (entity_in w id).cluster.channels
+
+-- a tick of a domain began: the terminals of the bus gave their frames, and this was met
+pub record HasBegun (domain : ℕ) (old new : List Lane) (before after : Frames) (found : Ticked) : Type 0 where
+  pub met :
+      (outs : ℕ → Option OutStream) (ins : ℕ → Option InStream) → KeepsStreams old outs ins → found ≡ met_by domain outs ins (ports old)
+  pub stands :
+      (on : ℕ → Bool) (outs : ℕ → Option OutStream) (ins : ℕ → Option InStream)
+      → All (λ p. on p.interface ≡ (p.clock == domain)) (ports old) → KeepsStreams old outs ins
+      → KeepsStreams new (changed_where on (λ interface. after_taking) outs) ins
+  pub frames :
+      (outs : ℕ → Option OutStream) (ins : ℕ → Option InStream) → KeepsStreams old outs ins
+      → (id : ℕ) → frame_on after id ≡ given_by domain id outs (ports old) (frame_on before id)
+
+-- it ended: the streams from the terminals of the domain have the frames that these played
+pub record HasEnded (domain : ℕ) (old new : List Lane) (wires : Frames) : Type 0 where
+  pub stands :
+      (on : ℕ → Bool) (played : ℕ → List ℤ) (outs : ℕ → Option OutStream) (ins : ℕ → Option InStream)
+      → All (λ p. on p.interface ≡ (p.clock == domain)) (ports old)
+      → All (λ p. p.out ≡ false → 1 ≤ p.channels → frame_on wires p.terminal ≡ Some (played p.interface)) (ports old)
+      → KeepsStreams old outs ins → KeepsStreams new outs (changed_where on (λ interface. after_putting (played interface)) ins)

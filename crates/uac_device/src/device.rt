@@ -19,6 +19,7 @@ use crate::clocks::{Clock, advance, deviate};
 use crate::derived::Derived;
 use crate::hearing::hear;
 use crate::rest::{Moving, at_rest};
+use crate::still::{begin_unless, put_unless};
 use crate::streams::{is_done, sets_interface, stream_asked};
 use crate::terminals::is_output_jack;
 use std::alloc::Global;
@@ -283,35 +284,39 @@ impl Device {
         ensures met { (w : DeviceWorld) → Stands self.old w → result ≡ met_of domain w }
         ensures function { self.new.function ≡ self.old.function }
     {
+        self.tick_where(false, domain, rack, meters, steps)
+    }
+
+    /// The same tick, of a device that may be still: no interface runs a stream, and the terminals of the bus in the domain gave silence
+    /// last. There these have their frames, no stream takes one, and no ring is found empty or full.
+    pub fn tick_where(
+        &mut self,
+        still: bool,
+        domain: u8,
+        rack: &Rack,
+        meters: &mut Meters,
+        steps: &mut Steps,
+    ) -> Ticked
+        requires rack { IsFitted (λ v x. (⟦<dyn Unit as Unit>⟧ v).kind_of x) rack.now }
+        requires room { steps.old + length (needed self.old.function.entities domain) < 2 ^ 64 }
+        ensures stands { (w : DeviceWorld) → Stands self.old w → (still ≡ true → IsStill domain w) → Stands self.new (ticked domain w) }
+        ensures once { (w : DeviceWorld) → Stands self.old w → steps.new ≡ steps.old + renders_of domain w }
+        ensures heard { (w : DeviceWorld) → Stands self.old w → (still ≡ true → IsStill domain w)
+            → readings (λ v x. (⟦<dyn Meter as Meter>⟧ v).reading_of x) meters.new
+            ≡ after_frames (heard_of domain (ticked domain w)) (readings (λ v x. (⟦<dyn Meter as Meter>⟧ v).reading_of x) meters.old) }
+        ensures met { (w : DeviceWorld) → Stands self.old w → (still ≡ true → IsStill domain w) → result ≡ met_of domain w }
+        ensures function { self.new.function ≡ self.old.function }
+    {
         functions_are_sound(&self.function);
         sound_functions_are_small();
         interfaces_are_numbered();
         entities_have_channels();
-        let met = self.lanes.begin(domain, &mut self.wires);
+        let met = begin_unless(still, &mut self.lanes, domain, &mut self.wires);
         self.graph
             .tick_by(domain, &self.derived.jobs, rack, &mut self.wires, steps);
-        self.lanes.put(domain, &self.wires);
+        put_unless(still, &mut self.lanes, domain, &self.wires);
         hear(self.derived.jacks(), &self.wires, domain, meters);
         met
-    }
-
-    /// The same tick where the device is still: no interface runs a stream, and the terminals of the bus in the domain gave silence last.
-    /// So these have their frames, no stream takes one, and no ring is found empty or full.
-    pub fn tick_still(&mut self, domain: u8, rack: &Rack, meters: &mut Meters, steps: &mut Steps)
-        requires rack { IsFitted (λ v x. (⟦<dyn Unit as Unit>⟧ v).kind_of x) rack.now }
-        requires room { steps.old + length (needed self.old.function.entities domain) < 2 ^ 64 }
-        ensures stands { (w : DeviceWorld) → Stands self.old w → IsStill domain w → Stands self.new (ticked domain w) }
-        ensures once { (w : DeviceWorld) → Stands self.old w → steps.new ≡ steps.old + renders_of domain w }
-        ensures heard { (w : DeviceWorld) → Stands self.old w → IsStill domain w
-            → readings (λ v x. (⟦<dyn Meter as Meter>⟧ v).reading_of x) meters.new
-            ≡ after_frames (heard_of domain (ticked domain w)) (readings (λ v x. (⟦<dyn Meter as Meter>⟧ v).reading_of x) meters.old) }
-        ensures met { (w : DeviceWorld) → Stands self.old w → IsStill domain w → met_of domain w ≡ record { under = 0; over = 0 } }
-        ensures function { self.new.function ≡ self.old.function }
-    {
-        functions_are_sound(&self.function);
-        self.graph
-            .tick_by(domain, &self.derived.jobs, rack, &mut self.wires, steps);
-        hear(self.derived.jacks(), &self.wires, domain, meters);
     }
 
     /// The frame of the last tick of an output jack; None exactly for ids of no output jack.

@@ -12,6 +12,8 @@ mod hearing;
 pub mod laws;
 /// What ticks change, at the start.
 mod rest;
+/// The beginning and the end of a tick in the lanes.
+mod still;
 /// The stream that a request starts.
 mod streams;
 /// Which terminals carry no stream of the bus.

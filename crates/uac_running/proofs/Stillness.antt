@@ -1,4 +1,4 @@
--- Ticks of a device where no interface runs a stream: they find nothing, and leave it so.
+-- Ticks of a device where no interface runs a stream leave it still.
 use Rattle.std.proofs.Common.{◌≡◌, ◌∙◌, sym, ap, subst, refl, ℕ, ◌==◌, true, List, [], ◌∷◌, Option, inl, inr}
 use Rattle.std.specs.List.{All}
 use Rattle.std.proofs.lemmas.Bool.{cases_Bool}
@@ -8,16 +8,10 @@ use Rattle.uac_graph.specs.Meaning.{entity}
 use Rattle.uac_units.specs.Hearing.{Reading}
 use Rattle.uac_flow.specs.Streams.{InStream, OutStream}
 use Rattle.uac_lanes.specs.InterfaceStreams.{NoneRuns}
-use Rattle.uac_lanes.specs.declared.ticking.Ticked.{Ticked}
 use Rattle.uac_device.specs.Kept as device
-use Rattle.uac_device.specs.DeviceWorld.{DeviceWorld, is_input_jack, met_of, set_jack}
+use Rattle.uac_device.specs.DeviceWorld.{DeviceWorld, is_input_jack, set_jack}
 use Rattle.uac_device.specs.Stillness.{IsStill}
 use Rattle.uac_device.proofs.Stillness.{still_after, still_given}
-use Rattle.uac_streaming.specs.Kept as streaming
-use Rattle.uac_streaming.specs.Kept.{StreamingFields}
-use Rattle.uac_streaming.specs.StreamingWorld.{StreamingWorld, found_counts, found_lines, met_in}
-use Rattle.uac_streaming.proofs.Founds.{found_nothing, found_of}
-use Rattle.uac_streaming.proofs.Ticking.{found_none}
 use Rattle.uac_running.specs.declared.jacks.Jack.{Jack}
 use Rattle.uac_running.specs.RunningWorld.{RunningWorld}
 use Rattle.uac_running.specs.Events.{all_given, given, next_frame, tick}
@@ -58,29 +52,3 @@ none_given clock r none k = (
 pub stills_after : (clock : ℕ) (r : RunningWorld) → NoneRuns r.device.outs r.device.ins → IsStill clock (tick clock r).world.device
 unfolding tick
 stills_after clock r none = still_after clock (all_given clock r) (none_given clock r none)
-
--- ---- nothing is found
-
-abbrev pub nothing : Ticked
-nothing = record { under = 0; over = 0 }
-
-pub nothing_said : (clock : ℕ) (before : DeviceWorld) → nothing ≡ met_of clock before → [] ≡ found_lines clock before
-nothing_said clock before is = found_none clock before before.function.streams nothing refl is refl refl
-
-pub nothing_counted : (clock : ℕ) (s : StreamingFields) (d : device.DeviceFields) (w : StreamingWorld) (before : DeviceWorld) (f : FunctionFields) → streaming.Stands s d w
-    → w.device.function ≡ f → before.function ≡ f → nothing ≡ met_of clock before → streaming.Stands s d (record w { met = found_counts clock before w.met })
-nothing_counted clock s d w before f stands here there is =
-    let same : before.function ≡ w.device.function = there ∙ sym here in
-    record {
-      device = stands.device;
-      host = stands.host;
-      same = stands.same;
-      order = stands.order;
-      outs = stands.outs;
-      ins = stands.ins;
-      met =
-          sym (found_nothing s.met)
-          ∙ found_of w.met before clock nothing s.met (stands.met ∙ ap (met_in w.met) (sym same)) is
-          ∙ ap (met_in (found_counts clock before w.met)) same;
-      steady = stands.steady;
-    }

@@ -66,6 +66,7 @@ impl Running {
     }
 
     /// One microframe. The numbers of interfaces are bytes.
+    #[inline(never)]
     fn microframe<K: Sink>(
         &mut self,
         marks: &[Mark],
@@ -322,9 +323,6 @@ impl Running {
         ensures function { self.new.device.function ≡ self.old.device.function }
     {
         let found = self.sound(rest, clock, rack, meters);
-        if rest.lanes {
-            return self.show_played(clock, sink);
-        }
         self.show(clock, found, sink)
     }
 
@@ -352,12 +350,9 @@ impl Running {
         );
         fresh_steps_have_room(self.device.function());
         let mut steps = Steps::new();
-        if rest.lanes {
-            self.device.tick_still(clock, rack, meters, &mut steps);
-            self.renders = self.renders.saturating_add(steps.count());
-            return Ticked { under: 0, over: 0 };
-        }
-        let found = self.device.tick(clock, rack, meters, &mut steps);
+        let found = self
+            .device
+            .tick_where(rest.lanes, clock, rack, meters, &mut steps);
         self.renders = self.renders.saturating_add(steps.count());
         self.streaming.find(self.device.function(), found);
         found

@@ -1,7 +1,6 @@
-use Rattle.std.proofs.Common.{◌≡◌, ◌∙◌, ◌+◌, ap, sym, subst, refl, zero-add}
+use Rattle.std.proofs.Common.{◌≡◌, ◌∙◌, ◌+◌, ap, sym, subst, refl, true, zero-add}
 use Rattle.uac_device.specs.Kept as device
 use Rattle.uac_device.specs.DeviceWorld.{renders_of}
-use Rattle.uac_device.proofs.Stillness.{nothing_met}
 use Rattle.uac_units.specs.Panel.{readings}
 use Rattle.uac_running.specs.Events.{after_one, gone_on}
 use Rattle.uac_running.specs.Kept.{RunningFields, Stands}
@@ -10,7 +9,7 @@ use Rattle.uac_running.proofs.Counting.{domains_kept}
 use Rattle.uac_running.proofs.JackSteps.{jacks_gone_on}
 use Rattle.uac_running.proofs.Resting.{rests_after}
 use Rattle.uac_running.proofs.Steps.{gave, sounded, sounded_found, view_still}
-use Rattle.uac_running.proofs.Stillness.{nothing, nothing_counted, still_gave}
+use Rattle.uac_running.proofs.Stillness.{still_gave}
 use Rattle.uac_running.specs.contracts.running.Running.{the_view}
 use Rattle.uac_running.proofs.running.Running.sound.Goals as goal
 
@@ -18,73 +17,36 @@ pub invariant_of-self : goal.invariant_of-self
 invariant_of-self g c =
     let jacks = turned_back (after_one c.args.clock) c.self.inside.jacks.len c.self.inside.jacks.items c.deref_mut.result.now c.next_frames.new.jacks
     c.next_frames.ensures.jacks c.deref_mut.ensures.value c.deref_mut.ensures.len in
-    let function = c.tick_still.ensures.function ∙ c.next_frames.ensures.function in (
+    let function = c.tick_where-found.ensures.function ∙ c.next_frames.ensures.function in (
       jacks_gone_on c.args.clock (the_view c.self.inside) _ function jacks c.self.invariant.0,
       domains_kept (the_view c.self.inside) _ function refl c.self.invariant.1,
       view_still c.self.inside.device.function _ c.self.inside.view function c.self.invariant.2,
     )
-
-pub invariant_of-self-2 : goal.invariant_of-self-2
-invariant_of-self-2 g c =
-    let jacks = turned_back (after_one c.args.clock) c.self.inside.jacks.len c.self.inside.jacks.items c.deref_mut.result.now c.next_frames.new.jacks
-    c.next_frames.ensures.jacks c.deref_mut.ensures.value c.deref_mut.ensures.len in
-    let function = c.tick-found.ensures.function ∙ c.next_frames.ensures.function in (
-      jacks_gone_on c.args.clock (the_view c.self.inside) _ function jacks c.self.invariant.0,
-      domains_kept (the_view c.self.inside) _ function refl c.self.invariant.1,
-      view_still c.self.inside.device.function _ c.self.inside.view function c.self.invariant.2,
-    )
-
-pub returns-then-rest-clause-stands : goal.returns-then-rest-clause-stands
-returns-then-rest-clause-stands g c r stands rests stills =
-    let shown = readings (λ v x. (goal.Meter-dyn g (v, x)).reading_of x) c.args.meters.now in
-    let showing = readings (λ v x. (goal.Meter-dyn g (v, x)).reading_of x) c.tick_still.new.meters in
-    let jacks = turned_back (after_one c.args.clock) c.self.inside.jacks.len c.self.inside.jacks.items c.deref_mut.result.now c.next_frames.new.jacks
-    c.next_frames.ensures.jacks c.deref_mut.ensures.value c.deref_mut.ensures.len in
-    let own = subst (λ (p : RunningFields). Stands p shown r) (sym c.self.view_is) stands in
-    let still = still_gave c.args.clock shown r (the_view c.self.inside) own c.self.invariant.0 (stills c.if-rest.true) in
-    let w = gave c.args.clock r in
-    let rendered : device.Stands c.next_frames.new.device w → c.count.result ≡ renders_of c.args.clock w =
-    λ kept. c.count.ensures ∙ c.tick_still.ensures.once w kept ∙ ap (λ n. n + renders_of c.args.clock w) c.new-steps.ensures ∙ zero-add (renders_of c.args.clock w) in
-    sounded c.args.rest.jacks c.args.clock c.count.result shown showing r (the_view c.self.inside) _ c.deref_mut.result.now c.next_frames.new.device nothing c.self.inside.device.function own rests c.deref_mut.ensures.value
-    (sym (c.tick_still.ensures.function ∙ c.next_frames.ensures.function)) c.next_frames.ensures.stands (λ kept. c.tick_still.ensures.stands w kept still) (λ kept. c.tick_still.ensures.heard w kept still)
-    rendered (λ kept. sym (nothing_met c.args.clock w still.none))
-    (λ v before. nothing_counted c.args.clock c.self.inside.streaming c.tick_still.new.self v before c.self.inside.device.function)
-    (jacks ∙ ap (gone_on c.args.clock) (sym c.deref_mut.ensures.value)) refl refl refl c.saturating_add-self-inside.ensures (record { view = refl; configuration = refl; breaks = refl })
 
 pub returns-clause-stands : goal.returns-clause-stands
 returns-clause-stands g c r stands rests stills =
     let shown = readings (λ v x. (goal.Meter-dyn g (v, x)).reading_of x) c.args.meters.now in
-    let showing = readings (λ v x. (goal.Meter-dyn g (v, x)).reading_of x) c.tick-found.new.meters in
+    let showing = readings (λ v x. (goal.Meter-dyn g (v, x)).reading_of x) c.tick_where-found.new.meters in
     let jacks = turned_back (after_one c.args.clock) c.self.inside.jacks.len c.self.inside.jacks.items c.deref_mut.result.now c.next_frames.new.jacks
     c.next_frames.ensures.jacks c.deref_mut.ensures.value c.deref_mut.ensures.len in
     let own = subst (λ (p : RunningFields). Stands p shown r) (sym c.self.view_is) stands in
+    let still = λ (is : c.args.rest.lanes ≡ true). still_gave c.args.clock shown r (the_view c.self.inside) own c.self.invariant.0 (stills is) in
     let w = gave c.args.clock r in
-    let rendered : device.Stands c.next_frames.new.device w → c.count-2.result ≡ renders_of c.args.clock w =
-    λ kept. c.count-2.ensures ∙ c.tick-found.ensures.once w kept ∙ ap (λ n. n + renders_of c.args.clock w) c.new-steps.ensures ∙ zero-add (renders_of c.args.clock w) in
-    sounded c.args.rest.jacks c.args.clock c.count-2.result shown showing r (the_view c.self.inside) _ c.deref_mut.result.now c.next_frames.new.device c.tick-found.result c.function-2.result.now own rests c.deref_mut.ensures.value
-    c.function-2.ensures c.next_frames.ensures.stands (c.tick-found.ensures.stands w) (c.tick-found.ensures.heard w) rendered (c.tick-found.ensures.met w)
-    (λ v before. c.find.ensures c.tick-found.new.self v before c.args.clock)
-    (jacks ∙ ap (gone_on c.args.clock) (sym c.deref_mut.ensures.value)) refl refl refl c.saturating_add-self-inside-2.ensures (record { view = refl; configuration = refl; breaks = refl })
-
-pub returns-then-rest-clause-found : goal.returns-then-rest-clause-found
-returns-then-rest-clause-found g c r stands rests stills =
-    let shown = readings (λ v x. (goal.Meter-dyn g (v, x)).reading_of x) c.args.meters.now in
-    let own = subst (λ (p : RunningFields). Stands p shown r) (sym c.self.view_is) stands in
-    let still = still_gave c.args.clock shown r (the_view c.self.inside) own c.self.invariant.0 (stills c.if-rest.true) in
-    sounded_found c.args.rest.jacks c.args.clock shown r (the_view c.self.inside) c.deref_mut.result.now c.next_frames.new.device nothing own rests c.deref_mut.ensures.value
-    c.next_frames.ensures.stands (λ kept. sym (nothing_met c.args.clock (gave c.args.clock r) still.none))
+    let rendered : device.Stands c.next_frames.new.device w → c.count.result ≡ renders_of c.args.clock w =
+    λ kept. c.count.ensures ∙ c.tick_where-found.ensures.once w kept ∙ ap (λ n. n + renders_of c.args.clock w) c.new-steps.ensures ∙ zero-add (renders_of c.args.clock w) in
+    sounded c.args.rest.jacks c.args.clock c.count.result shown showing r (the_view c.self.inside) _ c.deref_mut.result.now c.next_frames.new.device c.tick_where-found.result c.function-2.result.now own rests c.deref_mut.ensures.value
+    c.function-2.ensures c.next_frames.ensures.stands (λ kept. c.tick_where-found.ensures.stands w kept still) (λ kept. c.tick_where-found.ensures.heard w kept still) rendered
+    (λ kept. c.tick_where-found.ensures.met w kept still)
+    (λ v before. c.find.ensures c.tick_where-found.new.self v before c.args.clock)
+    (jacks ∙ ap (gone_on c.args.clock) (sym c.deref_mut.ensures.value)) refl refl refl c.saturating_add-self-inside.ensures (record { view = refl; configuration = refl; breaks = refl })
 
 pub returns-clause-found : goal.returns-clause-found
 returns-clause-found g c r stands rests stills =
     let shown = readings (λ v x. (goal.Meter-dyn g (v, x)).reading_of x) c.args.meters.now in
     let own = subst (λ (p : RunningFields). Stands p shown r) (sym c.self.view_is) stands in
-    sounded_found c.args.rest.jacks c.args.clock shown r (the_view c.self.inside) c.deref_mut.result.now c.next_frames.new.device c.tick-found.result own rests c.deref_mut.ensures.value
-    c.next_frames.ensures.stands (c.tick-found.ensures.met (gave c.args.clock r))
-
-pub returns-then-rest-clause-rests : goal.returns-then-rest-clause-rests
-returns-then-rest-clause-rests g c meters r stands quiet =
-    let own = subst (λ (p : RunningFields). Stands p meters r) (sym c.self.view_is) stands in
-    rests_after c.args.clock meters r (the_view c.self.inside) own c.self.invariant.0 quiet
+    let still = λ (is : c.args.rest.lanes ≡ true). still_gave c.args.clock shown r (the_view c.self.inside) own c.self.invariant.0 (stills is) in
+    sounded_found c.args.rest.jacks c.args.clock shown r (the_view c.self.inside) c.deref_mut.result.now c.next_frames.new.device c.tick_where-found.result own rests c.deref_mut.ensures.value
+    c.next_frames.ensures.stands (λ kept. c.tick_where-found.ensures.met (gave c.args.clock r) kept still)
 
 pub returns-clause-rests : goal.returns-clause-rests
 returns-clause-rests g c meters r stands quiet =
