@@ -7,7 +7,7 @@ use Rattle.std.proofs.lemmas.List.Quantifiers.{position-Some}
 use Rattle.std.proofs.lemmas.Option.{option_and_then_some}
 use Rattle.uac_clock.specs.Nominal.{nominal_of, step_of}
 use Rattle.uac_clock.specs.declared.values.Nominal.{Nominal}
-use Rattle.uac_rate.specs.Steadiness.{Given, eight_streams, has_four_lost, is_slight, keeps_feedback, latest_run, run}
+use Rattle.uac_rate.specs.Steadiness.{Given, eight_streams, has_four_lost, is_slight, latest_run, run}
 use Rattle.uac_rate.specs.Steadiness as steadiness
 use Rattle.uac_rate.proofs.LevelsLemmas.{slight_step}
 use Rattle.uac_entities.specs.declared.stream.StreamInterface.{StreamInterface}

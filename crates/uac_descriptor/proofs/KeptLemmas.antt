@@ -8,7 +8,7 @@ use Rattle.uac_descriptor.specs.Little.{four}
 use Rattle.uac_descriptor.specs.Spelling.{spelling}
 use Rattle.uac_descriptor.specs.declared.context.Context.TheVariants as context
 use Rattle.uac_descriptor.specs.Rows as rows
-use Rattle.uac_descriptor.specs.Rows.{Context, Spells, Row, row_in, row_of, row_beside}
+use Rattle.uac_descriptor.specs.Rows.{Spells, row_in, row_of}
 use Rattle.uac_descriptor.specs.Laws.{IsKept, HasSpelling, OneSpelling, SpeltIsRead, ReadIsSpelt}
 use Rattle.uac_descriptor.specs.Standard.{CONFIGURATION, INTERFACE, INTERFACE_ASSOCIATION, AS_GENERAL, FORMAT_TYPE}
 use Rattle.uac_descriptor.specs.declared.block.Block.{Block}

@@ -1,8 +1,6 @@
 -- What units are asked, from the table of their entities.
 use Rattle.std.proofs.Common.{◌≡◌, ◌∙◌, sym, ap, subst, arith, ℕ, ◌+◌, ◌<◌, ◌≤◌, false, if◌then◌else◌, not, ℤ, pos, List, [], ◌∷◌, ◌++◌, Some, None, length, get_or, set, sum, inl, inr, refl, unwrap_or, eqb, ◌/◌, ◌%◌}
-use Rattle.std.specs.List.{All}
 use Rattle.std.specs.Ordering.{int_eq}
-use Rattle.std.specs.List.{range_with_len}
 use Rattle.std.proofs.lemmas.Bool.{cases_eq, cases_lt}
 use Rattle.std.proofs.lemmas.List.{get_or_push, get_or_append_left, get_or-set_same, get_or-set_other, length-map, length-set}
 use Rattle.std.proofs.lemmas.List.{length_push}

@@ -3,7 +3,6 @@
 use Rattle.std.specs.Prelude.{◌≡◌, ◌+◌, ◌*◌, ◌≤◌, ℕ, ℤ, Bool, true, List, length, sum, Some}
 use Rattle.std.specs.List.{All, AllByRecursion}
 use Rattle.uac_rate.specs.Levels.{IsTight, Anchor, Point, Within}
-use Rattle.uac_rate.specs.Steadiness.{is_slight}
 use Rattle.uac_rate.specs.Steadiness as steadiness
 use Rattle.uac_settle.specs.Settling.{KeepsPackets, Served, Stretch, settle_of}
 use Rattle.uac_pcm.specs.declared.tones.Tone.{Tone}

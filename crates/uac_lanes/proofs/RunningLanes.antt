@@ -1,5 +1,5 @@
 -- Whether lanes run streams.
-use Rattle.std.proofs.Common.{◌≡◌, ◌∙◌, sym, refl, ap, subst, ℕ, ◌||◌, Bool, true, false, ℤ, List, [], ◌∷◌, Option, Some, None, is_some, get_or}
+use Rattle.std.proofs.Common.{◌≡◌, ◌∙◌, sym, refl, ap, ℕ, ◌||◌, Bool, true, false, ℤ, List, [], ◌∷◌, Option, Some, None, get_or}
 use Rattle.std.specs.List.{All, list_any}
 use Rattle.std.proofs.lemmas.Bool.{or_parts, true≢false}
 use Rattle.std.proofs.lemmas.List.Elements.{All-cons, All-head, All-nil, All-tail}

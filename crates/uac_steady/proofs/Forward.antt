@@ -13,7 +13,7 @@ use Rattle.uac_mixer.specs.Elements.{fits_element}
 use Rattle.uac_script.specs.Phrase.{SaidMark, Phrase, idle, feeds, goes, controls, gets, sets, shows, breaks, appends, tracks, jacks, deviates, runs, details, reports}
 use Rattle.uac_transcript.specs.Transcript.{Said, Sight, Outcome, says_answer, says_view, says_meter, says_passed, says_renders, says_steady}
 use Rattle.uac_transcript.specs.declared.report.StreamCounts.{StreamCounts}
-use Rattle.uac_running.specs.RunningWorld.{RunningWorld, with_detail, with_deviation, with_samples_on, with_tone, with_track}
+use Rattle.uac_running.specs.RunningWorld.{RunningWorld}
 use Rattle.uac_running.specs.RunningWorld as world
 use Rattle.uac_running.specs.Events.{microframe, microframes}
 use Rattle.uac_running.specs.Lines.{domain_line, report_lines, says_stream, stream_line}

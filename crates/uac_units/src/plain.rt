@@ -9,7 +9,7 @@ use crate::channels::fit;
 use crate::counting::Steps;
 use crate::jobs::{Job, Pins, UnitKind};
 use crate::rendering::Unit;
-use uac_gain::laws::unity_changes_nothing;
+use uac_gain::laws::{scaling_keeps_the_sign, unity_changes_nothing};
 use uac_gain::{saturate, scale};
 use uac_pcm::Frame;
 
@@ -183,7 +183,7 @@ fn mix(job: &Job, inputs: &[i32], channel: usize) -> i32
     let outputs = job.outputs as usize;
     let mut sum: i64 = 0;
     for at in 0..inputs.len() {
-        sum += scaled_input(inputs, at, gains[at * outputs + channel]) as i64;
+        sum += mixed_input(inputs, at, gains[at * outputs + channel]) as i64;
     }
     saturate(sum)
 }
@@ -203,6 +203,19 @@ fn input_of(inputs: &[i32], at: usize) -> i32
     ensures { result ≡ input inputs.now at }
 {
     inputs[at]
+}
+
+/// An input, scaled by the gain of a node. Most nodes of a mixer are silent, whatever the input.
+fn mixed_input(inputs: &[i32], at: usize, gain: u32) -> i32
+    requires { at < length inputs.now }
+    ensures { result ≡ scaled (input inputs.now at) gain }
+{
+    if gain == 0 {
+        scaling_keeps_the_sign();
+        0
+    } else {
+        scaled_input(inputs, at, gain)
+    }
 }
 
 /// An input, scaled by a gain.

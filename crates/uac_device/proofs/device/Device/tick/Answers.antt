@@ -1,4 +1,4 @@
-use Rattle.std.proofs.Common.{true, false, subst, sym, ◌≡◌}
+use Rattle.std.proofs.Common.{true, false, ◌≡◌}
 use Rattle.std.proofs.lemmas.Bool.{false≢true}
 use Rattle.uac_device.proofs.device.Device.tick.Goals as goal
 
