@@ -3,7 +3,7 @@ ghost use Rattle.std.specs.Prelude.{◌≡◌, ◌≤◌, ◌<◌, ◌+◌, ◌^
 ghost use Rattle.std.specs.Option.{option_map};
 ghost use Rattle.uac_graph.specs.Meaning.{entity};
 ghost use Rattle.uac_graph.specs.Needs.{needed};
-ghost use Rattle.uac_graph.specs.Wiring.{silence};
+ghost use Rattle.uac_graph.specs.Wiring.{tone_frame};
 ghost use Rattle.uac_units.specs.Fitting.{IsFitted};
 ghost use Rattle.uac_units.specs.Panel.{readings};
 ghost use Rattle.uac_device.specs.DeviceWorld.{DeviceWorld, ZerosFitIn, advanced, after_frames, arrival_in, deviated, feedback_in};
@@ -29,7 +29,7 @@ use uac_descriptor::NoMemory;
 use uac_flow::Arrival;
 use uac_graph::{Graph, Wires};
 use uac_lanes::{Lanes, Ticked};
-use uac_pcm::{Frame, Packet};
+use uac_pcm::{Frame, Packet, Tone};
 use uac_request::laws::each_interface_starts_with_a_setting;
 use uac_request::{Answer, Setup, answer};
 use uac_store::Store;
@@ -254,14 +254,15 @@ impl Device {
         self.wires.set(terminal, frame);
     }
 
-    /// Has an input jack give silence at the next tick.
-    pub fn hush(&mut self, terminal: u8)
+    /// Has an input jack give the frame of a tone at a place, which counts frames from 0, at the next tick.
+    pub fn sound(&mut self, terminal: u8, tone: Tone, place: u64)
         requires { is_input_jack (entity self.old.function.entities terminal) ≡ true }
         ensures stands { (w : DeviceWorld) → Stands self.old w
-            → Stands self.new (set_jack terminal (silence (entity self.old.function.entities terminal).cluster.channels) w) }
+            → Stands self.new
+            (set_jack terminal (tone_frame tone place (entity self.old.function.entities terminal).cluster.channels) w) }
         ensures function { self.new.function ≡ self.old.function }
     {
-        self.wires.silence(terminal);
+        self.wires.sound(terminal, tone, place);
     }
 
     /// One tick of a domain: its terminals of the bus take the next frame of their streams, or silence; its output terminals play the

@@ -142,22 +142,30 @@ set_fits entities old new terminal frame same set fitting = record {
   ];
 }
 
+-- a wire whose samples are remade, as many as there were, keeps its channels
+pub remade_fits : (entities : List Entity) (old new : Frames) (terminal : ℕ) (remade : List ℤ → List ℤ)
+    → ((samples : List ℤ) → length (remade samples) ≡ length samples)
+    → ((id : ℕ) → frame_on new id ≡ (if eqb terminal id then option_map remade (frame_on old terminal) else frame_on old id))
+    → AreWiresOf entities old → AreWiresOf entities new
+remade_fits entities old new terminal remade as_many set fitting = record {
+  channels = λ id. elim (cases_eq terminal id) [
+    | inl here ↦
+        ap (option_map length) (set id ∙ ap (λ (b : Bool). if b then option_map remade (frame_on old terminal) else frame_on old id) (eq-eqb terminal id here))
+        ∙ counted (frame_on old terminal) ∙ fitting.channels terminal ∙ ap (wire_channels entities) here
+    | inr other ↦
+        ap (option_map length) (set id ∙ ap (λ (b : Bool). if b then option_map remade (frame_on old terminal) else frame_on old id) (ne_eqb terminal id other))
+        ∙ fitting.channels id
+  ];
+}
+  where
+    counted : (o : Option (List ℤ)) → option_map length (option_map remade o) ≡ option_map length o
+    counted None = refl
+    counted (Some samples) = ap Some (as_many samples)
+
 -- a wire that is hushed keeps its channels
 pub hushed_fits : (entities : List Entity) (old new : Frames) (terminal : ℕ)
     → ((id : ℕ) → frame_on new id
     ≡ (if eqb terminal id then option_map (λ samples. silence (length samples)) (frame_on old terminal) else frame_on old id))
     → AreWiresOf entities old → AreWiresOf entities new
-hushed_fits entities old new terminal set fitting = record {
-  channels = λ id. elim (cases_eq terminal id) [
-    | inl here ↦
-        ap (option_map length) (set id ∙ ap (λ (b : Bool). if b then option_map (λ samples. silence (length samples)) (frame_on old terminal) else frame_on old id) (eq-eqb terminal id here))
-        ∙ counted (frame_on old terminal) ∙ fitting.channels terminal ∙ ap (wire_channels entities) here
-    | inr other ↦
-        ap (option_map length) (set id ∙ ap (λ (b : Bool). if b then option_map (λ samples. silence (length samples)) (frame_on old terminal) else frame_on old id) (ne_eqb terminal id other))
-        ∙ fitting.channels id
-  ];
-}
-  where
-    counted : (o : Option (List ℤ)) → option_map length (option_map (λ samples. silence (length samples)) o) ≡ option_map length o
-    counted None = refl
-    counted (Some samples) = ap Some (length-replicate (length samples) (pos 0))
+hushed_fits entities old new terminal =
+    remade_fits entities old new terminal (λ samples. silence (length samples)) (λ samples. length-replicate (length samples) (pos 0))

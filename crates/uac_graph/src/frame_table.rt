@@ -6,16 +6,16 @@ ghost use Rattle.std.specs.Option.{option_map};
 ghost use Rattle.uac_units.specs.Rendering.{FitsKind, rendered};
 ghost use Rattle.uac_graph.specs.Fitness.{IsSignalGraph};
 ghost use Rattle.uac_graph.specs.Rows.{frames_in, passed};
-ghost use Rattle.uac_graph.specs.Wiring.{AreSilent, AreWiresOf, frame_on, samples_on};
+ghost use Rattle.uac_graph.specs.Wiring.{AreSilent, AreWiresOf, frame_on, samples_on, tone_frame};
 
 use crate::frames::silent;
 use crate::jobs::gather_one;
-use crate::samples::{hush, refill};
+use crate::samples::{hush, refill, sound};
 use std::alloc::Global;
 use std::marker::Model;
 use uac_descriptor::NoMemory;
 use uac_entities::Entity;
-use uac_pcm::Frame;
+use uac_pcm::{Frame, Tone};
 use uac_topology_rules::is_clock;
 use uac_units::{Job, Pins, Steps, Unit};
 
@@ -67,6 +67,18 @@ impl FrameTable {
     {
         if let Some(frame) = &mut self.row[id as usize] {
             hush(frame);
+        }
+    }
+
+    /// Puts the frame of a tone at a place, which counts frames from 0, in that of the one that is there, on as many channels.
+    pub(crate) fn sound(&mut self, id: u8, tone: Tone, place: u64)
+        ensures wires { (k : ℕ) → frame_on self.new k
+            ≡ (if id == k then option_map (λ samples. tone_frame tone place (length samples)) (frame_on self.old id)
+            else frame_on self.old k) }
+        ensures fitting { (entities : List Entity) → AreWiresOf entities self.old → AreWiresOf entities self.new }
+    {
+        if let Some(frame) = &mut self.row[id as usize] {
+            sound(frame, tone, place);
         }
     }
 

@@ -1,7 +1,9 @@
 // Samples written over others. Most frames have one channel or two, whose samples are written without a call.
 ghost use Rattle.std.specs.Prelude.{◌≡◌, ◌≤◌, ◌<◌, length, replicate, slice_index_or, pos};
+ghost use Rattle.uac_graph.specs.Wiring.{tone_frame};
 
 use arrayvec::ArrayVec;
+use uac_pcm::{Frame, Tone};
 
 /// Makes a list of samples these. Where it has as many they are written over them.
 pub(crate) fn refill<const MOST: usize>(list: &mut ArrayVec<i32, MOST>, samples: &[i32])
@@ -71,4 +73,11 @@ fn write_zeros(samples: &mut [i32])
     } else {
         samples.fill(0);
     }
+}
+
+/// Makes a frame that of a tone at a place, which counts frames from 0, on as many channels.
+pub(crate) fn sound(frame: &mut Frame, tone: Tone, place: u64)
+    ensures { frame.new.items ≡ tone_frame tone place (length frame.old.items) }
+{
+    tone.write(place, frame.as_mut_slice());
 }

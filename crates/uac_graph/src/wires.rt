@@ -8,7 +8,7 @@ ghost use Rattle.uac_graph.specs.Controls.{Controls};
 ghost use Rattle.uac_graph.specs.Jobs.{FitsFrames, HasJob};
 ghost use Rattle.uac_graph.specs.Meaning as spec;
 ghost use Rattle.uac_graph.specs.Needs.{unit_count};
-ghost use Rattle.uac_graph.specs.Wiring.{AreSilent, AreWiresOf, frame_on, samples_on};
+ghost use Rattle.uac_graph.specs.Wiring.{AreSilent, AreWiresOf, frame_on, samples_on, tone_frame};
 
 use crate::frame_table::FrameTable;
 use crate::jobs::{gather, is_unit, unit_for};
@@ -17,7 +17,7 @@ use std::alloc::Global;
 use std::marker::Model;
 use uac_descriptor::NoMemory;
 use uac_entities::{Entity, EntityKind};
-use uac_pcm::Frame;
+use uac_pcm::{Frame, Tone};
 use uac_topology::Function;
 use uac_topology::laws::functions_are_sound;
 use uac_units::{Job, Pins, Rack, Steps, Unit};
@@ -72,6 +72,16 @@ impl Wires {
         ensures fitting { (entities : List Entity) → AreWiresOf entities self.old → AreWiresOf entities self.new }
     {
         self.frames.silence(terminal);
+    }
+
+    /// The frame of a tone at a place, which counts frames from 0, on the wire of an input terminal.
+    pub fn sound(&mut self, terminal: u8, tone: Tone, place: u64)
+        ensures wires { (id : ℕ) → frame_on self.new id ≡ (if terminal == id
+            then option_map (λ samples. tone_frame tone place (length samples)) (frame_on self.old terminal)
+            else frame_on self.old id) }
+        ensures fitting { (entities : List Entity) → AreWiresOf entities self.old → AreWiresOf entities self.new }
+    {
+        self.frames.sound(terminal, tone, place);
     }
 
     /// The frame on an entity's wire, None exactly where it has none.

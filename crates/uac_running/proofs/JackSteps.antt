@@ -4,7 +4,6 @@ use Rattle.std.specs.List.{All, fold, filter, range_with_len}
 use Rattle.std.proofs.lemmas.Bool.{cases_Bool}
 use Rattle.std.proofs.lemmas.List.Elements.{filter_more}
 use Rattle.std.proofs.lemmas.List.Sums.{fold-append}
-use Rattle.std.proofs.lemmas.List.FromFn.{length-map-range_with_len}
 use Rattle.uac_pcm.specs.Tones.{tone_sample}
 use Rattle.uac_pcm.specs.declared.tones.Tone.{Tone}
 use Rattle.uac_pcm.specs.declared.tones.Tone.TheVariants as tones
@@ -12,7 +11,7 @@ use Rattle.uac_device.specs.Kept.{DeviceFields, Stands}
 use Rattle.uac_device.specs.DeviceWorld.{DeviceWorld, is_input_jack, set_jack}
 use Rattle.uac_topology.specs.Function.{FunctionFields}
 use Rattle.uac_graph.specs.Meaning.{entity}
-use Rattle.uac_graph.specs.Wiring.{silence}
+use Rattle.uac_graph.specs.Wiring.{tone_frame}
 use Rattle.uac_running.specs.declared.jacks.Jack.{Jack}
 use Rattle.uac_running.specs.Events.{after_one, given, given_one, gone_on, next_frame}
 use Rattle.uac_running.specs.RunningWorld.{toned}
@@ -58,10 +57,6 @@ jacks_gone_on clock p q = kept_jacks (after_one clock) p q (λ P j holds. kept_a
 pub jacks_toned : (terminal : ℕ) (tone : Tone) (p q : RunningFields) → q.device.function ≡ p.device.function → q.jacks ≡ map (toned terminal tone) p.jacks → HasItsJacks p → HasItsJacks q
 jacks_toned terminal tone p q = kept_jacks (toned terminal tone) p q (λ P j holds. kept_toned P terminal tone j holds)
 
-pub length-next_frame : (j : Jack) → length (next_frame j) ≡ j.channels
-unfolding next_frame
-length-next_frame j = length-map-range_with_len (tone_sample j.tone j.place) 0 j.channels
-
 -- the next jack gives its frame
 pub gives_next : (clock : ℕ) (old now : List Jack) (i : ℕ) (d : Jack) (w : DeviceWorld) (new : DeviceFields) → i < length old → IsTurnedBelow (after_one clock) now old i
     → Stands new (given_one clock (get_or now i d) (given clock (take i old) w)) → Stands new (given clock (take (i + 1) old) w)
@@ -86,9 +81,10 @@ silent_frame j silent = ap (λ (t : Tone). map (tone_sample t j.place) (range_wi
     zeros from zero = refl
     zeros from (suc n) = ap (λ (zs : List ℤ). pos 0 ∷ zs) (zeros (from + 1) n)
 
--- a silent jack of the domain gives silence
-pub silent_given : (clock channels : ℕ) (j : Jack) (w : DeviceWorld) (new : DeviceFields) → j.clock ≡ clock → j.tone ≡ tones.Silent → channels ≡ j.channels
-    → Stands new (set_jack j.terminal (silence channels) w) → Stands new (given_one clock j w)
-silent_given clock channels j w new here silent same stands =
+-- a jack of the domain that sounds its tone's frame gives it
+pub sounded_given : (clock channels : ℕ) (j : Jack) (w : DeviceWorld) (new : DeviceFields) → j.clock ≡ clock → channels ≡ j.channels
+    → Stands new (set_jack j.terminal (tone_frame j.tone j.place channels) w) → Stands new (given_one clock j w)
+unfolding next_frame
+sounded_given clock channels j w new here same stands =
     subst (Stands new) (ap (λ (b : Bool). if b then set_jack j.terminal (next_frame j) w else w) (sym (eq-eqb j.clock clock here)))
-    (subst (λ (frame : List ℤ). Stands new (set_jack j.terminal frame w)) (ap silence same ∙ sym (silent_frame j silent)) stands)
+    (subst (λ (n : ℕ). Stands new (set_jack j.terminal (tone_frame j.tone j.place n) w)) same stands)

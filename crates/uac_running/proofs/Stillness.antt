@@ -8,7 +8,6 @@ use Rattle.uac_graph.specs.Meaning.{entity}
 use Rattle.uac_units.specs.Hearing.{Reading}
 use Rattle.uac_flow.specs.Streams.{InStream, OutStream}
 use Rattle.uac_lanes.specs.InterfaceStreams.{NoneRuns}
-use Rattle.uac_device.specs.Kept as device
 use Rattle.uac_device.specs.DeviceWorld.{DeviceWorld, is_input_jack, set_jack}
 use Rattle.uac_device.specs.Stillness.{IsStill}
 use Rattle.uac_device.proofs.Stillness.{still_after, still_given}

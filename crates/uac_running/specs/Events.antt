@@ -1,8 +1,8 @@
 -- Ticks and microframes of a running device, with the lines that they say (profile). A count stands still at the greatest number of
 -- 64 bits.
 use Rattle.std.specs.Prelude.{ℕ, zero, suc, ◌+◌, ◌==◌, nat_le, if◌then◌else◌, ℤ, List, [], ◌∷◌, ◌++◌, map, filter}
-use Rattle.std.specs.List.{fold, range_with_len}
-use Rattle.uac_pcm.specs.Tones.{tone_sample}
+use Rattle.std.specs.List.{fold}
+use Rattle.uac_graph.specs.Wiring.{tone_frame}
 use Rattle.uac_device.specs.DeviceWorld.{DeviceWorld, advanced, next_ticks, renders_of, set_jack, ticked, heard_of, after_frames}
 use Rattle.uac_units.specs.Hearing.{at_most_u64}
 use Rattle.uac_script.specs.Phrase.{SaidMark}
@@ -29,7 +29,7 @@ still r = record { lines = []; world = r }
 
 -- the frame that a jack's tone gives next
 unfoldable pub next_frame : Jack → List ℤ
-next_frame j = map (tone_sample j.tone j.place) (range_with_len 0 j.channels)
+next_frame j = tone_frame j.tone j.place j.channels
 
 -- a jack gives its tone's next frame, where it is of the domain
 abbrev pub given_one : ℕ → Jack → DeviceWorld → DeviceWorld

@@ -1,12 +1,11 @@
 // The jacks' tones.
 ghost use Rattle.std.specs.Prelude.{◌≡◌, ◌==◌, ◌≤◌, true, IfOk, map, filter};
 ghost use Rattle.std.specs.List.{All, list_any};
-ghost use Rattle.arrayvec.specs.ArrayVec.{array_vec_len};
 ghost use Rattle.uac_graph.specs.Meaning.{entity};
 ghost use Rattle.uac_device.specs.Kept.{Stands};
 ghost use Rattle.uac_device.specs.DeviceWorld.{DeviceWorld};
 ghost use Rattle.uac_device.specs.DeviceWorld as world;
-ghost use Rattle.uac_running.specs.Events.{after_one, given, given_one, gone_on, next_frame};
+ghost use Rattle.uac_running.specs.Events.{after_one, given, given_one, gone_on};
 ghost use Rattle.uac_running.specs.RunningWorld as spec;
 ghost use Rattle.uac_running.specs.Silence as silence;
 ghost use Rattle.uac_running.specs.Silence.{AreAtRest};
@@ -15,7 +14,7 @@ use std::alloc::Global;
 use uac_descriptor::NoMemory;
 use uac_device::{Device, is_input_jack};
 use uac_entities::Entity;
-use uac_pcm::{Frame, Tone, silence};
+use uac_pcm::Tone;
 
 /// An input jack: its terminal's id, its clock domain and its channels, and the tone that it gives, of which so many frames were
 /// given since it was set; the count stands still at 18446744073709551615.
@@ -103,17 +102,10 @@ fn sounds(tone: Tone) -> bool
 }
 
 /// The jacks of a domain give the device the next frames of their tones. Where they rest, the device has these frames: each is silence, and
-/// so was the last. A frame is written over for each.
-pub(crate) fn next_frames(
-    device: &mut Device,
-    jacks: &mut [Jack],
-    clock: u8,
-    rest: bool,
-    frame: &mut Frame,
-)
+/// so was the last.
+pub(crate) fn next_frames(device: &mut Device, jacks: &mut [Jack], clock: u8, rest: bool)
     requires kinds { All (λ j. world.is_input_jack (entity device.old.function.entities j.terminal) ≡ true) jacks.old }
     requires channels { All (λ j. (entity device.old.function.entities j.terminal).cluster.channels ≡ j.channels) jacks.old }
-    requires most { All (λ j. j.channels ≤ 32) jacks.old }
     ensures stands { (w : DeviceWorld) → Stands device.old w → (rest ≡ true → AreAtRest clock jacks.old w)
         → Stands device.new (given clock jacks.old w) }
     ensures jacks { jacks.new ≡ gone_on clock jacks.old }
@@ -122,7 +114,7 @@ pub(crate) fn next_frames(
     if rest {
         pass_frames(jacks, clock);
     } else {
-        give_jacks(device, jacks, clock, frame);
+        give_jacks(device, jacks, clock);
     }
 }
 
@@ -131,48 +123,12 @@ fn pass_frames(jacks: &mut [Jack], clock: u8)
     ensures { jacks.new ≡ gone_on clock jacks.old }
 {
     for passed in jacks.iter_mut() {
-        go_on(passed, clock);
-    }
-}
-
-/// The jacks of a domain give the device the next frames of their tones.
-fn give_jacks(device: &mut Device, jacks: &mut [Jack], clock: u8, frame: &mut Frame)
-    requires kinds { All (λ j. world.is_input_jack (entity device.old.function.entities j.terminal) ≡ true) jacks.old }
-    requires channels { All (λ j. (entity device.old.function.entities j.terminal).cluster.channels ≡ j.channels) jacks.old }
-    requires most { All (λ j. j.channels ≤ 32) jacks.old }
-    ensures stands { (w : DeviceWorld) → Stands device.old w → Stands device.new (given clock jacks.old w) }
-    ensures jacks { jacks.new ≡ gone_on clock jacks.old }
-    ensures function { device.new.function ≡ device.old.function }
-{
-    for jack in jacks.iter_mut() {
-        give_jack(device, jack, clock, frame);
-        go_on(jack, clock);
-    }
-}
-
-/// A jack of the domain gives the device the next frame of its tone.
-fn give_jack(device: &mut Device, jack: &Jack, clock: u8, frame: &mut Frame)
-    requires kind { world.is_input_jack (entity device.old.function.entities jack.now.terminal) ≡ true }
-    requires channels { (entity device.old.function.entities jack.now.terminal).cluster.channels ≡ jack.now.channels }
-    requires most { jack.now.channels ≤ 32 }
-    ensures stands { (w : DeviceWorld) → Stands device.old w
-        → Stands device.new (given_one clock jack.now w) }
-    ensures function { device.new.function ≡ device.old.function }
-{
-    if jack.clock != clock {
-        return;
-    }
-    match jack.tone {
-        Tone::Silent => device.hush(jack.terminal),
-        Tone::Ramp { .. } | Tone::Noise { .. } => {
-            next_frame(jack, frame);
-            device.jack(jack.terminal, frame);
-        }
+        pass_frame(passed, clock);
     }
 }
 
 /// A jack of the domain gave one frame more.
-fn go_on(jack: &mut Jack, clock: u8)
+fn pass_frame(jack: &mut Jack, clock: u8)
     ensures { jack.new ≡ after_one clock jack.old }
 {
     if jack.clock == clock {
@@ -180,21 +136,30 @@ fn go_on(jack: &mut Jack, clock: u8)
     }
 }
 
-/// Makes a frame the next that a jack's tone gives. Where it has as many channels they are written over.
-fn next_frame(jack: &Jack, frame: &mut Frame)
-    requires { jack.now.channels ≤ 32 }
-    ensures { frame.new.items ≡ next_frame jack.now }
+/// The jacks of a domain give the device the next frames of their tones.
+fn give_jacks(device: &mut Device, jacks: &mut [Jack], clock: u8)
+    requires kinds { All (λ j. world.is_input_jack (entity device.old.function.entities j.terminal) ≡ true) jacks.old }
+    requires channels { All (λ j. (entity device.old.function.entities j.terminal).cluster.channels ≡ j.channels) jacks.old }
+    ensures stands { (w : DeviceWorld) → Stands device.old w → Stands device.new (given clock jacks.old w) }
+    ensures jacks { jacks.new ≡ gone_on clock jacks.old }
+    ensures function { device.new.function ≡ device.old.function }
 {
-    set_channels(frame, jack.channels);
-    jack.tone.write(jack.place, frame.as_mut_slice());
+    for jack in jacks.iter_mut() {
+        give_jack(device, jack, clock);
+    }
 }
 
-/// Gives a frame so many channels, whatever they sound.
-fn set_channels(frame: &mut Frame, channels: u8)
-    requires { channels ≤ 32 }
-    ensures { array_vec_len frame.new ≡ channels }
+/// A jack of the domain gives the device the next frame of its tone, and has given one more.
+fn give_jack(device: &mut Device, jack: &mut Jack, clock: u8)
+    requires kind { world.is_input_jack (entity device.old.function.entities jack.old.terminal) ≡ true }
+    requires channels { (entity device.old.function.entities jack.old.terminal).cluster.channels ≡ jack.old.channels }
+    ensures stands { (w : DeviceWorld) → Stands device.old w
+        → Stands device.new (given_one clock jack.old w) }
+    ensures jack { jack.new ≡ after_one clock jack.old }
+    ensures function { device.new.function ≡ device.old.function }
 {
-    if frame.len() != usize::from(channels) {
-        silence(frame, channels);
+    if jack.clock == clock {
+        device.sound(jack.terminal, jack.tone, jack.place);
+        jack.place = jack.place.saturating_add(1);
     }
 }

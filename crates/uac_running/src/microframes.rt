@@ -341,13 +341,7 @@ impl Running {
         ensures function { self.new.device.function ≡ self.old.device.function }
         ensures detail { self.new.detail ≡ self.old.detail }
     {
-        next_frames(
-            &mut self.device,
-            &mut self.jacks,
-            clock,
-            rest.jacks,
-            &mut self.frame,
-        );
+        next_frames(&mut self.device, &mut self.jacks, clock, rest.jacks);
         fresh_steps_have_room(self.device.function());
         let mut steps = Steps::new();
         let found = self

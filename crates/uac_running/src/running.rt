@@ -28,7 +28,7 @@ use uac_descriptor::{ByteList, NoMemory};
 use uac_device::Device;
 use uac_edges::{Failed, Sink};
 use uac_mixer::{View, When};
-use uac_pcm::{Frame, Tone};
+use uac_pcm::Tone;
 use uac_streaming::Streaming;
 use uac_topology::Function;
 use uac_topology::laws::functions_are_sound;
@@ -46,8 +46,6 @@ pub struct Running {
     pub(crate) breaks: Option<When>,
     pub(crate) streaming: Streaming,
     pub(crate) jacks: Vec<Jack>,
-    /// The last frame of a jack's tone, which the next is written over.
-    pub(crate) frame: Frame,
     pub(crate) counts: Vec<TickCount>,
     pub(crate) time: u64,
     pub(crate) detail: u8,
@@ -123,7 +121,6 @@ impl Running {
             breaks: None,
             streaming: beside.streaming,
             jacks: beside.jacks,
-            frame: Frame::new(),
             counts: beside.counts,
             time: 0,
             detail: 0,

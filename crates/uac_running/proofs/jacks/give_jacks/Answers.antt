@@ -1,4 +1,4 @@
-use Rattle.std.proofs.Common.{◌≡◌, ◌∙◌, ◌≤◌, sym, subst, true, arith}
+use Rattle.std.proofs.Common.{◌≡◌, ◌∙◌, sym, subst, true, arith}
 use Rattle.std.specs.List.{All}
 use Rattle.uac_topology.specs.Function.{FunctionFields}
 use Rattle.uac_graph.specs.Meaning.{entity}
@@ -24,16 +24,11 @@ give_jack-requires-clause-channels c =
     c.requires.channels)
     (omega arith) c.loop-jack.invariant.changed
 
-pub give_jack-requires-clause-most : goal.give_jack-requires-clause-most
-give_jack-requires-clause-most c =
-    untouched_holds (λ (j : Jack). j.channels ≤ 32) (after_one c.args.clock) c.loop-jack.jacks c.args.jacks.now c.loop-jack.jack-index _ c.requires.most (omega arith)
-    c.loop-jack.invariant.changed
-
 pub loop-jack-preserved : goal.loop-jack-preserved
 loop-jack-preserved c = record {
   changed =
-      turned_more (after_one c.args.clock) c.loop-jack.jacks c.args.jacks.now c.loop-jack.jack-index c.go_on.new.jack _
-      (omega (arith, c.loop-jack.invariant.changed.same)) c.loop-jack.invariant.changed c.go_on.ensures;
+      turned_more (after_one c.args.clock) c.loop-jack.jacks c.args.jacks.now c.loop-jack.jack-index c.give_jack.new.jack _
+      (omega (arith, c.loop-jack.invariant.changed.same)) c.loop-jack.invariant.changed c.give_jack.ensures.jack;
   stands = λ w stands.
       gives_next c.args.clock c.args.jacks.now c.loop-jack.jacks c.loop-jack.jack-index _ w c.give_jack.new.device c.loop-jack-test.true c.loop-jack.invariant.changed
       (c.give_jack.ensures.stands _ (c.loop-jack.invariant.stands w stands));
