@@ -12,6 +12,3 @@ mod values;
 pub use settings::{InterfaceSetting, Settings};
 pub use streams::{packet_room, stream};
 pub use values::Stream;
-
-#[cfg(test)]
-mod tests;

@@ -25,8 +25,3 @@ pub use streams::{is_done, sets_interface, stream_asked};
 pub use terminals::{is_input_jack, is_output_jack, is_output_jack_of};
 pub use uac_flow::Arrival;
 pub use uac_lanes::Ticked;
-
-#[cfg(test)]
-mod streaming_tests;
-#[cfg(test)]
-mod tests;

@@ -31,6 +31,3 @@ pub use graph::Graph;
 pub use job_table::Jobs;
 pub use terminals::is_end;
 pub use wires::Wires;
-
-#[cfg(test)]
-mod tests;

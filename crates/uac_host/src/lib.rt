@@ -12,6 +12,3 @@ mod tracks;
 
 pub use host::Host;
 pub use lanes::Lane;
-
-#[cfg(test)]
-mod tests;

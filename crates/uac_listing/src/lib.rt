@@ -9,8 +9,6 @@ mod elements;
 mod entities;
 /// The settings of streaming interfaces.
 mod settings;
-#[cfg(test)]
-mod tests;
 
 pub use blocks::write_blocks;
 pub use elements::write_elements;

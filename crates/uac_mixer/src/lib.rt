@@ -17,8 +17,6 @@ mod listing;
 /// The transfers of an element, and what a transfer makes of it.
 mod transfers;
 /// The view.
-#[cfg(test)]
-mod tests;
 mod view;
 
 pub use element::{Element, ElementName};

@@ -24,8 +24,6 @@ mod rules;
 mod serve;
 /// The setup packet of a control transfer.
 mod setup;
-#[cfg(test)]
-mod tests;
 /// What a request is told.
 mod told;
 /// The settings that are valid.

@@ -12,8 +12,6 @@ mod rates;
 mod start;
 /// The store of all values.
 mod store;
-#[cfg(test)]
-mod tests;
 /// The values that controls can take.
 mod values;
 

@@ -1,10 +1,10 @@
-// The lines of a mixer's elements, and of a headset's entities.
-use crate::{write_elements, write_entities};
+//! The lines of a mixer's elements, and of a headset's entities.
 use std::alloc::{AllocError, Global};
 use std::test::Fail;
 use uac_descriptor::{ByteList, WordList};
 use uac_edges::MemorySink;
 use uac_entities::{Cluster, Entity, EntityKind};
+use uac_listing::{write_elements, write_entities};
 use uac_mixer::{Element, ElementKind};
 use uac_store::Key;
 

@@ -1,18 +1,17 @@
-// The answers of a headset, byte by byte, with ample memory.
-ghost use Rattle.std.specs.Prelude.{◌≡◌, IfOk};
-
-use super::*;
+//! The answers of a headset, byte by byte, with ample memory.
+use crate::blocks::{
+    clock, control, endpoint, feature, function_of, input, output, pcm, push, push_format,
+    streaming,
+};
 use std::alloc::{AllocError, Global};
 use std::marker::Model;
 use std::test::Fail;
 use uac_alt::Settings;
-use uac_descriptor::{
-    Block, ClockSource, Configuration, Endpoint, Feature, General, InputTerminal, Interface,
-    OutputTerminal, TypeOne, WordList,
-};
-use uac_sentence::are_well_formed;
-use uac_store::{Key, Store};
-use uac_topology::{Function, check};
+use uac_descriptor::{Block, Configuration};
+use uac_request::laws::each_interface_starts_with_a_setting;
+use uac_request::{Answer, Setup, answer};
+use uac_store::Store;
+use uac_topology::Function;
 
 /// A function with its controls and its settings.
 #[derive(Drop)]
@@ -37,7 +36,7 @@ impl Model for Headset {
 impl Headset {
     fn new(alloc: Global, most: u16) -> Result<Headset, AllocError> {
         let function = function(alloc, most)?;
-        laws::each_interface_starts_with_a_setting();
+        each_interface_starts_with_a_setting();
         let settings = Settings::new(&function);
         match Store::new(alloc, &function) {
             Ok(store) => Ok(Headset {
@@ -61,135 +60,41 @@ impl Headset {
     }
 }
 
-fn push(blocks: &mut Vec<Block>, block: Block) -> Result<(), AllocError> {
-    match blocks.push(block) {
-        Ok(()) => Ok(()),
-        Err(_) => Err(AllocError),
-    }
-}
-
-fn words(alloc: Global, items: &[u32]) -> Result<WordList, AllocError>
-    ensures { IfOk result (λ list. list ≡ items.now) }
-{
-    match Vec::from_slice(alloc, items) {
-        Ok(items) => Ok(WordList::from_vec(items)),
-        Err(_) => Err(AllocError),
-    }
-}
-
-fn interface(number: u8, subclass: u8, setting: u8, endpoints: u8) -> Block {
-    Block::Interface(Interface {
-        number,
-        setting,
-        endpoints,
-        class: 1,
-        subclass,
-        protocol: 0x20,
-        name: 0,
-    })
-}
-
-fn input(id: u8, terminal_type: u16, channels: u8, locations: u32) -> Block {
-    Block::InputTerminal(InputTerminal {
-        id,
-        terminal_type,
-        assoc: 0,
-        clock: 1,
-        channels,
-        locations,
-        names: 0,
-        controls: 0,
-        name: 0,
-    })
-}
-
-fn output(id: u8, terminal_type: u16, source: u8) -> Block {
-    Block::OutputTerminal(OutputTerminal {
-        id,
-        terminal_type,
-        assoc: 0,
-        source,
-        clock: 1,
-        controls: 0,
-        name: 0,
-    })
-}
-
-fn endpoint(address: u8, attributes: u8, max_packet: u16, interval: u8) -> Block {
-    Block::Endpoint(Endpoint {
-        address,
-        attributes,
-        max_packet,
-        interval,
-    })
-}
-
-fn general(link: u8, channels: u8) -> Block {
-    Block::General(General {
-        link,
-        controls: 5,
-        format_type: 1,
-        formats: 1,
-        channels,
-        locations: 0,
-        names: 0,
-    })
-}
-
 // A clock 1, the path 2, 3, 4 of two channels to the ears, and the path 5, 6, 7 of one channel from the microphone.
 fn push_entities(alloc: Global, blocks: &mut Vec<Block>) -> Result<(), AllocError> {
-    let clock = ClockSource {
-        id: 1,
-        attributes: 3,
-        controls: 7,
-        assoc: 0,
-        name: 0,
-    };
-    let ears = Feature {
-        id: 3,
-        source: 2,
-        words: words(alloc, &[3, 12, 12])?,
-        name: 0,
-    };
-    let mouth = Feature {
-        id: 6,
-        source: 5,
-        words: words(alloc, &[3, 12])?,
-        name: 0,
-    };
-    push(blocks, Block::ClockSource(clock))?;
+    push(blocks, clock(1, 3))?;
     push(blocks, input(2, 0x0101, 2, 3))?;
-    push(blocks, Block::Feature(ears))?;
+    let ears = feature(alloc, 3, 2, &[3, 12, 12])?;
+    push(blocks, ears)?;
     push(blocks, output(4, 0x0301, 3))?;
     push(blocks, input(5, 0x0201, 1, 0))?;
-    push(blocks, Block::Feature(mouth))?;
+    let mouth = feature(alloc, 6, 5, &[3, 12])?;
+    push(blocks, mouth)?;
     push(blocks, output(7, 0x0101, 6))
+}
+
+// The format of a setting whose two controls can be read.
+fn push_readable_format(
+    blocks: &mut Vec<Block>,
+    link: u8,
+    channels: u8,
+    subslot: u8,
+) -> Result<(), AllocError> {
+    let mut general = pcm(link, channels);
+    general.controls = 5;
+    push_format(blocks, general, subslot)
 }
 
 // The streaming interface 1 to the device, with an endpoint of so many bytes, and 2 from it.
 fn push_streams(blocks: &mut Vec<Block>, most: u16) -> Result<(), AllocError> {
-    push(blocks, interface(1, 2, 0, 0))?;
-    push(blocks, interface(1, 2, 1, 2))?;
-    push(blocks, general(2, 2))?;
-    push(
-        blocks,
-        Block::TypeOne(TypeOne {
-            subslot: 3,
-            bits: 24,
-        }),
-    )?;
+    push(blocks, streaming(1, 0, 0))?;
+    push(blocks, streaming(1, 1, 2))?;
+    push_readable_format(blocks, 2, 2, 3)?;
     push(blocks, endpoint(0x01, 0x05, most, 1))?;
     push(blocks, endpoint(0x81, 0x11, 4, 4))?;
-    push(blocks, interface(2, 2, 0, 0))?;
-    push(blocks, interface(2, 2, 1, 1))?;
-    push(blocks, general(7, 1))?;
-    push(
-        blocks,
-        Block::TypeOne(TypeOne {
-            subslot: 2,
-            bits: 16,
-        }),
-    )?;
+    push(blocks, streaming(2, 0, 0))?;
+    push(blocks, streaming(2, 1, 1))?;
+    push_readable_format(blocks, 7, 1, 2)?;
     push(blocks, endpoint(0x82, 0x05, 50, 1))
 }
 
@@ -204,16 +109,10 @@ fn function(alloc: Global, most: u16) -> Result<Function, AllocError> {
         power: 50,
     };
     push(&mut blocks, Block::Configuration(configuration))?;
-    push(&mut blocks, interface(0, 1, 0, 0))?;
+    push(&mut blocks, control(0))?;
     push_entities(alloc, &mut blocks)?;
     push_streams(&mut blocks, most)?;
-    if !are_well_formed(blocks.as_slice()) {
-        return Err(AllocError);
-    }
-    match check(alloc, blocks.as_slice()) {
-        Ok(function) => Ok(function),
-        Err(_) => Err(AllocError),
-    }
+    function_of(alloc, blocks.as_slice())
 }
 
 fn has_bytes(answer: &Answer, bytes: &[u8]) -> bool {

@@ -3,100 +3,27 @@ ghost use Rattle.std.specs.Prelude.{◌≡◌, IfOk};
 ghost use Rattle.uac_device.specs.Kept.{DeviceFields};
 ghost use Rattle.uac_store.specs.Controls.{IsStoreOf};
 
-use crate::*;
+use crate::blocks::{clock, control, feature, function_of, input, output, push};
 use std::alloc::{AllocError, Global};
 use std::process::Abort;
 use std::test::Fail;
-use uac_descriptor::{
-    Block, ClockSource, Feature, InputTerminal, Interface, OutputTerminal, WordList,
-};
+use uac_descriptor::Block;
 use uac_device::Device;
+use uac_mixer::laws::controls_start_with_values;
+use uac_mixer::{DeviceLink, Link, View, When};
 use uac_request::{Answer, Setup};
-use uac_sentence::are_well_formed;
+use uac_topology::Function;
 use uac_topology::laws::functions_are_sound;
-use uac_topology::{Function, check};
-
-fn push(blocks: &mut Vec<Block>, block: Block) -> Result<(), AllocError> {
-    blocks.push(block)?;
-    Ok(())
-}
-
-// The control interface, with which blocks begin.
-fn control() -> Block {
-    Block::Interface(Interface {
-        number: 0,
-        setting: 0,
-        endpoints: 0,
-        class: 1,
-        subclass: 1,
-        protocol: 0x20,
-        name: 0,
-    })
-}
-
-fn input() -> Block {
-    Block::InputTerminal(InputTerminal {
-        id: 2,
-        terminal_type: 0x0201,
-        assoc: 0,
-        clock: 1,
-        channels: 2,
-        locations: 3,
-        names: 0,
-        controls: 0,
-        name: 0,
-    })
-}
-
-fn output() -> Block {
-    Block::OutputTerminal(OutputTerminal {
-        id: 4,
-        terminal_type: 0x0301,
-        assoc: 0,
-        source: 3,
-        clock: 1,
-        controls: 0,
-        name: 0,
-    })
-}
-
-fn clock() -> Block {
-    Block::ClockSource(ClockSource {
-        id: 1,
-        attributes: 3,
-        controls: 7,
-        assoc: 0,
-        name: 0,
-    })
-}
 
 /// Clock 1, whose frequency can be set; jack 2 of two channels feeds feature 3, which feeds jack 4. The feature's mute is on
 /// the master alone, and can only be read; its volume is on both channels, and on the second can only be read.
 fn push_blocks(alloc: Global, blocks: &mut Vec<Block>) -> Result<(), AllocError> {
-    push(blocks, control())?;
-    push(blocks, clock())?;
-    push(blocks, input())?;
-    let words = Vec::from_slice(alloc, &[1, 12, 4])?;
-    push(
-        blocks,
-        Block::Feature(Feature {
-            id: 3,
-            source: 2,
-            words: WordList::from_vec(words),
-            name: 0,
-        }),
-    )?;
-    push(blocks, output())
-}
-
-fn function_of(alloc: Global, blocks: &[Block]) -> Result<Function, AllocError> {
-    if !are_well_formed(blocks) {
-        return Err(AllocError);
-    }
-    match check(alloc, blocks) {
-        Ok(function) => Ok(function),
-        Err(_) => Err(AllocError),
-    }
+    push(blocks, control(0))?;
+    push(blocks, clock(1, 3))?;
+    push(blocks, input(2, 0x0201, 2, 3))?;
+    let middle = feature(alloc, 3, 2, &[1, 12, 4])?;
+    push(blocks, middle)?;
+    push(blocks, output(4, 0x0301, 3))
 }
 
 fn function(alloc: Global) -> Result<Function, AllocError> {
@@ -110,7 +37,7 @@ fn device(alloc: Global) -> Result<Device, AllocError>
 {
     let function = function(alloc)?;
     functions_are_sound(&function);
-    laws::controls_start_with_values();
+    controls_start_with_values();
     match Device::new(alloc, function) {
         Ok(device) => Ok(device),
         Err(_) => Err(AllocError),

@@ -1,101 +1,35 @@
 //! A small function: a jack through a feature to a jack and to a terminal of the bus, under one clock.
 
-ghost use Rattle.std.specs.Prelude.{◌≡◌, IfOk, IsTrue, length, true};
+ghost use Rattle.std.specs.Prelude.{◌≡◌, IsTrue, length, true};
 ghost use Rattle.uac_graph.specs.Meaning.{entity};
 ghost use Rattle.uac_units.specs.Fitting.{IsFitted};
 ghost use Rattle.uac_device.specs.DeviceWorld.{is_input_jack};
 
-use crate::*;
+use crate::blocks::{clock, control, feature, function_of, input, output, push};
+use crate::racks::plain_rack;
+use crate::store::key;
+use crate::streams::{lose_a_packet, play_and_record, push_streams};
 use arrayvec::ArrayVec;
 use std::alloc::{AllocError, Global};
 use std::process::Abort;
 use std::test::Fail;
-use uac_descriptor::{
-    Block, ClockSource, Feature, InputTerminal, Interface, OutputTerminal, WordList,
-};
+use uac_descriptor::Block;
+use uac_device::{Device, Ticked};
 use uac_entities::{Entity, EntityKind, USB_STREAMING};
 use uac_graph::laws::fresh_steps_have_room;
 use uac_pcm::Frame;
 use uac_request::{Answer, Setup};
-use uac_sentence::are_well_formed;
-use uac_store::Key;
-use uac_topology::check;
-use uac_units::{
-    ClippedMeter, Meter, Meters, PeakMeter, PlainEffect, PlainFeature, PlainMixer, PlainSelector,
-    Rack, Steps, SumMeter, Unit,
-};
-
-// The control interface, with which blocks begin.
-fn control() -> Block {
-    Block::Interface(Interface {
-        number: 0,
-        setting: 0,
-        endpoints: 0,
-        class: 1,
-        subclass: 1,
-        protocol: 0x20,
-        name: 0,
-    })
-}
-
-pub(crate) fn push(blocks: &mut Vec<Block>, block: Block) -> Result<(), AllocError> {
-    blocks.push(block)?;
-    Ok(())
-}
-
-fn output(id: u8, terminal_type: u16) -> Block {
-    Block::OutputTerminal(OutputTerminal {
-        id,
-        terminal_type,
-        assoc: 0,
-        source: 3,
-        clock: 1,
-        controls: 0,
-        name: 0,
-    })
-}
-
-fn clock() -> Block {
-    Block::ClockSource(ClockSource {
-        id: 1,
-        attributes: 3,
-        controls: 7,
-        assoc: 0,
-        name: 0,
-    })
-}
-
-fn jack() -> Block {
-    Block::InputTerminal(InputTerminal {
-        id: 2,
-        terminal_type: 0x0201,
-        assoc: 0,
-        clock: 1,
-        channels: 3,
-        locations: 3,
-        names: 0,
-        controls: 0,
-        name: 0,
-    })
-}
+use uac_units::{ClippedMeter, Meter, Meters, PeakMeter, Rack, Steps, SumMeter, Unit};
 
 /// Clock 1; jack 2 of three channels feeds feature 3, which feeds jack 4 and the terminal 5 of the bus.
-fn push_blocks(alloc: Global, blocks: &mut Vec<Block>) -> Result<(), AllocError> {
-    push(blocks, control())?;
-    push(blocks, clock())?;
-    push(blocks, jack())?;
-    let words = Vec::from_slice(alloc, &[15, 15, 15, 15])?;
-    push(
-        blocks,
-        Block::Feature(Feature {
-            id: 3,
-            source: 2,
-            words: WordList::from_vec(words),
-            name: 0,
-        }),
-    )?;
-    push(blocks, output(4, 0x0301))?;
-    push(blocks, output(5, 0x0101))
+fn push_jacks(alloc: Global, blocks: &mut Vec<Block>) -> Result<(), AllocError> {
+    push(blocks, control(0))?;
+    push(blocks, clock(1, 3))?;
+    push(blocks, input(2, 0x0201, 3, 3))?;
+    let middle = feature(alloc, 3, 2, &[15, 15, 15, 15])?;
+    push(blocks, middle)?;
+    push(blocks, output(4, 0x0301, 3))?;
+    push(blocks, output(5, 0x0101, 3))
 }
 
 /// What is tried on a new device.
@@ -112,20 +46,14 @@ pub(crate) enum Trial {
 fn push_for(trial: Trial, alloc: Global, blocks: &mut Vec<Block>) -> Result<(), AllocError> {
     match trial {
         Trial::Frame | Trial::FastClock | Trial::Control | Trial::Start => {
-            push_blocks(alloc, blocks)
+            push_jacks(alloc, blocks)
         }
-        Trial::Streams | Trial::Loss => streaming_tests::push_blocks(blocks),
+        Trial::Streams | Trial::Loss => push_streams(blocks),
     }
 }
 
 fn device_of(alloc: Global, blocks: &[Block]) -> Result<Device, AllocError> {
-    if !are_well_formed(blocks) {
-        return Err(AllocError);
-    }
-    let function = match check(alloc, blocks) {
-        Ok(function) => function,
-        Err(_) => return Err(AllocError),
-    };
+    let function = function_of(alloc, blocks)?;
     match Device::new(alloc, function) {
         Ok(device) => Ok(device),
         Err(_) => Err(AllocError),
@@ -136,18 +64,6 @@ fn device(alloc: Global, trial: Trial) -> Result<Device, AllocError> {
     let mut blocks = Vec::new(alloc);
     push_for(trial, alloc, &mut blocks)?;
     device_of(alloc, blocks.as_slice())
-}
-
-/// A rack of plain units.
-fn rack(alloc: Global) -> Result<Rack, AllocError>
-    ensures { IfOk result (λ rack. IsFitted (λ v x. (⟦<dyn Unit as Unit>⟧ v).kind_of x) rack) }
-{
-    Ok(Rack::new(
-        Box::new(alloc, PlainMixer)?,
-        Box::new(alloc, PlainSelector)?,
-        Box::new(alloc, PlainFeature)?,
-        Box::new(alloc, PlainEffect)?,
-    ))
 }
 
 fn push_meters(alloc: Global, list: &mut Vec<Box<dyn Meter>>) -> Result<(), AllocError> {
@@ -192,7 +108,7 @@ fn try_with_rack(
 
 /// Tries this on a new device.
 pub(crate) fn try_out(rt: &impl Abort, alloc: Global, trial: Trial) -> Result<(), AllocError> {
-    let rack = rack(alloc)?;
+    let rack = plain_rack(alloc)?;
     try_with_rack(rt, alloc, trial, &rack)
 }
 
@@ -204,8 +120,8 @@ fn act(rt: &impl Abort, trial: Trial, device: &mut Device, rack: &Rack, meters: 
         Trial::FastClock => run_fast(rt, device),
         Trial::Control => set_a_control(rt, device),
         Trial::Start => look_at_the_start(rt, device),
-        Trial::Streams => streaming_tests::play_and_record(rt, device, rack, meters),
-        Trial::Loss => streaming_tests::lose_a_packet(rt, device),
+        Trial::Streams => play_and_record(rt, device, rack, meters),
+        Trial::Loss => lose_a_packet(rt, device),
     }
 }
 
@@ -334,11 +250,7 @@ pub(crate) fn ask(device: &mut Device, setup: [u8; 8], sent: &[u8]) -> Option<bo
 }
 
 fn set_a_control(rt: &impl Abort, device: &mut Device) {
-    let mute = Key {
-        entity: 3,
-        selector: 1,
-        channel: 0,
-    };
+    let mute = key(3, 1, 0);
     assert!(rt; ask(device, [0x21, 1, 0, 1, 0, 3, 1, 0], &[2]) == Some(false));
     assert!(rt; device.store().cur(mute) == Some(0));
     assert!(rt; ask(device, [0x21, 1, 0, 1, 0, 3, 1, 0], &[1]) == Some(true));
@@ -354,12 +266,7 @@ fn a_request_sets_a_control(rt: HostRuntime) -> Result<(), Fail> {
 }
 
 fn look_at_the_start(rt: &impl Abort, device: &Device) {
-    let frequency = Key {
-        entity: 1,
-        selector: 1,
-        channel: 0,
-    };
-    assert!(rt; device.store().cur(frequency) == Some(48000));
+    assert!(rt; device.store().cur(key(1, 1, 0)) == Some(48000));
     assert!(rt; device.settings().get(0) == Some(0));
     assert!(rt; device.settings().get(1) == None);
     assert!(rt; device.level(1) == 0);

@@ -1,6 +1,6 @@
 -- The stream is that of a setting of the function's interface.
 use Rattle.uac_host.proofs.StandsLemmas.{stream_given}
-use Rattle.uac_host.proofs.tests.start.Goals as goal
+use Rattle.uac_trials.proofs.host.start.Goals as goal
 
 pub set_stream-requires : goal.set_stream-requires
 set_stream-requires c =

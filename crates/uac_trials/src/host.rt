@@ -1,139 +1,38 @@
-// Packets of a function's two streams, with ample memory. The numbers were worked out from the definitions by hand.
-use super::*;
+//! Packets of a function's two streams, with ample memory. The numbers were worked out from the definitions by hand.
+use crate::blocks::{endpoint, function_of, pcm, push, push_format, push_two_ways, streaming};
 use arrayvec::ArrayVec;
 use std::alloc::{AllocError, Global};
 use std::test::Fail;
 use uac_alt::stream;
-use uac_descriptor::{
-    Block, ClockSource, Endpoint, General, InputTerminal, Interface, OutputTerminal, TypeOne,
-};
+use uac_descriptor::Block;
+use uac_host::Host;
 use uac_pcm::{Frame, Packet, Tone};
-use uac_sentence::are_well_formed;
+use uac_topology::Function;
 use uac_topology::laws::functions_are_sound;
-use uac_topology::{Function, check};
-
-fn push(blocks: &mut Vec<Block>, block: Block) -> Result<(), AllocError> {
-    match blocks.push(block) {
-        Ok(()) => Ok(()),
-        Err(_) => Err(AllocError),
-    }
-}
-
-// A setting of an interface: setting 0 has no endpoints.
-fn interface(number: u8, subclass: u8, setting: u8, endpoints: u8) -> Block {
-    Block::Interface(Interface {
-        number,
-        setting,
-        endpoints,
-        class: 1,
-        subclass,
-        protocol: 0x20,
-        name: 0,
-    })
-}
-
-fn input(id: u8, terminal_type: u16, channels: u8) -> Block {
-    Block::InputTerminal(InputTerminal {
-        id,
-        terminal_type,
-        assoc: 0,
-        clock: 1,
-        channels,
-        locations: 0,
-        names: 0,
-        controls: 0,
-        name: 0,
-    })
-}
-
-fn output(id: u8, terminal_type: u16, source: u8) -> Block {
-    Block::OutputTerminal(OutputTerminal {
-        id,
-        terminal_type,
-        assoc: 0,
-        source,
-        clock: 1,
-        controls: 0,
-        name: 0,
-    })
-}
-
-fn endpoint(address: u8, attributes: u8, max_packet: u16, interval: u8) -> Block {
-    Block::Endpoint(Endpoint {
-        address,
-        attributes,
-        max_packet,
-        interval,
-    })
-}
-
-// A setting's format: PCM of so many channels in subslots of so many bytes, all bits of which are used.
-fn push_format(
-    blocks: &mut Vec<Block>,
-    link: u8,
-    channels: u8,
-    subslot: u8,
-) -> Result<(), AllocError> {
-    let general = General {
-        link,
-        controls: 0,
-        format_type: 1,
-        formats: 1,
-        channels,
-        locations: 0,
-        names: 0,
-    };
-    let bits = 8 * subslot.min(4);
-    push(blocks, Block::General(general))?;
-    push(blocks, Block::TypeOne(TypeOne { subslot, bits }))
-}
-
-// The control interface 4, a USB terminal 2 under clock 1 that feeds a jack 3, a jack 4 that feeds a USB terminal 5.
-fn push_entities(blocks: &mut Vec<Block>) -> Result<(), AllocError> {
-    let clock = ClockSource {
-        id: 1,
-        attributes: 3,
-        controls: 7,
-        assoc: 0,
-        name: 0,
-    };
-    push(blocks, interface(4, 1, 0, 0))?;
-    push(blocks, Block::ClockSource(clock))?;
-    push(blocks, input(2, 0x0101, 2))?;
-    push(blocks, output(3, 0x0301, 2))?;
-    push(blocks, input(4, 0x0201, 1))?;
-    push(blocks, output(5, 0x0101, 4))
-}
 
 // Interface 7 to the device, with 24 bits: a packet of 150 bytes in each microframe in setting 1, and one of 336 bytes every eight
 // microframes in setting 2. Interface 8 from the device, with 16 bits.
 fn push_streams(blocks: &mut Vec<Block>) -> Result<(), AllocError> {
-    push(blocks, interface(7, 2, 0, 0))?;
-    push(blocks, interface(7, 2, 1, 2))?;
-    push_format(blocks, 2, 2, 3)?;
+    push(blocks, streaming(7, 0, 0))?;
+    push(blocks, streaming(7, 1, 2))?;
+    push_format(blocks, pcm(2, 2), 3)?;
     push(blocks, endpoint(0x01, 0x05, 150, 1))?;
     push(blocks, endpoint(0x81, 0x11, 4, 4))?;
-    push(blocks, interface(7, 2, 2, 2))?;
-    push_format(blocks, 2, 2, 3)?;
+    push(blocks, streaming(7, 2, 2))?;
+    push_format(blocks, pcm(2, 2), 3)?;
     push(blocks, endpoint(0x01, 0x05, 336, 4))?;
     push(blocks, endpoint(0x81, 0x11, 4, 4))?;
-    push(blocks, interface(8, 2, 0, 0))?;
-    push(blocks, interface(8, 2, 1, 1))?;
-    push_format(blocks, 5, 1, 2)?;
+    push(blocks, streaming(8, 0, 0))?;
+    push(blocks, streaming(8, 1, 1))?;
+    push_format(blocks, pcm(5, 1), 2)?;
     push(blocks, endpoint(0x82, 0x05, 50, 1))
 }
 
 fn function(alloc: Global) -> Result<Function, AllocError> {
     let mut blocks = Vec::new(alloc);
-    push_entities(&mut blocks)?;
+    push_two_ways(&mut blocks, 4, 2)?;
     push_streams(&mut blocks)?;
-    if !are_well_formed(blocks.as_slice()) {
-        return Err(AllocError);
-    }
-    match check(alloc, blocks.as_slice()) {
-        Ok(function) => Ok(function),
-        Err(_) => Err(AllocError),
-    }
+    function_of(alloc, blocks.as_slice())
 }
 
 fn host(alloc: Global, function: &Function) -> Result<Host, AllocError> {

@@ -8,22 +8,23 @@ ghost use Rattle.uac_units.specs.Fitting.{IsFitted};
 ghost use Rattle.uac_units.specs.declared.jobs.UnitKind.TheVariants.{Mixer};
 ghost use Rattle.uac_graph.specs.Wiring.{AreWiresOf, frame_on};
 
-use crate::laws::fresh_steps_have_room;
-use crate::*;
+use crate::blocks::{
+    clock, control, effect, feature, function_of, input, mixer, output, push, selector,
+};
+use crate::racks::plain_rack;
+use crate::store::{hold, key};
 use arrayvec::ArrayVec;
 use std::alloc::{AllocError, Global};
 use std::cell::Cell;
 use std::process::Abort;
 use std::rc::Rc;
 use std::test::Fail;
-use uac_descriptor::{
-    Block, ByteList, ClockSource, Effect, Feature, InputTerminal, Interface, Mixer, OutputTerminal,
-    Selector, WordList,
-};
+use uac_descriptor::Block;
+use uac_graph::laws::fresh_steps_have_room;
+use uac_graph::{Graph, Wires};
 use uac_pcm::Frame;
-use uac_sentence::are_well_formed;
-use uac_store::{Key, Store};
-use uac_topology::{Function, check};
+use uac_store::Store;
+use uac_topology::Function;
 use uac_units::{
     Job, Pins, PlainEffect, PlainFeature, PlainMixer, PlainSelector, Rack, Steps, Unit, UnitKind,
 };
@@ -47,146 +48,37 @@ impl Unit for CountingMixer {
     }
 }
 
-// The control interface, with which blocks begin.
-fn control() -> Block {
-    Block::Interface(Interface {
-        number: 0,
-        setting: 0,
-        endpoints: 0,
-        class: 1,
-        subclass: 1,
-        protocol: 0x20,
-        name: 0,
-    })
-}
-
-fn bytes(alloc: Global, items: &[u8]) -> Result<ByteList, AllocError>
-    ensures { IfOk result (λ list. list ≡ items.now) }
-{
-    let items = Vec::from_slice(alloc, items)?;
-    Ok(ByteList::from_vec(items))
-}
-
-fn words(alloc: Global, items: &[u32]) -> Result<WordList, AllocError>
-    ensures { IfOk result (λ list. list ≡ items.now) }
-{
-    let items = Vec::from_slice(alloc, items)?;
-    Ok(WordList::from_vec(items))
-}
-
-fn push(blocks: &mut Vec<Block>, block: Block) -> Result<(), AllocError> {
-    match blocks.push(block) {
-        Ok(()) => Ok(()),
-        Err(_) => Err(AllocError),
-    }
-}
-
-fn input(id: u8, channels: u8, locations: u32) -> Block {
-    Block::InputTerminal(InputTerminal {
-        id,
-        terminal_type: 0x0201,
-        assoc: 0,
-        clock: 1,
-        channels,
-        locations,
-        names: 0,
-        controls: 0,
-        name: 0,
-    })
-}
-
-fn clock() -> Block {
-    Block::ClockSource(ClockSource {
-        id: 1,
-        attributes: 3,
-        controls: 7,
-        assoc: 0,
-        name: 0,
-    })
+/// Jack 2 is stereo, and jack 5 mono. Feature 3 hears jack 2, and feature 6 jack 5. Terminal 4 plays feature 6.
+fn ends(alloc: Global, blocks: &mut Vec<Block>) -> Result<(), AllocError> {
+    push(blocks, clock(1, 3))?;
+    push(blocks, input(2, 0x0201, 2, 3))?;
+    push(blocks, input(5, 0x0201, 1, 0))?;
+    let stereo = feature(alloc, 3, 2, &[15, 15, 15])?;
+    push(blocks, stereo)?;
+    let mono = feature(alloc, 6, 5, &[15, 15])?;
+    push(blocks, mono)?;
+    push(blocks, output(4, 0x0301, 6))
 }
 
 /// A stereo mixer with two pins on one source.
-fn mixer(alloc: Global, id: u8, source: u8) -> Result<Block, AllocError> {
-    Ok(Block::Mixer(Mixer {
-        id,
-        sources: bytes(alloc, &[source, source])?,
-        channels: 2,
-        locations: 3,
-        names: 0,
-        mix_bits: bytes(alloc, &[255])?,
-        controls: 0,
-        name: 0,
-    }))
-}
-
-fn output(id: u8, source: u8) -> Block {
-    Block::OutputTerminal(OutputTerminal {
-        id,
-        terminal_type: 0x0301,
-        assoc: 0,
-        source,
-        clock: 1,
-        controls: 0,
-        name: 0,
-    })
-}
-
-/// Jack 2 is stereo, and jack 5 mono. Feature 3 hears jack 2, and feature 6 jack 5. Terminal 4 plays feature 6.
-fn ends(alloc: Global, blocks: &mut Vec<Block>) -> Result<(), AllocError> {
-    push(blocks, clock())?;
-    push(blocks, input(2, 2, 3))?;
-    push(blocks, input(5, 1, 0))?;
-    let stereo = words(alloc, &[15, 15, 15])?;
-    push(
-        blocks,
-        Block::Feature(Feature {
-            id: 3,
-            source: 2,
-            words: stereo,
-            name: 0,
-        }),
-    )?;
-    let mono = words(alloc, &[15, 15])?;
-    push(
-        blocks,
-        Block::Feature(Feature {
-            id: 6,
-            source: 5,
-            words: mono,
-            name: 0,
-        }),
-    )?;
-    push(blocks, output(4, 6))
+fn push_doubler(
+    alloc: Global,
+    blocks: &mut Vec<Block>,
+    id: u8,
+    source: u8,
+) -> Result<(), AllocError> {
+    let doubler = mixer(alloc, id, &[source, source], 2, 3, &[255])?;
+    push(blocks, doubler)
 }
 
 /// Mixer 8 hears jack 2 twice, selector 9 feature 3 and the mixer, effect 10 the selector, and terminal 7 the effect.
 fn chain(alloc: Global, blocks: &mut Vec<Block>) -> Result<(), AllocError> {
-    let mixed = mixer(alloc, 8, 2)?;
-    push(blocks, mixed)?;
-    let chosen = selector(alloc)?;
+    push_doubler(alloc, blocks, 8, 2)?;
+    let chosen = selector(alloc, 9, &[3, 8])?;
     push(blocks, chosen)?;
-    let bypassed = effect(alloc)?;
+    let bypassed = effect(alloc, 10, 1, 9, &[3, 3, 3])?;
     push(blocks, bypassed)?;
-    push(blocks, output(7, 10))
-}
-
-fn selector(alloc: Global) -> Result<Block, AllocError> {
-    Ok(Block::Selector(Selector {
-        id: 9,
-        sources: bytes(alloc, &[3, 8])?,
-        controls: 3,
-        name: 0,
-    }))
-}
-
-fn effect(alloc: Global) -> Result<Block, AllocError> {
-    Ok(Block::Effect(Effect {
-        id: 10,
-        effect_type: 1,
-        source: 9,
-        words: words(alloc, &[3, 3, 3])?,
-        name: 0,
-    }))
+    push(blocks, output(7, 0x0301, 10))
 }
 
 /// Whether the wire has as many channels as the frame.
@@ -209,17 +101,6 @@ fn give(wires: &mut Wires, terminal: u8, samples: &[i32])
     }
 }
 
-fn hold(store: &mut Store, entity: u8, selector: u8, channel: u8, value: i32) {
-    let key = Key {
-        entity,
-        selector,
-        channel,
-    };
-    if store.cur(key).is_some() {
-        store.set(key, value);
-    }
-}
-
 /// A function with one tick or more to be tried on it.
 #[derive(Clone, Copy)]
 enum Trial {
@@ -228,7 +109,7 @@ enum Trial {
 }
 
 fn push_for(trial: Trial, alloc: Global, blocks: &mut Vec<Block>) -> Result<(), AllocError> {
-    push(blocks, control())?;
+    push(blocks, control(0))?;
     match trial {
         Trial::Small => {
             ends(alloc, blocks)?;
@@ -240,29 +121,18 @@ fn push_for(trial: Trial, alloc: Global, blocks: &mut Vec<Block>) -> Result<(), 
 
 /// Mixer 3 has two pins on jack 2, which is stereo, and each mixer up to 42 two pins on the one before. Terminal 43 plays the last.
 fn push_row(alloc: Global, blocks: &mut Vec<Block>) -> Result<(), AllocError> {
-    push(blocks, clock())?;
-    push(blocks, input(2, 2, 3))?;
+    push(blocks, clock(1, 3))?;
+    push(blocks, input(2, 0x0201, 2, 3))?;
     for before in 2..42u8 {
-        let next = mixer(alloc, before + 1, before)?;
-        push(blocks, next)?;
+        push_doubler(alloc, blocks, before + 1, before)?;
     }
-    push(blocks, output(43, 42))
+    push(blocks, output(43, 0x0301, 42))
 }
 
 fn function(alloc: Global, trial: Trial) -> Result<Function, AllocError> {
     let mut blocks = Vec::new(alloc);
     push_for(trial, alloc, &mut blocks)?;
-    checked(alloc, &blocks)
-}
-
-fn checked(alloc: Global, blocks: &[Block]) -> Result<Function, AllocError> {
-    if !are_well_formed(blocks) {
-        return Err(AllocError);
-    }
-    match check(alloc, blocks) {
-        Ok(function) => Ok(function),
-        Err(_) => Err(AllocError),
-    }
+    function_of(alloc, &blocks)
 }
 
 /// The controls of a function after these changes.
@@ -276,7 +146,7 @@ fn changed(
         Err(_) => return Err(AllocError),
     };
     for (entity, selector, channel, value) in changes {
-        hold(&mut store, *entity, *selector, *channel, *value);
+        hold(&mut store, key(*entity, *selector, *channel), *value);
     }
     Ok(store)
 }
@@ -447,18 +317,6 @@ fn act(
             expect_tick(rt, alloc, function, rack, &[], true, &wanted)
         }
     }
-}
-
-/// A rack of plain units.
-fn plain_rack(alloc: Global) -> Result<Rack, AllocError>
-    ensures { IfOk result (λ rack. IsFitted (λ v x. (⟦<dyn Unit as Unit>⟧ v).kind_of x) rack) }
-{
-    Ok(Rack::new(
-        Box::new(alloc, PlainMixer)?,
-        Box::new(alloc, PlainSelector)?,
-        Box::new(alloc, PlainFeature)?,
-        Box::new(alloc, PlainEffect)?,
-    ))
 }
 
 fn try_small(rt: &impl Abort, alloc: Global) -> Result<(), AllocError> {

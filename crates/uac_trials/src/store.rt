@@ -1,78 +1,13 @@
-// The values and rates of small functions, with ample memory.
-ghost use Rattle.std.specs.Prelude.{◌≡◌, IfOk, length};
-
-use super::*;
+//! The values and rates of small functions, with ample memory.
+use crate::blocks::{
+    bytes, clock, control, effect, feature, function_of, input, mixer, push, selector,
+};
 use std::alloc::{AllocError, Global};
 use std::process::Abort;
 use std::test::Fail;
-use uac_descriptor::{
-    Block, ByteList, ClockMultiplier, ClockSelector, ClockSource, Effect, Feature, InputTerminal,
-    Interface, Mixer, NoMemory, Selector, WordList,
-};
-use uac_sentence::are_well_formed;
-use uac_topology::{Function, check};
-
-fn push(blocks: &mut Vec<Block>, block: Block) -> Result<(), AllocError> {
-    match blocks.push(block) {
-        Ok(()) => Ok(()),
-        Err(_) => Err(AllocError),
-    }
-}
-
-fn bytes(alloc: Global, items: &[u8]) -> Result<ByteList, AllocError>
-    ensures { IfOk result (λ list. list ≡ items.now) }
-{
-    match Vec::from_slice(alloc, items) {
-        Ok(items) => Ok(ByteList::from_vec(items)),
-        Err(_) => Err(AllocError),
-    }
-}
-
-fn words(alloc: Global, items: &[u32]) -> Result<WordList, AllocError>
-    ensures { IfOk result (λ list. list ≡ items.now) }
-{
-    match Vec::from_slice(alloc, items) {
-        Ok(items) => Ok(WordList::from_vec(items)),
-        Err(_) => Err(AllocError),
-    }
-}
-
-// The control interface, with which blocks begin.
-fn control() -> Block {
-    Block::Interface(Interface {
-        number: 0,
-        setting: 0,
-        endpoints: 0,
-        class: 1,
-        subclass: 1,
-        protocol: 0x20,
-        name: 0,
-    })
-}
-
-fn clock(id: u8, attributes: u8) -> Block {
-    Block::ClockSource(ClockSource {
-        id,
-        attributes,
-        controls: 7,
-        assoc: 0,
-        name: 0,
-    })
-}
-
-fn input(id: u8, channels: u8) -> Block {
-    Block::InputTerminal(InputTerminal {
-        id,
-        terminal_type: 0x0201,
-        assoc: 0,
-        clock: 1,
-        channels,
-        locations: 0,
-        names: 0,
-        controls: 0,
-        name: 0,
-    })
-}
+use uac_descriptor::{Block, ClockMultiplier, ClockSelector, NoMemory};
+use uac_store::{Key, Range, Store, ranges};
+use uac_topology::Function;
 
 /// What is tried on a function and its controls.
 #[derive(Clone, Copy)]
@@ -92,16 +27,6 @@ fn push_for(trial: Trial, alloc: Global, blocks: &mut Vec<Block>) -> Result<(), 
         Trial::Ranges | Trial::Frequencies | Trial::UnitValues | Trial::ClockValues => {
             push_boxes(alloc, blocks)
         }
-    }
-}
-
-fn function_of(alloc: Global, blocks: &[Block]) -> Result<Function, AllocError> {
-    if !are_well_formed(blocks) {
-        return Err(AllocError);
-    }
-    match check(alloc, blocks) {
-        Ok(function) => Ok(function),
-        Err(_) => Err(AllocError),
     }
 }
 
@@ -146,7 +71,7 @@ fn act(rt: &impl Abort, trial: Trial, function: &Function, store: &mut Store) {
     }
 }
 
-fn key(entity: u8, selector: u8, channel: u8) -> Key {
+pub(crate) fn key(entity: u8, selector: u8, channel: u8) -> Key {
     Key {
         entity,
         selector,
@@ -155,70 +80,32 @@ fn key(entity: u8, selector: u8, channel: u8) -> Key {
 }
 
 // A new value for a control that is there.
-fn hold(store: &mut Store, key: Key, value: i32) {
+pub(crate) fn hold(store: &mut Store, key: Key, value: i32) {
     if store.cur(key).is_some() {
         store.set(key, value);
     }
 }
 
-fn mixer(alloc: Global) -> Result<Block, AllocError> {
-    Ok(Block::Mixer(Mixer {
-        id: 8,
-        sources: bytes(alloc, &[2, 6])?,
-        channels: 3,
-        locations: 0,
-        names: 0,
-        mix_bits: bytes(alloc, &[0xff, 0x80])?,
-        controls: 0,
-        name: 0,
-    }))
-}
-
 // The headset's clock, microphone feature, and a mixer of two inputs and three outputs on both terminals.
 fn push_headset(alloc: Global, blocks: &mut Vec<Block>) -> Result<(), AllocError> {
-    push(blocks, control())?;
+    push(blocks, control(0))?;
     push(blocks, clock(1, 3))?;
-    push(blocks, input(2, 2))?;
-    push(blocks, input(5, 1))?;
-    let words = words(alloc, &[3, 12])?;
-    push(
-        blocks,
-        Block::Feature(Feature {
-            id: 6,
-            source: 5,
-            words,
-            name: 0,
-        }),
-    )?;
-    let mixer = mixer(alloc)?;
-    push(blocks, mixer)
+    push(blocks, input(2, 0x0201, 2, 0))?;
+    push(blocks, input(5, 0x0201, 1, 0))?;
+    let mouth = feature(alloc, 6, 5, &[3, 12])?;
+    push(blocks, mouth)?;
+    let mixed = mixer(alloc, 8, &[2, 6], 3, 0, &[0xff, 0x80])?;
+    push(blocks, mixed)
 }
 
 // The headset with a selector and an effect of its terminals, and a second clock that is fixed, a selector of both clocks
 // and a multiplier of what it chooses.
 fn push_boxes(alloc: Global, blocks: &mut Vec<Block>) -> Result<(), AllocError> {
     push_headset(alloc, blocks)?;
-    let sources = bytes(alloc, &[2, 2])?;
-    push(
-        blocks,
-        Block::Selector(Selector {
-            id: 9,
-            sources,
-            controls: 3,
-            name: 0,
-        }),
-    )?;
-    let words = words(alloc, &[3, 3])?;
-    push(
-        blocks,
-        Block::Effect(Effect {
-            id: 10,
-            effect_type: 0,
-            source: 5,
-            words,
-            name: 0,
-        }),
-    )?;
+    let chosen = selector(alloc, 9, &[2, 2])?;
+    push(blocks, chosen)?;
+    let bypassed = effect(alloc, 10, 0, 5, &[3, 3])?;
+    push(blocks, bypassed)?;
     push(blocks, clock(11, 1))?;
     push_clock_units(alloc, blocks, &[1, 11], 12, 13)
 }
@@ -254,7 +141,7 @@ fn push_clock_units(
 
 // Two sources, a selector over them, and a multiplier of what it chooses.
 fn push_clocks(alloc: Global, blocks: &mut Vec<Block>) -> Result<(), AllocError> {
-    push(blocks, control())?;
+    push(blocks, control(0))?;
     push(blocks, clock(1, 3))?;
     push(blocks, clock(2, 3))?;
     push_clock_units(alloc, blocks, &[1, 2], 3, 4)

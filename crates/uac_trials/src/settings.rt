@@ -1,66 +1,10 @@
-// The settings of a function with two streaming interfaces, and the streams of their settings, with ample memory.
-use super::*;
+//! The settings of a function with two streaming interfaces, and the streams of their settings, with ample memory.
+use crate::blocks::{endpoint, function_of, pcm, push, push_format, push_two_ways, streaming};
 use std::alloc::{AllocError, Global};
 use std::test::Fail;
-use uac_descriptor::{
-    Block, ClockSource, Endpoint, General, InputTerminal, Interface, OutputTerminal, TypeOne,
-};
-use uac_sentence::are_well_formed;
-use uac_topology::{Function, check};
-
-fn push(blocks: &mut Vec<Block>, block: Block) -> Result<(), AllocError> {
-    match blocks.push(block) {
-        Ok(()) => Ok(()),
-        Err(_) => Err(AllocError),
-    }
-}
-
-fn interface(number: u8, subclass: u8, setting: u8, endpoints: u8) -> Block {
-    Block::Interface(Interface {
-        number,
-        setting,
-        endpoints,
-        class: 1,
-        subclass,
-        protocol: 0x20,
-        name: 0,
-    })
-}
-
-fn input(id: u8, terminal_type: u16, channels: u8) -> Block {
-    Block::InputTerminal(InputTerminal {
-        id,
-        terminal_type,
-        assoc: 0,
-        clock: 1,
-        channels,
-        locations: 0,
-        names: 0,
-        controls: 0,
-        name: 0,
-    })
-}
-
-fn output(id: u8, terminal_type: u16, source: u8) -> Block {
-    Block::OutputTerminal(OutputTerminal {
-        id,
-        terminal_type,
-        assoc: 0,
-        source,
-        clock: 1,
-        controls: 0,
-        name: 0,
-    })
-}
-
-fn endpoint(address: u8, attributes: u8, max_packet: u16, interval: u8) -> Block {
-    Block::Endpoint(Endpoint {
-        address,
-        attributes,
-        max_packet,
-        interval,
-    })
-}
+use uac_alt::{Settings, stream};
+use uac_descriptor::Block;
+use uac_topology::Function;
 
 /// What differs from setting to setting: the numbers of the format, those of the first endpoint, and the size and the
 /// interval of the second.
@@ -104,24 +48,17 @@ fn push_setting(
     setting: u8,
     row: Row,
 ) -> Result<(), AllocError> {
-    let (number, link, subslot, bits, address) = if out {
-        (7, 2, 3, 24, 0x01)
+    let (number, link, subslot, address) = if out {
+        (7, 2, 3, 0x01)
     } else {
-        (8, 5, 2, 16, 0x82)
+        (8, 5, 2, 0x82)
     };
     let endpoints = if row.second.is_some() { 2 } else { 1 };
-    push(blocks, interface(number, 2, setting, endpoints))?;
-    let general = General {
-        link,
-        controls: 0,
-        format_type: row.format_type,
-        formats: row.formats,
-        channels: row.channels,
-        locations: 0,
-        names: 0,
-    };
-    push(blocks, Block::General(general))?;
-    push(blocks, Block::TypeOne(TypeOne { subslot, bits }))?;
+    push(blocks, streaming(number, setting, endpoints))?;
+    let mut general = pcm(link, row.channels);
+    general.format_type = row.format_type;
+    general.formats = row.formats;
+    push_format(blocks, general, subslot)?;
     push(
         blocks,
         endpoint(address, row.attributes, row.max_packet, row.interval),
@@ -130,23 +67,6 @@ fn push_setting(
         Some((size, interval)) => push(blocks, endpoint(address ^ 0x80, 0x11, size, interval)),
         None => Ok(()),
     }
-}
-
-// The control interface 4, a USB terminal 2 under clock 1 that feeds a jack 3, a jack 4 that feeds a USB terminal 5.
-fn push_entities(blocks: &mut Vec<Block>) -> Result<(), AllocError> {
-    let clock = ClockSource {
-        id: 1,
-        attributes: 3,
-        controls: 7,
-        assoc: 0,
-        name: 0,
-    };
-    push(blocks, interface(4, 1, 0, 0))?;
-    push(blocks, Block::ClockSource(clock))?;
-    push(blocks, input(2, 0x0101, 2))?;
-    push(blocks, output(3, 0x0301, 2))?;
-    push(blocks, input(4, 0x0201, 1))?;
-    push(blocks, output(5, 0x0101, 4))
 }
 
 // The settings 1 to 15 of the stream to the device.
@@ -231,22 +151,16 @@ fn in_rows() -> [Row; 3] {
 // The entities, the interface 7 with its settings, and the interface 8 with its own.
 fn function(alloc: Global) -> Result<Function, AllocError> {
     let mut blocks = Vec::new(alloc);
-    push_entities(&mut blocks)?;
-    push(&mut blocks, interface(7, 2, 0, 0))?;
+    push_two_ways(&mut blocks, 4, 2)?;
+    push(&mut blocks, streaming(7, 0, 0))?;
     for (place, row) in out_rows().iter().enumerate() {
         push_setting(&mut blocks, true, place as u8 + 1, *row)?;
     }
-    push(&mut blocks, interface(8, 2, 0, 0))?;
+    push(&mut blocks, streaming(8, 0, 0))?;
     for (place, row) in in_rows().iter().enumerate() {
         push_setting(&mut blocks, false, place as u8 + 1, *row)?;
     }
-    if !are_well_formed(blocks.as_slice()) {
-        return Err(AllocError);
-    }
-    match check(alloc, blocks.as_slice()) {
-        Ok(function) => Ok(function),
-        Err(_) => Err(AllocError),
-    }
+    function_of(alloc, blocks.as_slice())
 }
 
 #[test]

@@ -3,64 +3,16 @@
 
 ghost use Rattle.uac_units.specs.Fitting.{IsFitted};
 
-use crate::tests::{Trial, ask, give, played, push, tick, try_out};
-use crate::*;
+use crate::blocks::{endpoint, pcm, push, push_format, push_two_ways, streaming};
+use crate::device::{Trial, ask, give, played, tick, try_out};
 use arrayvec::ArrayVec;
 use std::alloc::AllocError;
 use std::process::Abort;
 use std::test::Fail;
-use uac_descriptor::{
-    Block, ClockSource, Endpoint, General, InputTerminal, Interface, OutputTerminal, TypeOne,
-};
+use uac_descriptor::Block;
+use uac_device::{Arrival, Device, Ticked};
 use uac_pcm::Packet;
 use uac_units::{Meters, Rack, Unit};
-
-fn interface(number: u8, subclass: u8, setting: u8, endpoints: u8) -> Block {
-    Block::Interface(Interface {
-        number,
-        setting,
-        endpoints,
-        class: 1,
-        subclass,
-        protocol: 0x20,
-        name: 0,
-    })
-}
-
-fn input(id: u8, terminal_type: u16) -> Block {
-    Block::InputTerminal(InputTerminal {
-        id,
-        terminal_type,
-        assoc: 0,
-        clock: 1,
-        channels: 1,
-        locations: 0,
-        names: 0,
-        controls: 0,
-        name: 0,
-    })
-}
-
-fn output(id: u8, terminal_type: u16, source: u8) -> Block {
-    Block::OutputTerminal(OutputTerminal {
-        id,
-        terminal_type,
-        assoc: 0,
-        source,
-        clock: 1,
-        controls: 0,
-        name: 0,
-    })
-}
-
-fn endpoint(address: u8, attributes: u8, max_packet: u16, interval: u8) -> Block {
-    Block::Endpoint(Endpoint {
-        address,
-        attributes,
-        max_packet,
-        interval,
-    })
-}
 
 // A setting with endpoints: samples of two bytes, at most 10 frames a packet, a packet each microframe.
 fn push_setting(
@@ -70,42 +22,14 @@ fn push_setting(
     endpoints: u8,
     address: u8,
 ) -> Result<(), AllocError> {
-    let general = General {
-        link,
-        controls: 0,
-        format_type: 1,
-        formats: 1,
-        channels: 1,
-        locations: 0,
-        names: 0,
-    };
-    push(blocks, interface(number, 2, 0, 0))?;
-    push(blocks, interface(number, 2, 1, endpoints))?;
-    push(blocks, Block::General(general))?;
-    push(
-        blocks,
-        Block::TypeOne(TypeOne {
-            subslot: 2,
-            bits: 16,
-        }),
-    )?;
+    push(blocks, streaming(number, 0, 0))?;
+    push(blocks, streaming(number, 1, endpoints))?;
+    push_format(blocks, pcm(link, 1), 2)?;
     push(blocks, endpoint(address, 5, 20, 1))
 }
 
-pub(crate) fn push_blocks(blocks: &mut Vec<Block>) -> Result<(), AllocError> {
-    let clock = ClockSource {
-        id: 1,
-        attributes: 3,
-        controls: 7,
-        assoc: 0,
-        name: 0,
-    };
-    push(blocks, interface(0, 1, 0, 0))?;
-    push(blocks, Block::ClockSource(clock))?;
-    push(blocks, input(2, 0x0101))?;
-    push(blocks, output(3, 0x0301, 2))?;
-    push(blocks, input(4, 0x0201))?;
-    push(blocks, output(5, 0x0101, 4))?;
+pub(crate) fn push_streams(blocks: &mut Vec<Block>) -> Result<(), AllocError> {
+    push_two_ways(blocks, 0, 1)?;
     push_setting(blocks, 7, 2, 2, 0x01)?;
     push(blocks, endpoint(0x81, 0x11, 4, 4))?;
     push_setting(blocks, 8, 5, 1, 0x82)
