@@ -7,14 +7,14 @@ use Rattle.std.specs.declared.string.String.{String}
 use Rattle.std.specs.declared.vec.IntoIter.{IntoIter}
 use Rattle.uac_words.specs.declared.commands.Words.{Words}
 use Rattle.uac_words.specs.Plain.{plainly}
-use Rattle.uac_cli.specs.declared.status.Status.{Status}
-use Rattle.uac_cli.specs.declared.status.Status.TheVariants as statuses
+use Rattle.uac_describe.specs.declared.status.Status.{Status}
+use Rattle.uac_describe.specs.declared.status.Status.TheVariants as statuses
 use Rattle.uac_cli.specs.Boxes.{IsFreshCall, fresh_readings}
 use Rattle.uac_cli.specs.Call.{ask_to_read}
 use Rattle.uac_cli.specs.Completeness.{IsComplete}
-use Rattle.uac_cli.specs.Outcome.{no_memory}
+use Rattle.uac_describe.specs.Outcome.{no_memory}
 use Rattle.uac_cli.specs.Program.{asked_by}
-use Rattle.uac_cli.specs.Run.{Closes}
+use Rattle.uac_describe.specs.Closing.{Closes}
 
 -- the words after the name ask for what the arguments ask for
 pub asked_words : {X Z E : Type 0} (args : Result (IntoIter (String X) Z) E) (words lent : List (String X)) → lent ≡ words

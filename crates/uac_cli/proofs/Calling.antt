@@ -9,13 +9,16 @@ use Rattle.uac_words.specs.declared.commands.Words.{Words}
 use Rattle.uac_words.specs.declared.commands.WordsFault.{WordsFault}
 use Rattle.uac_words.specs.declared.commands.WordsFault.TheVariants as faults
 use Rattle.uac_words.specs.ByClap.{IsAnswer}
-use Rattle.uac_cli.specs.declared.jobs.Job.TheVariants.{Run}
-use Rattle.uac_cli.specs.declared.jobs.Description.TheVariants.{Check, Elements, Show}
-use Rattle.uac_cli.specs.declared.status.Status.{Status}
-use Rattle.uac_cli.specs.declared.status.Status.TheVariants as statuses
-use Rattle.uac_cli.specs.Outcome.{Outcome, no_memory, usage}
-use Rattle.uac_cli.specs.Run.{Closes, IsAnswered, IsRun}
-use Rattle.uac_cli.specs.Call.{AreAnswered, IsCall, IsDone, IsGenerated, Prints, ask_to_read, reads_all, settling}
+use Rattle.uac_scripts.specs.declared.jobs.Job.TheVariants.{Run}
+use Rattle.uac_describe.specs.declared.description.Description.TheVariants.{Check, Elements, Show}
+use Rattle.uac_describe.specs.declared.status.Status.{Status}
+use Rattle.uac_describe.specs.declared.status.Status.TheVariants as statuses
+use Rattle.uac_describe.specs.Outcome.{Outcome, no_memory}
+use Rattle.uac_scripts.specs.Run.{usage, IsRun}
+use Rattle.uac_describe.specs.Closing.{Closes}
+use Rattle.uac_describe.specs.Answered.{IsAnswered}
+use Rattle.uac_cli.specs.Call.{AreAnswered, IsCall, IsDone, IsGenerated, Prints, ask_to_read, reads_all}
+use Rattle.uac_describe.specs.Settling.{settling}
 use Rattle.uac_cli.proofs.Answering.{described_run, usage_run}
 
 -- a text was printed, and nothing was taken or heard

@@ -1,5 +1,5 @@
 -- From what a call came to, to what all of its input comes to.
-use Rattle.std.proofs.Common.{◌≡◌, ◌≢◌, ℕ, ◌⊎◌, inl, inr, List, Option, None, Some, refl, sym, ap, subst, ◌∙◌, arith}
+use Rattle.std.proofs.Common.{◌≡◌, ◌≢◌, ℕ, ◌⊎◌, inl, inr, List, Option, Some, refl, sym, ap, subst, ◌∙◌, arith}
 use Rattle.std.specs.Io.KnownBytes.{Appends}
 use Rattle.uac_descriptor.specs.Reading.{AreBytes}
 use Rattle.uac_edges.specs.Faults.{Rose}
@@ -8,17 +8,20 @@ use Rattle.uac_words.specs.declared.commands.Command.{Command}
 use Rattle.uac_words.specs.declared.commands.Command.TheVariants as commands
 use Rattle.uac_words.specs.declared.commands.Words.{Words}
 use Rattle.uac_gen.specs.Script.{script_of}
-use Rattle.uac_cli.specs.declared.jobs.Job.TheVariants.{Describe, Run}
-use Rattle.uac_cli.specs.declared.jobs.Description.{Description}
-use Rattle.uac_cli.specs.declared.jobs.Description.TheVariants.{Check, Elements, Show}
-use Rattle.uac_cli.specs.declared.status.Status.{Status}
-use Rattle.uac_cli.specs.declared.status.Status.TheVariants as statuses
-use Rattle.uac_cli.specs.Outcome.{Answers, Outcome, at_end, no_memory}
-use Rattle.uac_cli.specs.Run.{Closes, IsRun}
-use Rattle.uac_cli.specs.Call.{AreAnswered, IsCall, IsDone, settling}
-use Rattle.uac_cli.specs.Completeness.{ComesTo, HasInput, IsComplete, Rests}
-use Rattle.uac_cli.specs.Transcript.{Ending, transcript}
-use Rattle.uac_cli.proofs.Completing.{done_once, said_once}
+use Rattle.uac_scripts.specs.declared.jobs.Job.TheVariants.{Describe, Run}
+use Rattle.uac_describe.specs.declared.description.Description.{Description}
+use Rattle.uac_describe.specs.declared.description.Description.TheVariants.{Check, Elements, Show}
+use Rattle.uac_describe.specs.declared.status.Status.{Status}
+use Rattle.uac_describe.specs.declared.status.Status.TheVariants as statuses
+use Rattle.uac_describe.specs.Outcome.{Answers, Outcome, at_end, no_memory}
+use Rattle.uac_describe.specs.Closing.{Closes, Rests}
+use Rattle.uac_scripts.specs.Run.{IsRun}
+use Rattle.uac_cli.specs.Call.{AreAnswered, IsCall, IsDone}
+use Rattle.uac_describe.specs.Settling.{settling}
+use Rattle.uac_cli.specs.Completeness.{ComesTo, HasInput, IsComplete}
+use Rattle.uac_scripts.specs.Transcript.{Ending, transcript}
+use Rattle.uac_scripts.proofs.Completing.{done_once}
+use Rattle.uac_describe.proofs.Completing.{said_once}
 
 -- no write failed, so the whole text was written
 closed_whole : (outcome : Outcome) (w w' : Option (List ℕ)) (f f' : ℕ) (status : Status) → Rests f f' → Closes outcome w w' f f' status

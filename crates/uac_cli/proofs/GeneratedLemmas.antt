@@ -13,14 +13,14 @@ use Rattle.uac_steady.specs.Scripts.{behind_lines}
 use Rattle.uac_generated.specs.Generated.{IsLineOfScript}
 use Rattle.uac_generated.proofs.Whole.{generated_scripts_are_done, generated_scripts_are_scripts, generated_scripts_are_steady}
 use Rattle.uac_promises.proofs.AllScripts.{all_scripts_keep_promises}
-use Rattle.uac_cli.specs.declared.status.Status.TheVariants as statuses
-use Rattle.uac_cli.specs.Outcome.{at_end}
-use Rattle.uac_cli.specs.Script as script
-use Rattle.uac_cli.specs.Script.{IsLine, come_to, with_newlines}
-use Rattle.uac_cli.specs.Transcript.{Ending, with_text_first, closed_by, ends, finished, goes, transcript}
+use Rattle.uac_describe.specs.declared.status.Status.TheVariants as statuses
+use Rattle.uac_describe.specs.Outcome.{at_end}
+use Rattle.uac_scripts.specs.Script as script
+use Rattle.uac_scripts.specs.Script.{IsLine, come_to, with_newlines}
+use Rattle.uac_scripts.specs.Transcript.{Ending, with_text_first, closed_by, ends, finished, goes, transcript}
 use Rattle.uac_cli.specs.Generated.{GeneratedScriptsRunWhole}
-use Rattle.uac_cli.proofs.Going.{goes_at, head_nothing}
-use Rattle.uac_cli.proofs.ScriptLemmas.{script_lines}
+use Rattle.uac_scripts.proofs.Going.{goes_at, head_nothing}
+use Rattle.uac_scripts.proofs.ScriptLemmas.{script_lines}
 
 are_lines : (texts : List (List ℕ)) → AllByRecursion IsLineOfScript texts → AllByRecursion IsLine texts
 are_lines [] each = tt

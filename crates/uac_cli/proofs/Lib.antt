@@ -2,13 +2,5 @@ pub mod Answering
 pub mod Asking
 pub mod Calling
 pub mod Completed
-pub mod Completing
-pub mod Composing
-pub mod Cutting
-pub mod Following
-pub mod Going
-pub mod HandingOn
-pub mod Idle
-pub mod ScriptLemmas
-pub mod LivedLemmas
 pub mod GeneratedLemmas
+pub mod HandingOn

@@ -1,32 +1,17 @@
 -- One call of the program, by what its words ask for (profile).
-use Rattle.std.specs.Prelude.{◌≡◌, ℕ, ◌⊎◌, Bool, true, false, List, [], ◌++◌, flat_map, codes, decimal, Option, None, Some}
-use Rattle.std.specs.Option.{option_map_or}
-use Rattle.uac_clock.specs.Nominal.{twelve_rates}
+use Rattle.std.specs.Prelude.{◌≡◌, ℕ, ◌⊎◌, Bool, true, false, List, Option, None, Some}
 use Rattle.uac_gen.specs.Script.{script_of}
-use Rattle.uac_settle.specs.Settling.{bound_of}
 use Rattle.uac_units.specs.Hearing.{Reading}
 use Rattle.uac_words.specs.declared.commands.Command.{Command}
 use Rattle.uac_words.specs.declared.commands.Command.TheVariants as commands
 use Rattle.uac_words.specs.declared.commands.Words.{Words}
-use Rattle.uac_cli.specs.declared.jobs.Job.TheVariants.{Describe, Run}
-use Rattle.uac_cli.specs.declared.jobs.Description.TheVariants.{Check, Elements, Show}
-use Rattle.uac_cli.specs.declared.status.Status.{Status}
-use Rattle.uac_cli.specs.declared.status.Status.TheVariants as statuses
-use Rattle.uac_cli.specs.Outcome.{Outcome, no_memory}
-use Rattle.uac_cli.specs.Run.{Closes, IsRun}
-
--- ---- `settle`
-
--- a rate's line: after how many microframes without a lost packet a stream is home
-abbrev pub settling_line : ℕ → List ℕ
-settling_line rate = option_map_or (λ bound. codes "rate " ++ decimal rate ++ codes " settle " ++ decimal bound
-    ++ codes "\n") (bound_of rate) []
-
--- one for each of the twelve rates, in their order
-abbrev pub settling : Outcome
-settling = record { text = flat_map settling_line twelve_rates; status = statuses.Ok }
-
--- ---- a call
+use Rattle.uac_scripts.specs.declared.jobs.Job.TheVariants.{Describe, Run}
+use Rattle.uac_describe.specs.declared.description.Description.TheVariants.{Check, Elements, Show}
+use Rattle.uac_describe.specs.declared.status.Status.{Status}
+use Rattle.uac_describe.specs.Outcome.{Outcome, no_memory}
+use Rattle.uac_describe.specs.Closing.{Closes}
+use Rattle.uac_describe.specs.Settling.{settling}
+use Rattle.uac_scripts.specs.Run.{IsRun}
 
 -- nothing of the source was taken, and the meters heard nothing
 pub record IsApart (shown shown' : List Reading) (left left' : Option (List ℕ)) (reads reads' : ℕ) : Type 0 where

@@ -2,22 +2,19 @@
 use Rattle.std.specs.Prelude.{◌≡◌, ℕ, ◌⊎◌, true, List, Option, Some}
 use Rattle.std.specs.Io.KnownBytes.{Appends}
 use Rattle.uac_descriptor.specs.Reading.{AreBytes}
-use Rattle.uac_edges.specs.Faults.{Rose}
 use Rattle.uac_gen.specs.Script.{script_of}
 use Rattle.uac_units.specs.Hearing.{Reading}
 use Rattle.uac_words.specs.declared.commands.Command.{Command}
 use Rattle.uac_words.specs.declared.commands.Command.TheVariants as commands
 use Rattle.uac_words.specs.declared.commands.Words.{Words}
-use Rattle.uac_cli.specs.declared.jobs.Description.TheVariants.{Check, Elements, Show}
-use Rattle.uac_cli.specs.declared.status.Status.{Status}
-use Rattle.uac_cli.specs.declared.status.Status.TheVariants as statuses
-use Rattle.uac_cli.specs.Outcome.{Answers, Outcome, at_end}
-use Rattle.uac_cli.specs.Transcript.{transcript}
-use Rattle.uac_cli.specs.Call.{reads_all, settling}
-
--- no fault shows in the call: the count of faults neither rose nor stands at its type's end
-abbrev pub Rests : ℕ → ℕ → Type 0
-Rests before after = Rose before after → ⊥
+use Rattle.uac_describe.specs.declared.description.Description.TheVariants.{Check, Elements, Show}
+use Rattle.uac_describe.specs.declared.status.Status.{Status}
+use Rattle.uac_describe.specs.declared.status.Status.TheVariants as statuses
+use Rattle.uac_describe.specs.Closing.{Rests}
+use Rattle.uac_describe.specs.Outcome.{Answers, Outcome, at_end}
+use Rattle.uac_scripts.specs.Transcript.{transcript}
+use Rattle.uac_cli.specs.Call.{reads_all}
+use Rattle.uac_describe.specs.Settling.{settling}
 
 -- What a command comes to over an input that is these bytes and no more: `check`, `show` and `elements` say what is said of them where they
 -- end, `run` does their lines to the end, `gen` does those of its number's script, and `settle` takes no input.

@@ -6,9 +6,9 @@ use Rattle.uac_gen.specs.Script.{script_of}
 use Rattle.uac_transcript.specs.Printing.{text_of}
 use Rattle.uac_steady.specs.Scripts.{behind_lines}
 use Rattle.uac_promises.specs.Promises.{KeepsPromises}
-use Rattle.uac_cli.specs.declared.status.Status.TheVariants as statuses
-use Rattle.uac_cli.specs.Outcome.{at_end}
-use Rattle.uac_cli.specs.Transcript.{with_text_first, ends, transcript}
+use Rattle.uac_describe.specs.declared.status.Status.TheVariants as statuses
+use Rattle.uac_describe.specs.Outcome.{at_end}
+use Rattle.uac_scripts.specs.Transcript.{with_text_first, ends, transcript}
 
 -- a number's script prints the lines of all its lines and nothing else, with status Ok, and every line that it prints is as promised of
 -- steady scripts: no ring is found empty or without room

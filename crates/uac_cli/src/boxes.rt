@@ -7,11 +7,11 @@ ghost use Rattle.uac_words.specs.Plain.{plainly};
 ghost use Rattle.uac_cli.specs.Boxes.{IsFreshCall, fresh_readings};
 ghost use Rattle.uac_cli.specs.Call.{ask_to_read};
 ghost use Rattle.uac_cli.specs.Completeness.{IsComplete};
-ghost use Rattle.uac_cli.specs.Run.{IsFaultless};
+ghost use Rattle.uac_describe.specs.Closing.{IsFaultless};
 
-use crate::status::Status;
 use crate::top::{Racks, uac_main};
 use std::alloc::{AllocError, Global};
+use uac_describe::Status;
 use uac_edges::{Sink, Source};
 use uac_units::{
     ClippedMeter, LaneEffect, LaneFeature, LaneMixer, LaneSelector, Meter, Meters, PeakMeter,

@@ -5,17 +5,15 @@ ghost use Rattle.uac_edges.specs.Faults.{Rose};
 ghost use Rattle.uac_cli.specs.Boxes.{IsFreshCall, fresh_readings};
 ghost use Rattle.uac_cli.specs.Call.{ask_to_read};
 ghost use Rattle.uac_cli.specs.Completeness.{IsComplete};
-ghost use Rattle.uac_cli.specs.Run.{IsFaultless};
+ghost use Rattle.uac_describe.specs.Closing.{IsFaultless};
 ghost use Rattle.uac_cli.specs.Program.{asked_by};
 
 use crate::arguments::words;
 use crate::boxes::run_in_boxes;
-use crate::lines::NO_MEMORY;
-use crate::status::Status;
-use crate::top::conclude;
 use std::alloc::Global;
 use std::env::Args;
 use std::io;
+use uac_describe::{NO_MEMORY, Status, conclude};
 use uac_descriptor::NoMemory;
 use uac_edges::{Sink, Source};
 

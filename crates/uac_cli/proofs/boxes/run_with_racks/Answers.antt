@@ -3,7 +3,7 @@ use Rattle.std.proofs.Common.{◌≡◌, ℕ, refl, ap, subst, ◌∙◌, map, L
 use Rattle.uac_units.specs.Hearing.{Reading}
 use Rattle.uac_units.specs.declared.hearing.MeterKind.TheVariants.{Peak, Clipped, Sum}
 use Rattle.uac_words.specs.declared.commands.Words.{Words}
-use Rattle.uac_cli.specs.declared.status.Status.{Status}
+use Rattle.uac_describe.specs.declared.status.Status.{Status}
 use Rattle.uac_cli.specs.Call.{IsCall}
 use Rattle.uac_cli.specs.Boxes.{IsFreshCall, fresh_readings}
 use Rattle.uac_cli.specs.Completeness.{IsComplete}

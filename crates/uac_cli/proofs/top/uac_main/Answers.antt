@@ -1,6 +1,7 @@
 use Rattle.std.proofs.Common.{sym, ◌∙◌}
 use Rattle.uac_cli.proofs.Completed.{done_whole}
-use Rattle.uac_cli.proofs.HandingOn.{call_on, faultless_on, status_before, write_fault_on}
+use Rattle.uac_cli.proofs.HandingOn.{call_on, write_fault_on}
+use Rattle.uac_describe.proofs.HandingOn.{faultless_on, status_before}
 use Rattle.uac_cli.proofs.top.uac_main.Goals as goal
 
 pub returns-clause-call : goal.returns-clause-call

@@ -1,4 +1,0 @@
-use Rattle.uac_cli.proofs.running.run_script.Goals as goal
-
-pub run_lines-requires-clause-fresh : goal.run_lines-requires-clause-fresh
-run_lines-requires-clause-fresh g c = c.new-bus.ensures _

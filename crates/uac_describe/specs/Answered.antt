@@ -1,0 +1,42 @@
+-- What is said of one descriptor, as its source and its sink see it (profile).
+use Rattle.std.specs.Prelude.{◌≡◌, ℕ, ◌⊎◌, List, Option}
+use Rattle.std.specs.Io.KnownBytes.{Consumes}
+use Rattle.uac_descriptor.specs.declared.block.Block.{Block}
+use Rattle.uac_grammar.specs.declared.fault.ReadStop.{ReadStop}
+use Rattle.uac_grammar.specs.declared.fault.ReadStop.TheVariants.{Fault, NoMemory}
+use Rattle.uac_topology.specs.declared.soundness.CheckStop.{CheckStop}
+use Rattle.uac_topology.specs.declared.soundness.CheckStop.TheVariants as check
+use Rattle.uac_describe.specs.declared.description.Description.{Description}
+use Rattle.uac_describe.specs.declared.status.Status.{Status}
+use Rattle.uac_describe.specs.Closing.{Closes, HasEnded}
+use Rattle.uac_describe.specs.Outcome.{Answers, End, IsVerdict, Outcome, no_memory, refusal, unsound}
+use Rattle.uac_describe.specs.Reading.{StopsThere}
+
+-- The same of what is said of one descriptor, and of its outcome alone.
+pub record IsAnswered (description : Description) (left left' : Option (List ℕ)) (reads reads' : ℕ) (written written' : Option (List ℕ))
+    (writes writes' : ℕ) (status : Status) : Type 0 where
+  pub taken : List ℕ
+  pub end : End
+  pub outcome : Outcome
+  pub consumed : Consumes left left' taken
+  pub ended : HasEnded end left' reads reads'
+  pub prompt : StopsThere taken
+  pub meant : Answers description taken end outcome ⊎ (outcome ≡ no_memory)
+  pub closed : Closes outcome written written' writes writes' status
+
+-- what is printed of a descriptor that is refused, or for which there was no memory
+abbrev pub Refuses : ReadStop → Option (List ℕ) → Option (List ℕ) → ℕ → ℕ → Status → Type 0
+Refuses (Fault fault) old new before after status = Closes (refusal fault) old new before after status
+Refuses NoMemory old new before after status = Closes no_memory old new before after status
+
+-- what is printed of a function that is refused, or for which there was no memory
+abbrev pub RefusesFunction : CheckStop → Option (List ℕ) → Option (List ℕ) → ℕ → ℕ → Status → Type 0
+RefusesFunction (check.Fault fault) old new before after status = Closes (unsound fault) old new before after status
+RefusesFunction check.NoMemory old new before after status = Closes no_memory old new before after status
+
+-- The text of a verdict on these blocks was written; or there was no memory for it.
+pub record Judges (description : Description) (blocks : List Block) (old new : Option (List ℕ)) (before after : ℕ)
+    (status : Status) : Type 0 where
+  pub outcome : Outcome
+  pub meant : IsVerdict description blocks outcome ⊎ (outcome ≡ no_memory)
+  pub closed : Closes outcome old new before after status

@@ -1,0 +1,91 @@
+-- What is said of a descriptor and how that ends, from the bytes that were taken of the input (profile).
+use Rattle.std.specs.Prelude.{◌≡◌, ℕ, Bool, true, false, List, ◌++◌, length, flat_map, None, Some, codes, decimal}
+use Rattle.uac_descriptor.specs.declared.block.Block.{Block}
+use Rattle.uac_sentence.specs.declared.faults.GrammarFault.{GrammarFault}
+use Rattle.uac_sentence.specs.Grammar.{first_fault}
+use Rattle.uac_sentence.specs.Sentence.{IsSentence}
+use Rattle.uac_grammar.specs.Stop.{shown_fault}
+use Rattle.uac_topology_rules.specs.declared.fault.TopologyFault.{TopologyFault}
+use Rattle.uac_topology.specs.Function.{FunctionFields}
+use Rattle.uac_topology.specs.Topology.{first_broken, IsSound, IsFunctionOf}
+use Rattle.uac_describe.specs.declared.description.Description.{Description}
+use Rattle.uac_describe.specs.declared.description.Description.TheVariants.{Check, Elements, Show}
+use Rattle.uac_describe.specs.declared.status.Status.{Status}
+use Rattle.uac_describe.specs.declared.status.Status.TheVariants as statuses
+use Rattle.uac_listing.specs.Entities.{entity_line}
+use Rattle.uac_listing.specs.Settings.{setting_lines}
+use Rattle.uac_listing.specs.Elements.{element_lines}
+use Rattle.uac_mixer.specs.ViewWorld.{known_view}
+use Rattle.uac_store.specs.Controls.{initial_controls}
+use Rattle.uac_listing.specs.Blocks.{block_lines}
+
+-- why no more was taken of the source
+pub data End : Type 0 where
+  -- no byte is left
+  at_end : End
+  -- a read failed
+  read_failed : End
+  -- a refusal stands in what was taken, or memory was wanted
+  stopped : End
+
+-- the text and the status
+pub record Outcome : Type 0 where
+  pub text : List ℕ
+  pub status : Status
+
+abbrev pub read_fault : Outcome
+read_fault = record { text = codes "read fault\n"; status = statuses.ReadFault }
+
+abbrev pub no_memory : Outcome
+no_memory = record { text = codes "no memory\n"; status = statuses.NoMemory }
+
+-- a descriptor breaks a rule of the grammar: the rule and its place
+abbrev pub refusal : GrammarFault → Outcome
+refusal fault = record {
+  text = codes "descriptor G" ++ decimal fault.rule ++ codes " at " ++ decimal fault.at ++ codes "\n";
+  status = statuses.Descriptor;
+}
+
+-- the function breaks a rule of the topology: the rule and its offender
+abbrev pub offender : Bool → List ℕ
+offender true = codes " interface "
+offender false = codes " entity "
+
+abbrev pub unsound : TopologyFault → Outcome
+unsound fault = record {
+  text = codes "descriptor U" ++ decimal fault.rule ++ offender fault.interface ++ decimal fault.id ++ codes "\n";
+  status = statuses.Descriptor;
+}
+
+-- what is printed of a sound descriptor, its blocks and its function
+abbrev pub text_of : Description → List Block → FunctionFields → List ℕ
+text_of Check blocks function =
+    codes "ok blocks " ++ decimal (length blocks) ++ codes " entities " ++ decimal (length function.entities)
+    ++ codes " streams " ++ decimal (length function.streams) ++ codes " domains " ++ decimal (length function.domains) ++ codes "\n"
+text_of Show blocks function =
+    block_lines 0 blocks ++ (flat_map entity_line function.entities ++ setting_lines function (initial_controls function.entities))
+text_of Elements blocks function = element_lines (known_view function.entities (initial_controls function.entities)).elements
+
+-- a descriptor is sound
+abbrev pub sound : Description → List Block → FunctionFields → Outcome
+sound description blocks function = record { text = text_of description blocks function; status = statuses.Ok }
+
+-- what the topology says of blocks
+pub data IsVerdict (description : Description) (blocks : List Block) : Outcome → Type 0 where
+  -- their function is sound
+  is_sound : (function : FunctionFields) → IsSound blocks → IsFunctionOf function blocks
+      → IsVerdict description blocks (sound description blocks function)
+  -- it breaks a rule first
+  is_broken : (fault : TopologyFault) → first_broken blocks ≡ Some fault → IsVerdict description blocks (unsound fault)
+
+-- What is said of a descriptor, by what was taken and why no more was.
+pub data Answers (description : Description) (taken : List ℕ) : End → Outcome → Type 0 where
+  -- the bytes show a fault, whatever would follow
+  shows_fault : (end : End) (fault : GrammarFault) → shown_fault taken ≡ Some fault → Answers description taken end (refusal fault)
+  -- no fault is shown, and a read failed
+  fails : shown_fault taken ≡ None → Answers description taken read_failed read_fault
+  -- the bytes are all, and have a fault
+  ends_in_fault : (fault : GrammarFault) → first_fault taken ≡ Some fault → Answers description taken at_end (refusal fault)
+  -- the bytes are all, and are these blocks
+  is_read : (blocks : List Block) (outcome : Outcome) → IsSentence taken blocks → IsVerdict description blocks outcome
+      → Answers description taken at_end outcome

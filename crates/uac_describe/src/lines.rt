@@ -1,0 +1,68 @@
+// The lines that are printed, each from a buffer of fixed size.
+ghost use Rattle.std.specs.Prelude.{◌≡◌, ◌≤◌, length};
+ghost use Rattle.uac_describe.specs.declared.description.Description.TheVariants.{Check};
+ghost use Rattle.uac_describe.specs.Outcome.{offender, refusal, text_of, unsound};
+
+use uac_descriptor::Block;
+use uac_edges::TextLine;
+use uac_grammar::GrammarFault;
+use uac_topology::{Function, TopologyFault};
+
+pub const READ_FAULT: &[u8] = b"read fault\n";
+
+pub const NO_MEMORY: &[u8] = b"no memory\n";
+
+/// `check`'s line for a sound descriptor.
+pub fn sound_line(blocks: &[Block], function: &Function) -> TextLine<160>
+    ensures { result ≡ text_of Check blocks.now function.now }
+{
+    let mut line = TextLine::new();
+    line.push(b"ok blocks ");
+    line.push_number(blocks.len() as u64);
+    line.push(b" entities ");
+    line.push_number(function.entities().len() as u64);
+    line.push(b" streams ");
+    line.push_number(function.streams().len() as u64);
+    line.push(b" domains ");
+    line.push_number(function.domains().len() as u64);
+    line.push(b"\n");
+    line
+}
+
+/// The line for a function that breaks a rule of the topology.
+pub fn unsound_line(fault: &TopologyFault) -> TextLine<96>
+    ensures { result ≡ (unsound fault.now).text }
+{
+    let mut line = TextLine::new();
+    line.push(b"descriptor U");
+    line.push_number(u64::from(fault.rule));
+    line.push(offender(fault.interface));
+    line.push_number(u64::from(fault.id));
+    line.push(b"\n");
+    line
+}
+
+/// What an offender is.
+fn offender(interface: bool) -> &'static [u8]
+    ensures text { result.now ≡ offender interface }
+    ensures short { length result.now ≤ 11 }
+{
+    if interface {
+        b" interface "
+    } else {
+        b" entity "
+    }
+}
+
+/// The line for a descriptor that breaks a rule of the grammar.
+pub fn refusal_line(fault: &GrammarFault) -> TextLine<64>
+    ensures { result ≡ (refusal fault.now).text }
+{
+    let mut line = TextLine::new();
+    line.push(b"descriptor G");
+    line.push_number(u64::from(fault.rule));
+    line.push(b" at ");
+    line.push_number(u64::from(fault.at));
+    line.push(b"\n");
+    line
+}

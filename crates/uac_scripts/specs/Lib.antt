@@ -1,0 +1,8 @@
+-- A script's lines, one after the other, and what a run of them comes to.
+-- What the program's theorem says: to be read and believed.
+pub mod Run
+pub mod Transcript
+pub mod Script
+pub mod Lived
+-- What the contracts below them cite: steps of the code, no part of what is promised.
+pub mod Running

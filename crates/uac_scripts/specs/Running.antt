@@ -1,0 +1,38 @@
+-- What a line of a script comes to, and what stops its lines.
+use Rattle.std.specs.Prelude.{◌≡◌, ℕ, Bool, List, Option, Result, IfErr, OnOk}
+use Rattle.uac_units.specs.Hearing.{Reading}
+use Rattle.uac_edges.specs.Faults.{Rose}
+use Rattle.uac_script.specs.declared.lines.LineStop.{LineStop}
+use Rattle.uac_script.specs.declared.lines.LineStop.TheVariants as stop
+use Rattle.uac_bus.specs.declared.fault.BusFault.{BusFault}
+use Rattle.uac_bus.specs.declared.fault.BusFault.TheVariants as faults
+use Rattle.uac_bus.specs.World.{Step}
+use Rattle.uac_bus.specs.Kept.{BusFields}
+use Rattle.uac_bus.specs.Kept as kept
+use Rattle.uac_describe.specs.Outcome.{Outcome, read_fault}
+use Rattle.uac_scripts.specs.Transcript.{misread, too_long}
+
+-- nothing was printed, no write met a fault, and the meters heard nothing
+pub record IsSilent (shown shown' : List Reading) (written written' : Option (List ℕ)) (writes writes' : ℕ) : Type 0 where
+  pub heard : shown' ≡ shown
+  pub kept : written' ≡ written
+  pub faultless : writes' ≡ writes
+
+-- what is left of a line that wasn't done: the cause of a failed write; and else nothing
+abbrev pub Leaves : List Reading → List Reading → Option (List ℕ) → Option (List ℕ) → ℕ → ℕ → BusFault → Type 0
+Leaves shown shown' written written' writes writes' faults.WriteFault = Rose writes writes'
+Leaves shown shown' written written' writes writes' _ = IsSilent shown shown' written written' writes writes'
+
+-- what a line that makes this step comes to: it is done, no write met a fault, and the bus and the meters stand for the next world; or it
+-- fails. Memory may be wanted only where this says so
+abbrev pub Does : Step → Bool → BusFields → List Reading → List Reading → Option (List ℕ) → Option (List ℕ) → ℕ → ℕ
+    → Result (Unit {0}) BusFault → Type 0
+Does s memory bus shown shown' written written' writes writes' result =
+    kept.Does s memory (kept.Stands bus shown') written written' result × IfErr result (Leaves shown shown' written written' writes writes')
+    × OnOk result (writes' ≡ writes)
+
+-- the last line where there is no next line; the number is that of a line that is too long
+abbrev pub stop_outcome : LineStop → ℕ → Outcome
+stop_outcome stop.Long number = misread 1 number
+stop_outcome stop.TooLong number = too_long
+stop_outcome stop.Failed number = read_fault

@@ -1,0 +1,56 @@
+-- A script as a list of lines, and what they come to (profile).
+use Rattle.std.specs.Prelude.{◌≡◌, ◌≢◌, ℕ, ◌+◌, ◌≤◌, ◌⊎◌, Bool, true, false, List, [], ◌∷◌, ◌++◌, length, map, flat_map}
+use Rattle.std.specs.Prelude.{Option, None, Some, Result, Ok, Err}
+use Rattle.std.specs.List.{All, AllByRecursion}
+use Rattle.uac_script.specs.Lines.{most_of_line}
+use Rattle.uac_script.specs.Phrase.{Phrase}
+use Rattle.uac_script.specs.Reading.{answer}
+use Rattle.uac_units.specs.Hearing.{Reading}
+use Rattle.uac_transcript.specs.Printing.{text_of}
+use Rattle.uac_bus.specs.declared.fault.BusFault.{BusFault}
+use Rattle.uac_bus.specs.World.{World, start}
+use Rattle.uac_bus.specs.Kept.{may_want}
+use Rattle.uac_bus.specs.After.{After, after}
+use Rattle.uac_describe.specs.Outcome.{no_memory}
+use Rattle.uac_scripts.specs.Transcript.{Ending, with_text_first, ends, last_line}
+
+-- a line's bytes: at most 4,096, none of them a newline
+pub record IsLine (text : List ℕ) : Type 0 where
+  pub short : length text ≤ most_of_line
+  pub whole : All (λ b. b ≢ 10) text
+
+-- lines, each with its newline
+abbrev pub with_newlines : List (List ℕ) → List ℕ
+with_newlines texts = flat_map (λ text. text ++ 10 ∷ []) texts
+
+-- after lines: the refusal of the next, which has this number; or what follows in the world that they leave
+abbrev pub behind_lines : Option BusFault → ℕ → World → (World → Ending) → Ending
+behind_lines None number w go = go w
+behind_lines (Some fault) number w go = ends (last_line fault number) w
+
+-- what lines come to of which the first has this number: their text, and then what stands after them
+abbrev pub come_to : After → ℕ → (World → Ending) → Ending
+come_to a number go = with_text_first (text_of a.lines) (behind_lines a.refusal (number + a.count) a.world go)
+
+-- the bytes after a line: none, or its newline and what follows
+abbrev pub StandsBehind : List ℕ → Type 0
+StandsBehind rest = (rest ≡ []) ⊎ ((more : List ℕ) × (rest ≡ 10 ∷ more))
+
+-- what a line says may want memory in a world
+abbrev pub wants : Result Phrase ℕ → World → Bool
+wants (Ok phrase) w = may_want phrase w
+wants (Err rule) w = false
+
+-- Memory was wanted at a line: those in front of it were done, it is one that takes memory, and after their text stands `no memory`.
+pub record IsWanted (shown : List Reading) (taken : List ℕ) (ending : Ending) : Type 0 where
+  pub texts : List (List ℕ)
+  pub text : List ℕ
+  pub rest : List ℕ
+  pub cut : taken ≡ with_newlines texts ++ (text ++ rest)
+  pub lines : AllByRecursion IsLine texts
+  pub line : IsLine text
+  pub whole : StandsBehind rest
+  pub done : (after (map answer texts) (start shown)).refusal ≡ None
+  pub takes : wants (answer text) (after (map answer texts) (start shown)).world ≡ true
+  pub is : ending ≡ with_text_first (text_of (after (map answer texts) (start shown)).lines)
+      (ends no_memory (after (map answer texts) (start shown)).world)

@@ -1,0 +1,20 @@
+// The lines that a script's run prints beside those of its lines, each from a buffer of fixed size.
+ghost use Rattle.std.specs.Prelude.{◌≡◌};
+ghost use Rattle.uac_scripts.specs.Transcript.{misread};
+
+use uac_edges::TextLine;
+
+pub const TOO_LONG: &[u8] = b"input too long\n";
+
+/// The line for a script whose line of this number breaks a rule.
+pub fn misread_line(rule: u8, number: u64) -> TextLine<64>
+    ensures { result ≡ (misread rule number).text }
+{
+    let mut line = TextLine::new();
+    line.push(b"script S");
+    line.push_number(u64::from(rule));
+    line.push(b" line ");
+    line.push_number(number);
+    line.push(b"\n");
+    line
+}
