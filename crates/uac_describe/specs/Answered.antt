@@ -12,7 +12,7 @@ use Rattle.uac_describe.specs.Closing.{Closes, HasEnded}
 use Rattle.uac_describe.specs.Outcome.{Answers, End, IsVerdict, Outcome, no_memory, refusal, unsound}
 use Rattle.uac_describe.specs.Reading.{StopsThere}
 
--- The same of what is said of one descriptor, and of its outcome alone.
+-- The bytes that were taken, why no more were, and what is said of them; or memory was wanted.
 pub record IsAnswered (description : Description) (left left' : Option (List ℕ)) (reads reads' : ℕ) (written written' : Option (List ℕ))
     (writes writes' : ℕ) (status : Status) : Type 0 where
   pub taken : List ℕ
