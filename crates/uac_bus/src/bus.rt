@@ -59,6 +59,9 @@ impl Bus {
         }
     }
 
+    /// Lets all go that the bus holds. A caller that ends so needs no proof of its own of how each part is let go.
+    pub fn let_go(self) {}
+
     /// Does one line and prints its text. The lines `d`, `g` and `a` alone take memory.
     ///
     /// # Errors

@@ -49,11 +49,12 @@ pub fn run_script<S: Source, K: Sink>(
     let mut bus = Bus::new(alloc);
     let mut lines = Lines::new();
     let mut room = LineRoom::new();
-    run_lines(&mut bus, &mut lines, &mut room, source, sink, rack, meters)
+    let status = run_lines(&mut bus, &mut lines, &mut room, source, sink, rack, meters);
+    bus.let_go();
+    status
 }
 
-/// The same with a bus to which no line was given, and with no line yet. It is apart, since the prover walks through all that a bus lets
-/// go wherever one is dropped at a return, and here there are three.
+/// The same with a bus to which no line was given, and with no line yet.
 fn run_lines<S: Source, K: Sink>(
     bus: &mut Bus,
     lines: &mut Lines,
