@@ -173,3 +173,45 @@ in_turn blocks small run = turns (replicate 256 false) None [] blocks small at_s
 pub turn_in : (blocks : List block.Block) → HasSmallNumbers blocks → InTurn [] (filter_map interface_of blocks) → TurnRun (replicate 256 false) None blocks
 unfolding latest_of
 turn_in blocks small h = turns_back (replicate 256 false) None [] blocks small at_start refl h
+
+-- ---- a test that goes along the blocks
+
+-- the flags and the latest setting are those of earlier interfaces, and what comes after these is in turn exactly where all is
+pub record IsTurning (used : List Bool) (latest : Option Latest) (all rest : List block.Block) : Type 0 where
+  pub earlier : List interface.Interface
+  pub is_used : IsUsed used earlier
+  pub is_latest : latest ≡ latest_of earlier
+  pub onward : InTurn earlier (filter_map interface_of rest) → InTurn [] (filter_map interface_of all)
+  pub back : InTurn [] (filter_map interface_of all) → InTurn earlier (filter_map interface_of rest)
+
+pub turning_start : (blocks : List block.Block) → IsTurning (replicate 256 false) None blocks blocks
+unfolding latest_of
+turning_start blocks = record { earlier = []; is_used = at_start; is_latest = refl; onward = λ h. h; back = λ h. h }
+
+pub turning_step : (used : List Bool) (latest : Option Latest) (all : List block.Block) (b : block.Block) (rest : List block.Block)
+    → HasSmallNumbers (b ∷ []) → is_in_turn used latest b ≡ true → IsTurning used latest all (b ∷ rest)
+    → IsTurning (used_after used b) (latest_after latest b) all rest
+unfolding latest_of
+turning_step used latest all (variant.Interface i) rest small turn t =
+    record {
+      earlier = i ∷ t.earlier;
+      is_used = flags_after used i t.earlier small.0 t.is_used;
+      is_latest = refl;
+      onward = λ h. t.onward
+          (turn_of used t.earlier i small.0 t.is_used (subst (λ l. is_in_turn used l (variant.Interface i) ≡ true) t.is_latest turn), h);
+      back = λ h. (t.back h).1;
+    }
+turning_step used latest all b rest small turn t =
+    record { earlier = t.earlier; is_used = t.is_used; is_latest = t.is_latest; onward = λ h. t.onward h; back = λ h. t.back h }
+
+pub turning_stops : (used : List Bool) (latest : Option Latest) (all : List block.Block) (b : block.Block) (rest : List block.Block)
+    → HasSmallNumbers (b ∷ []) → is_in_turn used latest b ≡ false → IsTurning used latest all (b ∷ rest)
+    → InTurn [] (filter_map interface_of all) → false ≡ true
+unfolding is_in_turn
+turning_stops used latest all (variant.Interface i) rest small out t h =
+    sym out ∙ subst (λ l. is_in_turn used l (variant.Interface i) ≡ true) (sym t.is_latest)
+    (of_turn used t.earlier i small.0 t.is_used (t.back h).0)
+turning_stops used latest all b rest small out t h = sym out
+
+pub turning_ends : (used : List Bool) (latest : Option Latest) (all : List block.Block) → IsTurning used latest all [] → InTurn [] (filter_map interface_of all)
+turning_ends used latest all t = t.onward tt

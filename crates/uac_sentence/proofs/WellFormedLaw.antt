@@ -1,5 +1,5 @@
 -- The blocks of a sentence are well-formed.
-use Rattle.std.proofs.Common.{◌≡◌, ℕ, ◌+◌, ◌<◌, ◌≤◌, length, get_or, drop, replicate, Bool, true, false, ◌&&◌, ◌||◌, not, List, [], ◌∷◌, Option, Some, None, if◌then◌else◌, ◌⊎◌, refl, sym, ap, ◌∙◌, subst, inl, inr}
+use Rattle.std.proofs.Common.{◌≡◌, ℕ, ◌+◌, ◌<◌, ◌≤◌, length, get_or, drop, Bool, true, false, ◌&&◌, ◌||◌, not, List, [], ◌∷◌, Option, Some, None, if◌then◌else◌, ◌⊎◌, refl, sym, ap, ◌∙◌, subst, inl, inr}
 use Rattle.std.proofs.lemmas.Bool.{true≢false}
 use Rattle.uac_descriptor.specs.declared.context.Context.{Context}
 use Rattle.uac_descriptor.specs.declared.context.Context.TheVariants as context
@@ -22,9 +22,9 @@ use Rattle.uac_sentence.specs.declared.states.Latest.{Latest}
 use Rattle.uac_sentence.specs.Steps.{step, may_end}
 use Rattle.uac_sentence.specs.Values.{HasValues, has_wrong_value}
 use Rattle.uac_sentence.proofs.OrderLaw.{Goes, allows_goes}
-use Rattle.uac_sentence.proofs.Parts.{TurnRun}
-use Rattle.uac_sentence.proofs.TurnLaw.{in_turn}
-use Rattle.uac_sentence.proofs.ValuesLaw.{EachIn-weaker, right_values}
+pub use Rattle.uac_sentence.proofs.TurnLaw.{IsTurning}
+use Rattle.uac_sentence.proofs.TurnLaw.{turning_step, turning_stops, turning_ends}
+use Rattle.uac_sentence.proofs.ValuesLaw.{EachIn-weaker, right_values, no_wrong_value}
 
 -- allowed values are well-formed ones
 keeps : (place : Context) (b : block.Block) → HasValues place b → IsWellFormed place b
@@ -70,19 +70,26 @@ front_open Before front = refl
 front_open Announced front = refl
 front_open s front = cc
 
-if_no : (t : Bool) (a b : Letter) → is_control a ≡ false → is_control b ≡ false → is_control (if t then a else b) ≡ false
-if_no true a b e f = e
-if_no false a b e f = f
+if_not : (t : Bool) (a b : Letter) → is_audio_interface a ≡ false → is_audio_interface b ≡ false → is_audio_interface (if t then a else b) ≡ false
+if_not true a b e f = e
+if_not false a b e f = f
 
--- only an interface is the control interface
-no_control : (b : block.Block) → interface_of b ≡ None → is_control (letter_of b) ≡ false
+-- only an interface is one of the audio function
+no_audio : (b : block.Block) → interface_of b ≡ None → is_audio_interface (letter_of b) ≡ false
 unfolding whole_letter
-no_control (variant.Interface i) none = cc
-no_control (variant.Association a) none = if_no (is_audio_association a) letter.AudioAssociation letter.ForeignAssociation refl refl
-no_control (variant.Foreign bytes) none =
-    if_no (is_device bytes) letter.Device _ refl
-    (if_no (has_unknown_subtype bytes) letter.UnknownSubtype _ refl (if_no (has_place (type_of bytes)) letter.Stray letter.Other refl refl))
-no_control b none = refl
+no_audio (variant.Interface i) none = cc
+no_audio (variant.Association a) none = if_not (is_audio_association a) letter.AudioAssociation letter.ForeignAssociation refl refl
+no_audio (variant.Foreign bytes) none =
+    if_not (is_device bytes) letter.Device _ refl
+    (if_not (has_unknown_subtype bytes) letter.UnknownSubtype _ refl (if_not (has_place (type_of bytes)) letter.Stray letter.Other refl refl))
+no_audio b none = refl
+
+other_control : (k : Letter) → is_audio_interface k ≡ false → is_control k ≡ false
+other_control letter.ControlInterface e = cc
+other_control k e = refl
+
+no_control : (b : block.Block) → interface_of b ≡ None → is_control (letter_of b) ≡ false
+no_control b none = other_control (letter_of b) (no_audio b none)
 
 still_front : (k : Letter) (t : Stage) → is_control k ≡ false → is_on k (Some t) ≡ true → is_front t ≡ true
 still_front k t other on = of (is_control k) (is_audio_interface k) (is_front t) other on where
@@ -127,14 +134,30 @@ sentence_is_well_formed bytes blocks h =
 
 -- ---- the test, block by block
 
-step_on : (P : Context → block.Block → Type 0) (place : Context) (xs : List block.Block) (i : ℕ) (b : block.Block) → i < length xs → b ≡ get_or xs i b → P place b
-    → EachIn P (context_after place b) (drop (i + 1) xs) → EachIn P place (drop i xs)
-step_on P place xs i b below is here rest =
-    subst (EachIn P place) (sym (drop_more xs i b below ∙ ap (λ x. x ∷ drop (i + 1) xs) (sym is))) (here, rest)
+-- the rest at a place begins with the block there
+rest_at : (xs : List block.Block) (i : ℕ) (b : block.Block) → i < length xs → b ≡ get_or xs i b → drop i xs ≡ b ∷ drop (i + 1) xs
+rest_at xs i b below is = drop_more xs i b below ∙ ap (λ x. x ∷ drop (i + 1) xs) (sym is)
 
-pub fields_on : (place : Context) (xs : List block.Block) (i : ℕ) (b : block.Block) → i < length xs → b ≡ get_or xs i b → has_wrong_value place b ≡ false
-    → EachIn IsWellFormed (context_after place b) (drop (i + 1) xs) → EachIn IsWellFormed place (drop i xs)
-fields_on place xs i b below is right rest = step_on IsWellFormed place xs i b below is (keeps place b (right_values place b right)) rest
+pub none_left : (P : List block.Block → Type 0) → P [] → (xs : List block.Block) (i : ℕ) → length xs ≤ i → P (drop i xs)
+none_left P base xs i past = subst P (sym (drop_all i xs past)) base
+
+-- values
+
+pub values_on : (place : Context) (xs : List block.Block) (i : ℕ) (b : block.Block) → i < length xs → b ≡ get_or xs i b → has_wrong_value place b ≡ false
+    → EachIn HasValues (context_after place b) (drop (i + 1) xs) → EachIn HasValues place (drop i xs)
+values_on place xs i b below is right rest =
+    subst (EachIn HasValues place) (sym (rest_at xs i b below is)) (right_values place b right, rest)
+
+pub values_back : (place : Context) (xs : List block.Block) (i : ℕ) (b : block.Block) → i < length xs → b ≡ get_or xs i b
+    → EachIn HasValues place (drop i xs) → EachIn HasValues (context_after place b) (drop (i + 1) xs)
+values_back place xs i b below is h = (subst (EachIn HasValues place) (rest_at xs i b below is) h).1
+
+pub values_stop : (place : Context) (xs : List block.Block) (i : ℕ) (b : block.Block) → i < length xs → b ≡ get_or xs i b → has_wrong_value place b ≡ true
+    → EachIn HasValues place (drop i xs) → false ≡ true
+values_stop place xs i b below is wrong h =
+    sym (no_wrong_value place b (subst (EachIn HasValues place) (rest_at xs i b below is) h).0) ∙ wrong
+
+-- the control interface
 
 control_by : (c r : Bool) → is_control (letter_by c r) ≡ true → c ≡ true
 control_by true r e = refl
@@ -145,6 +168,12 @@ no_stream_by : (c r : Bool) → is_audio_interface (letter_by c r) ≡ false →
 no_stream_by true r e = cc
 no_stream_by false true e = cc
 no_stream_by false false e = refl
+
+-- an interface that is no control interface and streams
+stream_by : (c r : Bool) → is_control (letter_by c r) ≡ false → is_audio_interface (letter_by c r) ≡ true → (c ≡ false) × (r ≡ true)
+stream_by true r e f = cc
+stream_by false true e f = (refl, refl)
+stream_by false false e f = cc
 
 begins_here : (b : block.Block) (bs : List block.Block) → is_control (letter_of b) ≡ true → BeginsWithControl (interfaces_in (b ∷ bs))
 begins_here (variant.Interface i) bs e =
@@ -157,37 +186,79 @@ begins_later (variant.Interface i) bs e rest =
     inr (no_stream_by (is_control_interface i) (is_streaming_interface i) (subst (λ k. is_audio_interface k ≡ false) (letter_is i) e), rest)
 begins_later b bs e rest = rest
 
+-- what is no interface of the function leaves the control interface to come
+begins_behind : (b : block.Block) (bs : List block.Block) → is_control (letter_of b) ≡ false → BeginsWithControl (interfaces_in (b ∷ bs))
+    → BeginsWithControl (interfaces_in bs)
+begins_behind (variant.Interface i) bs e h =
+    elim h [
+      | inl control ↦ absurd (true≢false (sym (controls (is_control_interface i) (is_streaming_interface i) control)
+          ∙ subst (λ k. is_control k ≡ false) (letter_is i) e))
+      | inr later ↦ later.1
+    ]
+  where
+    controls : (c r : Bool) → c ≡ true → is_control (letter_by c r) ≡ true
+    controls true r e = refl
+    controls false r e = cc
+begins_behind b bs e h = h
+
+-- a streaming interface that comes first is no control interface
+begins_not : (b : block.Block) (bs : List block.Block) → is_control (letter_of b) ≡ false → is_audio_interface (letter_of b) ≡ true
+    → BeginsWithControl (interfaces_in (b ∷ bs)) → false ≡ true
+begins_not (variant.Interface i) bs e f h =
+    let (other, streams) = stream_by (is_control_interface i) (is_streaming_interface i) (subst (λ k. is_control k ≡ false) (letter_is i) e)
+    (subst (λ k. is_audio_interface k ≡ true) (letter_is i) f) in
+    elim h [
+      | inl control ↦ sym other ∙ control
+      | inr later ↦ ap not (sym streams) ∙ later.0
+    ]
+begins_not b bs e f h = sym (no_audio b refl) ∙ f
+
 pub control_at : (xs : List block.Block) (i : ℕ) (b : block.Block) → i < length xs → b ≡ get_or xs i b → is_control (letter_of b) ≡ true
     → BeginsWithControl (interfaces_in (drop i xs))
-control_at xs i b below is e =
-    subst (λ bs. BeginsWithControl (interfaces_in bs)) (sym (drop_more xs i b below ∙ ap (λ x. x ∷ drop (i + 1) xs) (sym is))) (begins_here b (drop (i + 1) xs) e)
+control_at xs i b below is e = subst (λ bs. BeginsWithControl (interfaces_in bs)) (sym (rest_at xs i b below is)) (begins_here b (drop (i + 1) xs) e)
 
 pub control_on : (xs : List block.Block) (i : ℕ) (b : block.Block) → i < length xs → b ≡ get_or xs i b → is_audio_interface (letter_of b) ≡ false
     → BeginsWithControl (interfaces_in (drop (i + 1) xs)) → BeginsWithControl (interfaces_in (drop i xs))
 control_on xs i b below is e rest =
-    subst (λ bs. BeginsWithControl (interfaces_in bs)) (sym (drop_more xs i b below ∙ ap (λ x. x ∷ drop (i + 1) xs) (sym is))) (begins_later b (drop (i + 1) xs) e rest)
+    subst (λ bs. BeginsWithControl (interfaces_in bs)) (sym (rest_at xs i b below is)) (begins_later b (drop (i + 1) xs) e rest)
 
-small_on : (b : block.Block) (bs : List block.Block) → HasSmallNumbers (b ∷ []) → HasSmallNumbers bs → HasSmallNumbers (b ∷ bs)
-small_on (variant.Interface i) bs h rest = (h.0, rest)
-small_on b bs h rest = rest
+pub control_back : (xs : List block.Block) (i : ℕ) (b : block.Block) → i < length xs → b ≡ get_or xs i b → is_control (letter_of b) ≡ false
+    → BeginsWithControl (interfaces_in (drop i xs)) → BeginsWithControl (interfaces_in (drop (i + 1) xs))
+control_back xs i b below is e h =
+    begins_behind b (drop (i + 1) xs) e (subst (λ bs. BeginsWithControl (interfaces_in bs)) (rest_at xs i b below is) h)
 
--- numbers are bytes, and the turn was kept
-pub Runs : List Bool → Option Latest → List block.Block → Type 0
-Runs used latest blocks = HasSmallNumbers blocks × TurnRun used latest blocks
+pub control_stops : (xs : List block.Block) (i : ℕ) (b : block.Block) → i < length xs → b ≡ get_or xs i b → is_control (letter_of b) ≡ false
+    → is_audio_interface (letter_of b) ≡ true → BeginsWithControl (interfaces_in (drop i xs)) → false ≡ true
+control_stops xs i b below is e f h =
+    begins_not b (drop (i + 1) xs) e f (subst (λ bs. BeginsWithControl (interfaces_in bs)) (rest_at xs i b below is) h)
+
+pub control_ends : (xs : List block.Block) (i : ℕ) → length xs ≤ i → BeginsWithControl (interfaces_in (drop i xs)) → false ≡ true
+control_ends xs i past h = absurd (subst (λ bs. BeginsWithControl (interfaces_in bs)) (drop_all i xs past) h)
+
+-- the numbers in turn
 
 pub turn_on : (used : List Bool) (latest : Option Latest) (xs : List block.Block) (i : ℕ) (b : block.Block) → i < length xs → b ≡ get_or xs i b
-    → is_in_turn used latest b ≡ true → HasSmallNumbers (b ∷ []) → Runs (used_after used b) (latest_after latest b) (drop (i + 1) xs) → Runs used latest (drop i xs)
-unfolding Runs
-turn_on used latest xs i b below is turn small (smalls, run) =
-    subst (Runs used latest) (sym (drop_more xs i b below ∙ ap (λ x. x ∷ drop (i + 1) xs) (sym is))) (small_on b (drop (i + 1) xs) small smalls, (turn, run))
+    → HasSmallNumbers (b ∷ []) → is_in_turn used latest b ≡ true → IsTurning used latest xs (drop i xs)
+    → IsTurning (used_after used b) (latest_after latest b) xs (drop (i + 1) xs)
+turn_on used latest xs i b below is small turn t =
+    turning_step used latest xs b (drop (i + 1) xs) small turn (subst (IsTurning used latest xs) (rest_at xs i b below is) t)
 
-pub runs_in_turn : (blocks : List block.Block) → Runs (replicate 256 false) None blocks → InTurn [] (interfaces_in blocks)
-unfolding Runs
-runs_in_turn blocks (small, run) = in_turn blocks small run
+pub turn_stops : (used : List Bool) (latest : Option Latest) (xs : List block.Block) (i : ℕ) (b : block.Block) → i < length xs → b ≡ get_or xs i b
+    → HasSmallNumbers (b ∷ []) → is_in_turn used latest b ≡ false → IsTurning used latest xs (drop i xs) → InTurn [] (interfaces_in xs) → false ≡ true
+turn_stops used latest xs i b below is small out t h =
+    turning_stops used latest xs b (drop (i + 1) xs) small out (subst (IsTurning used latest xs) (rest_at xs i b below is) t) h
 
-pub none_left : (P : List block.Block → Type 0) → P [] → (xs : List block.Block) (i : ℕ) → length xs ≤ i → P (drop i xs)
-none_left P base xs i past = subst P (sym (drop_all i xs past)) base
+pub turn_ends : (used : List Bool) (latest : Option Latest) (xs : List block.Block) (i : ℕ) → length xs ≤ i → IsTurning used latest xs (drop i xs)
+    → InTurn [] (interfaces_in xs)
+turn_ends used latest xs i past t = turning_ends used latest xs (subst (IsTurning used latest xs) (drop_all i xs past) t)
 
-pub runs_nil : (used : List Bool) (latest : Option Latest) → Runs used latest []
-unfolding Runs
-runs_nil used latest = (tt, tt)
+-- ---- all three
+
+pub well_formed_by : (blocks : List block.Block) → EachIn HasValues context.DeviceFront blocks → BeginsWithControl (interfaces_in blocks)
+    → InTurn [] (interfaces_in blocks) → AreWellFormed blocks
+well_formed_by blocks values control turn =
+    record { fields = EachIn-weaker HasValues IsWellFormed keeps context.DeviceFront blocks values; control = control; in_turn = turn }
+
+pub sentence_passes : (bytes : List ℕ) (blocks : List block.Block) → IsSentence bytes blocks
+    → EachIn HasValues context.DeviceFront blocks × BeginsWithControl (interfaces_in blocks) × InTurn [] (interfaces_in blocks)
+sentence_passes bytes blocks h = (h.values, (sentence_is_well_formed bytes blocks h).control, h.in_turn)

@@ -1,11 +1,12 @@
 // Whether blocks are well-formed.
-ghost use Rattle.std.specs.Prelude.{[], ◌∷◌};
+ghost use Rattle.std.specs.Prelude.{◌≡◌, ◌↔◌, ℕ, List, [], ◌∷◌, true};
 ghost use Rattle.std.specs.Bool.{OnTrue};
 ghost use Rattle.uac_descriptor.specs.Contexts.{EachIn};
 ghost use Rattle.uac_descriptor.specs.Turns.{BeginsWithControl, InTurn, interfaces_in};
-ghost use Rattle.uac_descriptor.specs.WellFormed.{AreWellFormed, IsWellFormed};
+ghost use Rattle.uac_descriptor.specs.WellFormed.{AreWellFormed};
 ghost use Rattle.uac_descriptor.specs.declared.context.Context.TheVariants as context;
-ghost use Rattle.uac_sentence.specs.Sentence.{HasSmallNumbers};
+ghost use Rattle.uac_sentence.specs.Sentence.{HasSmallNumbers, IsSentence};
+ghost use Rattle.uac_sentence.specs.Values.{HasValues};
 
 use crate::letters::Letter;
 use crate::rules::{is_audio_interface, is_control};
@@ -14,15 +15,19 @@ use crate::values::has_wrong_value;
 use uac_descriptor::{Block, Context};
 
 /// A test for blocks that no reader gave, as those of tests: it is true only of well-formed blocks. Of a sentence's blocks it
-/// is true. It takes no memory.
+/// is true: it asks exactly for a sentence's values, its control interface and its numbers in turn. It takes no memory.
+#[tactic(auto, using(crate::proofs::WellFormedLaw::well_formed_by, crate::proofs::WellFormedLaw::sentence_passes))]
 pub fn are_well_formed(blocks: &[Block]) -> bool
-    ensures { OnTrue result (AreWellFormed blocks.now) }
+    ensures well_formed { OnTrue result (AreWellFormed blocks.now) }
+    ensures sentence { (bytes : List ℕ) → IsSentence bytes blocks.now → result ≡ true }
+    ensures exact { (result ≡ true) ↔ EachIn HasValues context.DeviceFront blocks.now
+        × BeginsWithControl (interfaces_in blocks.now) × InTurn [] (interfaces_in blocks.now) }
 {
     have_right_values(blocks) && begin_with_control(blocks) && are_in_turn(blocks)
 }
 
 fn have_right_values(blocks: &[Block]) -> bool
-    ensures { OnTrue result (EachIn IsWellFormed context.DeviceFront blocks.now) }
+    ensures { (result ≡ true) ↔ EachIn HasValues context.DeviceFront blocks.now }
 {
     let mut context = Context::DeviceFront;
     for block in blocks {
@@ -35,7 +40,7 @@ fn have_right_values(blocks: &[Block]) -> bool
 }
 
 fn begin_with_control(blocks: &[Block]) -> bool
-    ensures { OnTrue result (BeginsWithControl (interfaces_in blocks.now)) }
+    ensures { (result ≡ true) ↔ BeginsWithControl (interfaces_in blocks.now) }
 {
     for block in blocks {
         let letter = Letter::of(block);
@@ -50,7 +55,7 @@ fn begin_with_control(blocks: &[Block]) -> bool
 }
 
 fn are_in_turn(blocks: &[Block]) -> bool
-    ensures { OnTrue result (InTurn [] (interfaces_in blocks.now)) }
+    ensures { (result ≡ true) ↔ InTurn [] (interfaces_in blocks.now) }
 {
     let mut used = [false; 256];
     let mut latest = None;
@@ -66,7 +71,8 @@ fn are_in_turn(blocks: &[Block]) -> bool
 
 // The number of an interface has a flag.
 fn has_flag(block: &Block) -> bool
-    ensures { OnTrue result (HasSmallNumbers (block.now ∷ [])) }
+    ensures small { HasSmallNumbers (block.now ∷ []) }
+    ensures has { result ≡ true }
 {
     let Block::Interface(interface) = block else {
         return true;

@@ -1,18 +1,33 @@
-use Rattle.std.proofs.Common.{sym}
-use Rattle.uac_sentence.proofs.WellFormedLaw.{Runs, runs_in_turn, runs_nil, turn_on, none_left}
+use Rattle.std.proofs.Common.{sym, ◌∙◌, refl}
+use Rattle.std.proofs.lemmas.Bool.{false≢true}
+use Rattle.uac_sentence.proofs.TurnLaw.{turning_start}
+use Rattle.uac_sentence.proofs.WellFormedLaw.{turn_on, turn_stops, turn_ends}
 use Rattle.uac_sentence.proofs.well_formed.are_in_turn.Goals as goal
+use Rattle.uac_sentence.proofs.well_formed.are_in_turn.Goals.{then-not-has_flag-via-then-not-has_flag, then-not-has_flag-via-else-not-has_flag+then-not-is_in_turn}
 
 pub loop-block-init : goal.loop-block-init
-loop-block-init c = λ h. h
+loop-block-init c = turning_start c.args.blocks.now
 
 pub loop-block-preserved : goal.loop-block-preserved
-loop-block-preserved c = λ rest.
-    c.loop-block.invariant
+loop-block-preserved c =
+    rw (c.use_number.ensures, c.latest_after-latest.ensures)
     (turn_on c.loop-block.used c.loop-block.latest c.args.blocks.now c.loop-block.block-index c.block-item.result c.loop-block-test.true c.block-item.is
-    (sym c.if-not-is_in_turn.ensures) (rw c.if-not-has_flag.false at c.has_flag.ensures) (rw (← c.use_number.ensures, ← c.latest_after-latest.ensures) rest))
+    c.has_flag.ensures.small (sym c.if-not-is_in_turn.ensures) c.loop-block.invariant)
 
 pub returns : goal.returns
-returns c =
-    runs_in_turn c.args.blocks.now
-    (c.loop-block.invariant (none_left (Runs c.loop-block.used c.loop-block.latest) (runs_nil c.loop-block.used c.loop-block.latest)
-    c.args.blocks.now c.loop-block.block-index c.loop-block-test.false))
+returns c = (
+  λ e. turn_ends c.loop-block.used c.loop-block.latest c.args.blocks.now c.loop-block.block-index c.loop-block-test.false c.loop-block.invariant,
+  λ all. refl,
+)
+
+-- the number of an interface always has a flag
+pub returns-then-not-has_flag : goal.returns-then-not-has_flag
+returns-then-not-has_flag c = (
+  λ e. absurd (false≢true e),
+  λ all. elim c.then-not-has_flag.branch [
+    | then-not-has_flag-via-then-not-has_flag w ↦ sym w.if-not-has_flag.true ∙ c.has_flag.ensures.has
+    | then-not-has_flag-via-else-not-has_flag+then-not-is_in_turn w ↦
+        turn_stops c.loop-block.used c.loop-block.latest c.args.blocks.now c.loop-block.block-index c.block-item.result c.loop-block-test.true c.block-item.is
+        c.has_flag.ensures.small (sym w.if-not-is_in_turn.ensures) c.loop-block.invariant all
+  ],
+)

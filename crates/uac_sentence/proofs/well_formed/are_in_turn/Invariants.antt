@@ -1,6 +1,6 @@
-use Rattle.std.proofs.Common.{drop, replicate, false, None}
-use Rattle.uac_sentence.proofs.WellFormedLaw.{Runs}
+use Rattle.std.proofs.Common.{drop}
+use Rattle.uac_sentence.proofs.WellFormedLaw.{IsTurning}
 use Rattle.uac_sentence.proofs.well_formed.are_in_turn.Given as goal
 
 abbrev pub invariant-loop-block : goal.invariant-loop-block
-invariant-loop-block l = Runs l.used l.latest (drop l.block-index l.blocks) → Runs (replicate 256 false) None l.blocks
+invariant-loop-block l = IsTurning l.used l.latest l.blocks (drop l.block-index l.blocks)
