@@ -1,13 +1,13 @@
 -- Products, shifts and saturation, lane by lane.
-use Rattle.std.proofs.Common.{◌≡◌, ◌∙◌, refl, ap, arith, ℕ, zero, suc, ◌^◌, ◌*◌, ◌≤◌, ◌<◌, ℤ, pos, negsuc, neg_ℤ, ◌*ℤ◌, ◌+ℤ◌, ◌+◌, ◌++◌, unsigned_abs, to_z, of_z, w64, w32, List, [], ◌∷◌, length, map, Bool, true, false, FitsSigned, sym, subst}
+use Rattle.std.proofs.Common.{◌≡◌, ◌∙◌, refl, ap, arith, ℕ, zero, suc, ◌^◌, ◌*◌, ◌≤◌, ◌<◌, ℤ, pos, negsuc, neg_ℤ, ◌*ℤ◌, ◌+ℤ◌, ◌+◌, ◌++◌, unsigned_abs, to_z, of_z, w64, w32, List, [], ◌∷◌, length, map, Bool, true, false, FitsSigned, sym, subst, slice_index, slice_index_or, ◌-◌}
 use lib.Signed.{mag, shr_z, lt_z}
 use mathlib.Core.Bool.{cond}
 use Rattle.std.proofs.lemmas.Int.{ints, to_z-of_z}
 use Rattle.std.proofs.Math.Nat.{mul-le-mul_left}
-use Rattle.std.specs.Simd.Lanes.{Each1, Each2, zip2}
+use Rattle.std.specs.Simd.Lanes.{Each1, Each2, chunk, zip2}
 use Rattle.std.specs.Prelude.{replicate}
 use Rattle.std.specs.List.{range_with_len}
-use Rattle.std.proofs.lemmas.Simd.{Each1-weaker, Each2-of}
+use Rattle.std.proofs.lemmas.Simd.{Each1-weaker, Each2-of, get_or-chunk}
 use Rattle.uac_gain.specs.Gain.{floor_div, saturated, scaled}
 use Rattle.uac_units.specs.Lanes.{HasRoom, IsGain, eight, floored_by, scaled_by}
 
@@ -289,3 +289,34 @@ eight_more f n m e =
 pub handed-narrow : (xs : List ℤ) → Each1 (FitsSigned w32) xs → map (to_z w32) (map (of_z w32) xs) ≡ xs
 handed-narrow [] fits = refl
 handed-narrow (x ∷ xs) fits = ap (λ z. z ∷ map (to_z w32) (map (of_z w32) xs)) (to_z-of_z w32 x fits.0) ∙ ap (λ zs. x ∷ zs) (handed-narrow xs fits.1)
+
+-- ---- lanes that are read from a part of a list
+
+pub gain-lane : (gain : ℕ) → gain < 2 ^ 32 → to_z w64 gain ≡ pos gain
+gain-lane gain small = to_z-of_z w64 (pos gain) (record { sfits = omega arith })
+
+-- one gain, read from a part of the gains
+pub gain-read : (part gains : List ℕ) (from apart : ℕ) → part ≡ gains → (lane place : ℕ) → place ≡ lane * apart
+    → (place < from + 7 * apart + 1 - from) × (slice_index_or (chunk from (from + 7 * apart + 1 - from) part) place 0 < 2 ^ 32)
+    → to_z w64 (slice_index_or (chunk from (from + 7 * apart + 1 - from) part) place 0) ≡ pos (slice_index gains (from + lane * apart))
+gain-read part gains from apart e lane place at fits =
+    gain-lane (slice_index_or (chunk from (from + 7 * apart + 1 - from) part) place 0) fits.1
+    ∙ ap pos (get_or-chunk from (from + 7 * apart + 1 - from) part place 0 fits.0)
+    ∙ ap (λ k. pos (slice_index_or part (from + k) 0)) at
+    ∙ ap (λ xs. pos (slice_index xs (from + lane * apart))) e
+
+-- the code's sample in a lane of 64 bits
+abbrev pub lane-of : ℤ → ℤ
+lane-of s = to_z w64 (of_z w64 (to_z w32 (of_z w32 s)))
+
+pub lane-is : (s : ℤ) → FitsSigned w32 s → lane-of s ≡ s
+lane-is s fits = ap (λ z. to_z w64 (of_z w64 z)) (to_z-of_z w32 s fits) ∙ back s (widened s fits).sfits
+
+-- one input, read from a part of the inputs
+pub input-read : (part inputs : List ℤ) (from : ℕ) → part ≡ inputs → (lane : ℕ)
+    → (lane < from + 8 - from) × FitsSigned w32 (slice_index_or (chunk from (from + 8 - from) part) lane (pos 0))
+    → lane-of (slice_index_or (chunk from (from + 8 - from) part) lane (pos 0)) ≡ slice_index_or inputs (from + lane) (pos 0)
+input-read part inputs from e lane fits =
+    lane-is (slice_index_or (chunk from (from + 8 - from) part) lane (pos 0)) fits.1
+    ∙ get_or-chunk from (from + 8 - from) part lane (pos 0) fits.0
+    ∙ ap (λ xs. slice_index_or xs (from + lane) (pos 0)) e

@@ -1,6 +1,7 @@
 pub mod LanesLemmas
 pub mod Listing
 pub mod Mixing
+pub mod NodeLanes
 pub mod Samples
 pub mod Tallying
 pub mod Worked

@@ -9,7 +9,7 @@ use Rattle.uac_units.specs.declared.jobs.Job.{Job}
 use Rattle.std.specs.Simd.Lanes.{Each1, zip2}
 use Rattle.uac_units.specs.Lanes.{HasRoom, eight}
 use Rattle.uac_units.specs.Rendering.{gained, input}
-use Rattle.uac_gain.specs.Gain.{floored}
+use Rattle.uac_gain.specs.Gain.{floored, scaled}
 use Rattle.uac_units.proofs.LanesLemmas.{saturated-mag, eight-same, eight-each}
 
 -- one input, scaled by the gain of its node
@@ -57,11 +57,15 @@ mixed-room job pins from at few =
     eight-each HasRoom (λ lane. mixed_front job pins (from + lane) at)
     (λ lane. let bound = mixed-bound job pins (from + lane) at in omega (arith, bound))
 
--- eight sums and the samples of one more input
-pub lanes-more : (job : Job) (pins : List ℤ) (from at : ℕ) (sums samples : List ℤ) → sums ≡ eight (λ lane. mixed_front job pins (from + lane) at)
-    → samples ≡ eight (λ lane. node job pins (from + lane) at) → zip2 (λ s x. s +ℤ x) sums samples ≡ eight (λ lane. mixed_front job pins (from + lane) (at + 1))
-lanes-more job pins from at sums samples e f =
-    ap (λ ss. zip2 (λ s x. s +ℤ x) ss samples) e
-    ∙ ap (λ xs. zip2 (λ s x. s +ℤ x) (eight (λ lane. mixed_front job pins (from + lane) at)) xs) f
-    ∙ eight-same (λ lane. mixed_front job pins (from + lane) at +ℤ node job pins (from + lane) at) (λ lane. mixed_front job pins (from + lane) (at + 1))
-    (λ lane. sym (mixed_front_more job pins (from + lane) at))
+-- eight sums and one more input, scaled by the gains of its nodes
+pub nodes-more : (job : Job) (pins : List ℤ) (from at : ℕ) (sums : List ℤ) (gains : List ℕ) → sums ≡ eight (λ lane. mixed_front job pins (from + lane) at)
+    → gains ≡ eight (λ lane. slice_index job.gains.items (at * job.outputs + from + lane))
+    → zip2 (λ sum gain. sum +ℤ scaled (input pins at) gain) sums gains ≡ eight (λ lane. mixed_front job pins (from + lane) (at + 1))
+nodes-more job pins from at sums gains e f =
+    ap (λ ss. zip2 (λ sum gain. sum +ℤ scaled (input pins at) gain) ss gains) e
+    ∙ ap (zip2 (λ sum gain. sum +ℤ scaled (input pins at) gain) (eight (λ lane. mixed_front job pins (from + lane) at))) f
+    ∙ eight-same (λ lane. mixed_front job pins (from + lane) at +ℤ scaled (input pins at) (slice_index job.gains.items (at * job.outputs + from + lane)))
+    (λ lane. mixed_front job pins (from + lane) (at + 1))
+    (λ lane. let place : at * job.outputs + from + lane ≡ at * job.outputs + (from + lane) = omega arith in
+    ap (λ i. mixed_front job pins (from + lane) at +ℤ scaled (input pins at) (slice_index job.gains.items i)) place
+    ∙ sym (mixed_front_more job pins (from + lane) at))

@@ -22,7 +22,7 @@ pub(crate) fn scale_eight(samples: i64x8, gains: i64x8) -> i64x8
 }
 
 /// Eight samples, each times the gain in its lane, rounded towards minus infinity.
-fn multiply_eight(samples: i64x8, gains: i64x8) -> i64x8
+pub(crate) fn multiply_eight(samples: i64x8, gains: i64x8) -> i64x8
     requires lanes { (length samples ≡ 8) × (length gains ≡ 8) }
     requires samples { Each1 (FitsSigned w32) samples }
     requires gains { Each1 IsGain gains }
@@ -59,34 +59,17 @@ pub(crate) fn eight_inputs(pins: &Pins, from: usize) -> i64x8
     ensures lanes { result ≡ eight (λ lane. input pins.now.items (from + lane)) }
     ensures fits { Each1 (FitsSigned w32) result }
 {
+    let inputs = &pins.as_slice()[from..from + 8];
     i64x8::from_array([
-        wide_input(pins, from),
-        wide_input(pins, from + 1),
-        wide_input(pins, from + 2),
-        wide_input(pins, from + 3),
-        wide_input(pins, from + 4),
-        wide_input(pins, from + 5),
-        wide_input(pins, from + 6),
-        wide_input(pins, from + 7),
+        inputs[0] as i64,
+        inputs[1] as i64,
+        inputs[2] as i64,
+        inputs[3] as i64,
+        inputs[4] as i64,
+        inputs[5] as i64,
+        inputs[6] as i64,
+        inputs[7] as i64,
     ])
-}
-
-/// An input channel in all eight lanes.
-pub(crate) fn one_input(pins: &Pins, at: usize) -> i64x8
-    requires { at < length pins.now.items }
-    ensures lanes { result ≡ eight (λ _. input pins.now.items at) }
-    ensures fits { Each1 (FitsSigned w32) result }
-{
-    i64x8::splat(wide_input(pins, at))
-}
-
-/// An input channel in 64 bits.
-fn wide_input(pins: &Pins, at: usize) -> i64
-    requires { at < length pins.now.items }
-    ensures value { result ≡ input pins.now.items at }
-    ensures fits { FitsSigned w32 result }
-{
-    pins[at] as i64
 }
 
 /// Eight gains from that one on, so far apart.
@@ -95,15 +78,16 @@ pub(crate) fn eight_gains(job: &Job, from: usize, apart: usize) -> i64x8
     ensures lanes { result ≡ eight (λ lane. pos (slice_index job.now.gains.items (from + lane * apart))) }
     ensures gains { Each1 IsGain result }
 {
+    let gains = &job.gains.as_slice()[from..from + 7 * apart + 1];
     i64x8::from_array([
-        job.gains[from] as i64,
-        job.gains[from + apart] as i64,
-        job.gains[from + 2 * apart] as i64,
-        job.gains[from + 3 * apart] as i64,
-        job.gains[from + 4 * apart] as i64,
-        job.gains[from + 5 * apart] as i64,
-        job.gains[from + 6 * apart] as i64,
-        job.gains[from + 7 * apart] as i64,
+        gains[0] as i64,
+        gains[apart] as i64,
+        gains[2 * apart] as i64,
+        gains[3 * apart] as i64,
+        gains[4 * apart] as i64,
+        gains[5 * apart] as i64,
+        gains[6 * apart] as i64,
+        gains[7 * apart] as i64,
     ])
 }
 

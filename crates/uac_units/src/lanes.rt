@@ -10,10 +10,9 @@ ghost use Rattle.uac_units.specs.Lanes.{eight};
 ghost use Rattle.uac_units.specs.Rendering.{FitsKind, pins_sample, rendered};
 
 use crate::counting::Steps;
-use crate::eights::{
-    add_eight, eight_gains, eight_inputs, narrow_eight, one_input, saturate_eight, scale_eight,
-};
+use crate::eights::{eight_gains, eight_inputs, narrow_eight, saturate_eight, scale_eight};
 use crate::jobs::{Job, Pins, UnitKind};
+use crate::nodes::{add_scaled, eight_nodes};
 use crate::plain::sample_of;
 use crate::rendering::Unit;
 use std::simd::prelude::*;
@@ -145,8 +144,7 @@ fn mix_eight(job: &Job, pins: &Pins, from: usize) -> i64x8
     let outputs = job.outputs as usize;
     let mut sums = i64x8::splat(0);
     for at in 0..pins.len() {
-        let gains = eight_gains(job, at * outputs + from, 1);
-        sums = add_eight(sums, scale_eight(one_input(pins, at), gains));
+        sums = add_scaled(sums, pins[at], eight_nodes(job, at * outputs + from));
     }
     saturate_eight(sums)
 }

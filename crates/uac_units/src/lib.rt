@@ -8,6 +8,7 @@ mod hearing;
 mod jobs;
 mod lanes;
 pub mod laws;
+mod nodes;
 mod panel;
 mod plain;
 mod rendering;

@@ -14,7 +14,7 @@ use uac_gain::{saturate, scale};
 use uac_pcm::Frame;
 
 /// A gain of 0 decibels.
-const UNITY: u32 = 1073741824;
+pub(crate) const UNITY: u32 = 1073741824;
 
 /// A mixer (Audio Class 2.0, 3.13.3): each output is the saturated sum of all inputs, each scaled by its node's gain.
 #[derive(Drop)]

@@ -182,7 +182,13 @@ fn plain_and_lane_mixers_agree(rt: HostRuntime) {
     }
     let mut gains = [0u32; 256];
     for at in 0..256usize {
-        gains[at] = 1073741824 + (at as u32 * 77 % 251) * 12000000;
+        let step = at as u32 * 77 % 251;
+        gains[at] = match at / 16 % 4 {
+            0 => 0,
+            1 => step % 2 * FULL,
+            2 => step * 4000000,
+            _ => FULL + step * 12000000,
+        };
     }
     let mut steps = Steps::new();
     let pins = make_pins(&samples);

@@ -1,14 +1,15 @@
-use Rattle.std.proofs.Common.{◌≡◌, ◌∙◌, ap, arith, sym, subst, map, length, ◌+◌, ◌*◌, ◌≤◌, slice_index, FitsSigned, to_z, w32, w64}
-use Rattle.std.specs.Simd.Lanes.{Each1}
+use Rattle.std.proofs.Common.{◌≡◌, ◌∙◌, ap, arith, sym, subst, map, length, ◌+◌, ◌≤◌, ◌+ℤ◌, pos, rules, slice_index_or, FitsSigned, to_z, w32, w64}
+use Rattle.std.specs.Simd.Lanes.{Each1, zip2}
+use Rattle.std.proofs.lemmas.Int.{to_z-of_z}
 use Rattle.uac_gain.specs.Gain.{scaled, saturated}
 use Rattle.uac_units.specs.Lanes.{HasRoom, eight}
 use Rattle.uac_units.specs.Rendering.{input}
-use Rattle.uac_units.proofs.LanesLemmas.{eight-same, given, handed, handed-samples, room-lanes, scaled-eight}
-use Rattle.uac_units.proofs.Mixing.{lanes-more, mixed_front, mixed-room, node}
+use Rattle.uac_units.proofs.LanesLemmas.{handed, handed-samples, room-lanes}
+use Rattle.uac_units.proofs.Mixing.{mixed_front, mixed-room, nodes-more}
 use Rattle.uac_units.proofs.lanes.mix_eight.Goals as goal
 
-pub add_eight-sums-requires-clause-room : goal.add_eight-sums-requires-clause-room
-add_eight-sums-requires-clause-room c =
+pub add_scaled-sums-requires-clause-room : goal.add_scaled-sums-requires-clause-room
+add_scaled-sums-requires-clause-room c =
     let few : c.loop-at.at ≤ 256 = omega (arith, c.len-at-end.ensures) in
     subst (Each1 HasRoom) (sym c.loop-at.invariant) (mixed-room c.args.job.now c.args.pins.now.items c.args.from c.loop-at.at few)
 
@@ -19,18 +20,11 @@ loop-at-preserved c =
     let pins = c.args.pins.now.items in
     let from = c.args.from in
     let at = c.loop-at.at in
-    let samples : given c.scale_eight.result ≡ eight (λ lane. node job pins (from + lane) at) =
-    handed-samples c.scale_eight.result c.scale_eight.ensures.fits
-    ∙ c.scale_eight.ensures.lanes
-    ∙ scaled-eight c.one_input.result c.eight_gains-gains.result (λ _. input pins at) (λ lane. slice_index gains (at * job.outputs + from + lane * 1))
-    c.one_input.ensures.lanes c.eight_gains-gains.ensures.lanes c.one_input.ensures.fits c.eight_gains-gains.ensures.gains
-    ∙ eight-same
-    (λ lane. scaled (input pins at) (slice_index gains (at * job.outputs + from + lane * 1)))
-    (λ lane. node job pins (from + lane) at)
-    (λ lane. ap (λ i. scaled (input pins at) (slice_index gains i)) (omega arith)) in
-    handed c.add_eight-sums.result c.add_eight-sums.ensures.fits
-    ∙ c.add_eight-sums.ensures.lanes
-    ∙ lanes-more job pins from at (map (to_z w64) c.loop-at.sums) (given c.scale_eight.result) c.loop-at.invariant samples
+    handed c.add_scaled-sums.result c.add_scaled-sums.ensures.fits
+    ∙ c.add_scaled-sums.ensures.lanes
+    ∙ ap (λ s. zip2 (λ sum gain. sum +ℤ scaled s gain) (map (to_z w64) c.loop-at.sums) c.eight_nodes.result)
+    (to_z-of_z w32 (slice_index_or c.deref.result.now at (pos 0)) (search rules) ∙ ap (λ xs. input xs at) c.deref.ensures.0)
+    ∙ nodes-more job pins from at (map (to_z w64) c.loop-at.sums) c.eight_nodes.result c.loop-at.invariant c.eight_nodes.ensures
 
 pub saturate_eight-requires-clause-fits : goal.saturate_eight-requires-clause-fits
 saturate_eight-requires-clause-fits c =
