@@ -73,6 +73,6 @@ fn scale_down(sample: i32, gains: u32x8) -> i64x8
     ensures lanes { result ≡ map (scaled sample) gains }
     ensures fits { Each1 (FitsSigned w32) result }
 {
-    let samples = i64x8::splat(sample as i64);
+    let samples = i32x8::splat(sample).cast::<i64>();
     multiply_eight(samples, gains.cast::<i32>().cast::<i64>())
 }
