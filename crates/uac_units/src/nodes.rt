@@ -1,6 +1,6 @@
 //! The nodes of a mixer, eight lanes at a time: an input, scaled by eight gains. Most are silent or have a gain of 0 decibels.
 
-ghost use Rattle.std.specs.Prelude.{ℕ, ◌≡◌, ◌+◌, ◌^◌, ◌<◌, ◌≤◌, ◌+ℤ◌, length, map, slice_index, FitsSigned};
+ghost use Rattle.std.specs.Prelude.{◌≡◌, ◌+◌, ◌^◌, ◌<◌, ◌≤◌, ◌+ℤ◌, length, map, slice_index, FitsSigned};
 ghost use Rattle.std.specs.Int.{w32, w64};
 ghost use Rattle.std.specs.Simd.Lanes.{Each1, zip2};
 ghost use Rattle.uac_gain.specs.Gain.{scaled};
@@ -19,7 +19,7 @@ pub(crate) fn eight_nodes(job: &Job, from: usize) -> u32x8
     u32x8::from_slice(&job.gains.as_slice()[from..from + 8])
 }
 
-/// Eight sums, each with the sample added that its lane's gain makes of one input.
+/// Eight sums, each with the sample added that its lane's gain makes of one input. Eight silent nodes add nothing.
 pub(crate) fn add_scaled(sums: i64x8, sample: i32, gains: u32x8) -> i64x8
     requires lanes { length sums ≡ 8 }
     requires room { Each1 HasRoom sums }
@@ -73,6 +73,7 @@ fn scale_down(sample: i32, gains: u32x8) -> i64x8
     ensures lanes { result ≡ map (scaled sample) gains }
     ensures fits { Each1 (FitsSigned w32) result }
 {
+    // Both come from signed lanes of 32 bits, so that the compiler multiplies 32 bits by 32.
     let samples = i32x8::splat(sample).cast::<i64>();
     multiply_eight(samples, gains.cast::<i32>().cast::<i64>())
 }
