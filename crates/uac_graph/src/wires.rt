@@ -23,12 +23,14 @@ use uac_topology::laws::functions_are_sound;
 use uac_units::{Job, Pins, Rack, Steps, Unit};
 
 /// A frame for each terminal and each unit of an audio function, by the entity's id. Beside them lie the inputs of the entity that was
-/// rendered last, so that no room is made for them anew. Those of a unit of one channel lie apart, so that the others keep their length.
+/// rendered last, so that no room is made for them anew. Those of a unit of one source and of one channel or two lie apart, so that each
+/// list keeps its length.
 #[derive(Drop)]
 pub struct Wires {
     frames: FrameTable,
     pins: Pins,
     only_pin: Pins,
+    two_pins: Pins,
 }
 
 impl Model for Wires {
@@ -52,6 +54,7 @@ impl Wires {
             frames,
             pins: ArrayVec::new(),
             only_pin: ArrayVec::new(),
+            two_pins: ArrayVec::new(),
         })
     }
 
@@ -117,13 +120,12 @@ impl Wires {
             else frame_on self.old k) }
         ensures counted { steps.new ≡ steps.old + 1 }
     {
-        if job.outputs == 1 {
-            self.frames
-                .render_over(id, source, unit, job, &mut self.only_pin, steps);
-        } else {
-            self.frames
-                .render_over(id, source, unit, job, &mut self.pins, steps);
-        }
+        let pins = match job.outputs {
+            1 => &mut self.only_pin,
+            2 => &mut self.two_pins,
+            _ => &mut self.pins,
+        };
+        self.frames.render_over(id, source, unit, job, pins, steps);
     }
 
     /// Renders an entity: its wire gets the frame that it makes of those on the wires of its sources, under the controls of which this
