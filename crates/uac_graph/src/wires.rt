@@ -120,12 +120,17 @@ impl Wires {
             else frame_on self.old k) }
         ensures counted { steps.new ≡ steps.old + 1 }
     {
-        let pins = match job.outputs {
-            1 => &mut self.only_pin,
-            2 => &mut self.two_pins,
-            _ => &mut self.pins,
-        };
-        self.frames.render_over(id, source, unit, job, pins, steps);
+        match job.outputs {
+            1 => self
+                .frames
+                .render_over(id, source, unit, job, &mut self.only_pin, steps),
+            2 => self
+                .frames
+                .render_over(id, source, unit, job, &mut self.two_pins, steps),
+            _ => self
+                .frames
+                .render_over(id, source, unit, job, &mut self.pins, steps),
+        }
     }
 
     /// Renders an entity: its wire gets the frame that it makes of those on the wires of its sources, under the controls of which this
