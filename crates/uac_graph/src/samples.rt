@@ -33,25 +33,16 @@ pub(crate) fn write_over(list: &mut [i32], samples: &[i32])
     requires { length list.old ≡ length samples.now }
     ensures { list.new ≡ samples.now }
 {
-    match samples.len() {
-        1 | 2 => write_few(list, samples),
-        _ => list.copy_from_slice(samples),
-    }
-}
-
-// Writes one sample or two over as many others. The second is read behind a branch, so that no compiler reads both at once: a unit
-// writes them one by one, and a processor that reads two such samples together waits until both writes have left it.
-fn write_few(list: &mut [i32], samples: &[i32])
-    requires some { 1 ≤ length samples.now }
-    requires few { length samples.now ≤ 2 }
-    requires sized { length list.old ≡ length samples.now }
-    ensures { list.new ≡ samples.now }
-{
-    let first = sample_at(samples, 0);
-    list[0] = first;
-    if samples.len() == 2 {
-        let second = sample_at(samples, 1);
-        list[1] = second;
+    if samples.len() == 1 {
+        let only = sample_at(samples, 0);
+        list[0] = only;
+    } else if samples.len() == 2 {
+        let left = sample_at(samples, 0);
+        let right = sample_at(samples, 1);
+        list[0] = left;
+        list[1] = right;
+    } else {
+        list.copy_from_slice(samples);
     }
 }
 

@@ -56,29 +56,13 @@ impl Ring {
     {
         let samples = frame.as_slice();
         // Most frames have one channel or two. These are made where they are to lie.
-        match samples.len() {
-            1 | 2 => self.put_narrow(samples),
-            _ => self.put_wide(frame),
+        if samples.len() == 1 {
+            return self.push(mono(samples[0]));
         }
-    }
-
-    // Appends a frame of one channel or two; `Full` exactly where the ring holds all that it can, and then it stays as it was. The
-    // second sample is read behind a branch, so that no compiler reads both at once: they were written one by one, and a processor
-    // that reads two such samples together waits until both writes have left it.
-    #[inline]
-    fn put_narrow(&mut self, samples: &[i32]) -> Result<(), Full>
-        requires some { 1 ≤ length samples.now }
-        requires few { length samples.now ≤ 2 }
-        ensures full { IsErr result ↔ (length self.old ≡ ring_frames) }
-        ensures appended { OnOk result (self.new ≡ self.old ++ samples.now ∷ []) }
-        ensures unchanged { OnErr result (self.new ≡ self.old) }
-    {
-        let left = samples[0];
         if samples.len() == 2 {
-            self.push(stereo(left, samples[1]))
-        } else {
-            self.push(mono(left))
+            return self.push(stereo(samples[0], samples[1]));
         }
+        self.put_wide(frame)
     }
 
     // Appends a frame; `Full` exactly where the ring holds all that it can, and then it stays as it was.
