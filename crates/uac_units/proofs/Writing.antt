@@ -1,5 +1,5 @@
 -- Samples that are written over others, one by one.
-use Rattle.std.proofs.Common.{◌≡◌, ◌∙◌, sym, ap, arith, ℕ, ◌+◌, ◌<◌, ℤ, pos, List, [], ◌∷◌, ◌++◌, length, map, set, take, take_all}
+use Rattle.std.proofs.Common.{◌≡◌, ◌∙◌, refl, sym, ap, arith, ℕ, ◌+◌, ◌<◌, ℤ, pos, List, [], ◌∷◌, ◌++◌, length, map, set, take, take_all}
 use Rattle.std.specs.List.{range_with_len}
 use Rattle.std.proofs.lemmas.List.{ext_get_or, length-set, take_more_set}
 use Rattle.std.proofs.lemmas.List.FromFn.{get_or-map-range_with_len, length-map-range_with_len, map-range_with_len_more}
@@ -12,6 +12,9 @@ use Rattle.uac_units.specs.Rendering.{FitsKind, input, rendered}
 pub record AreWritten (sample : ℕ → ℤ) (channels count : ℕ) (out : List ℤ) : Type 0 where
   pub sized : length out ≡ channels
   pub front : take count out ≡ map sample (range_with_len 0 count)
+
+pub none_yet : (sample : ℕ → ℤ) (channels : ℕ) (out : List ℤ) → length out ≡ channels → AreWritten sample channels 0 out
+none_yet sample channels out sized = record { sized = sized; front = refl }
 
 pub one_more : (sample : ℕ → ℤ) (channels count : ℕ) (out : List ℤ) (z : ℤ) → count < channels → AreWritten sample channels count out → z ≡ sample count
     → AreWritten sample channels (count + 1) (set out count z)

@@ -52,8 +52,9 @@ impl Meters {
         ensures { readings (λ v x. (⟦<dyn Meter as Meter>⟧ v).reading_of x) self.new
             ≡ map (after_hearing frame.now.items) (readings (λ v x. (⟦<dyn Meter as Meter>⟧ v).reading_of x) self.old) }
     {
-        for at in 0..self.list.len() {
-            hear_one(&mut self.list[at], frame);
+        let list = self.list.as_mut_slice();
+        for at in 0..list.len() {
+            hear_one(&mut list[at], frame);
         }
     }
 }

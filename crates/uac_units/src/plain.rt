@@ -1,9 +1,10 @@
 //! The units as they stand in the definitions, one sample after the other.
 
-ghost use Rattle.std.specs.Prelude.{◌≡◌, ◌+◌, ◌^◌, ◌<◌, length};
+ghost use Rattle.std.specs.Prelude.{◌≡◌, ◌+◌, ◌*◌, ◌^◌, ◌<◌, length};
 ghost use Rattle.uac_units.specs.declared.jobs.UnitKind.TheVariants.{Mixer, Selector, Feature, Effect};
 ghost use Rattle.uac_gain.specs.Gain.{scaled};
-ghost use Rattle.uac_units.specs.Rendering.{FitsKind, gained, input, pins_sample, rendered};
+ghost use Rattle.std.specs.Bool.{OnTrue};
+ghost use Rattle.uac_units.specs.Rendering.{FitsKind, HasUnity, gained, input, pins_sample, rendered};
 
 use crate::channels::fit;
 use crate::counting::Steps;
@@ -131,8 +132,74 @@ fn render_mixer(job: &Job, inputs: &[i32], out: &mut [i32])
     }
 }
 
-/// Writes the samples of a feature: each channel scaled by its own gain and then by the master's.
+/// Writes the samples of a feature: each channel scaled by its own gain and then by the master's. Most features have one channel or two
+/// and gains of 0 decibels, which change no sample.
 fn render_feature(job: &Job, inputs: &[i32], out: &mut [i32])
+    requires fits { FitsKind Feature job.now inputs.now }
+    requires sized { length out.old ≡ job.now.outputs }
+    ensures { out.new ≡ rendered Feature job.now inputs.now }
+{
+    match out.len() {
+        1 => render_only(job, inputs, out),
+        2 => render_pair(job, inputs, out),
+        _ => render_channels(job, inputs, out),
+    }
+}
+
+/// Writes the sample of a feature of one channel.
+fn render_only(job: &Job, inputs: &[i32], out: &mut [i32])
+    requires fits { FitsKind Feature job.now inputs.now }
+    requires sized { length out.old ≡ job.now.outputs }
+    requires one { job.now.outputs ≡ 1 }
+    ensures { out.new ≡ rendered Feature job.now inputs.now }
+{
+    if stays(job, 0) {
+        let only = unchanged(job, inputs, 0);
+        out[0] = only;
+    } else {
+        render_channels(job, inputs, out);
+    }
+}
+
+/// Writes the samples of a feature of two channels.
+fn render_pair(job: &Job, inputs: &[i32], out: &mut [i32])
+    requires fits { FitsKind Feature job.now inputs.now }
+    requires sized { length out.old ≡ job.now.outputs }
+    requires two { job.now.outputs ≡ 2 }
+    ensures { out.new ≡ rendered Feature job.now inputs.now }
+{
+    if stays(job, 0) && stays(job, 1) {
+        let left = unchanged(job, inputs, 0);
+        let right = unchanged(job, inputs, 1);
+        out[0] = left;
+        out[1] = right;
+    } else {
+        render_channels(job, inputs, out);
+    }
+}
+
+/// Whether both gains of a channel of a feature are 0 decibels.
+fn stays(job: &Job, channel: usize) -> bool
+    requires { 2 * channel + 1 < length job.now.gains.items }
+    ensures { OnTrue result (HasUnity job.now channel) }
+{
+    let gains = job.gains.as_slice();
+    gains[2 * channel] == UNITY && gains[2 * channel + 1] == UNITY
+}
+
+/// The sample of a channel of a feature whose gains are both 0 decibels: its input.
+fn unchanged(job: &Job, inputs: &[i32], channel: usize) -> i32
+    requires inside { channel < length inputs.now }
+    requires gains { HasUnity job.now channel }
+    ensures { result ≡ pins_sample Feature job.now inputs.now channel }
+{
+    unity_changes_nothing();
+    input_of(inputs, channel)
+}
+
+/// Writes the samples of a feature with any channels and gains.
+#[inline(never)]
+fn render_channels(job: &Job, inputs: &[i32], out: &mut [i32])
     requires fits { FitsKind Feature job.now inputs.now }
     requires sized { length out.old ≡ job.now.outputs }
     ensures { out.new ≡ rendered Feature job.now inputs.now }

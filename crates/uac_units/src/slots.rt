@@ -48,6 +48,21 @@ impl Rack {
         ensures kind { kind_of result.now ≡ kind }
         ensures slot { result.now ≡ slot self.now kind }
     {
+        // The most frequent are found without a table of jumps.
+        match kind {
+            UnitKind::Feature => &*self.feature,
+            UnitKind::Mixer => &*self.mixer,
+            UnitKind::Selector | UnitKind::Effect => self.any_unit(kind),
+        }
+    }
+
+    // The box of any kind.
+    #[inline(never)]
+    fn any_unit(&self, kind: UnitKind) -> &dyn Unit
+        requires { IsFitted (λ v x. (⟦<dyn Unit as Unit>⟧ v).kind_of x) self.now }
+        ensures kind { kind_of result.now ≡ kind }
+        ensures slot { result.now ≡ slot self.now kind }
+    {
         match kind {
             UnitKind::Mixer => &*self.mixer,
             UnitKind::Selector => &*self.selector,

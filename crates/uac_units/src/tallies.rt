@@ -3,7 +3,7 @@
 ghost use Rattle.std.specs.Prelude.{◌≡◌, ◌≤◌, ◌<◌, if◌then◌else◌, unsigned_abs, count_by, length, slice_index_or, pos};
 ghost use Rattle.std.specs.List.{sum_by};
 ghost use Rattle.uac_units.specs.Hearing as spec;
-ghost use Rattle.uac_units.specs.Hearing.{is_clipped};
+ghost use Rattle.uac_units.specs.Hearing.{after_hearing, is_clipped};
 ghost use Rattle.uac_units.specs.declared.hearing.MeterKind.TheVariants.{Peak, Clipped, Sum};
 
 use crate::hearing::{Meter, MeterKind};
@@ -34,6 +34,16 @@ impl PeakMeter {
     {
         PeakMeter { value: 0 }
     }
+
+    // Hears a frame of any number of samples.
+    #[tactic(auto, unfolding(crate::specs::Hearing::after_hearing))]
+    #[inline(never)]
+    fn hear_many(&mut self, samples: &[i32])
+        requires { length samples.now ≤ 32 }
+        ensures { ⟦<PeakMeter as Meter>⟧.reading_of self.new ≡ after_hearing samples.now (⟦<PeakMeter as Meter>⟧.reading_of self.old) }
+    {
+        self.value = self.value.max(peak_of(samples) as u64);
+    }
 }
 
 impl ClippedMeter {
@@ -43,6 +53,16 @@ impl ClippedMeter {
     {
         ClippedMeter { value: 0 }
     }
+
+    // Hears a frame of any number of samples.
+    #[tactic(auto, unfolding(crate::specs::Hearing::after_hearing))]
+    #[inline(never)]
+    fn hear_many(&mut self, samples: &[i32])
+        requires { length samples.now ≤ 32 }
+        ensures { ⟦<ClippedMeter as Meter>⟧.reading_of self.new ≡ after_hearing samples.now (⟦<ClippedMeter as Meter>⟧.reading_of self.old) }
+    {
+        self.value = self.value.saturating_add(clipped_among(samples) as u64);
+    }
 }
 
 impl SumMeter {
@@ -51,6 +71,16 @@ impl SumMeter {
         ensures { ⟦<SumMeter as Meter>⟧.reading_of result ≡ record { kind = Sum; value = 0 } }
     {
         SumMeter { value: 0 }
+    }
+
+    // Hears a frame of any number of samples.
+    #[tactic(auto, unfolding(crate::specs::Hearing::after_hearing))]
+    #[inline(never)]
+    fn hear_many(&mut self, samples: &[i32])
+        requires { length samples.now ≤ 32 }
+        ensures { ⟦<SumMeter as Meter>⟧.reading_of self.new ≡ after_hearing samples.now (⟦<SumMeter as Meter>⟧.reading_of self.old) }
+    {
+        self.value = self.value.saturating_add(sum_of(samples));
     }
 }
 
@@ -65,9 +95,19 @@ impl Meter for PeakMeter {
         self.value
     }
 
-    #[tactic(auto, unfolding(crate::specs::Hearing::after_hearing))]
+    #[tactic(auto, unfolding(crate::specs::Hearing::after_hearing), using(crate::proofs::Tallying::one_peak, crate::proofs::Tallying::two_peak))]
     fn hear(&mut self, frame: &Frame) {
-        self.value = self.value.max(peak_of(frame.as_slice()) as u64);
+        let samples = frame.as_slice();
+        // Most frames have one sample or two.
+        match samples.len() {
+            1 => self.value = self.value.max(size_at(samples, 0) as u64),
+            2 => {
+                let left = size_at(samples, 0);
+                let right = size_at(samples, 1);
+                self.value = self.value.max(left.max(right) as u64);
+            }
+            _ => self.hear_many(samples),
+        }
     }
 }
 
@@ -82,11 +122,18 @@ impl Meter for ClippedMeter {
         self.value
     }
 
-    #[tactic(auto, unfolding(crate::specs::Hearing::after_hearing))]
+    #[tactic(auto, unfolding(crate::specs::Hearing::after_hearing), using(crate::proofs::Tallying::one_clipped, crate::proofs::Tallying::two_clipped))]
     fn hear(&mut self, frame: &Frame) {
-        self.value = self
-            .value
-            .saturating_add(clipped_among(frame.as_slice()) as u64);
+        let samples = frame.as_slice();
+        match samples.len() {
+            1 => self.value = self.value.saturating_add(clips_at(samples, 0) as u64),
+            2 => {
+                let left = clips_at(samples, 0);
+                let right = clips_at(samples, 1);
+                self.value = self.value.saturating_add((left + right) as u64);
+            }
+            _ => self.hear_many(samples),
+        }
     }
 }
 
@@ -101,25 +148,25 @@ impl Meter for SumMeter {
         self.value
     }
 
-    #[tactic(auto, unfolding(crate::specs::Hearing::after_hearing))]
+    #[tactic(auto, unfolding(crate::specs::Hearing::after_hearing), using(crate::proofs::Tallying::one_added, crate::proofs::Tallying::two_added))]
     fn hear(&mut self, frame: &Frame) {
-        self.value = self.value.saturating_add(sum_of(frame.as_slice()));
+        let samples = frame.as_slice();
+        match samples.len() {
+            1 => self.value = self.value.saturating_add(size_at(samples, 0) as u64),
+            2 => {
+                let left = size_at(samples, 0) as u64;
+                let right = size_at(samples, 1) as u64;
+                self.value = self.value.saturating_add(left + right);
+            }
+            _ => self.hear_many(samples),
+        }
     }
 }
 
-// The greatest absolute sample of a frame. Most frames have two samples or one.
-#[tactic(auto, using(crate::proofs::Tallying::two_peak, crate::proofs::Tallying::one_peak))]
+// The greatest absolute sample of a frame.
 fn peak_of(samples: &[i32]) -> u32
     ensures { result ≡ spec.peak_of samples.now }
 {
-    if samples.len() == 2 {
-        let left = size_at(samples, 0);
-        let right = size_at(samples, 1);
-        return left.max(right);
-    }
-    if samples.len() == 1 {
-        return size_at(samples, 0);
-    }
     let mut peak = 0;
     for sample in samples {
         peak = peak.max(sample.unsigned_abs());
@@ -128,19 +175,10 @@ fn peak_of(samples: &[i32]) -> u32
 }
 
 // How many samples of a frame stand at full scale.
-#[tactic(auto, using(crate::proofs::Tallying::two_clipped, crate::proofs::Tallying::one_clipped))]
 fn clipped_among(samples: &[i32]) -> u32
     requires { length samples.now ≤ 32 }
     ensures { result ≡ count_by is_clipped samples.now }
 {
-    if samples.len() == 2 {
-        let left = clips_at(samples, 0);
-        let right = clips_at(samples, 1);
-        return left + right;
-    }
-    if samples.len() == 1 {
-        return clips_at(samples, 0);
-    }
     let mut clipped = 0;
     for sample in samples {
         if *sample == i32::MAX || *sample == i32::MIN {
@@ -151,19 +189,10 @@ fn clipped_among(samples: &[i32]) -> u32
 }
 
 // The absolute samples of a frame together.
-#[tactic(auto, using(crate::proofs::Tallying::two_added, crate::proofs::Tallying::one_added))]
 fn sum_of(samples: &[i32]) -> u64
     requires { length samples.now ≤ 32 }
     ensures { result ≡ sum_by unsigned_abs samples.now }
 {
-    if samples.len() == 2 {
-        let left = size_at(samples, 0);
-        let right = size_at(samples, 1);
-        return left as u64 + right as u64;
-    }
-    if samples.len() == 1 {
-        return size_at(samples, 0) as u64;
-    }
     let mut sum = 0;
     for sample in samples {
         sum += sample.unsigned_abs() as u64;

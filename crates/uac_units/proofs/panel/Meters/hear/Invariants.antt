@@ -5,4 +5,4 @@ use Rattle.uac_units.proofs.panel.Meters.hear.Given as goal
 abbrev pub invariant-loop-at : goal.invariant-loop-at
 invariant-loop-at g l =
     ChangedBelow (λ b. (goal.Meter-dyn g (b.vtable, b.value)).reading_of b.value) (after_hearing l.frame.items)
-    l.self.list.items l.initial.self.list.items l.at
+    l.list l.initial.list l.at

@@ -4,7 +4,7 @@ use Rattle.uac_gain.specs.Gain.{scaled}
 use Rattle.uac_units.specs.declared.jobs.UnitKind.TheVariants.{Feature}
 use Rattle.uac_units.specs.Rendering.{input, pins_sample, rendered}
 use Rattle.uac_units.proofs.Writing.{all_written, one_more}
-use Rattle.uac_units.proofs.plain.render_feature.Goals as goal
+use Rattle.uac_units.proofs.plain.render_channels.Goals as goal
 
 pub loop-channel-preserved : goal.loop-channel-preserved
 loop-channel-preserved c =
