@@ -1,9 +1,8 @@
 //! The units as they stand in the definitions, one sample after the other.
 
-ghost use Rattle.std.specs.Prelude.{◌≡◌, ◌+◌, ◌*◌, ◌^◌, ◌<◌, length};
+ghost use Rattle.std.specs.Prelude.{◌≡◌, ◌↔◌, ◌+◌, ◌*◌, ◌^◌, ◌<◌, length, true};
 ghost use Rattle.uac_units.specs.declared.jobs.UnitKind.TheVariants.{Mixer, Selector, Feature, Effect};
 ghost use Rattle.uac_gain.specs.Gain.{scaled};
-ghost use Rattle.std.specs.Bool.{OnTrue};
 ghost use Rattle.uac_units.specs.Rendering.{FitsKind, HasUnity, gained, input, pins_sample, rendered};
 
 use crate::channels::fit;
@@ -81,7 +80,8 @@ impl Unit for PlainEffect {
     }
 }
 
-/// Makes `out` the samples of a unit of that kind, and counts one render.
+/// Makes `out` the samples of a unit of that kind, and counts one render. Each unit has it for its own kind alone, and asks for none.
+#[inline(always)]
 fn render_as(kind: UnitKind, job: &Job, pins: &Pins, out: &mut Frame, steps: &mut Steps)
     requires fits { FitsKind kind job.now pins.now.items }
     requires room { steps.old + 1 < 2 ^ 64 }
@@ -108,6 +108,7 @@ fn render_anew(kind: UnitKind, job: &Job, pins: &Pins, out: &mut Frame)
 }
 
 /// Writes the samples of a unit of that kind over so many others.
+#[inline(always)]
 fn render_samples(kind: UnitKind, job: &Job, inputs: &[i32], out: &mut [i32])
     requires fits { FitsKind kind job.now inputs.now }
     requires sized { length out.old ≡ job.now.outputs }
@@ -181,7 +182,7 @@ fn render_pair(job: &Job, inputs: &[i32], out: &mut [i32])
 /// Whether both gains of a channel of a feature are 0 decibels.
 fn stays(job: &Job, channel: usize) -> bool
     requires { 2 * channel + 1 < length job.now.gains.items }
-    ensures { OnTrue result (HasUnity job.now channel) }
+    ensures { (result ≡ true) ↔ HasUnity job.now channel }
 {
     let gains = job.gains.as_slice();
     gains[2 * channel] == UNITY && gains[2 * channel + 1] == UNITY

@@ -48,11 +48,23 @@ impl Rack {
         ensures kind { kind_of result.now ≡ kind }
         ensures slot { result.now ≡ slot self.now kind }
     {
-        // The most frequent are found without a table of jumps.
+        // A feature and a mixer, the most frequent, are asked for one after the other, so that no table of jumps is made.
         match kind {
             UnitKind::Feature => &*self.feature,
+            UnitKind::Mixer | UnitKind::Selector | UnitKind::Effect => self.mixer_or_any(kind),
+        }
+    }
+
+    // The box of any kind, a mixer's first.
+    #[inline(always)]
+    fn mixer_or_any(&self, kind: UnitKind) -> &dyn Unit
+        requires { IsFitted (λ v x. (⟦<dyn Unit as Unit>⟧ v).kind_of x) self.now }
+        ensures kind { kind_of result.now ≡ kind }
+        ensures slot { result.now ≡ slot self.now kind }
+    {
+        match kind {
             UnitKind::Mixer => &*self.mixer,
-            UnitKind::Selector | UnitKind::Effect => self.any_unit(kind),
+            UnitKind::Selector | UnitKind::Feature | UnitKind::Effect => self.any_unit(kind),
         }
     }
 
