@@ -135,6 +135,7 @@ fn render_mixer(job: &Job, inputs: &[i32], out: &mut [i32])
 
 /// Writes the samples of a feature: each channel scaled by its own gain and then by the master's. Most features have one channel or two
 /// and gains of 0 decibels, which change no sample.
+#[inline(always)]
 fn render_feature(job: &Job, inputs: &[i32], out: &mut [i32])
     requires fits { FitsKind Feature job.now inputs.now }
     requires sized { length out.old ≡ job.now.outputs }
