@@ -5,3 +5,4 @@ pub mod Panel
 pub mod Rendering
 -- What the contracts below them cite: steps of the code, no part of what is promised.
 pub mod Lanes
+pub mod Unity

@@ -2,7 +2,7 @@
 -- effect unit). Profile: the arithmetic, and that an effect is always bypassed.
 use Rattle.std.specs.Prelude.{◌≡◌, ℕ, ◌+◌, ◌*◌, ◌≤◌, ℤ, pos, ◌+ℤ◌, List, [], ◌∷◌, ◌++◌, map, length, slice_index, slice_index_or}
 use Rattle.std.specs.List.{fold, range_with_len}
-use Rattle.uac_gain.specs.Gain.{scaled, saturated, unity}
+use Rattle.uac_gain.specs.Gain.{scaled, saturated}
 use Rattle.uac_units.specs.declared.jobs.Job.{Job}
 use Rattle.uac_units.specs.declared.jobs.UnitKind.{UnitKind}
 use Rattle.uac_units.specs.declared.jobs.UnitKind.TheVariants.{Mixer, Selector, Feature, Effect}
@@ -28,11 +28,6 @@ input pins at = slice_index_or pins at (pos 0)
 -- the input, scaled by the job's gain of that number
 abbrev pub gained : Job → List ℤ → ℕ → ℕ → ℤ
 gained job pins at gain = scaled (input pins at) (slice_index job.gains.items gain)
-
--- both gains of a feature's channel are 0 decibels
-abbrev pub HasUnity : Job → ℕ → Type 0
-HasUnity job channel =
-    (slice_index job.gains.items (2 * channel) ≡ unity) × (slice_index job.gains.items (2 * channel + 1) ≡ unity)
 
 -- all inputs together, each scaled by the gain of its node with this output
 abbrev pub mixed : Job → List ℤ → ℕ → ℤ

@@ -3,7 +3,8 @@
 ghost use Rattle.std.specs.Prelude.{◌≡◌, ◌↔◌, ◌+◌, ◌*◌, ◌^◌, ◌<◌, length, true};
 ghost use Rattle.uac_units.specs.declared.jobs.UnitKind.TheVariants.{Mixer, Selector, Feature, Effect};
 ghost use Rattle.uac_gain.specs.Gain.{scaled};
-ghost use Rattle.uac_units.specs.Rendering.{FitsKind, HasUnity, gained, input, pins_sample, rendered};
+ghost use Rattle.uac_units.specs.Rendering.{FitsKind, gained, input, pins_sample, rendered};
+ghost use Rattle.uac_units.specs.Unity.{HasUnity};
 
 use crate::channels::fit;
 use crate::counting::Steps;

@@ -1,6 +1,6 @@
 //! The four units that a graph is rendered with.
 
-ghost use Rattle.std.specs.Prelude.{◌≡◌};
+ghost use Rattle.std.specs.Prelude.{◌≡◌, true, false};
 ghost use Rattle.uac_units.specs.declared.jobs.UnitKind.TheVariants.{Mixer, Selector, Feature, Effect};
 ghost use Rattle.uac_units.specs.Fitting.{IsFitted, slot};
 
@@ -48,38 +48,25 @@ impl Rack {
         ensures kind { kind_of result.now ≡ kind }
         ensures slot { result.now ≡ slot self.now kind }
     {
-        // A feature and a mixer, the most frequent, are asked for one after the other, so that no table of jumps is made.
+        // Features and mixers, the most frequent, are asked for alone, so that no table of jumps is made.
         match kind {
             UnitKind::Feature => &*self.feature,
-            UnitKind::Mixer | UnitKind::Selector | UnitKind::Effect => self.mixer_or_any(kind),
-        }
-    }
-
-    // The box of any kind, a mixer's first.
-    #[inline(always)]
-    fn mixer_or_any(&self, kind: UnitKind) -> &dyn Unit
-        requires { IsFitted (λ v x. (⟦<dyn Unit as Unit>⟧ v).kind_of x) self.now }
-        ensures kind { kind_of result.now ≡ kind }
-        ensures slot { result.now ≡ slot self.now kind }
-    {
-        match kind {
             UnitKind::Mixer => &*self.mixer,
-            UnitKind::Selector | UnitKind::Feature | UnitKind::Effect => self.any_unit(kind),
+            UnitKind::Selector => self.selector_or_effect(true),
+            UnitKind::Effect => self.selector_or_effect(false),
         }
     }
 
-    // The box of any kind.
+    // The selector's box, or else the effect's.
     #[inline(never)]
-    fn any_unit(&self, kind: UnitKind) -> &dyn Unit
-        requires { IsFitted (λ v x. (⟦<dyn Unit as Unit>⟧ v).kind_of x) self.now }
-        ensures kind { kind_of result.now ≡ kind }
-        ensures slot { result.now ≡ slot self.now kind }
+    fn selector_or_effect(&self, selects: bool) -> &dyn Unit
+        ensures selector { selects ≡ true → result.now ≡ slot self.now Selector }
+        ensures effect { selects ≡ false → result.now ≡ slot self.now Effect }
     {
-        match kind {
-            UnitKind::Mixer => &*self.mixer,
-            UnitKind::Selector => &*self.selector,
-            UnitKind::Feature => &*self.feature,
-            UnitKind::Effect => &*self.effect,
+        if selects {
+            &*self.selector
+        } else {
+            &*self.effect
         }
     }
 }

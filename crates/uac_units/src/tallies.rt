@@ -34,16 +34,6 @@ impl PeakMeter {
     {
         PeakMeter { value: 0 }
     }
-
-    // Hears a frame of any number of samples.
-    #[tactic(auto, unfolding(crate::specs::Hearing::after_hearing))]
-    #[inline(never)]
-    fn hear_many(&mut self, samples: &[i32])
-        requires { length samples.now ≤ 32 }
-        ensures { ⟦<PeakMeter as Meter>⟧.reading_of self.new ≡ after_hearing samples.now (⟦<PeakMeter as Meter>⟧.reading_of self.old) }
-    {
-        self.value = self.value.max(peak_of(samples) as u64);
-    }
 }
 
 impl ClippedMeter {
@@ -53,16 +43,6 @@ impl ClippedMeter {
     {
         ClippedMeter { value: 0 }
     }
-
-    // Hears a frame of any number of samples.
-    #[tactic(auto, unfolding(crate::specs::Hearing::after_hearing))]
-    #[inline(never)]
-    fn hear_many(&mut self, samples: &[i32])
-        requires { length samples.now ≤ 32 }
-        ensures { ⟦<ClippedMeter as Meter>⟧.reading_of self.new ≡ after_hearing samples.now (⟦<ClippedMeter as Meter>⟧.reading_of self.old) }
-    {
-        self.value = self.value.saturating_add(clipped_among(samples) as u64);
-    }
 }
 
 impl SumMeter {
@@ -71,16 +51,6 @@ impl SumMeter {
         ensures { ⟦<SumMeter as Meter>⟧.reading_of result ≡ record { kind = Sum; value = 0 } }
     {
         SumMeter { value: 0 }
-    }
-
-    // Hears a frame of any number of samples.
-    #[tactic(auto, unfolding(crate::specs::Hearing::after_hearing))]
-    #[inline(never)]
-    fn hear_many(&mut self, samples: &[i32])
-        requires { length samples.now ≤ 32 }
-        ensures { ⟦<SumMeter as Meter>⟧.reading_of self.new ≡ after_hearing samples.now (⟦<SumMeter as Meter>⟧.reading_of self.old) }
-    {
-        self.value = self.value.saturating_add(sum_of(samples));
     }
 }
 
@@ -106,7 +76,7 @@ impl Meter for PeakMeter {
                 let right = size_at(samples, 1);
                 self.value = self.value.max(left.max(right) as u64);
             }
-            _ => self.hear_many(samples),
+            _ => self.value = self.value.max(peak_of(samples) as u64),
         }
     }
 }
@@ -132,7 +102,7 @@ impl Meter for ClippedMeter {
                 let right = clips_at(samples, 1);
                 self.value = self.value.saturating_add((left + right) as u64);
             }
-            _ => self.hear_many(samples),
+            _ => self.value = self.value.saturating_add(clipped_among(samples) as u64),
         }
     }
 }
@@ -158,12 +128,13 @@ impl Meter for SumMeter {
                 let right = size_at(samples, 1) as u64;
                 self.value = self.value.saturating_add(left + right);
             }
-            _ => self.hear_many(samples),
+            _ => self.value = self.value.saturating_add(sum_of(samples)),
         }
     }
 }
 
 // The greatest absolute sample of a frame.
+#[inline(never)]
 fn peak_of(samples: &[i32]) -> u32
     ensures { result ≡ spec.peak_of samples.now }
 {
@@ -175,6 +146,7 @@ fn peak_of(samples: &[i32]) -> u32
 }
 
 // How many samples of a frame stand at full scale.
+#[inline(never)]
 fn clipped_among(samples: &[i32]) -> u32
     requires { length samples.now ≤ 32 }
     ensures { result ≡ count_by is_clipped samples.now }
@@ -189,6 +161,7 @@ fn clipped_among(samples: &[i32]) -> u32
 }
 
 // The absolute samples of a frame together.
+#[inline(never)]
 fn sum_of(samples: &[i32]) -> u64
     requires { length samples.now ≤ 32 }
     ensures { result ≡ sum_by unsigned_abs samples.now }
