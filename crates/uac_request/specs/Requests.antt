@@ -375,9 +375,6 @@ answer_fields (told.Descriptor from to) = with_descriptor from to
 answer_fields told.Done = is_done
 answer_fields (told.Stall rule) = is_stalled rule
 
-abbrev pub one_byte : ℕ → List ℕ
-one_byte byte = byte ∷ []
-
 -- the value that is kept, in the control's bytes
 abbrev pub kept_bytes : List (Key × ℤ) → Key → Option ℕ → List ℕ
 kept_bytes controls k width = value_bytes (unwrap_or width 0) (unwrap_or (value_of controls k) (pos 0))

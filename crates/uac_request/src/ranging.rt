@@ -11,38 +11,37 @@ use crate::controls::width_of;
 use crate::owner::Owner;
 use crate::setup::{Setup, key_named};
 use crate::told::Reply;
-use arrayvec::ArrayVec;
 use uac_store::{Range, ranges};
 use uac_topology::Function;
 
-/// The bytes of a control's ranges, whole (Audio Class 2.0, 5.2.1).
+/// Writes the bytes of a control's ranges, whole (Audio Class 2.0, 5.2.1).
 #[tactic(auto, using(crate::proofs::Narrow::narrow_range))]
-pub(crate) fn ranges_now(function: &Function, setup: &Setup, owner: Owner<'_>) -> Reply
-    requires { spec.has_range (owned owner) (spec.high setup.now.value) ≡ true }
-    ensures { result.items ≡ spec.range_bytes (spec.bytes_of (owned owner.entry) (spec.high setup.now.value))
+pub(crate) fn write_ranges(reply: &mut Reply, function: &Function, setup: &Setup, owner: Owner<'_>)
+    requires empty { reply.old.items ≡ [] }
+    requires ranged { spec.has_range (owned owner) (spec.high setup.now.value) ≡ true }
+    ensures { reply.new.items ≡ spec.range_bytes (spec.bytes_of (owned owner.entry) (spec.high setup.now.value))
         (unwrap_or (ranges_of function.now.entities (key_named setup.now)) []) }
 {
     let key = key_named(setup);
     let width = width_of(owner, key.selector).unwrap_or(0);
     match ranges(function, key) {
-        Some(ranges) => range_bytes(width, ranges.as_slice()),
-        None => range_bytes(width, &[]),
+        Some(ranges) => write_all(reply, width, ranges.as_slice()),
+        None => write_all(reply, width, &[]),
     }
 }
 
 // The number of subranges in two bytes, and of each the least value, the greatest and the step (Audio Class 2.0, 5.2.3).
 #[tactic(auto, unfolding(crate::specs::Requests::range_bytes))]
-fn range_bytes(width: u8, ranges: &[Range]) -> Reply
+fn write_all(reply: &mut Reply, width: u8, ranges: &[Range])
+    requires empty { reply.old.items ≡ [] }
     requires narrow { width ≤ 6 }
     requires room { 2 + length ranges.now * (3 * width) ≤ 146 }
-    ensures { result.items ≡ spec.range_bytes width ranges.now }
+    ensures { reply.new.items ≡ spec.range_bytes width ranges.now }
 {
-    let mut reply = ArrayVec::new();
-    push_number(&mut reply, 2, ranges.len() as u64);
+    push_number(reply, 2, ranges.len() as u64);
     for range in ranges {
-        push_range(&mut reply, width, range);
+        push_range(reply, width, range);
     }
-    reply
 }
 
 // One subrange.

@@ -8,13 +8,14 @@ ghost use Rattle.uac_request.specs.Requests as spec;
 ghost use Rattle.uac_request.specs.Requests.{AreSettingsOf, Held, after_request, answer_fields, first_broken};
 ghost use Rattle.uac_request.specs.Requests.{held_by, is_to_control, low, reply_of};
 
-use crate::current::{cur_bytes, one_byte};
+use crate::current::write_cur;
 use crate::owner::{Owner, has_interface, interface_named, owner_of, setting_named};
-use crate::ranging::ranges_now;
+use crate::ranging::write_ranges;
 use crate::rules::{get_broken, value_to_set};
 use crate::setup::{Setup, key_named, low_byte};
 use crate::told::{Answer, Reply};
 use crate::valid::is_valid;
+use arrayvec::ArrayVec;
 use uac_alt::Settings;
 use uac_store::Store;
 use uac_topology::Function;
@@ -40,10 +41,12 @@ pub(crate) fn get_cur(
     };
     match get_broken(function, store, setup, sent, false, owner) {
         Some(rule) => Answer::Stall(rule),
-        None => Answer::Bytes(cut(
-            cur_bytes(function, store, settings, setup, owner),
-            setup.length,
-        )),
+        None => {
+            let mut reply = ArrayVec::new();
+            write_cur(&mut reply, function, store, settings, setup, owner);
+            cut(&mut reply, setup.length);
+            Answer::Bytes(reply)
+        }
     }
 }
 
@@ -64,7 +67,12 @@ pub(crate) fn get_range(function: &Function, store: &Store, setup: &Setup, sent:
     };
     match get_broken(function, store, setup, sent, true, owner) {
         Some(rule) => Answer::Stall(rule),
-        None => Answer::Bytes(cut(ranges_now(function, setup, owner), setup.length)),
+        None => {
+            let mut reply = ArrayVec::new();
+            write_ranges(&mut reply, function, setup, owner);
+            cut(&mut reply, setup.length);
+            Answer::Bytes(reply)
+        }
     }
 }
 
@@ -143,8 +151,10 @@ pub(crate) fn get_interface(
     if !sent.is_empty() {
         return Answer::Stall(8);
     }
-    let setting = settings.get(interface).unwrap_or(0);
-    Answer::Bytes(cut(one_byte(setting), setup.length))
+    let mut reply = ArrayVec::new();
+    reply.push(settings.get(interface).unwrap_or(0));
+    cut(&mut reply, setup.length);
+    Answer::Bytes(reply)
 }
 
 /// What a request to set an interface's setting is told, and the settings after it (USB 2.0, 9.4.10).
@@ -206,11 +216,9 @@ fn owner_named<'a>(function: &'a Function, setup: &Setup) -> Result<Owner<'a>, u
     }
 }
 
-// The bytes of an answer, cut at wLength.
-fn cut(reply: Reply, length: u16) -> Reply
-    ensures { result.items ≡ take length reply.items }
+// Cuts the bytes of an answer at wLength.
+fn cut(reply: &mut Reply, length: u16)
+    ensures { reply.new.items ≡ take length reply.old.items }
 {
-    let mut short = reply;
-    short.truncate(usize::from(length));
-    short
+    reply.truncate(usize::from(length));
 }
