@@ -198,6 +198,7 @@ impl Device {
 
     /// Answers a control request (Audio Class 2.0, 5.2; USB 2.0, 9.4). `sent` are the bytes that came with it. A stall changes
     /// nothing. An interface whose setting was set starts its stream anew, or stops it.
+    #[inline(always)]
     pub fn control(&mut self, setup: &Setup, sent: &[u8]) -> Answer
         ensures { IsControlled setup.now sent.now (answer_fields result) self.old self.new }
     {

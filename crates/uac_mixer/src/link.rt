@@ -82,6 +82,7 @@ impl<'a> DeviceLink<'a> {
     }
 
     // The device acts.
+    #[inline(always)]
     fn act(&mut self, setup: &Setup, sent: &[u8]) -> Answer
         ensures same_reference { self.new.device.ghost_name ≡ self.old.device.ghost_name }
         ensures device { IsControlled setup.now sent.now (answer_fields result) self.old.device.now self.new.device.now }

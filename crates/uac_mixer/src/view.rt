@@ -153,6 +153,7 @@ impl View {
     }
 
     /// Passes a transfer on, and keeps what is known right.
+    #[inline(always)]
     pub fn transfer<L: Link>(
         &mut self,
         link: &mut L,
@@ -190,6 +191,7 @@ impl View {
     }
 
     // Passes a transfer on. The view that it makes of this one is still to be kept.
+    #[inline(always)]
     fn pass_on<L: Link>(&self, link: &mut L, setup: &Setup, sent: &[u8]) -> Result<Answer, Broken>
         requires of_function { IsViewOf (L.state link.old).device.function.entities self.now }
         ensures place { L.place link.new ≡ L.place link.old }

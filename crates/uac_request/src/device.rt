@@ -16,6 +16,7 @@ use uac_topology::Function;
 ///
 /// A stall carries the first of the rules Q1 to Q12 that the request breaks, and changes nothing.
 #[tactic(auto, unfolding(crate::specs::Requests::reply_of, crate::specs::Requests::after_request), using(crate::proofs::Asked::first_unknown))]
+#[inline(always)]
 pub fn answer(
     function: &Function,
     store: &mut Store,

@@ -123,6 +123,7 @@ impl Running {
     }
 
     /// A control transfer: the device acts, unless it breaks before, the host's streams follow it, and the view follows what comes back.
+    #[inline(always)]
     fn transfer(&mut self, setup: &Setup, sent: &[u8]) -> Result<Answer, Broken>
         ensures stands { (meters : List Reading) (r : RunningWorld) → Stands self.old meters r
             → Stands self.new meters (transferred setup.now sent.now r) }
