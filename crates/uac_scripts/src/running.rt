@@ -133,9 +133,12 @@ fn do_said<K: Sink>(
     ensures never_falls { K.faults sink.old ≤ K.faults sink.new }
     ensures handed_on { OnOk result (K.waiting sink.new ≡ 0) }
 {
-    match do_read(bus, said, rack, meters, sink) {
-        Ok(()) => hand_on_line(sink),
-        Err(fault) => Err(fault),
+    match said {
+        Ok(line) => match bus.lent_line(line, rack, meters, sink) {
+            Ok(()) => hand_on_line(sink),
+            Err(fault) => Err(fault),
+        },
+        Err(rule) => Err(BusFault::Script(rule)),
     }
 }
 
@@ -151,29 +154,6 @@ fn hand_on_line<K: Sink>(sink: &mut K) -> Result<(), BusFault>
     match sink.settle() {
         Ok(()) => Ok(()),
         Err(Failed) => Err(BusFault::WriteFault),
-    }
-}
-
-/// Does a line that was read, or answers the rule that its spelling breaks.
-fn do_read<K: Sink>(
-    bus: &mut Bus,
-    said: Result<LentLine<'_>, u8>,
-    rack: &Rack,
-    meters: &mut Meters,
-    sink: &mut K,
-) -> Result<(), BusFault>
-    requires rack { IsFitted (λ v x. (⟦<dyn Unit as Unit>⟧ v).kind_of x) rack.now }
-    requires keeps { IfOk said LentKeeps }
-    ensures does { (w : World) → Stands bus.old (readings (λ v x. (⟦<dyn Meter as Meter>⟧ v).reading_of x) meters.old) w
-        → Does (said_step (lent_said said.entry) w) (wants (lent_said said.entry) w) bus.new
-        (readings (λ v x. (⟦<dyn Meter as Meter>⟧ v).reading_of x) meters.old)
-        (readings (λ v x. (⟦<dyn Meter as Meter>⟧ v).reading_of x) meters.new)
-        (K.written sink.old) (K.written sink.new) (K.faults sink.old) (K.faults sink.new) result }
-    ensures never_falls { K.faults sink.old ≤ K.faults sink.new }
-{
-    match said {
-        Ok(line) => bus.lent_line(line, rack, meters, sink),
-        Err(rule) => Err(BusFault::Script(rule)),
     }
 }
 
