@@ -5,4 +5,5 @@ pub mod Completeness
 pub mod Generated
 -- What the contracts below them cite: steps of the code, no part of what is promised.
 pub mod Boxes
+pub mod Performing
 pub mod Program

@@ -5,12 +5,13 @@ ghost use Rattle.uac_edges.specs.Faults.{Rose};
 ghost use Rattle.uac_units.specs.Fitting.{IsFitted};
 ghost use Rattle.uac_units.specs.Panel.{readings};
 ghost use Rattle.uac_words.specs.Plain.{plainly};
-ghost use Rattle.uac_cli.specs.Call.{IsCall, IsDone, IsGenerated, ask_to_read, reads_all};
+ghost use Rattle.uac_cli.specs.Call.{IsCall, IsGenerated, ask_to_read};
 ghost use Rattle.uac_cli.specs.Completeness.{IsComplete};
+ghost use Rattle.uac_cli.specs.Performing.{Performs};
 ghost use Rattle.uac_describe.specs.Closing.{IsFaultless};
 
 use std::alloc::Global;
-use uac_describe::{Description, NO_MEMORY, Status, close, describe, hand_on, settle};
+use uac_describe::{Description, NO_MEMORY, Status, conclude, describe, hand_on, settle};
 use uac_edges::{Sink, Source};
 use uac_gen::GenSource;
 use uac_scripts::run_script;
@@ -69,36 +70,13 @@ pub fn uac_main<S: Source, K: Sink>(
     // Where no failed write is told, all that was written was handed on.
     ensures handed_on { result ≢ Status.WriteFault → K.waiting sink.new ≡ 0 }
 {
-    let status = answer_words(alloc, words, source, sink, racks, meters);
-    hand_on(status, sink)
-}
-
-/// The same, but for what waits in the sink at the end.
-fn answer_words<S: Source, K: Sink>(
-    alloc: Global,
-    words: &[String],
-    source: &mut S,
-    sink: &mut K,
-    racks: &Racks,
-    meters: &mut Meters,
-) -> Status
-    requires plain { IsFitted (λ v x. (⟦<dyn Unit as Unit>⟧ v).kind_of x) racks.now.plain }
-    requires lanes { IsFitted (λ v x. (⟦<dyn Unit as Unit>⟧ v).kind_of x) racks.now.lanes }
-    ensures call { IsCall (plainly (map (λ word. string_bytes word) words.now))
-        (readings (λ v x. (⟦<dyn Meter as Meter>⟧ v).reading_of x) meters.old)
-        (readings (λ v x. (⟦<dyn Meter as Meter>⟧ v).reading_of x) meters.new)
-        (S.left source.old) (S.left source.new) (S.faults source.old) (S.faults source.new)
-        (K.written sink.old) (K.written sink.new) (K.faults sink.old) (K.faults sink.new) result }
-    ensures read_fault { result ≡ Status.ReadFault → Rose (S.faults source.old) (S.faults source.new) }
-    ensures write_fault { result ≡ Status.WriteFault → Rose (K.faults sink.old) (K.faults sink.new) }
-    ensures faultless { IsFaultless (S.faults source.old) (S.faults source.new) (K.faults sink.old) (K.faults sink.new) result }
-    ensures ok { result ≡ Status.Ok → ask_to_read (plainly (map (λ word. string_bytes word) words.now)) ≡ true
-        → IsAtEnd (S.left source.new) }
-{
     match uac_words::read(alloc, words) {
-        Ok(words) => perform(alloc, words, source, sink, racks, meters),
-        Err(WordsFault::Usage) => close(sink, USAGE, Status::Usage),
-        Err(WordsFault::NoMemory) => close(sink, NO_MEMORY, Status::NoMemory),
+        Ok(words) => {
+            let status = perform(alloc, words, source, sink, racks, meters);
+            hand_on(status, sink)
+        }
+        Err(WordsFault::Usage) => conclude(sink, USAGE, Status::Usage),
+        Err(WordsFault::NoMemory) => conclude(sink, NO_MEMORY, Status::NoMemory),
     }
 }
 
@@ -113,15 +91,11 @@ fn perform<S: Source, K: Sink>(
 ) -> Status
     requires plain { IsFitted (λ v x. (⟦<dyn Unit as Unit>⟧ v).kind_of x) racks.now.plain }
     requires lanes { IsFitted (λ v x. (⟦<dyn Unit as Unit>⟧ v).kind_of x) racks.now.lanes }
-    ensures done { IsDone words.command
+    ensures { Performs words.command
         (readings (λ v x. (⟦<dyn Meter as Meter>⟧ v).reading_of x) meters.old)
         (readings (λ v x. (⟦<dyn Meter as Meter>⟧ v).reading_of x) meters.new)
         (S.left source.old) (S.left source.new) (S.faults source.old) (S.faults source.new)
         (K.written sink.old) (K.written sink.new) (K.faults sink.old) (K.faults sink.new) result }
-    ensures read_fault { result ≡ Status.ReadFault → Rose (S.faults source.old) (S.faults source.new) }
-    ensures write_fault { result ≡ Status.WriteFault → Rose (K.faults sink.old) (K.faults sink.new) }
-    ensures faultless { IsFaultless (S.faults source.old) (S.faults source.new) (K.faults sink.old) (K.faults sink.new) result }
-    ensures ok { result ≡ Status.Ok → reads_all words.command ≡ true → IsAtEnd (S.left source.new) }
 {
     match words.rack {
         RackChoice::Plain => do_command(alloc, words.command, source, sink, &racks.plain, meters),
@@ -139,15 +113,11 @@ fn do_command<S: Source, K: Sink>(
     meters: &mut Meters,
 ) -> Status
     requires rack { IsFitted (λ v x. (⟦<dyn Unit as Unit>⟧ v).kind_of x) rack.now }
-    ensures done { IsDone command
+    ensures { Performs command
         (readings (λ v x. (⟦<dyn Meter as Meter>⟧ v).reading_of x) meters.old)
         (readings (λ v x. (⟦<dyn Meter as Meter>⟧ v).reading_of x) meters.new)
         (S.left source.old) (S.left source.new) (S.faults source.old) (S.faults source.new)
         (K.written sink.old) (K.written sink.new) (K.faults sink.old) (K.faults sink.new) result }
-    ensures read_fault { result ≡ Status.ReadFault → Rose (S.faults source.old) (S.faults source.new) }
-    ensures write_fault { result ≡ Status.WriteFault → Rose (K.faults sink.old) (K.faults sink.new) }
-    ensures faultless { IsFaultless (S.faults source.old) (S.faults source.new) (K.faults sink.old) (K.faults sink.new) result }
-    ensures ok { result ≡ Status.Ok → reads_all command ≡ true → IsAtEnd (S.left source.new) }
 {
     match command {
         Command::Check => describe(alloc, Description::Check, source, sink),
