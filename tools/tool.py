@@ -121,11 +121,12 @@ def rules():
 
 def main_of(main, doc, trouble=1):
     """Runs a tool: --help, and refusals as one sentence on standard error with the status that says so."""
-    if any(word in ("-h", "--help") for word in sys.argv[1:]):
-        print(doc)
-        return 0
     try:
-        status = main(sys.argv[1:])
+        if any(word in ("-h", "--help") for word in sys.argv[1:]):
+            print(doc)
+            status = 0
+        else:
+            status = main(sys.argv[1:])
         sys.stdout.flush()
         return status
     except Refused as why:
