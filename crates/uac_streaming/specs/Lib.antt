@@ -3,5 +3,6 @@
 pub mod Telling
 pub mod StreamingWorld
 -- What the contracts below them cite: steps of the code, no part of what is promised.
+pub mod FoundRings
 pub mod Room
 pub mod Kept

@@ -7,8 +7,9 @@ ghost use Rattle.uac_host.specs.HostWorld.{HostWorld};
 ghost use Rattle.uac_host.specs.Calls.{heard_in};
 ghost use Rattle.uac_host.specs.Kept as kept;
 ghost use Rattle.uac_transcript.specs.Printing.{Prints};
-ghost use Rattle.uac_transcript.specs.Transcript.{says_feedback, says_frame, says_in, says_out, says_over, says_under};
+ghost use Rattle.uac_transcript.specs.Transcript.{says_feedback, says_frame, says_in, says_out};
 ghost use Rattle.uac_lanes.specs.InterfaceStreams.{bits_of};
+ghost use Rattle.uac_streaming.specs.FoundRings.{says_found};
 ghost use Rattle.uac_streaming.specs.StreamingWorld as spec;
 
 use uac_edges::{Failed, Sink};
@@ -131,64 +132,50 @@ fn write_heard<K: Sink>(
     Ok(())
 }
 
-/// Prints the rings that a tick found empty, a bit for each of these interfaces, the lowest for the first.
-pub(crate) fn write_empty<K: Sink>(
+/// What a tick finds of a ring.
+#[derive(Clone, Copy, Debug, PartialEq, Eq)]
+pub(crate) enum FoundRing {
+    Empty,
+    Full,
+}
+
+/// Prints the rings that a tick found so, a bit for each of these interfaces, the lowest for the first.
+pub(crate) fn write_rings<K: Sink>(
     sink: &mut K,
     streams: &[StreamInterface],
     bits: u8,
+    ring: FoundRing,
 ) -> Result<(), Failed>
     ensures printed { (test : streamed.StreamInterface → Bool) → bits ≡ bits_of (map test streams.now)
-        → Prints (K.written sink.old) (K.written sink.new) result (map (λ s. says_under s.number) (filter test streams.now)) }
+        → Prints (K.written sink.old) (K.written sink.new) result (map (λ s. says_found ring s.number) (filter test streams.now)) }
     ensures cause { HasCause (K.faults sink.old) (K.faults sink.new) result }
 {
     let mut rest = bits;
     for stream in streams {
         let found = rest % 2 == 1;
         rest /= 2;
-        write_if_empty(sink, stream.number, found)?;
+        write_if_found(sink, stream.number, ring, found)?;
     }
     Ok(())
 }
 
-/// Prints that a ring was found empty, where it was.
-fn write_if_empty<K: Sink>(sink: &mut K, interface: u8, found: bool) -> Result<(), Failed>
-    ensures printed { Prints (K.written sink.old) (K.written sink.new) result (if found then says_under interface ∷ [] else []) }
-    ensures cause { HasCause (K.faults sink.old) (K.faults sink.new) result }
-{
-    if found {
-        return write_under(sink, interface);
-    }
-    Ok(())
-}
-
-/// Prints the rings that a tick found full, a bit for each of these interfaces, the lowest for the first.
-pub(crate) fn write_full<K: Sink>(
+/// Prints that a ring was found so, where it was.
+fn write_if_found<K: Sink>(
     sink: &mut K,
-    streams: &[StreamInterface],
-    bits: u8,
+    interface: u8,
+    ring: FoundRing,
+    found: bool,
 ) -> Result<(), Failed>
-    ensures printed { (test : streamed.StreamInterface → Bool) → bits ≡ bits_of (map test streams.now)
-        → Prints (K.written sink.old) (K.written sink.new) result (map (λ s. says_over s.number) (filter test streams.now)) }
+    ensures printed { Prints (K.written sink.old) (K.written sink.new) result (if found then says_found ring interface ∷ [] else []) }
     ensures cause { HasCause (K.faults sink.old) (K.faults sink.new) result }
 {
-    let mut rest = bits;
-    for stream in streams {
-        let found = rest % 2 == 1;
-        rest /= 2;
-        write_if_full(sink, stream.number, found)?;
+    if !found {
+        return Ok(());
     }
-    Ok(())
-}
-
-/// Prints that a ring was found full, where it was.
-fn write_if_full<K: Sink>(sink: &mut K, interface: u8, found: bool) -> Result<(), Failed>
-    ensures printed { Prints (K.written sink.old) (K.written sink.new) result (if found then says_over interface ∷ [] else []) }
-    ensures cause { HasCause (K.faults sink.old) (K.faults sink.new) result }
-{
-    if found {
-        return write_over(sink, interface);
+    match ring {
+        FoundRing::Empty => write_under(sink, interface),
+        FoundRing::Full => write_over(sink, interface),
     }
-    Ok(())
 }
 
 /// Prints a report, from detail 2 on.

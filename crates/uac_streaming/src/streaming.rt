@@ -297,8 +297,9 @@ impl Streaming {
 
     /// What the streams of an interface met; nothing where there is no such interface.
     pub fn met_on(&self, function: &Function, interface: u8) -> StreamCounts
-        ensures { (met : ℕ → counted.StreamCounts) (place : ℕ) → self.now.met ≡ spec.met_in met function.now
+        ensures met { (met : ℕ → counted.StreamCounts) (place : ℕ) → self.now.met ≡ spec.met_in met function.now
             → spec.place_of function.now interface ≡ Some place → result ≡ met interface }
+        ensures none { spec.place_of function.now interface ≡ None → result ≡ spec.nothing_met }
     {
         match function.stream_at(interface) {
             Some(place) => counts_at(&self.met, place),

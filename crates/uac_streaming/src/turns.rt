@@ -11,7 +11,7 @@ ghost use Rattle.uac_streaming.specs.StreamingWorld as spec;
 ghost use Rattle.uac_streaming.specs.Kept.{Stands, Tells};
 
 use crate::losses::{loses_in, loses_out, loses_report};
-use crate::printing::{Fetched, write_empty, write_fetched, write_full, write_report, write_sent};
+use crate::printing::{Fetched, FoundRing, write_fetched, write_report, write_rings, write_sent};
 use crate::streaming::Streaming;
 use crate::ways::goes_out;
 use uac_device::{Device, Ticked};
@@ -249,8 +249,8 @@ fn write_some<K: Sink>(
         → Prints (K.written sink.old) (K.written sink.new) result (found_lines clock w) }
     ensures cause { HasCause (K.faults sink.old) (K.faults sink.new) result }
 {
-    write_empty(sink, streams, found.under)?;
-    write_full(sink, streams, found.over)
+    write_rings(sink, streams, found.under, FoundRing::Empty)?;
+    write_rings(sink, streams, found.over, FoundRing::Full)
 }
 
 /// Whether an interface runs a stream to the device that is due.

@@ -12,4 +12,4 @@ returns-in-Taken-clause-stands c d w stands same =
 pub returns-clause-stands : goal.returns-clause-stands
 returns-clause-stands c d w stands same =
     set_so c.args.self.now c.set_met.new.self d w c.args.function.now c.args.function.now c.args.interface (after_arrival c.args.arrival) c.met_on.result c.after_arrival-counts.result
-    stands (sym same) (sym same) c.met_on.ensures c.set_met.ensures.met c.after_arrival-counts.ensures c.set_met.ensures.others
+    stands (sym same) (sym same) c.met_on.ensures.met c.set_met.ensures.met c.after_arrival-counts.ensures c.set_met.ensures.others

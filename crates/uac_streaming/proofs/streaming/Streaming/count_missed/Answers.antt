@@ -11,4 +11,4 @@ returns-then-not-lost-clause-stands c d w stands same =
 pub returns-clause-stands : goal.returns-clause-stands
 returns-clause-stands c d w stands same =
     set_so c.args.self.now c.set_met.new.self d w c.args.function.now c.args.function.now c.args.interface (λ (k : StreamCounts). if c.args.lost then one_missed k else k) c.met_on.result c.one_missed-counts.result
-    stands (sym same) (sym same) c.met_on.ensures c.set_met.ensures.met c.one_missed-counts.ensures c.set_met.ensures.others
+    stands (sym same) (sym same) c.met_on.ensures.met c.set_met.ensures.met c.one_missed-counts.ensures c.set_met.ensures.others

@@ -3,7 +3,7 @@ use Rattle.uac_streaming.specs.Kept.{StreamingFields}
 use Rattle.uac_streaming.proofs.Counted.{counts_met}
 use Rattle.uac_streaming.proofs.streaming.Streaming.met_on.Goals as goal
 
-pub returns-in-Some : goal.returns-in-Some
-returns-in-Some c met place is there =
+pub returns-in-Some-clause-met : goal.returns-in-Some-clause-met
+returns-in-Some-clause-met c met place is there =
     counts_met c.args.function.now c.args.interface place c.in-Some.place met c.deref.result.now c.counts_at.result
     (c.deref.ensures.value ∙ ap (λ (p : StreamingFields). p.met) c.self.view_is ∙ is) c.in-Some.ensures there c.counts_at.ensures

@@ -2,15 +2,15 @@ use Rattle.std.proofs.Common.{◌≡◌, Bool, map, take, drop, flat_map, if◌t
 use Rattle.std.specs.Io.KnownBytes.{Appends}
 use Rattle.uac_entities.specs.declared.stream.StreamInterface.{StreamInterface}
 use Rattle.uac_lanes.specs.InterfaceStreams.{bits_of}
-use Rattle.uac_transcript.specs.Transcript.{says_over}
 use Rattle.uac_transcript.specs.Printing.{text_of}
-use Rattle.uac_streaming.proofs.printing.write_full.Given as goal
+use Rattle.uac_streaming.specs.FoundRings.{says_found}
+use Rattle.uac_streaming.proofs.printing.write_rings.Given as goal
 
 abbrev pub invariant-loop-stream : goal.invariant-loop-stream
 invariant-loop-stream g l = record {
   rest : (test : StreamInterface → Bool) → l.bits ≡ bits_of (map test l.streams) → l.rest ≡ bits_of (map test (drop l.stream-index l.streams));
   written : (test : StreamInterface → Bool) → l.bits ≡ bits_of (map test l.streams)
       → Appends (g.K.Sink.written l.fn.sink) (g.K.Sink.written l.sink)
-      (text_of (flat_map (λ (s : StreamInterface). if test s then says_over s.number ∷ [] else []) (take l.stream-index l.streams)));
+      (text_of (flat_map (λ (s : StreamInterface). if test s then says_found l.ring s.number ∷ [] else []) (take l.stream-index l.streams)));
   faultless : g.K.Sink.faults l.sink ≡ g.K.Sink.faults l.fn.sink;
 }
