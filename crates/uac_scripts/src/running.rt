@@ -27,7 +27,8 @@ use uac_script::{LentLine, LineRoom, LineStop, Lines, Next, is_idle};
 use uac_units::{Meter, Meters, Rack, Unit};
 
 /// Does the lines of a script in order, up to the first that is refused, and prints what each prints, and the last line of a
-/// refusal.
+/// refusal. It is a call of its own, since a caller of two kinds of sources would keep room on its stack for both of their runs at once.
+#[inline(never)]
 pub fn run_script<S: Source, K: Sink>(
     alloc: Global,
     source: &mut S,

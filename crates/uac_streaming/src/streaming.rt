@@ -40,9 +40,9 @@ pub struct Streaming {
     met: Vec<StreamCounts>,
     steady: Steady,
     /// The last packet to the device, and the last that was fetched from it. Each is written by its own direction alone, so that a packet
-    /// as long as the one before it needs no other size.
-    sent_packet: Packet,
-    pub(crate) fetched_packet: Packet,
+    /// as long as the one before it needs no other size. They lie in boxes, since a value that is moved takes its bytes of the stack anew.
+    sent_packet: Box<Packet>,
+    pub(crate) fetched_packet: Box<Packet>,
     /// The last frame that the host heard.
     pub(crate) frame: Frame,
 }
@@ -59,8 +59,8 @@ impl Model for Streaming {
       ins = s.ins.items;
       met = s.met.items;
       steady = s.steady;
-      sent_packet = s.sent_packet.items;
-      fetched_packet = s.fetched_packet.items;
+      sent_packet = s.sent_packet.value.items;
+      fetched_packet = s.fetched_packet.value.items;
     } };
 }
 
@@ -89,8 +89,8 @@ impl Streaming {
             ins,
             met,
             steady: Steady::new(),
-            sent_packet: Packet::new(),
-            fetched_packet: Packet::new(),
+            sent_packet: Box::new(alloc, Packet::new())?,
+            fetched_packet: Box::new(alloc, Packet::new())?,
             frame: Frame::new(),
         })
     }
@@ -187,7 +187,7 @@ impl Streaming {
         ensures order { self.new.outs ≡ self.old.outs }
     {
         let frames = self.host.packet(interface, &mut self.sent_packet);
-        let arrival = arrive(device, interface, &self.sent_packet, lost);
+        let arrival = arrive(device, interface, &*self.sent_packet, lost);
         self.count_arrival(device.function(), interface, arrival);
         Sent { frames, arrival }
     }

@@ -115,7 +115,7 @@ impl Streaming {
             detail,
             fetched,
             &self.host,
-            &self.fetched_packet,
+            &*self.fetched_packet,
             &mut self.frame,
         )
     }

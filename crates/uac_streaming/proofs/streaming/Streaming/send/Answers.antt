@@ -16,7 +16,8 @@ returns-clause-stands c w stands =
     let here = subst (λ (p : StreamingFields). Stands p c.args.device.now w) (sym c.self.view_is) stands in
     let q : StreamingFields = record p { host = c.packet-frames.new.self; sent_packet = c.packet-frames.new.packet.items } in
     let to = packet_to c.args.lost c.args.interface w in
-    let comes = packet_is c.args.lost c.args.interface w c.packet-frames.new.packet.items (c.packet-frames.ensures.packet w.host here.host) in
+    let same : c.deref.result.now.items ≡ c.packet-frames.new.packet.items = ap (λ packet. packet.items) c.deref.ensures in
+    let comes = packet_is c.args.lost c.args.interface w c.deref.result.now.items (same ∙ c.packet-frames.ensures.packet w.host here.host) in
     let device : devices.Stands c.arrive-arrival.new.device (received c.args.interface to w.device) =
     subst (λ (b : Option (List ℕ)). devices.Stands c.arrive-arrival.new.device (received c.args.interface b w.device)) comes (c.arrive-arrival.ensures.stands w.device here.device) in
     let arrival : c.arrive-arrival.result ≡ arrival_in w.device c.args.interface to =
