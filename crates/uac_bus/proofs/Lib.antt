@@ -1,6 +1,5 @@
 -- What the lines' proofs share.
-pub mod Configuring
-pub mod Described
+pub mod DescriptorLines
 pub mod Stepping
 pub mod Rowing
 pub mod Framing

@@ -1,6 +1,5 @@
 -- A script's lines, one after the other: the world, what each line makes of it, and what the bus keeps of it.
 -- What the program's theorem says: to be read and believed.
-pub mod Description
 pub mod World
 pub mod After
 pub mod Kept

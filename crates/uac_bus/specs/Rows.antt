@@ -1,17 +1,12 @@
 -- What the calls after a line answer, each for its part.
-use Rattle.std.specs.Prelude.{◌≡◌, ℕ, true, List, Option, None, Some, Result, Ok, Err}
-use Rattle.uac_sentence.specs.Grammar.{first_fault}
-use Rattle.uac_grammar.specs.declared.fault.ReadStop.{ReadStop}
-use Rattle.uac_grammar.specs.declared.fault.ReadStop.TheVariants as reads
-use Rattle.uac_bus.specs.declared.describing.SoundDescriptor.{SoundDescriptor}
-use Rattle.uac_running.specs.Transfers.{configuration_of}
-use Rattle.uac_topology.specs.Topology.{first_broken}
+use Rattle.std.specs.Prelude.{ℕ, true, List, Option, Result, Ok, Err}
+use Rattle.uac_configuration.specs.declared.fault.DescriptorFault.{DescriptorFault}
+use Rattle.uac_configuration.specs.declared.fault.DescriptorFault.TheVariants as broken
 use Rattle.uac_units.specs.Hearing.{Reading}
 use Rattle.uac_running.specs.Kept.{RunningFields}
 use Rattle.uac_bus.specs.declared.fault.BusFault.{BusFault}
 use Rattle.uac_bus.specs.declared.fault.BusFault.TheVariants as faults
 use Rattle.uac_bus.specs.declared.bus.BusStage.TheVariants as stages
-use Rattle.uac_bus.specs.Description.{blocks_of, function_of}
 use Rattle.uac_bus.specs.World.{Step}
 use Rattle.uac_bus.specs.Kept.{StandsFor, Reaches, Prevents}
 
@@ -20,17 +15,8 @@ abbrev pub Begins : Step → List Reading → Option (List ℕ) → Option (List
 Begins step shown written written' (Ok p) = Reaches step (StandsFor (stages.Running p) shown) written written'
 Begins step shown written written' (Err fault) = Prevents fault true step written written'
 
--- why a reader stopped, as the bus tells it
-abbrev pub fault_of : ReadStop → BusFault
-fault_of (reads.Fault fault) = faults.Grammar fault
-fault_of reads.NoMemory = faults.NoMemory
-
--- what the descriptor's bytes come to
-abbrev pub Describes : List ℕ → Result SoundDescriptor BusFault → Type 0
-Describes bytes (Ok described) =
-    (first_fault bytes ≡ None) × (first_broken (blocks_of bytes) ≡ None) × (described.function ≡ function_of (blocks_of bytes))
-    × (described.configuration ≡ configuration_of bytes)
-Describes bytes (Err (faults.Grammar fault)) = first_fault bytes ≡ Some fault
-Describes bytes (Err (faults.Topology fault)) = (first_fault bytes ≡ None) × (first_broken (blocks_of bytes) ≡ Some fault)
-Describes bytes (Err faults.NoMemory) = Unit {0}
-Describes bytes (Err _) = ⊥
+-- a fault of the descriptor, as the bus tells it
+abbrev pub bus_fault_of : DescriptorFault → BusFault
+bus_fault_of (broken.Grammar fault) = faults.Grammar fault
+bus_fault_of (broken.Topology fault) = faults.Topology fault
+bus_fault_of broken.NoMemory = faults.NoMemory

@@ -30,7 +30,7 @@ use Rattle.uac_mixer.specs.declared.element.Element.{Element}
 use Rattle.uac_running.specs.Lines.{ready_line, report_lines}
 use Rattle.uac_bus.specs.declared.fault.BusFault.{BusFault}
 use Rattle.uac_bus.specs.declared.fault.BusFault.TheVariants as faults
-use Rattle.uac_bus.specs.Description.{blocks_of, function_of}
+use Rattle.uac_configuration.specs.Description.{blocks_of, function_of}
 
 -- before the descriptor's end: its bytes so far, and what the meters show; and from there on the running device
 pub data World : Type 0 where

@@ -1,8 +1,6 @@
 // The lines of the descriptor.
-ghost use Rattle.std.specs.Prelude.{◌≡◌, ◌≢◌, ◌≤◌, ◌++◌, ℕ, List, flat_map, Option, None, Ok, true, IfErr, OnOk, IfOk};
-ghost use Rattle.uac_descriptor.specs.Spelling.{spelling};
-ghost use Rattle.uac_running.specs.Transfers as transfers;
-ghost use Rattle.uac_running.specs.Transfers.{configuration_of};
+ghost use Rattle.std.specs.Prelude.{◌≡◌, ◌≢◌, ◌≤◌, ◌++◌, ℕ, List, Option, None, Ok, true, IfErr, OnOk, IfOk};
+ghost use Rattle.uac_configuration.specs.Verdict.{Describes};
 ghost use Rattle.uac_units.specs.Hearing.{Reading};
 ghost use Rattle.uac_edges.specs.Faults.{HasCause, Rose};
 ghost use Rattle.uac_edges.specs.Writing.{Writes};
@@ -10,17 +8,15 @@ ghost use Rattle.uac_running.specs.Lines.{ready_line};
 ghost use Rattle.uac_transcript.specs.Transcript.{spelled};
 ghost use Rattle.uac_bus.specs.World.{fed, gone};
 ghost use Rattle.uac_bus.specs.Kept.{StandsFor, Does, is_final};
-ghost use Rattle.uac_bus.specs.Rows.{Begins, Describes, fault_of};
+ghost use Rattle.uac_bus.specs.Rows.{Begins, bus_fault_of};
 
 use crate::bus::BusStage;
 use crate::fault::BusFault;
 use std::alloc::Global;
-use uac_descriptor::{Block, ByteList, NoMemory};
+use uac_configuration::{DescriptorFault, SoundDescriptor, reading_fault, sound_descriptor};
 use uac_edges::Sink;
-use uac_grammar::{ReadStop, Reader};
+use uac_grammar::Reader;
 use uac_running::Running;
-use uac_sentence::laws::sentences_are_well_formed;
-use uac_topology::{CheckStop, Function, check};
 
 /// Takes more bytes of the descriptor.
 pub(crate) fn feed(reader: &mut Reader, bytes: &[u8]) -> Result<(), BusFault>
@@ -31,104 +27,21 @@ pub(crate) fn feed(reader: &mut Reader, bytes: &[u8]) -> Result<(), BusFault>
 {
     match reader.feed(bytes) {
         Ok(()) => Ok(()),
-        Err(stop) => Err(stopped(stop)),
+        Err(stop) => Err(bus_fault(reading_fault(stop))),
     }
 }
 
-/// Why a reader stopped, as the bus tells it.
-fn stopped(stop: ReadStop) -> BusFault
-    ensures { result ≡ fault_of stop }
+/// A fault of the descriptor, as the bus tells it.
+fn bus_fault(fault: DescriptorFault) -> BusFault
+    ensures told { result ≡ bus_fault_of fault }
+    ensures kept { is_final result ≡ true }
+    ensures unwritten { result ≢ BusFault.WriteFault }
 {
-    match stop {
-        ReadStop::Fault(fault) => BusFault::Grammar(fault),
-        ReadStop::NoMemory => BusFault::NoMemory,
+    match fault {
+        DescriptorFault::Grammar(fault) => BusFault::Grammar(fault),
+        DescriptorFault::Topology(fault) => BusFault::Topology(fault),
+        DescriptorFault::NoMemory => BusFault::NoMemory,
     }
-}
-
-/// What a descriptor's bytes come to: the function that they describe, and those of them of which descriptors are answered.
-#[derive(Drop)]
-pub struct SoundDescriptor {
-    pub(crate) function: Function,
-    pub(crate) configuration: ByteList,
-}
-
-/// What the bytes describe.
-fn described(alloc: Global, reader: Reader) -> Result<SoundDescriptor, BusFault>
-    ensures { Describes reader.taken result }
-{
-    sentences_are_well_formed();
-    match reader.finish() {
-        Ok(blocks) => match check(alloc, blocks.as_slice()) {
-            Ok(function) => with_bytes(alloc, function, blocks.as_slice()),
-            Err(CheckStop::Fault(fault)) => Err(BusFault::Topology(fault)),
-            Err(CheckStop::NoMemory) => Err(BusFault::NoMemory),
-        },
-        Err(stop) => Err(stopped(stop)),
-    }
-}
-
-/// A function, with the configuration's bytes, which are those of its blocks.
-fn with_bytes(
-    alloc: Global,
-    function: Function,
-    blocks: &[Block],
-) -> Result<SoundDescriptor, BusFault>
-    ensures ok { IfOk result (λ described. (described.function ≡ function)
-        × (described.configuration ≡ configuration_of (flat_map spelling blocks.now))) }
-    ensures err { IfErr result (λ fault. fault ≡ BusFault.NoMemory) }
-{
-    match configuration_in(alloc, blocks) {
-        Ok(configuration) => Ok(SoundDescriptor {
-            function,
-            configuration,
-        }),
-        Err(NoMemory) => {
-            drop(function);
-            Err(BusFault::NoMemory)
-        }
-    }
-}
-
-/// The configuration's bytes among those of blocks.
-fn configuration_in(alloc: Global, blocks: &[Block]) -> Result<ByteList, NoMemory>
-    ensures { IfOk result (λ configuration. configuration ≡ configuration_of (flat_map spelling blocks.now)) }
-{
-    match bytes_of(alloc, blocks) {
-        Ok(bytes) => {
-            let configuration = configuration_of(alloc, bytes.as_slice());
-            drop(bytes);
-            configuration
-        }
-        Err(NoMemory) => Err(NoMemory),
-    }
-}
-
-/// The bytes of blocks, one after the other.
-pub fn bytes_of(alloc: Global, blocks: &[Block]) -> Result<ByteList, NoMemory>
-    ensures { IfOk result (λ bytes. bytes ≡ flat_map spelling blocks.now) }
-{
-    let mut bytes = ByteList::from_vec(Vec::new(alloc));
-    for block in blocks {
-        block.write(&mut bytes)?;
-    }
-    Ok(bytes)
-}
-
-/// A descriptor's bytes without a device descriptor in front (USB 2.0, 9.6.1).
-fn configuration_of(alloc: Global, bytes: &[u8]) -> Result<ByteList, NoMemory>
-    ensures { IfOk result (λ configuration. configuration ≡ configuration_of bytes.now) }
-{
-    let front = if begins_with_device(bytes) { 18 } else { 0 };
-    let rest = &bytes[bytes.len().min(front)..];
-    let configuration = Vec::from_slice(alloc, rest)?;
-    Ok(ByteList::from_vec(configuration))
-}
-
-/// Whether a device descriptor stands in front.
-fn begins_with_device(bytes: &[u8]) -> bool
-    ensures { result ≡ transfers.begins_with_device bytes.now }
-{
-    bytes.first().copied().unwrap_or(0) == 18 && bytes.get(1).copied().unwrap_or(0) == 1
 }
 
 /// The descriptor's end: the device that it describes begins to run, and says so.
@@ -144,9 +57,9 @@ pub(crate) fn begin<K: Sink>(
     ensures never_falls { K.faults sink.old ≤ K.faults sink.new }
     ensures faultless { OnOk result (K.faults sink.new ≡ K.faults sink.old) }
 {
-    match described(alloc, reader) {
+    match sound_descriptor(alloc, reader) {
         Ok(described) => start(alloc, described, sink),
-        Err(fault) => Err(fault),
+        Err(fault) => Err(bus_fault(fault)),
     }
 }
 

@@ -17,5 +17,5 @@ mod rows;
 mod transfers;
 
 pub use bus::Bus;
-pub use describing::bytes_of;
 pub use fault::BusFault;
+pub use uac_configuration::bytes_of;

@@ -16,7 +16,7 @@ use crate::lines::{NO_MEMORY, READ_FAULT, refusal_line, sound_line, unsound_line
 use crate::reading::{Reading, read_descriptor};
 use crate::status::Status;
 use std::alloc::Global;
-use uac_bus::bytes_of;
+use uac_configuration::bytes_of;
 use uac_descriptor::{Block, NoMemory};
 use uac_edges::{Failed, Sink, Source};
 use uac_grammar::ReadStop;

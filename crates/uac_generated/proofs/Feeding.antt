@@ -22,7 +22,7 @@ use Rattle.uac_units.specs.Hearing.{Reading}
 use Rattle.uac_script.specs.Phrase.{feeds, goes}
 use Rattle.uac_running.specs.RunningWorld.{at_start}
 use Rattle.uac_running.specs.Lines.{ready_line}
-use Rattle.uac_bus.specs.Description.{blocks_from, blocks_of, function_of}
+use Rattle.uac_configuration.specs.Description.{blocks_from, blocks_of, function_of}
 use Rattle.uac_bus.specs.World.{Step, World, describing, done, fed, gone, if_no_fault, if_sound, running, silently, step}
 use Rattle.uac_gen.specs.Descriptor.{descriptor_of}
 use Rattle.uac_gen.specs.Generator.{feed_count, feed_line}

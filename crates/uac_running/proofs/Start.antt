@@ -25,7 +25,7 @@ use Rattle.uac_streaming.specs.Kept as streaming
 use Rattle.uac_streaming.specs.StreamingWorld.{streaming_start}
 use Rattle.uac_mixer.specs.ViewWorld.{known_view}
 use Rattle.uac_store.specs.Controls.{initial_controls}
-use Rattle.uac_running.specs.Transfers.{configuration_of}
+use Rattle.uac_configuration.specs.Configuration.{configuration_of}
 use Rattle.uac_running.specs.declared.counts.TickCount.{TickCount}
 use Rattle.uac_running.specs.declared.jacks.Jack.{Jack}
 use Rattle.uac_running.specs.Kept.{HasItsDomains, HasItsJacks, RunningFields, StandsBetween, counted, none_counted}

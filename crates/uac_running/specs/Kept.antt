@@ -16,7 +16,7 @@ use Rattle.uac_mixer.specs.declared.link.When.{When}
 use Rattle.uac_running.specs.RunningWorld.{RunningWorld, streaming_of}
 use Rattle.uac_running.specs.Events.{Told}
 use Rattle.uac_running.specs.Lines.{ticks_since}
-use Rattle.uac_running.specs.Transfers.{configuration_of}
+use Rattle.uac_configuration.specs.Configuration.{configuration_of}
 
 -- what a running device is seen as: of a domain's steps it keeps how many ticks they are
 pub record RunningFields : Type 0 where

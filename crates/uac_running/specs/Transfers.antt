@@ -1,9 +1,10 @@
 -- Control transfers of a running device, what comes back of them, and what they make of the host's view (USB 2.0, 8.5.3 and 9.4; Audio
 -- Class 2.0, 5.2). That a transfer breaks, before or after the device acted, is this project's own.
-use Rattle.std.specs.Prelude.{◌≡◌, ℕ, ◌==◌, ◌&&◌, not, Bool, true, false, if◌then◌else◌, ℤ, pos, List, [], ◌∷◌, drop, take, get_or, Option}
+use Rattle.std.specs.Prelude.{◌≡◌, ℕ, ◌&&◌, not, Bool, true, false, if◌then◌else◌, ℤ, pos, List, [], ◌∷◌, drop, take, Option}
 use Rattle.std.specs.Prelude.{None, Some, is_some, unwrap_or, Result, Ok, Err}
 use Rattle.std.specs.List.{find}
 use Rattle.std.specs.Str.{bytes_eq}
+use Rattle.uac_configuration.specs.Configuration.{configuration_of}
 use Rattle.uac_store.specs.Keyed.{value_of}
 use Rattle.uac_request.specs.Requests.{AnswerFields, held_by, reply_of, value_bytes, with_bytes, with_descriptor, is_done, is_stalled}
 use Rattle.uac_request.specs.declared.setup.Setup.{Setup}
@@ -73,15 +74,7 @@ with_break after r = record r { breaks = Some (break_at after) }
 
 -- ---- what is said of it
 
--- a device descriptor in front of a configuration: 18 bytes of type 1 (USB 2.0, 9.6.1)
-abbrev pub begins_with_device : List ℕ → Bool
-begins_with_device bytes = get_or bytes 0 0 == 18 && get_or bytes 1 0 == 1
-
--- the bytes of the configuration, without a device descriptor in front
-unfoldable pub configuration_of : List ℕ → List ℕ
-configuration_of bytes = if begins_with_device bytes then drop 18 bytes else bytes
-
--- a piece of these bytes
+-- a piece of the configuration's bytes
 abbrev pub piece : ℕ → ℕ → List ℕ → List ℕ
 piece from to bytes = drop from (take to bytes)
 

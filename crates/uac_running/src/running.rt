@@ -11,7 +11,7 @@ ghost use Rattle.uac_running.specs.RunningWorld as spec;
 ghost use Rattle.uac_transcript.specs.Printing.{Prints};
 ghost use Rattle.uac_transcript.specs.Transcript.{spelled};
 ghost use Rattle.uac_running.specs.Lines.{ready_line, report_lines};
-ghost use Rattle.uac_running.specs.Transfers.{configuration_of};
+ghost use Rattle.uac_configuration.specs.Configuration.{configuration_of};
 ghost use Rattle.uac_running.specs.Kept.{StandsBetween, none_counted};
 ghost use Rattle.uac_device.specs.Kept as kept;
 ghost use Rattle.uac_device.specs.DeviceWorld.{fresh, is_input_jack};

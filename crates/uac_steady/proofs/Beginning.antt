@@ -34,10 +34,10 @@ use Rattle.uac_script.proofs.Answered.{answer_says}
 use Rattle.uac_units.specs.Hearing.{Reading}
 use Rattle.uac_running.specs.RunningWorld.{at_start}
 use Rattle.uac_running.specs.Lines.{ready_line}
-use Rattle.uac_bus.specs.Description.{blocks_of, function_of}
+use Rattle.uac_configuration.specs.Description.{blocks_of, function_of}
 use Rattle.uac_bus.specs.declared.fault.BusFault.{BusFault}
 use Rattle.uac_bus.specs.World.{Step, describing, done, fed, gone, if_no_fault, if_sound, refused, running, silently, step_describing}
-use Rattle.uac_bus.proofs.Described.{blocks_of_sentence}
+use Rattle.uac_configuration.proofs.Described.{blocks_of_sentence}
 use Rattle.uac_bands.proofs.Begun.{runs_start_in_band}
 use Rattle.uac_bands.proofs.SoundStart.{runs_start_sound}
 use Rattle.uac_steady.proofs.Forward.{KeepsGood, none_quiet, one_more}

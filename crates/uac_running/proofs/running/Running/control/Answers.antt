@@ -3,7 +3,8 @@ use Rattle.uac_mixer.specs.Transfers.{came_of}
 use Rattle.uac_transcript.specs.Transcript.{Outcome, says_answer}
 use Rattle.uac_transcript.specs.Printing.{Prints}
 use Rattle.uac_running.specs.Kept.{StandsBetween}
-use Rattle.uac_running.specs.Transfers.{comes_back, configuration_of, outcome_of, transfer, transferred}
+use Rattle.uac_configuration.specs.Configuration.{configuration_of}
+use Rattle.uac_running.specs.Transfers.{comes_back, outcome_of, transfer, transferred}
 use Rattle.uac_running.proofs.SoFar.{at_ok}
 use Rattle.uac_running.proofs.RoomSteps.{transferred_room}
 use Rattle.uac_running.proofs.running.Running.control.Goals as goal

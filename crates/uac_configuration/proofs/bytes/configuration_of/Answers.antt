@@ -1,7 +1,7 @@
 use Rattle.std.proofs.Common.{◌≡◌, ◌∙◌, ap, sym, rules, ℕ, ◌-◌, Bool, length, take, drop, if◌then◌else◌}
-use Rattle.uac_bus.proofs.Configuring.{configured}
-use Rattle.uac_bus.proofs.describing.configuration_of.Goals.{then-begins_with_device, else-begins_with_device}
-use Rattle.uac_bus.proofs.describing.configuration_of.Goals as goal
+use Rattle.uac_configuration.proofs.Configuring.{configured}
+use Rattle.uac_configuration.proofs.bytes.configuration_of.Goals.{then-begins_with_device, else-begins_with_device}
+use Rattle.uac_configuration.proofs.bytes.configuration_of.Goals as goal
 
 pub returns : goal.returns
 returns c =

@@ -1,7 +1,7 @@
 use Rattle.std.proofs.Common.{subst, sym}
 use Rattle.uac_descriptor.specs.WellFormed.{AreWellFormed}
-use Rattle.uac_bus.proofs.Described.{described_with, described_broken}
-use Rattle.uac_bus.proofs.describing.described.Goals as goal
+use Rattle.uac_configuration.proofs.Described.{described_with, described_broken}
+use Rattle.uac_configuration.proofs.describing.sound_descriptor.Goals as goal
 
 pub returns-in-Ok-check : goal.returns-in-Ok-check
 returns-in-Ok-check c =

@@ -1,7 +1,7 @@
 -- The configuration's bytes: those after a device descriptor.
 use Rattle.std.proofs.Common.{◌≡◌, ◌∙◌, ap, refl, arith, ℕ, ◌-◌, Bool, true, false, List, length, take, drop, min, if◌then◌else◌}
 use Rattle.std.proofs.lemmas.List.{take_rest, drop_min}
-use Rattle.uac_running.specs.Transfers.{begins_with_device, configuration_of}
+use Rattle.uac_configuration.specs.Configuration.{begins_with_device, configuration_of}
 
 -- so many bytes are left out, or all of them
 left_out : (bytes items : List ℕ) (n at : ℕ) → at ≡ min (length bytes) n → items ≡ take (length bytes - at) (drop at bytes) → items ≡ drop n bytes

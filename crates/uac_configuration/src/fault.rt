@@ -1,0 +1,18 @@
+// Why bytes come to nothing.
+use thiserror::Error;
+use uac_grammar::GrammarFault;
+use uac_topology::TopologyFault;
+
+/// Why bytes describe no sound function.
+#[derive(Clone, Copy, Debug, PartialEq, Eq, Error)]
+pub enum DescriptorFault {
+    /// The descriptor has this first fault.
+    #[error("the descriptor breaks a rule of the grammar")]
+    Grammar(GrammarFault),
+    /// The function breaks this rule.
+    #[error("the function breaks a rule of the topology")]
+    Topology(TopologyFault),
+    /// There was no memory.
+    #[error("no memory")]
+    NoMemory,
+}
