@@ -190,6 +190,7 @@ fn is_kept(fault: BusFault) -> bool
 }
 
 /// The descriptor's end. It is apart from the other lines, since a call clears at its entry what it has room for, here a whole device.
+#[inline(never)]
 fn go<K: Sink>(alloc: Global, stage: &mut BusStage, sink: &mut K) -> Result<(), BusFault>
     ensures does { (shown : List Reading) (w : World) → StandsFor stage.old shown w
         → Does (step goes w) (may_want goes w) (StandsFor stage.new shown) (K.written sink.old) (K.written sink.new) result }
