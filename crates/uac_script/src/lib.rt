@@ -1,4 +1,4 @@
-//! The lines of a script: how they are cut from a source's bytes, what each says, and the script that a number generates.
+//! The lines of a script: how they are cut from a source's bytes, and what each says.
 #![tactic(auto)]
 
 /// Bytes as words of HEX spell them.
