@@ -67,7 +67,7 @@ impl Context {
         }
     }
 
-    /// Whether it is a control interface or a streaming one of an audio function.
+    /// Whether the context is a control interface or a streaming one of an audio function.
     pub fn is_audio(self) -> bool
         ensures { result ≡ is_audio self }
     {

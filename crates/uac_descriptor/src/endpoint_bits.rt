@@ -71,7 +71,7 @@ impl EndpointBits {
         asynchronous & !adaptive
     }
 
-    /// Whether it carries data alone: bits 5 and 4 are 00.
+    /// Whether an endpoint carries data alone: bits 5 and 4 are 00.
     #[tactic(auto, using(crate::proofs::EndpointLemmas::data_alone))]
     pub fn is_data(self) -> bool
         ensures { result ≡ (usage_type self.0 == 0) }
@@ -81,7 +81,7 @@ impl EndpointBits {
         !feedback & !implicit
     }
 
-    /// Whether it carries feedback: bits 5 and 4 are 01.
+    /// Whether an endpoint carries feedback: bits 5 and 4 are 01.
     #[tactic(auto, using(crate::proofs::EndpointLemmas::feedback_alone))]
     pub fn is_feedback(self) -> bool
         ensures { result ≡ (usage_type self.0 == 1) }
@@ -91,7 +91,7 @@ impl EndpointBits {
         feedback & !implicit
     }
 
-    /// Whether it carries data that is feedback too: bits 5 and 4 are 10.
+    /// Whether an endpoint carries data that is feedback too: bits 5 and 4 are 10.
     #[tactic(auto, using(crate::proofs::EndpointLemmas::implicit_feedback))]
     pub fn is_implicit_feedback(self) -> bool
         ensures { result ≡ (usage_type self.0 == 2) }

@@ -22,7 +22,7 @@ impl<T: Drop> From<AllocFailed<T>> for NoMemory {
     }
 }
 
-/// So many bytes lie in the value of their list; more lie on the heap.
+/// How many bytes at most lie in the value of their list; more lie on the heap.
 const FEW: usize = 16;
 
 /// A list of bytes. Most blocks have few, so a short one takes no memory.

@@ -30,7 +30,7 @@ pub enum EntityKind {
     Effect,
 }
 
-/// Whether it is an input terminal (Audio Class 2.0, 3.13.1).
+/// Whether an entity of the kind is an input terminal (Audio Class 2.0, 3.13.1).
 pub fn is_input(kind: EntityKind) -> bool
     ensures { result ≡ spec.is_input kind }
 {

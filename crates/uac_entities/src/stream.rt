@@ -53,9 +53,9 @@ impl SettingList {
 pub struct StreamInterface {
     /// bInterfaceNumber
     pub number: u8,
-    /// The terminal that its settings link to, 0 where none does.
+    /// The terminal that the interface's settings link to, 0 where none does.
     pub terminal: u8,
-    /// Whether it goes from the host to the device: it links to an input terminal.
+    /// Whether the interface carries from the host to the device: it links to an input terminal.
     pub out: bool,
     pub settings: SettingList,
 }

@@ -5,7 +5,7 @@ ghost use Rattle.uac_topology_rules.specs.Rules as rules;
 
 use uac_entities::EntityKind;
 
-/// Whether it is a clock entity (Audio Class 2.0, 3.13.10 to 3.13.12: clock source, clock selector, clock multiplier).
+/// Whether an entity of the kind is a clock entity (Audio Class 2.0, 3.13.10 to 3.13.12: clock source, clock selector, clock multiplier).
 pub fn is_clock(kind: EntityKind) -> bool
     ensures { result ≡ links.is_clock kind }
 {
@@ -20,7 +20,7 @@ pub fn is_clock(kind: EntityKind) -> bool
     }
 }
 
-/// Whether it is an output terminal (Audio Class 2.0, 3.13.2).
+/// Whether an entity of the kind is an output terminal (Audio Class 2.0, 3.13.2).
 pub fn is_output(kind: EntityKind) -> bool
     ensures { result ≡ rules.is_output kind }
 {
@@ -37,7 +37,7 @@ pub fn is_output(kind: EntityKind) -> bool
     }
 }
 
-/// Whether it is a terminal (Audio Class 2.0, 3.13.1 and 3.13.2).
+/// Whether an entity of the kind is a terminal (Audio Class 2.0, 3.13.1 and 3.13.2).
 pub(crate) fn is_terminal(kind: EntityKind) -> bool
     ensures { result ≡ links.is_terminal kind }
 {

@@ -169,7 +169,7 @@ fn joined(left: Behind, right: Behind) -> Behind
     }
 }
 
-/// Whether one of the clocks behind is another than this.
+/// Whether one of the clocks behind is another than the given one.
 pub(crate) fn differs(list: Behind, clock: u8) -> bool
     ensures { result ≡ behind.differs list clock }
 {
