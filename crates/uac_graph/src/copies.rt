@@ -5,7 +5,7 @@ use std::alloc::Global;
 use uac_descriptor::{ByteList, NoMemory, WordList};
 use uac_entities::Entity;
 
-/// The same entities once more.
+/// Copies of entities.
 pub(crate) fn copies_of(alloc: Global, entities: &[Entity]) -> Result<Vec<Entity>, NoMemory>
     ensures { IfOk result (λ copies. copies.items ≡ entities.now) }
 {
@@ -36,7 +36,7 @@ fn copy_of(alloc: Global, entity: &Entity) -> Result<Entity, NoMemory>
     })
 }
 
-// The same items once more.
+// Copies of items.
 fn items_of<T: Copy>(alloc: Global, items: &[T]) -> Result<Vec<T>, NoMemory>
     ensures { IfOk result (λ copy. copy.items ≡ items.now) }
 {

@@ -117,7 +117,7 @@ impl Graph {
         jobs.renew(&self.table, store, id);
     }
 
-    /// The same tick by jobs at hand: the samples are those of the meaning under the controls of which these are the jobs.
+    /// One tick of a domain, as `tick`, by jobs at hand: the samples are those of the meaning under the controls that the jobs are of.
     pub fn tick_by(
         &self,
         domain: u8,

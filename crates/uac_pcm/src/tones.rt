@@ -51,7 +51,7 @@ impl Tone {
         }
     }
 
-    // The same of any number.
+    // Writes the frame at a place over any number of samples.
     fn write_each(&self, place: u64, samples: &mut [i32])
         requires { length samples.old ≤ 32 }
         ensures { samples.new ≡ map (tone_sample self.now place) (range_with_len 0 (length samples.old)) }

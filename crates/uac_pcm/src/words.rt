@@ -32,7 +32,7 @@ pub fn write_words<const SIZE: usize>(samples: &[i32], resolution: u8, words: &m
     }
 }
 
-// The same of one sample.
+// A frame of one sample as the bytes of its word.
 #[tactic(auto, using(crate::proofs::Packing::only_written))]
 fn write_only<const SIZE: usize>(samples: &[i32], resolution: u8, words: &mut [u8])
     requires one { length samples.now ≡ 1 }
@@ -46,7 +46,7 @@ fn write_only<const SIZE: usize>(samples: &[i32], resolution: u8, words: &mut [u
     write_word(sample_at(samples, 0), SIZE, resolution, words);
 }
 
-// The same of two samples.
+// A frame of two samples as the bytes of its words.
 #[tactic(auto, using(crate::proofs::Packing::pair_written))]
 fn write_pair<const SIZE: usize>(samples: &[i32], resolution: u8, words: &mut [u8])
     requires two { length samples.now ≡ 2 }
@@ -62,7 +62,7 @@ fn write_pair<const SIZE: usize>(samples: &[i32], resolution: u8, words: &mut [u
     write_word(sample_at(samples, 1), SIZE, resolution, right);
 }
 
-// The same of as many samples as there are.
+// A frame of any number of samples as the bytes of its words.
 #[inline(never)]
 fn write_each<const SIZE: usize>(samples: &[i32], resolution: u8, words: &mut [u8])
     requires some { 1 ≤ SIZE }
@@ -122,7 +122,7 @@ pub fn read_words<const SIZE: usize>(words: &[u8], resolution: u8, samples: &mut
     }
 }
 
-// The same of one word.
+// The sample of a frame of one word.
 fn read_only<const SIZE: usize>(words: &[u8], resolution: u8, samples: &mut [i32])
     requires one { length samples.old ≡ 1 }
     requires some { 1 ≤ SIZE }
@@ -135,7 +135,7 @@ fn read_only<const SIZE: usize>(words: &[u8], resolution: u8, samples: &mut [i32
     samples[0] = sample_of(words, SIZE, resolution);
 }
 
-// The same of two words.
+// The samples of a frame of two words.
 fn read_pair<const SIZE: usize>(words: &[u8], resolution: u8, samples: &mut [i32])
     requires two { length samples.old ≡ 2 }
     requires some { 1 ≤ SIZE }
@@ -150,7 +150,7 @@ fn read_pair<const SIZE: usize>(words: &[u8], resolution: u8, samples: &mut [i32
     samples[1] = sample_of(right, SIZE, resolution);
 }
 
-// The same of as many words as there are samples.
+// The samples of a frame of any number of words.
 #[inline(never)]
 fn read_each<const SIZE: usize>(words: &[u8], resolution: u8, samples: &mut [i32])
     requires some { 1 ≤ SIZE }

@@ -56,7 +56,7 @@ impl Steady {
         self.holds = self.holds && run < 4;
     }
 
-    /// This stream starts anew: reports lost before are no part of a run of reports after.
+    /// Starts a stream anew: reports lost before are no part of a run of reports after.
     pub fn restart(&mut self, stream: u8)
         requires { stream < 8 }
         ensures stands { (given : Given) → KeepsGiven self.old given → KeepsGiven self.new (restarted stream given) }

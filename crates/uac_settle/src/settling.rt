@@ -24,7 +24,7 @@ pub fn settle_bound(rate: u32) -> Option<u32>
     Some(settle(&nominal))
 }
 
-/// The same by nominal values: the farthest error by the pull, and 64 for the reports that may be lost at the start and at the end.
+/// The bound by nominal values: the farthest error by the pull, and 64 for the reports that may be lost at the start and at the end.
 fn settle(nominal: &Nominal) -> u32
     requires of_a_rate { IsNominal nominal.now }
     ensures { result ≡ settle_of nominal.now }
