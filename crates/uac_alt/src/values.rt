@@ -6,9 +6,9 @@ use uac_pcm::Format;
 #[derive(Clone, Copy, Debug, PartialEq, Eq)]
 pub struct Stream {
     pub format: Format,
-    /// The nominal values of its clock's rate.
+    /// The nominal values of the rate of the stream's clock.
     pub nominal: Nominal,
-    /// Whether it goes from the host to the device.
+    /// Whether the stream goes from the host to the device.
     pub out: bool,
     /// The frames that the endpoint's packet holds at most.
     pub most: u32,

@@ -5,7 +5,7 @@ ghost use Rattle.uac_request.specs.Requests.{answer_fields};
 use arrayvec::ArrayVec;
 use uac_request::{Answer, Reply};
 
-/// The same answer once more.
+/// A copy of an answer.
 pub(crate) fn copy_of(answer: &Answer) -> Answer
     ensures { answer_fields result ≡ answer_fields answer.now }
 {

@@ -12,7 +12,7 @@ use uac_store::Key;
 pub struct Element {
     pub key: Key,
     pub kind: ElementKind,
-    /// Whether a host may set it.
+    /// Whether a host may set the control.
     pub writable: bool,
     /// The device's value; None where it is unknown.
     pub value: Option<i32>,
@@ -35,7 +35,7 @@ impl Model for ElementName {
 impl Element {
     ghost use Rattle.uac_mixer.specs.Elements.{name_of};
 
-    /// Its name.
+    /// The name of an element.
     #[tactic(auto, unfolding(crate::specs::Elements::name_of))]
     pub fn name(&self) -> ElementName
         ensures { result ≡ name_of self.now }

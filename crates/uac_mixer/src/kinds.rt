@@ -73,7 +73,7 @@ impl ElementKind {
         facts_of(self.control()).width
     }
 
-    /// Whether its values are gains, which are signed.
+    /// Whether the values of an element of the kind are gains, which are signed.
     pub fn is_gain(self) -> bool
         ensures { result ≡ spec.is_gain self }
     {

@@ -100,7 +100,7 @@ impl<'a> Link for DeviceLink<'a> {
     ghost use Rattle.std.specs.Option.{option_map};
     ghost use Rattle.uac_request.specs.Requests.{answer_fields};
 
-    // Its count of breaks is 0 while its one break lies ahead.
+    // The count of breaks is 0 while the one break of the link lies ahead.
     ghost state = { λ l. record {
       device = l.device.now;
       last = option_map answer_fields l.last;

@@ -22,7 +22,7 @@ pub fn value_bytes(width: u8, value: i32) -> ControlBytes
     number_bytes(width, complement(width, value))
 }
 
-// So many bytes of a number, the lowest first.
+// The lowest bytes of a number, as many as are asked for, the lowest first.
 #[tactic(auto, unfolding(crate::specs::Requests::little_bytes))]
 fn number_bytes(width: u8, number: u64) -> ControlBytes
     requires { width ≤ 6 }

@@ -125,7 +125,7 @@ pub(crate) fn value_to_set(
     value_sent(function, store, settings, setup, sent, owner)
 }
 
-// The same, where its control is kept by something.
+// The value that a SET sends, or its first broken rule, where its control is kept by something.
 #[tactic(auto, using(crate::proofs::Owned::entity_named))]
 fn value_sent(
     function: &Function,

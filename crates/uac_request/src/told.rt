@@ -7,12 +7,12 @@ pub type Reply = ArrayVec<u8, 146>;
 /// What a request is told.
 #[derive(Drop)]
 pub enum Answer {
-    /// These bytes, cut at wLength.
+    /// The bytes of the answer, cut at wLength.
     Bytes(Reply),
     /// A piece of the configuration, from one of its bytes up to another.
     Descriptor { from: u32, to: u32 },
-    /// It is done.
+    /// The request is done.
     Done,
-    /// It is stalled, by the rule with this number.
+    /// The request is stalled, by the rule with this number.
     Stall(u8),
 }

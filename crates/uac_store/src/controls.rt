@@ -36,15 +36,15 @@ pub enum Control {
 /// What is so of a control.
 #[derive(Clone, Copy, PartialEq, Eq, Debug)]
 pub struct Facts {
-    /// The bytes of its value.
+    /// How many bytes a value of the control has.
     pub width: u8,
-    /// Whether its value is signed.
+    /// Whether a value of the control is signed.
     pub signed: bool,
     /// Whether a value is kept, or told by the descriptor.
     pub kept: bool,
-    /// Whether it answers RANGE (5.2.1).
+    /// Whether the control answers RANGE (5.2.1).
     pub ranged: bool,
-    /// Whether a host may ever set it.
+    /// Whether a host may ever set the control.
     pub settable: bool,
 }
 

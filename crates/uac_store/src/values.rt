@@ -221,7 +221,7 @@ fn is_switch(value: i32) -> bool
     value == 0 || value == 1
 }
 
-// Whether it is silence, a whole number of decibels from -96 to -33 or a half number from -32 to 12, in 1/256 decibel.
+// Whether a volume is silence, a whole number of decibels from -96 to -33 or a half number from -32 to 12, in 1/256 decibel.
 fn is_volume(value: i32) -> bool
     ensures { result ≡ is_some (gain_of value) }
 {
