@@ -289,8 +289,8 @@ impl Device {
         self.tick_where(false, domain, rack, meters, steps)
     }
 
-    /// The same tick, of a device that may be still: no interface runs a stream, and the terminals of the bus in the domain gave silence
-    /// last. There these have their frames, no stream takes one, and no ring is found empty or full.
+    /// One tick of a domain, as `tick`, of a device that may be still: no interface runs a stream, and the terminals of the bus in the
+    /// domain gave silence last. There these have their frames, no stream takes one, and no ring is found empty or full.
     pub fn tick_where(
         &mut self,
         still: bool,

@@ -59,14 +59,14 @@ impl InFlow {
         let _ = ring.put(frame);
     }
 
-    /// Whether its ring is full.
+    /// Whether the stream's ring is full.
     pub fn is_full(&self, ring: &Ring) -> bool
         ensures { (i : InStream) → KeepsIn ring.now self.now i → result ≡ spec.is_full i }
     {
         ring.level() == RING_FRAMES
     }
 
-    /// Whether it has a packet in the next microframe.
+    /// Whether the stream has a packet in the next microframe.
     pub fn is_due(&self) -> bool
         requires runs { CanRun (stream_fields self.now.stream) }
         requires counted { self.now.microframes ≤ 8 }

@@ -26,9 +26,9 @@ pub struct OutFlow {
     pub microframes: u32,
     /// The level at which it was primed; None while it is priming.
     pub target: Option<u32>,
-    /// Whether its packet was lost, since the end of the last microframe in which it was due.
+    /// Whether the stream's packet was lost, since the end of the last microframe in which it was due.
     pub lost: bool,
-    /// The ticks of its domain since then.
+    /// The ticks of the stream's domain since then.
     pub ticks: u32,
 }
 
@@ -97,7 +97,7 @@ impl OutFlow {
         ring.level() + self.stream.format.frames_in(packet) <= RING_FRAMES
     }
 
-    /// So many ticks of its domain came.
+    /// Counts the ticks of the stream's domain that came.
     pub fn count(&mut self, ticks: u32)
         ensures stands { (ring : List (List ℤ)) (o : OutStream) → KeepsOut ring self.old o
             → KeepsOut ring self.new (spec.after_ticks ticks o) }
@@ -119,7 +119,7 @@ impl OutFlow {
         ring.front()
     }
 
-    /// Its terminal took that frame: it goes. Where the ring was empty, the stream primes again.
+    /// Drops the front frame, which the stream's terminal took. Where the ring was empty, the stream primes again.
     #[tactic(auto, unfolding(crate::specs::Streams::after_taking))]
     pub fn go_on(&mut self, ring: &mut Ring)
         requires sound { IsOutFlow ring.old self.old }
@@ -134,14 +134,14 @@ impl OutFlow {
         }
     }
 
-    /// Whether it is primed and its ring is empty.
+    /// Whether the stream is primed and its ring is empty.
     pub fn is_dry(&self, ring: &Ring) -> bool
         ensures { (o : OutStream) → KeepsOut ring.now self.now o → result ≡ spec.is_dry o }
     {
         self.target.is_some() && ring.level() == 0
     }
 
-    /// Whether it has a packet in the next microframe.
+    /// Whether the stream has a packet in the next microframe.
     pub fn is_due(&self) -> bool
         requires runs { CanRun (stream_fields self.now.stream) }
         requires counted { self.now.microframes ≤ 8 }

@@ -26,7 +26,7 @@ pub struct Port {
     pub terminal: u8,
     pub clock: u8,
     pub channels: u8,
-    /// Whether it goes from the host to the device.
+    /// Whether the interface carries from the host to the device.
     pub out: bool,
 }
 
@@ -87,7 +87,7 @@ impl Lane {
         }
     }
 
-    /// Whether its stream has a packet in the next microframe.
+    /// Whether the lane's stream has a packet in the next microframe.
     pub(crate) fn due(&self) -> bool
         requires { IsLane self.now }
         ensures { (out : Option OutStream) (in_ : Option InStream) → KeepsLane self.now out in_ → result ≡ either_due out in_ }
@@ -111,7 +111,7 @@ impl Lane {
         }
     }
 
-    /// Its stream starts anew, or it runs none from now on.
+    /// Starts the lane's stream anew, or leaves the lane without one.
     pub(crate) fn restart(&mut self, begun: Option<Stream>)
         requires fits { IfSome begun (λ s. FitsPort self.old.port (stream_fields s)) }
         ensures turns { Turns (λ out. option_and_then out_from (option_map stream_fields begun))
@@ -172,7 +172,7 @@ impl Lane {
         }
     }
 
-    /// So many ticks of a domain came: a stream to a terminal of the domain counts them.
+    /// Counts the ticks of a domain that came, where the lane's stream goes to a terminal of the domain.
     pub(crate) fn count(&mut self, domain: u8, ticks: u32)
         requires { IsLane self.old }
         ensures turns { Turns (counted_on domain ticks self.old.port) (λ in_. in_) self.old self.new }

@@ -202,7 +202,7 @@ fn port_to(stream: &StreamInterface, clock: u8, channels: u8) -> Port
     }
 }
 
-// Whether one of these runs a stream.
+// Whether one of the lanes runs a stream.
 fn run_one(lanes: &[Lane]) -> bool
     ensures { result ≡ list_any (λ l. is_running l.flow) lanes.now }
 {

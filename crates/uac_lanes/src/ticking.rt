@@ -103,7 +103,7 @@ fn begin(lanes: &mut [Lane], domain: u8, wires: &mut Wires) -> Ticked
     told(under, over)
 }
 
-// These bits, and one above them where it was found.
+// The bits of the lanes so far, and one above them that tells whether the next lane's ring was found so.
 fn with_bit(bits: u16, bit: u16, found: bool) -> u16
     requires { bits + bit ≤ 65535 }
     ensures { result ≡ bits + (if found then bit else 0) }

@@ -359,7 +359,7 @@ fn count_found(met: &mut [StreamCounts], found: Ticked)
     count_some(met, found);
 }
 
-/// The same of a tick that found some.
+/// Counts the rings that a tick found empty or full, where it found some.
 #[cold]
 #[inline(never)]
 fn count_some(met: &mut [StreamCounts], found: Ticked)
@@ -375,7 +375,7 @@ fn count_some(met: &mut [StreamCounts], found: Ticked)
     }
 }
 
-/// These counts at a place, where there is one.
+/// Puts the counts of a stream at its place, where there is such a place.
 fn put_at(met: &mut [StreamCounts], place: usize, counts: StreamCounts)
     ensures { place < length met.old → met.new ≡ set met.old place counts }
 {
