@@ -14,7 +14,8 @@ pub fn values_are_unknown_between()
     ensures { UnknownValuesAreLost }
 {}
 
-/// The same by what each line tells: a control's value is known or unknown as was told of it last, and known where nothing was told.
+/// What a host believes, by what each line tells: a control's value is known or unknown as was told of it last, and known where nothing
+/// was told.
 pub fn values_are_known_as_told()
     ensures { ValuesAreKnownAsTold }
 {}

@@ -107,11 +107,11 @@ impl Bus {
         self.lent_line(line.lend(), rack, meters, sink)
     }
 
-    /// The same of a line whose long parts lie elsewhere.
+    /// Does a line whose long parts lie elsewhere, as `line` does one that has them in itself.
     ///
     /// # Errors
     ///
-    /// Those of `line`.
+    /// The faults of `line`.
     pub fn lent_line<K: Sink>(
         &mut self,
         line: LentLine<'_>,

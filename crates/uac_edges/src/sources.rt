@@ -120,7 +120,7 @@ impl Source for SteadySource {
         ensures bytes { ReadConsumes (Some self.old) (Some self.new) result into.new }
         ensures cause { HasCause 0 0 result }
 
-        // It never fails, and moves all that fits.
+        // A list in memory never fails, and moves all that fits.
         ensures count { result ≡ Ok (min (length into.old) (length self.old)) }
         ensures moved { IfOk result (λ n. into.new ≡ take n self.old ++ drop n into.old) }
         ensures after { IfOk result (λ n. self.new ≡ drop n self.old) }

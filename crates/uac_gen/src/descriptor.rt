@@ -93,7 +93,7 @@ fn low(field: u16) -> u8
     (field % 256) as u8
 }
 
-// Its high byte.
+// The high byte of a field of two bytes.
 fn high(field: u16) -> u8
     ensures { result ≡ field / 256 }
 {

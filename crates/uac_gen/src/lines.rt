@@ -69,7 +69,7 @@ fn deviation(drawn: u32) -> i32
     drawn as i32 - 1000
 }
 
-/// So many microframes, with a mark or with none.
+/// The line that asks for so many microframes, with a mark or with none.
 pub fn run_line(count: u64, mark: &[u8]) -> LineText
     requires { length mark.now ≤ 3 }
     ensures { result ≡ run_line count mark.now }

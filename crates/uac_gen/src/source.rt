@@ -58,7 +58,7 @@ impl Source for GenSource {
         ensures bytes { ReadConsumes (Some self.old) (Some self.new) result into.new }
         ensures cause { HasCause 0 0 result }
 
-        // It never fails.
+        // A generated script is always there to be taken.
         ensures steady { IsOk result }
     {
         let at = next_place(&mut self.script, &mut self.line, self.at);

@@ -53,7 +53,7 @@ fn silent_jack(entity: &Entity) -> Jack
     }
 }
 
-/// Whether one of these is the jack with this id.
+/// Whether one of the jacks has this id.
 pub(crate) fn has_jack(jacks: &[Jack], terminal: u8) -> bool
     ensures { result ≡ list_any (λ j. j.terminal == terminal) jacks.now }
 {

@@ -170,7 +170,7 @@ impl Running {
         self.streaming.deviate(ppm);
     }
 
-    /// So much is printed from now on: 0, 1 or 2.
+    /// Sets how much is printed from now on: 0, 1 or 2.
     pub fn set_detail(&mut self, level: u8)
         ensures stands { (meters : List Reading) (r : RunningWorld) → StandsBetween self.old meters r
             → StandsBetween self.new meters (with_detail level r) }

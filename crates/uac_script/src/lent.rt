@@ -68,7 +68,7 @@ impl<'a> LentLine<'a> {
     ///
     /// # Errors
     ///
-    /// Those of `Line::read`.
+    /// The rules of `Line::read`.
     pub fn read(text: &'a [u8], room: &'a mut LineRoom) -> Result<LentLine<'a>, u8>
         requires { length text.now ≤ 4096 }
         ensures answered { lent_said result ≡ answer text.now }

@@ -93,7 +93,7 @@ impl Line {
         // By the table of spellings alone; `laws::each_line_says_one_thing` tells that a text says one thing.
         ensures says { Says text.now (said result) }
 
-        // The same as one function of the text, for definitions that compute it.
+        // What the text says as one function of it, for definitions that compute it.
         ensures answered { said result ≡ answer text.now }
 
         ensures keeps { IfOk result IsLineInRange }

@@ -18,7 +18,7 @@ fn copied<T: Copy + Default, const N: usize>(items: &[T]) -> ArrayVec<T, N>
     }
 }
 
-/// The same line, with its long parts copied into it.
+/// A lent line with its long parts copied into it.
 pub fn owned(line: LentLine<'_>) -> Line
     requires { Fits line }
     ensures { phrase_of result ≡ lent_phrase line.entry }

@@ -5,8 +5,8 @@ use uac_describe::Description;
 /// What is done with the bytes of a source.
 #[derive(Clone, Copy, Debug, PartialEq, Eq)]
 pub enum Job {
-    /// They are a descriptor, of which this is said.
+    /// The bytes are a descriptor, of which something is said.
     Describe(Description),
-    /// They are a script, which is run.
+    /// The bytes are a script, which is run.
     Run,
 }

@@ -24,7 +24,7 @@ pub fn script_is_its_lines()
         (λ w. goes (most_of_input - length (with_newlines texts)) rest end (length texts + 1) w) }
 {}
 
-/// The same of what the lines say by the table of their spellings alone.
+/// What a script comes to, by what its lines say by the table of their spellings alone.
 #[tactic(auto, using(crate::proofs::ScriptLemmas::script_said))]
 pub fn script_is_what_its_lines_say()
     ensures { (shown : List Reading) (texts : List (List ℕ)) (saids : List (Result Phrase ℕ)) (rest : List ℕ) (end : End)

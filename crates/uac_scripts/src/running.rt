@@ -55,7 +55,7 @@ pub fn run_script<S: Source, K: Sink>(
     status
 }
 
-/// The same with a bus to which no line was given, and with no line yet.
+/// Runs a script from its first line on, with a bus to which no line was given.
 fn run_lines<S: Source, K: Sink>(
     bus: &mut Bus,
     lines: &mut Lines,

@@ -11,9 +11,9 @@ use uac_edges::{Failed, Sink, TextLine, give_all};
 /// How a packet to the device arrived.
 #[derive(Clone, Copy, Debug, PartialEq, Eq)]
 pub enum Arrival {
-    /// Its frames are in the ring.
+    /// The packet's frames are in the ring.
     Ok,
-    /// It was lost on the way.
+    /// The packet was lost on the way.
     Lost,
     /// The ring had no room for it.
     Over,

@@ -10,7 +10,7 @@ use std::process::Abort;
 // What a call of the reader or the writer does.
 #[derive(Clone, Copy)]
 enum Turn {
-    // So many bytes are moved, as far as there is room.
+    // The call moves so many bytes, as far as there is room.
     Moves(usize),
     Interrupted,
     Breaks,
@@ -128,7 +128,7 @@ fn sink(turns: [Turn; 4], flushes: [Turn; 4]) -> StdSink<Held> {
     })
 }
 
-// These bytes lie in the writer, after so many writes and flushes, and so many faults were met.
+// Asserts which bytes lie in the writer, how many writes and flushes there were, and how many faults were met.
 fn expect(rt: &impl Abort, sink: &StdSink<Held>, bytes: &[u8], calls: (usize, usize), faults: u64) {
     assert_eq!(rt; sink.output.bytes.as_slice(), bytes);
     assert_eq!(rt; (sink.output.at, sink.output.flushed), calls);
