@@ -69,7 +69,7 @@ pub fn run_in_boxes<S: Source, K: Sink>(
     run_with_racks(alloc, words, source, sink, &racks)
 }
 
-/// The same with the racks there.
+/// Runs the words with racks that were made, and meters that have heard nothing.
 fn run_with_racks<S: Source, K: Sink>(
     alloc: Global,
     words: &[String],

@@ -18,7 +18,7 @@ pub fn close<K: Sink>(sink: &mut K, text: &[u8], status: Status) -> Status
     }
 }
 
-/// The same, and then all that waits in the sink is handed on.
+/// Closes a run, and then hands on all that waits in the sink.
 pub fn conclude<K: Sink>(sink: &mut K, text: &[u8], status: Status) -> Status
     ensures closed { Closes (record { text = text.now; status = status }) (K.written sink.old) (K.written sink.new) (K.faults sink.old)
         (K.faults sink.new) result }

@@ -3,7 +3,7 @@
 /// What is said of a descriptor.
 #[derive(Clone, Copy, Debug, PartialEq, Eq)]
 pub enum Description {
-    /// Whether it is sound, and if not, which rule it breaks first.
+    /// Whether the descriptor is sound, and if not, which rule it breaks first.
     Check,
     /// The blocks, the entities and the settings of a sound one.
     Show,

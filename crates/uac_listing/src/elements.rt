@@ -32,7 +32,7 @@ fn element_line(element: &Element) -> TextLine<64>
     line
 }
 
-/// Whether a host may set it.
+/// The word that tells whether a host may set an element.
 fn access_text(writable: bool) -> &'static [u8]
     ensures text { result.now ≡ access_text writable }
     ensures short { length result.now ≤ 4 }

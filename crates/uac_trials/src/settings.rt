@@ -30,7 +30,7 @@ const OUT: Row = Row {
     second: Some((4, 4)),
 };
 
-/// Its stream from the device: one channel of 16 bits, 50 bytes a packet.
+/// A stream from the device: one channel of 16 bits, 50 bytes a packet.
 const IN: Row = Row {
     format_type: 1,
     formats: 1,

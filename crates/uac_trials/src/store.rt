@@ -204,7 +204,7 @@ fn rates_follow_the_clocks(rt: HostRuntime) -> Result<(), Fail> {
     Ok(())
 }
 
-// Whether these are the subranges of a control, each as MIN, MAX and RES.
+// Whether a control has these subranges, each as MIN, MAX and RES.
 fn has_ranges(function: &Function, key: Key, wanted: &[(i32, i32, i32)]) -> bool {
     match ranges(function, key) {
         Some(told) => are_ranges(told.as_slice(), wanted),

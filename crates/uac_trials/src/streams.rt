@@ -83,7 +83,7 @@ fn plays_on(device: &mut Device, rack: &Rack, meters: &mut Meters, count: u8) ->
     true
 }
 
-/// So many ticks; answers what the last one met.
+/// Does so many ticks, and answers what the last one met.
 fn ticks_on(device: &mut Device, rack: &Rack, meters: &mut Meters, count: u32) -> Ticked
     requires { IsFitted (λ v x. (⟦<dyn Unit as Unit>⟧ v).kind_of x) rack.now }
 {
