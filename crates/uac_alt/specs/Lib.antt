@@ -1,3 +1,4 @@
+-- The settings that interfaces are in, and the streams that settings run.
 -- What the program's theorem says: to be read and believed.
 pub mod Settings
 pub mod Streams

@@ -1,3 +1,4 @@
+-- The program: what a call of it comes to.
 -- What the program's theorem says: to be read and believed.
 pub mod Call
 pub mod Completeness

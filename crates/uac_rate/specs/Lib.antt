@@ -1,3 +1,4 @@
+-- The pace of packets, feedback reports, steadiness, and the bands in which levels stay.
 -- What the program's theorem says: to be read and believed.
 pub mod Levels
 pub mod Packets

@@ -1,3 +1,4 @@
+-- Control requests: what a device answers, and what each leaves.
 -- What the program's theorem says: to be read and believed.
 pub mod Requests
 -- What the laws say besides.

@@ -1,3 +1,4 @@
+-- The lines of a script: how they are cut from bytes, and what each says.
 -- What the program's theorem says: to be read and believed.
 pub mod Words
 pub mod Numerals

@@ -1,3 +1,4 @@
+-- The values of controls, which of them are legal, and the rates of clocks.
 -- What the program's theorem says: to be read and believed.
 pub mod Keyed
 pub mod ControlTable

@@ -1,3 +1,4 @@
+-- Units that render and meters that hear, each by its kind.
 -- What the program's theorem says: to be read and believed.
 pub mod Fitting
 pub mod Hearing

@@ -1,3 +1,4 @@
+-- The words of the command line, and what they ask for.
 -- What the program's theorem says: to be read and believed.
 pub mod Asked
 pub mod Plain
