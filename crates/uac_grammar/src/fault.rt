@@ -1,3 +1,4 @@
+// Why a reader stopped.
 use uac_sentence::GrammarFault;
 
 /// Why a reader stopped.

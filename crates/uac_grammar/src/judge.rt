@@ -1,3 +1,4 @@
+// What the bytes of a block come to, and the end of the input.
 ghost use Rattle.std.specs.Prelude.{◌≡◌, ◌<◌, ◌≤◌, length, slice_index, MatchResult, Some};
 ghost use Rattle.uac_descriptor.specs.Reading.{block_of};
 ghost use Rattle.uac_sentence.specs.Cutting.{IsPiece};

@@ -1,3 +1,4 @@
+// The reader: descriptor bytes in, in pieces of any size, blocks or a fault out.
 ghost use Rattle.std.specs.Prelude.{◌≡◌, ◌≢◌, ◌≤◌, ◌<◌, [], ◌++◌, length, take, IsOk, IfOk, OnOk, IfErr, MatchResult, None};
 ghost use Rattle.uac_sentence.specs.Grammar.{first_fault};
 ghost use Rattle.uac_sentence.specs.Sentence.{IsSentence};

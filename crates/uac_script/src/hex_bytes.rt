@@ -1,3 +1,4 @@
+// Bytes as words of HEX spell them.
 ghost use Rattle.std.specs.Prelude.{◌≡◌, ◌≤◌, length, Option, None, IfSome};
 ghost use Rattle.std.specs.Option.{option_copied};
 ghost use Rattle.uac_script.specs.Words.{hex_of};

@@ -13,7 +13,7 @@ mod line;
 mod lines;
 /// The rows that end in a list.
 mod lists;
-/// Numbers and bytes as words spell them.
+/// Numbers as words spell them.
 mod numbers;
 /// A line with its long parts in itself.
 mod owned;

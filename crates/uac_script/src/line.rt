@@ -1,3 +1,4 @@
+// A line of the script, and reading one.
 use crate::reading::read;
 use arrayvec::ArrayVec;
 use uac_pcm::Tone;

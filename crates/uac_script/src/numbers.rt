@@ -1,3 +1,4 @@
+// Numbers as words spell them.
 ghost use Rattle.std.specs.Prelude.{◌≡◌, ◌+◌, ◌*◌, ◌<◌, ◌≤◌, min, length, true, false, pos, negsuc, ℤ, ◌≤ℤ◌, MatchOption};
 ghost use Rattle.std.specs.Option.{option_map};
 ghost use Rattle.std.specs.List.{list_all};

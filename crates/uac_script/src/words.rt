@@ -1,3 +1,4 @@
+// The words of a line, one after the other.
 ghost use Rattle.std.specs.Prelude.{◌≡◌, ◌+◌, ◌≤◌, IfSome, [], ◌∷◌, length, List, ◌==◌, position, MatchBool, MatchOption};
 ghost use Rattle.std.specs.Option.{option_copied};
 ghost use Rattle.uac_script.specs.Words.{Word, words_left, bytes_left, pair_now};

@@ -1,3 +1,4 @@
+// A headset read whole and in pieces, and faults with their places.
 ghost use Rattle.std.specs.Prelude.{◌<◌};
 
 use crate::fault::ReadStop;
