@@ -1,4 +1,4 @@
-//! What holds of streams.
+// What holds of streams.
 ghost use Rattle.std.specs.Prelude.{◌≡◌, ◌≤◌, ◌*◌, ℕ, Some};
 ghost use Rattle.uac_pcm.specs.Frames.{IsFormat};
 ghost use Rattle.uac_topology.specs.Function.{FunctionFields};

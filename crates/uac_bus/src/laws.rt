@@ -1,4 +1,4 @@
-//! A law of scripts, as the contract of a function that does nothing.
+// A law of scripts, as the contract of a function that does nothing.
 ghost use Rattle.std.specs.Prelude.{◌≡◌, ℕ, List, [], ◌∷◌, ◌++◌, Result};
 ghost use Rattle.uac_script.specs.Phrase.{Phrase};
 ghost use Rattle.uac_bus.specs.World.{World};

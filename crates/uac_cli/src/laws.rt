@@ -1,4 +1,4 @@
-//! Laws of `run` and `gen`, each the contract of a function that does nothing.
+// Laws of `run` and `gen`, each the contract of a function that does nothing.
 ghost use Rattle.uac_cli.specs.Generated.{GeneratedScriptsRunWhole};
 
 pub use uac_scripts::laws::{refusal_stays, script_is_its_lines, script_is_what_its_lines_say};

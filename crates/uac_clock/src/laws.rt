@@ -1,4 +1,4 @@
-//! What holds of rates and their nominal values.
+// What holds of rates and their nominal values.
 ghost use Rattle.std.specs.Prelude.{◌≡◌};
 ghost use Rattle.uac_clock.specs.declared.values.Nominal.{Nominal};
 ghost use Rattle.uac_clock.specs.Nominal.{twelve_rates, IsNominal, HasRoom};

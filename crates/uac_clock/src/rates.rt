@@ -1,4 +1,4 @@
-//! The twelve rates, their nominal values, and what a clock that is off gives.
+// The twelve rates, their nominal values, and what a clock that is off gives.
 ghost use Rattle.std.specs.Prelude.{◌≡◌, ◌≤ℤ◌, pos, negsuc};
 ghost use Rattle.uac_clock.specs.Nominal.{nominal_of, step_of, IsNominal};
 

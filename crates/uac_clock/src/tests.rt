@@ -1,4 +1,4 @@
-//! Worked examples. The numbers were worked out from the definitions by hand.
+// Worked examples. The numbers were worked out from the definitions by hand.
 use crate::{Nominal, Phase, RATES, nominal, step};
 
 #[test]

@@ -1,4 +1,4 @@
-//! From the steps of a clock to whole ticks.
+// From the steps of a clock to whole ticks.
 use std::marker::Model;
 
 /// How far a clock is past its last tick, in 65,536ths of a frame. A contract sees that number.

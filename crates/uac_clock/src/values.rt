@@ -1,4 +1,4 @@
-//! What follows from a sampling rate.
+// What follows from a sampling rate.
 
 /// The nominal values of a rate, for high speed: 8,000 microframes a second (profile). The values `f` and `e` count
 /// 65,536ths of a frame in a microframe, as a feedback endpoint does (USB 2.0, 5.12.4.2).

@@ -1,4 +1,4 @@
-//! The class codes of an audio function and of its interfaces, and which blocks have them.
+// The class codes of an audio function and of its interfaces, and which blocks have them.
 ghost use Rattle.std.specs.Prelude.{◌≡◌};
 ghost use Rattle.uac_descriptor.specs.Classes.{
   is_audio_association,

@@ -1,4 +1,4 @@
-//! The types and subtypes of descriptors, by their names in the standards.
+// The types and subtypes of descriptors, by their names in the standards.
 
 /// USB 2.0, table 9-5.
 pub const DEVICE: u8 = 0x01;

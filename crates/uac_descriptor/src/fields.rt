@@ -1,4 +1,4 @@
-//! The values of an endpoint's and of a format's fields that the standards don't allow.
+// The values of an endpoint's and of a format's fields that the standards don't allow.
 ghost use Rattle.std.specs.Prelude.{◌≡◌};
 ghost use Rattle.uac_descriptor.specs.Fields.{is_isochronous, is_no_format, is_no_high_speed};
 

@@ -1,4 +1,4 @@
-//! Laws of the spellings, each the contract of a function that does nothing.
+// Laws of the spellings, each the contract of a function that does nothing.
 ghost use Rattle.uac_descriptor.specs.Laws.{OneSpelling, SpeltIsRead, ReadIsSpelt, IsKept, HasSpelling};
 
 use crate::block::Block;

@@ -1,4 +1,4 @@
-//! A law of devices, as the contract of a function that does nothing.
+// A law of devices, as the contract of a function that does nothing.
 ghost use Rattle.uac_store.specs.Controls.{IsStoreOf};
 
 use crate::device::Device;

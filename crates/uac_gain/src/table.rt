@@ -1,4 +1,4 @@
-//! The gain of each whole decibel.
+// The gain of each whole decibel.
 
 ghost use Rattle.std.specs.Prelude.{◌≡◌, ◌≤◌};
 ghost use Rattle.uac_gain.specs.Gain.{decibel_gain, raised_gain};

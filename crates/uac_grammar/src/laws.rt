@@ -1,5 +1,5 @@
-//! Laws of the definitions that the reader's contracts cite. The functions do nothing: each contract is
-//! the law.
+// Laws of the definitions that the reader's contracts cite. The functions do nothing: each contract is
+// the law.
 ghost use Rattle.std.specs.Prelude.{◌≡◌, ◌↔◌, ℕ, List, ◌++◌, length, flat_map, Some, None};
 ghost use Rattle.uac_descriptor.specs.Reading.{AreBytes};
 ghost use Rattle.uac_descriptor.specs.Spelling.{spelling};

@@ -1,4 +1,4 @@
-//! What a user of the graph may rely on. Each function does nothing: its contract is the law.
+// What a user of the graph may rely on. Each function does nothing: its contract is the law.
 
 ghost use Rattle.std.specs.Prelude.{◌≡◌, ◌==◌, ◌<◌, ◌^◌, ◌&&◌, nat_eq, ℕ, ℤ, List, true, false, length};
 ghost use Rattle.std.specs.List.{IsDistinct, list_any};

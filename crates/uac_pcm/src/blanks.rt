@@ -1,4 +1,4 @@
-//! Frames and packets of a size, before samples or bytes are written over what they hold.
+// Frames and packets of a size, before samples or bytes are written over what they hold.
 ghost use Rattle.std.specs.Prelude.{◌≡◌, ◌≤◌, ◌+◌, replicate, pos};
 ghost use Rattle.arrayvec.specs.ArrayVec.{array_vec_len};
 

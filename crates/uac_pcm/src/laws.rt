@@ -1,4 +1,4 @@
-//! What holds of samples, words and frames whatever a program does with them.
+// What holds of samples, words and frames whatever a program does with them.
 ghost use Rattle.std.specs.Prelude.{◌≡◌, ℕ, ◌<◌, ◌≤◌, ◌*◌, ◌++◌, ℤ, List, length, slice_get, slice_index_or, Some, map, FitsSigned};
 ghost use Rattle.std.specs.Int.{w32};
 ghost use Rattle.std.specs.List.{All};

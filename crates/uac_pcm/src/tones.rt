@@ -1,4 +1,4 @@
-//! Test tones: samples that are a function of their place.
+// Test tones: samples that are a function of their place.
 ghost use Rattle.std.specs.Prelude.{◌≡◌, ◌≤◌, length, map};
 ghost use Rattle.std.specs.List.{range_with_len};
 ghost use Rattle.uac_pcm.specs.Tones.{tone_sample};

@@ -1,4 +1,4 @@
-//! The word of one sample, and the sample of one word.
+// The word of one sample, and the sample of one word.
 ghost use Rattle.std.specs.Prelude.{◌≡◌, ◌≤◌, ◌<◌, ◌*◌, length, slice_index_or, pos};
 ghost use Rattle.byteorder.specs.Endian.{little_number};
 ghost use Rattle.uac_pcm.specs.Frames.{bytes_of_frame, frame_of_bytes};

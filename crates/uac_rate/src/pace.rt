@@ -1,4 +1,4 @@
-//! From rate values to whole frames.
+// From rate values to whole frames.
 use std::marker::Model;
 use uac_clock::Phase;
 

@@ -1,4 +1,4 @@
-//! The feedback value by which a device asks for more frames or fewer.
+// The feedback value by which a device asks for more frames or fewer.
 ghost use Rattle.std.specs.Prelude.{◌≡◌, ◌≤◌};
 ghost use Rattle.uac_clock.specs.Nominal.{IsNominal};
 ghost use Rattle.uac_rate.specs.Reports.{report_of};

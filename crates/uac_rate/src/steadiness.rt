@@ -1,4 +1,4 @@
-//! Whether clocks and feedback have kept within what the bands of the rings allow.
+// Whether clocks and feedback have kept within what the bands of the rings allow.
 use std::marker::Model;
 
 /// Whether each deviation that was given is at most a thousandth and no stream lost four feedback reports in succession. Streams are

@@ -1,4 +1,4 @@
-//! Values as the bytes of controls (Audio Class 2.0, 5.2.3.1 to 5.2.3.3).
+// Values as the bytes of controls (Audio Class 2.0, 5.2.3.1 to 5.2.3.3).
 ghost use Rattle.std.specs.Prelude.{◌≡◌, ◌≤◌, ◌<◌, ◌+◌, ◌-◌, ◌^◌, ◌++◌, get_or, length};
 ghost use Rattle.std.specs.Int.{w32};
 ghost use Rattle.std.specs.Int.RustNames.{FitsSigned};

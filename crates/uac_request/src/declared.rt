@@ -1,4 +1,4 @@
-//! The controls that an entity's descriptor declares (Audio Class 2.0, 4.7.2).
+// The controls that an entity's descriptor declares (Audio Class 2.0, 4.7.2).
 ghost use Rattle.std.specs.Prelude.{◌≡◌, ◌≤◌, ◌-◌, ◌/◌, ◌^◌, ◌%◌};
 ghost use Rattle.uac_store.specs.ControlTable.{spread_of};
 ghost use Rattle.uac_request.specs.Requests as spec;

@@ -1,4 +1,4 @@
-//! What holds of requests.
+// What holds of requests.
 ghost use Rattle.std.specs.Prelude.{◌≡◌, ◌⊎◌, ◌<◌, ◌≤◌, ℕ, ℤ, Bool, List, Some, [], length, true};
 ghost use Rattle.uac_alt.specs.Settings.{initial_settings, is_running};
 ghost use Rattle.uac_alt.specs.declared.settings.InterfaceSetting.{InterfaceSetting};

@@ -1,4 +1,4 @@
-//! A ring filled and emptied, and what no clause says: that memory is found.
+// A ring filled and emptied, and what no clause says: that memory is found.
 use crate::{Full, RING_FRAMES, Ring};
 use arrayvec::ArrayVec;
 use std::mem::size_of;

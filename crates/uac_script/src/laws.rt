@@ -1,4 +1,4 @@
-//! Laws of the script's lines, as the contracts of functions that do nothing.
+// Laws of the script's lines, as the contracts of functions that do nothing.
 ghost use Rattle.std.specs.Prelude.{◌≡◌};
 ghost use Rattle.uac_script.specs.Saying.{SaysOnce, EachSaysOnce};
 ghost use Rattle.uac_script.specs.Line.{phrase_of};

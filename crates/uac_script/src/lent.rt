@@ -1,4 +1,4 @@
-//! A line whose long parts lie elsewhere, and the room for them.
+// A line whose long parts lie elsewhere, and the room for them.
 use crate::line::{Line, Mark};
 use crate::reading::read_into;
 use arrayvec::ArrayVec;

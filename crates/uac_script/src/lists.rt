@@ -1,4 +1,4 @@
-//! The rows of the table of lines that end in a list of words: samples, or marks.
+// The rows of the table of lines that end in a list of words: samples, or marks.
 ghost use Rattle.std.specs.Prelude.{◌≡◌, ◌≤◌, ◌&&◌, true, false, length, Option, Some, None, map, MatchOption, IsTrue, IfSome, IfOk};
 ghost use Rattle.std.specs.Option.{option_copied};
 ghost use Rattle.std.specs.List.{list_all};

@@ -1,4 +1,4 @@
-//! A line with its long parts in itself, of one whose long parts lie elsewhere.
+// A line with its long parts in itself, of one whose long parts lie elsewhere.
 ghost use Rattle.std.specs.Prelude.{◌≡◌, ◌≤◌, length};
 ghost use Rattle.uac_script.specs.Line.{phrase_of};
 ghost use Rattle.uac_script.specs.Lent.{lent_phrase, Fits};

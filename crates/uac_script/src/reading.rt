@@ -1,4 +1,4 @@
-//! A whole line: its first word names the row.
+// A whole line: its first word names the row.
 ghost use Rattle.std.specs.Prelude.{◌≡◌, ◌≤◌, ◌==◌, length, Ok, Err, IfOk};
 ghost use Rattle.uac_script.specs.Words.{words_left, bytes_left, is_idle};
 ghost use Rattle.uac_script.specs.Reading.{said, judged_row, row_of, answer};

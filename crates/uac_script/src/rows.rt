@@ -1,4 +1,4 @@
-//! The rows of the table of lines, each read from the words after the first one.
+// The rows of the table of lines, each read from the words after the first one.
 ghost use Rattle.std.specs.Prelude.{◌≡◌, ◌≤◌, ◌==◌, length, Option, Some, None, IsTrue, IfSome, IfOk};
 ghost use Rattle.std.specs.Option.{option_copied};
 ghost use Rattle.uac_script.specs.Words.{words_left, bytes_left};

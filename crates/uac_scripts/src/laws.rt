@@ -1,4 +1,4 @@
-//! Laws of `run`, each the contract of a function that does nothing.
+// Laws of `run`, each the contract of a function that does nothing.
 ghost use Rattle.std.specs.Prelude.{◌≡◌, ◌≢◌, ℕ, ◌+◌, ◌-◌, ◌≤◌, List, ◌++◌, length, map, Result};
 ghost use Rattle.std.specs.List.{AllByRecursion, AllZip};
 ghost use Rattle.uac_units.specs.Hearing.{Reading};

@@ -1,4 +1,4 @@
-//! The time that a stream has to come home.
+// The time that a stream has to come home.
 ghost use Rattle.std.specs.Prelude.{◌≡◌, ◌<◌, ◌≤◌, IfSome, Some};
 ghost use Rattle.std.specs.Int.{div_ceil};
 ghost use Rattle.uac_clock.specs.declared.values.Nominal.{Nominal as NominalValues};

@@ -1,4 +1,4 @@
-//! The controls of entities in one table: which control a selector names, and what is so of it (Audio Class 2.0, A.17 and 5.2.5).
+// The controls of entities in one table: which control a selector names, and what is so of it (Audio Class 2.0, A.17 and 5.2.5).
 ghost use Rattle.std.specs.Prelude.{◌≡◌, ◌≤◌, IfSome, sum};
 ghost use Rattle.uac_store.specs.Controls as spec;
 ghost use Rattle.uac_store.specs.ControlTable as table;

@@ -1,4 +1,4 @@
-//! What holds of the controls' values and of the rates of clocks.
+// What holds of the controls' values and of the rates of clocks.
 ghost use Rattle.std.specs.Prelude.{◌≡◌, ℕ, ◌+◌, ℤ, List, length, nat_eq, map};
 ghost use Rattle.std.specs.List.{IsDistinct};
 ghost use Rattle.uac_entities.specs.declared.entity.Entity.{Entity};

@@ -1,4 +1,4 @@
-//! The blocks of the functions that are tried, each by the numbers in which they differ, and the function that blocks describe.
+// The blocks of the functions that are tried, each by the numbers in which they differ, and the function that blocks describe.
 ghost use Rattle.std.specs.Prelude.{◌≡◌, IfOk};
 ghost use Rattle.uac_descriptor.specs.Layout.{IsEffect, IsFeature, IsMixer, IsSelector};
 

@@ -1,4 +1,4 @@
-//! A small function: a jack through a feature to a jack and to a terminal of the bus, under one clock.
+// A small function: a jack through a feature to a jack and to a terminal of the bus, under one clock.
 
 ghost use Rattle.std.specs.Prelude.{◌≡◌, IsTrue, length, true};
 ghost use Rattle.uac_graph.specs.Meaning.{entity};

@@ -1,5 +1,5 @@
-//! A small function, tick by tick: a jack through a feature, and a stereo jack through a mixer, a selector and an effect. And forty
-//! mixers in a row, rendered by a unit that counts how often it is asked.
+// A small function, tick by tick: a jack through a feature, and a stereo jack through a mixer, a selector and an effect. And forty
+// mixers in a row, rendered by a unit that counts how often it is asked.
 
 ghost use Rattle.std.specs.Prelude.{◌≡◌, IfOk, IsTrue, List, Some, length};
 ghost use Rattle.std.specs.Option.{option_map};

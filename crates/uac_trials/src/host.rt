@@ -1,4 +1,4 @@
-//! Packets of a function's two streams, with ample memory. The numbers were worked out from the definitions by hand.
+// Packets of a function's two streams, with ample memory. The numbers were worked out from the definitions by hand.
 use crate::blocks::{endpoint, function_of, pcm, push, push_format, push_two_ways, streaming};
 use arrayvec::ArrayVec;
 use std::alloc::{AllocError, Global};

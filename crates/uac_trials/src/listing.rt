@@ -1,4 +1,4 @@
-//! The lines of a mixer's elements, and of a headset's entities.
+// The lines of a mixer's elements, and of a headset's entities.
 use std::alloc::{AllocError, Global};
 use std::test::Fail;
 use uac_descriptor::{ByteList, WordList};

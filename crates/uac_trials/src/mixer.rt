@@ -1,4 +1,4 @@
-//! A view of a small device: a jack through a feature to a jack, under one clock that can be set.
+// A view of a small device: a jack through a feature to a jack, under one clock that can be set.
 ghost use Rattle.std.specs.Prelude.{◌≡◌, IfOk};
 ghost use Rattle.uac_device.specs.Kept.{DeviceFields};
 ghost use Rattle.uac_store.specs.Controls.{IsStoreOf};

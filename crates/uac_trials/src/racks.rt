@@ -1,4 +1,4 @@
-//! Units in boxes.
+// Units in boxes.
 ghost use Rattle.std.specs.Prelude.{IfOk};
 ghost use Rattle.uac_units.specs.Fitting.{IsFitted};
 

@@ -1,4 +1,4 @@
-//! The answers of a headset, byte by byte, with ample memory.
+// The answers of a headset, byte by byte, with ample memory.
 use crate::blocks::{
     clock, control, endpoint, feature, function_of, input, output, pcm, push, push_format,
     streaming,

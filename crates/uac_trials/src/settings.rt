@@ -1,4 +1,4 @@
-//! The settings of a function with two streaming interfaces, and the streams of their settings, with ample memory.
+// The settings of a function with two streaming interfaces, and the streams of their settings, with ample memory.
 use crate::blocks::{endpoint, function_of, pcm, push, push_format, push_two_ways, streaming};
 use std::alloc::{AllocError, Global};
 use std::test::Fail;

@@ -1,4 +1,4 @@
-//! The values and rates of small functions, with ample memory.
+// The values and rates of small functions, with ample memory.
 use crate::blocks::{
     bytes, clock, control, effect, feature, function_of, input, mixer, push, selector,
 };

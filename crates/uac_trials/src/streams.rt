@@ -1,5 +1,5 @@
-//! Streams of a small function: terminal 2 of the bus feeds jack 3, and jack 4 feeds terminal 5 of the bus, one channel each, under
-//! clock 1. Interface 7 goes to terminal 2, and interface 8 comes from terminal 5.
+// Streams of a small function: terminal 2 of the bus feeds jack 3, and jack 4 feeds terminal 5 of the bus, one channel each, under
+// clock 1. Interface 7 goes to terminal 2, and interface 8 comes from terminal 5.
 
 ghost use Rattle.uac_units.specs.Fitting.{IsFitted};
 

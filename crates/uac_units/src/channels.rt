@@ -1,4 +1,4 @@
-//! The channels of a frame.
+// The channels of a frame.
 
 ghost use Rattle.std.specs.Prelude.{◌≡◌, ◌≤◌, length};
 

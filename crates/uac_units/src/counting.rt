@@ -1,4 +1,4 @@
-//! The count of renders.
+// The count of renders.
 
 ghost use Rattle.std.specs.Prelude.{◌≡◌, ℕ, ◌+◌, ◌^◌, ◌<◌};
 

@@ -1,4 +1,4 @@
-//! Samples and gains, eight lanes at a time.
+// Samples and gains, eight lanes at a time.
 
 ghost use Rattle.std.specs.Prelude.{◌≡◌, ◌+◌, ◌*◌, ◌^◌, ◌<◌, ◌≤◌, pos, ◌+ℤ◌, length, map, slice_index, FitsSigned};
 ghost use Rattle.std.specs.Int.{w32, w64};

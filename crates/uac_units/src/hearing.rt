@@ -1,4 +1,4 @@
-//! What every meter does, boxed or not.
+// What every meter does, boxed or not.
 
 ghost use Rattle.std.specs.Prelude.{◌≡◌};
 ghost use Rattle.uac_units.specs.Hearing.{Reading, after_hearing};

@@ -1,4 +1,4 @@
-//! What a unit is asked to render.
+// What a unit is asked to render.
 
 use arrayvec::ArrayVec;
 

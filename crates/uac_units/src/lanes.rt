@@ -1,4 +1,4 @@
-//! The units on vectors of eight lanes: whole eights of channels at a time, and the rest one after the other.
+// The units on vectors of eight lanes: whole eights of channels at a time, and the rest one after the other.
 
 ghost use Rattle.std.specs.Prelude.{◌≡◌, ◌+◌, ◌*◌, ◌/◌, ◌^◌, ◌<◌, ◌≤◌, map};
 ghost use Rattle.std.specs.List.{range_with_len};

@@ -1,4 +1,4 @@
-//! What a user of units and meters may rely on. Each function does nothing: its contract is the law.
+// What a user of units and meters may rely on. Each function does nothing: its contract is the law.
 
 ghost use Rattle.std.specs.Prelude.{◌≡◌, ℕ, ◌+◌, ◌^◌, ◌<◌, ◌≤◌, ℤ, pos, List, [], length, slice_index_or};
 ghost use Rattle.std.specs.List.{All};

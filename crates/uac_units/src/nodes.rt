@@ -1,4 +1,4 @@
-//! The nodes of a mixer, eight lanes at a time: an input, scaled by eight gains. Most are silent or have a gain of 0 decibels.
+// The nodes of a mixer, eight lanes at a time: an input, scaled by eight gains. Most are silent or have a gain of 0 decibels.
 
 ghost use Rattle.std.specs.Prelude.{◌≡◌, ◌+◌, ◌^◌, ◌<◌, ◌≤◌, ◌+ℤ◌, length, map, slice_index, FitsSigned};
 ghost use Rattle.std.specs.Int.{w32, w64};

@@ -1,4 +1,4 @@
-//! All meters together.
+// All meters together.
 
 ghost use Rattle.std.specs.Prelude.{◌≡◌, ◌<◌, length, map, slice_get, Some};
 ghost use Rattle.uac_units.specs.Hearing.{after_hearing};

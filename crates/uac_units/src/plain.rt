@@ -1,4 +1,4 @@
-//! The units as they stand in the definitions, one sample after the other.
+// The units as they stand in the definitions, one sample after the other.
 
 ghost use Rattle.std.specs.Prelude.{◌≡◌, ◌↔◌, ◌+◌, ◌*◌, ◌^◌, ◌<◌, length, true};
 ghost use Rattle.uac_units.specs.declared.jobs.UnitKind.TheVariants.{Mixer, Selector, Feature, Effect};

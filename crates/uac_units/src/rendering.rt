@@ -1,4 +1,4 @@
-//! What every unit does, boxed or not.
+// What every unit does, boxed or not.
 
 ghost use Rattle.std.specs.Prelude.{◌≡◌, ◌+◌, ◌^◌, ◌<◌};
 ghost use Rattle.uac_units.specs.declared.jobs.UnitKind.{UnitKind};

@@ -1,4 +1,4 @@
-//! The four units that a graph is rendered with.
+// The four units that a graph is rendered with.
 
 ghost use Rattle.std.specs.Prelude.{◌≡◌, true, false};
 ghost use Rattle.uac_units.specs.declared.jobs.UnitKind.TheVariants.{Mixer, Selector, Feature, Effect};

@@ -1,4 +1,4 @@
-//! The three meters.
+// The three meters.
 
 ghost use Rattle.std.specs.Prelude.{◌≡◌, ◌≤◌, ◌<◌, if◌then◌else◌, unsigned_abs, count_by, length, slice_index_or, pos};
 ghost use Rattle.std.specs.List.{sum_by};

@@ -1,4 +1,4 @@
-//! Worked rows through boxes, and a unit that counts how often it is asked.
+// Worked rows through boxes, and a unit that counts how often it is asked.
 
 ghost use Rattle.std.specs.Prelude.{◌≡◌, ◌+◌, ◌^◌, ◌<◌, ◌≤◌, length};
 ghost use Rattle.uac_units.specs.Fitting.{IsFitted};

@@ -1,4 +1,4 @@
-//! A table of script lines: each row of the grammar spelt well, spelt wrong, and out of range at both ends.
+// A table of script lines: each row of the grammar spelt well, spelt wrong, and out of range at both ends.
 use super::{Line, Mark, MarkKind, Name};
 use arrayvec::ArrayVec;
 use std::process::Abort;
