@@ -13,6 +13,10 @@ use Rattle.uac_entities.specs.declared.alternate.Alternate.{Alternate}
 unfoldable pub named : List Entity → ℕ → Option Entity
 named entities id = find (λ e. e.id == id) entities
 
+-- the channels that the entity with this id puts out; 0 where no entity has it
+unfoldable pub channels_of : List Entity → ℕ → ℕ
+channels_of entities id = option_map_or (λ e. e.cluster.channels) (named entities id) 0
+
 -- Audio Class 2.0, 3.13.1
 abbrev pub is_input : EntityKind → Bool
 is_input kind.ClockSource = false

@@ -1,5 +1,6 @@
 -- What a function is seen as.
-use Rattle.std.specs.Prelude.{ℕ, List}
+use Rattle.std.specs.Prelude.{ℕ, ◌==◌, List, Option}
+use Rattle.std.specs.List.{find}
 use Rattle.uac_entities.specs.declared.entity.Entity.{Entity}
 use Rattle.uac_entities.specs.declared.stream.StreamInterface.{StreamInterface}
 
@@ -12,3 +13,7 @@ pub record FunctionFields : Type 0 where
   pub streams : List StreamInterface
   pub control_interface : ℕ
   pub total : ℕ
+
+-- the streaming interface with this number, if there is one
+abbrev pub interface_in : FunctionFields → ℕ → Option StreamInterface
+interface_in function number = find (λ s. s.number == number) function.streams

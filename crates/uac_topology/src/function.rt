@@ -1,9 +1,9 @@
 // A sound function.
 ghost use Rattle.std.specs.Prelude.{◌≡◌, ◌==◌, position};
-ghost use Rattle.std.specs.List.{find};
 ghost use Rattle.std.specs.Option.{option_map};
-ghost use Rattle.uac_entities.specs.Streams.{named};
-ghost use Rattle.uac_topology.specs.Function.{FunctionFields};
+ghost use Rattle.uac_entities.specs.Streams.{channels_of, named};
+ghost use Rattle.uac_topology.specs.Function.{FunctionFields, interface_in};
+ghost use Rattle.uac_topology_rules.specs.Table.{at, place_of};
 
 use std::marker::Model;
 use uac_entities::{Entity, StreamInterface};
@@ -70,6 +70,14 @@ impl Function {
         }
     }
 
+    /// The channels that the entity with this id puts out, 0 where no entity has it.
+    pub fn channels_of(&self, id: u8) -> u8
+        ensures value { result ≡ channels_of self.now.entities id }
+        ensures placed { result ≡ (at self.now.entities (place_of self.now.entities id)).cluster.channels }
+    {
+        self.table.channels_of(id)
+    }
+
     /// The clocks that terminals name, each once, in the order in which they are first named.
     pub fn domains(&self) -> &[u8]
         ensures { result.now ≡ self.now.domains }
@@ -95,9 +103,18 @@ impl Function {
 
     /// The streaming interface with this number, None exactly where none has it.
     pub fn interface(&self, number: u8) -> Option<&StreamInterface>
-        ensures { option_map (λ s. s.now) result ≡ find (λ s. s.number == number) self.now.streams }
+        ensures { option_map (λ s. s.now) result ≡ interface_in self.now number }
     {
-        self.streams().iter().find(|stream| stream.number == number)
+        self.interface_numbered(number.into())
+    }
+
+    /// The streaming interface with this number as a request names it, None exactly where none has it.
+    pub fn interface_numbered(&self, number: u16) -> Option<&StreamInterface>
+        ensures { option_map (λ s. s.now) result ≡ interface_in self.now number }
+    {
+        self.streams()
+            .iter()
+            .find(|stream| u16::from(stream.number) == number)
     }
 
     /// The number of the control interface.

@@ -11,6 +11,7 @@ pub mod Products
 pub mod EachOnce
 pub mod DomainSteps
 pub mod StreamSteps
+pub mod Channels
 pub mod ClusterTable
 pub mod Headset
 pub mod OneRuleBroken

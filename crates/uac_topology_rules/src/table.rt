@@ -1,6 +1,7 @@
 // The entities by their place and by their id.
 ghost use Rattle.std.specs.Prelude.{◌≡◌, ◌<◌, ◌==◌, IfOk, OnOk, length, take, map};
 ghost use Rattle.std.specs.Option.{option_map};
+ghost use Rattle.uac_entities.specs.Streams.{channels_of};
 ghost use Rattle.uac_topology_rules.specs.Table as spec;
 ghost use Rattle.uac_topology_rules.specs.Places.{IsTable};
 
@@ -90,6 +91,17 @@ impl EntityTable {
         match self.find(id) {
             Some(place) => Some(self.entities[place].kind),
             None => None,
+        }
+    }
+
+    /// The channels that the first entity with this id puts out, 0 where no entity has it.
+    pub fn channels_of(&self, id: u8) -> u8
+        ensures value { result ≡ channels_of self.now id }
+        ensures placed { result ≡ (spec.at self.now (spec.place_of self.now id)).cluster.channels }
+    {
+        match self.find(id) {
+            Some(place) => self.entities[place].cluster.channels,
+            None => 0,
         }
     }
 }
