@@ -63,12 +63,14 @@ pub record Goes (old new : Splitting) (bytes rest : List ℕ) (size : ℕ) (last
   pub going : new.stop ≡ None
   pub ended : new.ended ≡ last
 
--- the reader stopped, and keeps all bytes; after a line that is too long the number is that line's
+-- the reader stopped, and keeps the last line and all bytes; after a line that is too long the number is that line's
 pub record Stops (old new : Splitting) (bytes : List ℕ) (why : LineStop) (last : ℕ) : Type 0 where
+  pub text : new.text ≡ old.text
   pub number : new.number ≡ last
   pub unread : new.unread ≡ bytes
   pub spare : new.spare ≡ old.spare
   pub stopped : new.stop ≡ Some why
+  pub ended : new.ended ≡ old.ended
 
 -- what a call comes to, where no stop was kept: by all bytes that were taken and aren't in a line yet, by whether the
 -- source is at its end, and by whether its count of faults rose
