@@ -1,12 +1,16 @@
 -- A reader of lines while it takes bytes, and the last line without a newline.
-use Rattle.std.proofs.Common.{◌≡◌, ℕ, ◌<◌, true, List, [], ◌++◌, length, take, drop, Option, Ok, inr, sym, ap, ◌∙◌, subst, arith, append_assoc}
+use Rattle.std.proofs.Common.{◌≡◌, ℕ, ◌<◌, ◌≤◌, true, List, [], ◌++◌, length, take, drop, Option, Ok, inr, refl, sym, ap, ◌∙◌, subst, arith, append_assoc}
 use Rattle.std.proofs.lemmas.List.{append-nil, take_all, drop_all, nil_from_length}
 use Rattle.std.specs.Io.KnownBytes.{Consumes}
 use Rattle.uac_script.specs.declared.lines.Next.TheVariants as next
-use Rattle.uac_script.specs.Lines.{Splitting, Splits, Goes, IsTold, head_of, unended}
+use Rattle.uac_script.specs.Lines.{Splitting, Splits, Goes, StopsAtLine, IsTold, head_of, unended}
 use Rattle.uac_script.specs.Taking.{Grows}
 use Rattle.uac_edges.proofs.Consuming.{Consumes-Consumes}
 use Rattle.uac_script.proofs.HeadLemmas.{told_before}
+
+-- no bytes taken
+pub same_at_first : (old : Splitting) → old ≡ record old { unread = old.unread ++ [] }
+same_at_first old = ap (λ (u : List ℕ). let n : Splitting = record old { unread = u } in n) (sym (append-nil old.unread))
 
 -- bytes taken, and then more
 pub same_more : (old mid now : Splitting) (taken got : List ℕ) → mid ≡ record old { unread = old.unread ++ taken } → now ≡ record mid { unread = now.unread }
@@ -29,12 +33,24 @@ untold old mid taken same waits known =
     let still : head_of old.spare (old.unread ++ taken) ≡ unended (old.unread ++ taken) = cc in
     told_before old.spare old.unread taken still known
 
+-- nothing was taken
+pub stops_at_once : (spare : ℕ) (unread : List ℕ) → StopsAtLine spare unread []
+stops_at_once spare unread = record { front = []; piece = []; parts = refl; open_yet = (λ some. absurd (some refl)); short = omega arith }
+
+-- one more piece was taken, where no line stood whole
+pub stops_later : (old mid : Splitting) (taken got : List ℕ) → mid ≡ record old { unread = old.unread ++ taken } → head_of mid.spare mid.unread ≡ unended mid.unread
+    → length got ≤ 8192 → StopsAtLine old.spare old.unread (taken ++ got)
+stops_later old mid taken got same waits few =
+    let spare-is : mid.spare ≡ old.spare = ap (λ (s : Splitting). s.spare) same in
+    let mid-is : mid.unread ≡ old.unread ++ taken = ap (λ (s : Splitting). s.unread) same in
+    record { front = taken; piece = got; parts = refl; open_yet = (λ some. cc); short = few }
+
 -- The source was at its end, and some bytes were left: they are the last line.
 pub last_line : (old mid now new : Splitting) (taken : List ℕ) (a b c : Option (List ℕ)) (before after size most count : ℕ)
-    → mid ≡ record old { unread = old.unread ++ taken } → Consumes a b taken → head_of mid.spare mid.unread ≡ unended mid.unread → size ≡ length mid.unread → 0 < size
+    → mid ≡ record old { unread = old.unread ++ taken } → Consumes a b taken → StopsAtLine old.spare old.unread taken → head_of mid.spare mid.unread ≡ unended mid.unread → size ≡ length mid.unread → 0 < size
     → Grows mid.unread now.unread b c most count → count ≡ 0 → now ≡ record mid { unread = now.unread } → Goes now new (take size now.unread) (drop size now.unread) size true
     → Splits old new a c before after (Ok next.Line)
-last_line old mid now new taken a b c before after size most count same consumed shown size-is some grows zero others goes =
+last_line old mid now new taken a b c before after size most count same consumed prompt shown size-is some grows zero others goes =
     let none : grows.taken ≡ [] = nil_from_length grows.taken (grows.size ∙ zero) in
     let bytes = old.unread ++ taken in
     let mid-is : mid.unread ≡ bytes = ap (λ (s : Splitting). s.unread) same in
@@ -51,6 +67,7 @@ last_line old mid now new taken a b c before after size most count same consumed
     record {
       taken = taken;
       consumed = subst (λ (xs : List ℕ). Consumes a c xs) (ap (λ (u : List ℕ). taken ++ u) none ∙ append-nil taken) (Consumes-Consumes a b c taken grows.taken consumed grows.consumed);
+      prompt = prompt;
       comes = inr (
         λ (empty : bytes ≡ []). (let nothing : length bytes ≡ 0 = ap length empty in omega arith),
         head,

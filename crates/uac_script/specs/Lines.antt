@@ -1,5 +1,5 @@
 -- Profile: the lines of a script, each ended by a newline; a last line without one counts if it isn't empty.
-use Rattle.std.specs.Prelude.{◌≡◌, ◌≢◌, ℕ, ◌+◌, ◌==◌, Bool, true, false, not, nat_lt, if◌then◌else◌, List, [], ◌++◌, length, take, drop}
+use Rattle.std.specs.Prelude.{◌≡◌, ◌≢◌, ℕ, ◌+◌, ◌≤◌, ◌==◌, Bool, true, false, not, nat_lt, if◌then◌else◌, List, [], ◌++◌, length, take, drop}
 use Rattle.std.specs.Prelude.{take_while, Option, None, Some, ◌⊎◌, Result, Ok, Err}
 use Rattle.std.specs.Io.KnownBytes.{Consumes, IsAtEnd}
 use Rattle.uac_edges.specs.Faults.{Rose}
@@ -84,8 +84,21 @@ Comes old new bytes left before after (Err stop.TooLong) = (head_of old.spare by
 Comes old new bytes left before after (Err stop.Failed) =
     (head_of old.spare bytes ≡ unended bytes) × Rose before after × Stops old new bytes stop.Failed old.number
 
+-- the most bytes that one call of the source is asked for
+abbrev pub piece_size : ℕ
+piece_size = 8192
+
+-- Taking stopped as soon as a line stood whole: what was unread and all that was taken but for the last piece have none.
+pub record StopsAtLine (spare : ℕ) (unread taken : List ℕ) : Type 0 where
+  pub front : List ℕ
+  pub piece : List ℕ
+  pub parts : taken ≡ front ++ piece
+  pub open_yet : taken ≢ [] → head_of spare (unread ++ front) ≡ unended (unread ++ front)
+  pub short : length piece ≤ piece_size
+
 -- one call: the bytes that it took of the source, and what it comes to
 pub record Splits (old new : Splitting) (left left' : Option (List ℕ)) (before after : ℕ) (result : Result Next LineStop) : Type 0 where
   pub taken : List ℕ
   pub consumed : Consumes left left' taken
+  pub prompt : StopsAtLine old.spare old.unread taken
   pub comes : Comes old new (old.unread ++ taken) left' before after result

@@ -2,7 +2,7 @@
 ghost use Rattle.std.specs.Prelude.{◌≡◌, ◌≢◌, ◌+◌, ◌-◌, ◌≤◌, ◌<◌, true, false, [], None, Some, Ok, Err, IfOk, OnErr, length, take, drop};
 ghost use Rattle.std.specs.Io.KnownBytes.{Keeps};
 ghost use Rattle.uac_edges.specs.Faults.{HasCause};
-ghost use Rattle.uac_script.specs.Lines.{Splits, Goes, Stops, IsTold, head_of, most_of_input, most_of_line};
+ghost use Rattle.uac_script.specs.Lines.{Splits, Goes, Stops, IsTold, head_of, most_of_input, most_of_line, piece_size};
 ghost use Rattle.uac_script.specs.Looking.{Shows, line_end};
 ghost use Rattle.uac_script.specs.Taking.{Grows};
 
@@ -87,8 +87,9 @@ impl Lines {
 
     /// Takes the next line from a source. After a stop it answers that stop again. After a line
     /// that no newline ends it answers `End`, and calls the source no more. A line that stands whole
-    /// in the bytes at hand is answered without a call of the source. Unless it answers `Failed`, no
-    /// call of the source met a fault. All calls together take at most 268,435,457 bytes.
+    /// in the bytes at hand is answered without a call of the source, and once one stands whole, no
+    /// piece more is taken. Unless it answers `Failed`, no call of the source met a fault. All calls
+    /// together take at most 268,435,457 bytes.
     pub fn next<S: Source>(&mut self, source: &mut S) -> Result<Next, LineStop>
         ensures splits { self.old.stop ≡ None → self.old.ended ≡ false
             → Splits self.old self.new (S.left source.old) (S.left source.new) (S.faults source.old) (S.faults source.new) result }
@@ -156,6 +157,7 @@ impl Lines {
         requires counted { length self.old.unread ≤ self.old.spare }
         ensures ok { IfOk result (λ n. Grows self.old.unread self.new.unread (S.left source.old) (S.left source.new)
             (self.old.spare + 1 - length self.old.unread) n) }
+        ensures piece { IfOk result (λ n. n ≤ piece_size) }
         ensures others { self.new ≡ record self.old { unread = self.new.unread } }
         ensures err { OnErr result (self.new ≡ self.old) }
         ensures kept { OnErr result (Keeps (S.left source.old) (S.left source.new)) }

@@ -1,7 +1,7 @@
-use Rattle.std.proofs.Common.{◌≡◌, ◌<◌, ◌++◌, length, ap, ◌∙◌, arith, length-append}
-use Rattle.uac_edges.proofs.Consuming.{Consumes-Consumes}
+use Rattle.std.proofs.Common.{◌≡◌, ◌<◌, [], ◌++◌, length, refl, ap, ◌∙◌, arith, rules, length-append}
+use Rattle.uac_edges.proofs.Consuming.{Consumes-none, Consumes-Consumes}
 use Rattle.uac_script.proofs.HeadLemmas.{line_end_more}
-use Rattle.uac_script.proofs.SplittingLemmas.{same_more, others_kept, last_line, untold}
+use Rattle.uac_script.proofs.SplittingLemmas.{stops_at_once, stops_later, same_at_first, same_more, others_kept, last_line, untold}
 use Rattle.uac_script.proofs.lines.Lines.next.Goals as goal
 
 pub returns-in-Ok-eq0-2-clause-splits : goal.returns-in-Ok-eq0-2-clause-splits
@@ -12,7 +12,22 @@ returns-in-Ok-eq0-2-clause-splits g c =
     let some : 0 < c.in-Open.size = (let not = c.if-searched-eq0.false in omega arith) in
     λ going before_end. rw c.go-in-Ok-eq0-2.ensures.answer
     (last_line c.args.self.now c.loop-size.self c.fill.new.self c.go-in-Ok-eq0-2.new.self i.taken _ _ _ _ _ c.in-Open.size _ c.in-Ok-eq0.field-0
-    i.same i.consumed shown.0 shown.1 some told.ok c.in-Ok-eq0.field-0-test told.others c.go-in-Ok-eq0-2.ensures.goes)
+    i.same i.consumed i.prompt shown.0 shown.1 some told.ok c.in-Ok-eq0.field-0-test told.others c.go-in-Ok-eq0-2.ensures.goes)
+
+pub loop-size-init : goal.loop-size-init
+loop-size-init g c = record {
+  taken = [];
+  consumed = Consumes-none (g.S.Source.left c.args.source.now);
+  prompt = stops_at_once c.args.self.now.spare c.args.self.now.unread;
+  same = same_at_first c.args.self.now;
+  going = search rules;
+  bounded = search rules;
+  within = search rules;
+  known = omega arith;
+  counted = omega arith;
+  told = λ known. refl;
+  faultless = refl;
+}
 
 pub loop-size-preserved : goal.loop-size-preserved
 loop-size-preserved g c =
@@ -31,6 +46,7 @@ loop-size-preserved g c =
     record {
       taken = i.taken ++ grows.taken;
       consumed = Consumes-Consumes _ _ _ i.taken grows.taken i.consumed grows.consumed;
+      prompt = stops_later c.args.self.now c.loop-size.self i.taken grows.taken i.same shown.0 (let most = told.piece in omega arith);
       same = same_more c.args.self.now c.loop-size.self c.fill.new.self i.taken grows.taken i.same told.others grows.grown;
       going = kept.2 ∙ i.going;
       bounded = omega arith;

@@ -1,6 +1,6 @@
 use Rattle.std.proofs.Common.{◌≡◌, ◌+◌, ◌-◌, ◌≤◌, ◌++◌, ℕ, List, length, None}
 use Rattle.std.specs.Io.KnownBytes.{Consumes}
-use Rattle.uac_script.specs.Lines.{most_of_input, IsTold, head_of}
+use Rattle.uac_script.specs.Lines.{most_of_input, IsTold, StopsAtLine, head_of}
 use Rattle.uac_script.specs.Looking.{line_end}
 use Rattle.uac_script.proofs.lines.Lines.next.Given as goal
 
@@ -10,6 +10,7 @@ abbrev pub invariant-loop-size : goal.invariant-loop-size
 invariant-loop-size g l = record {
   taken : List ℕ;
   consumed : Consumes (g.S.Source.left l.fn.source) (g.S.Source.left l.source) taken;
+  prompt : StopsAtLine l.fn.self.spare l.fn.self.unread taken;
   same : l.self ≡ record l.fn.self { unread = l.fn.self.unread ++ taken };
   going : l.self.stop ≡ None;
   bounded : l.self.number + l.self.spare ≤ most_of_input;
