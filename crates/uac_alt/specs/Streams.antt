@@ -3,17 +3,17 @@
 use Rattle.std.specs.Prelude.{ℕ, ◌+◌, ◌-◌, ◌*◌, ◌/◌, ◌%◌, ◌^◌, ◌==◌, ◌&&◌, ◌||◌, not, nat_le, Bool, true, false, if◌then◌else◌, Option}
 use Rattle.std.specs.Prelude.{Some, None, is_some}
 use Rattle.std.specs.List.{find}
-use Rattle.std.specs.Option.{option_and_then, option_map_or}
+use Rattle.std.specs.Option.{option_and_then}
 use Rattle.uac_clock.specs.Nominal.{nominal_of}
 use Rattle.uac_clock.specs.declared.values.Nominal.{Nominal}
 use Rattle.uac_descriptor.specs.Endpoints.{synchronization_type, usage_type, packet_size, additional_transactions}
 use Rattle.uac_descriptor.specs.declared.standard.Endpoint.{Endpoint}
 use Rattle.uac_descriptor.specs.declared.streaming.General.{General}
 use Rattle.uac_descriptor.specs.declared.streaming.TypeOne.{TypeOne}
-use Rattle.uac_entities.specs.Streams.{named}
+use Rattle.uac_entities.specs.Streams.{channels_of}
 use Rattle.uac_entities.specs.declared.stream.Setting.{Setting}
 use Rattle.uac_entities.specs.declared.stream.StreamInterface.{StreamInterface}
-use Rattle.uac_topology.specs.Function.{FunctionFields}
+use Rattle.uac_topology.specs.Function.{FunctionFields, interface_in}
 use Rattle.uac_alt.specs.declared.values.Stream.{Stream}
 
 -- what a setting that can run says: its format, the nominal values of its rate, whether it goes to the device, the frames that its
@@ -57,7 +57,7 @@ is_pcm g = g.format_type == 1 && g.formats % 2 == 1
 
 -- the channels of the terminal to which an interface links
 unfoldable pub linked_channels : FunctionFields → StreamInterface → ℕ
-linked_channels function s = option_map_or (λ e. e.cluster.channels) (named function.entities s.terminal) 0
+linked_channels function s = channels_of function.entities s.terminal
 
 -- a first endpoint that is asynchronous, has a packet every 1, 2, 4 or 8 microframes, and carries data, or from the device also data
 -- that is feedback
@@ -119,4 +119,4 @@ unfoldable pub stream_of : FunctionFields → ℕ → ℕ → ℕ → Option Str
 stream_of function rate interface number =
     if number == 0 then None
     else option_and_then (λ s. option_and_then (λ setting. option_and_then (stream_at function s setting) (nominal_of rate))
-    (find (λ t. t.number == number) s.settings)) (find (λ s. s.number == interface) function.streams)
+    (find (λ t. t.number == number) s.settings)) (interface_in function interface)

@@ -80,7 +80,7 @@ fn stream_at(
 }
 
 /// Whether a setting with these parts can run at these nominal values.
-#[tactic(auto, unfolding(crate::specs::Streams::can_run))]
+#[tactic(auto, unfolding(crate::specs::Streams::can_run, crate::specs::Streams::linked_channels))]
 fn can_run(
     function: &Function,
     streaming: &StreamInterface,
@@ -96,7 +96,7 @@ fn can_run(
     ensures feedback { OnTrue result (spec.has_its_feedback streaming.now.out first.now setting.now.second ≡ true) }
 {
     is_pcm(general)
-        && (general.channels == linked_channels(function, streaming)
+        && (general.channels == function.channels_of(streaming.terminal)
             && (carries_data(streaming.out, first)
                 && (has_its_feedback(streaming.out, first, &setting.second)
                     && fits(nominal, general, type_one, first))))
@@ -108,17 +108,6 @@ fn is_pcm(general: &General) -> bool
     ensures { result ≡ spec.is_pcm general.now }
 {
     general.format_type == 1 && general.formats % 2 == 1
-}
-
-/// The channels of the terminal to which an interface links; 0 where there is none.
-#[tactic(auto, unfolding(crate::specs::Streams::linked_channels))]
-fn linked_channels(function: &Function, streaming: &StreamInterface) -> u8
-    ensures { result ≡ spec.linked_channels function.now streaming.now }
-{
-    match function.entity(streaming.terminal) {
-        Some(terminal) => terminal.cluster.channels,
-        None => 0,
-    }
 }
 
 /// Whether the first endpoint carries the stream: it is asynchronous, has a packet every 1, 2, 4 or 8 microframes, and its
