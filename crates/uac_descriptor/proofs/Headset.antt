@@ -51,6 +51,26 @@ mixer_read : block_of ControlInterface (17 ∷ 36 ∷ 4 ∷ 8 ∷ 2 ∷ 2 ∷ 6 
 unfolding block_of is_whole row_in row_of has_length fields
 mixer_read = refl
 
+selector_read : block_of ControlInterface (9 ∷ 36 ∷ 5 ∷ 9 ∷ 2 ∷ 2 ∷ 6 ∷ 3 ∷ 10 ∷ [])
+    ≡ Some (variant.Selector (record { id = 9; sources = 2 ∷ 6 ∷ []; controls = 3; name = 10 }))
+unfolding block_of is_whole row_in row_of has_length fields
+selector_read = refl
+
+effect_read : block_of ControlInterface (16 ∷ 36 ∷ 7 ∷ 11 ∷ 1 ∷ 0 ∷ 2 ∷ 3 ∷ 0 ∷ 0 ∷ 0 ∷ 12 ∷ 0 ∷ 0 ∷ 0 ∷ 5 ∷ [])
+    ≡ Some (variant.Effect (record { id = 11; effect_type = 1; source = 2; words = 3 ∷ 12 ∷ []; name = 5 }))
+unfolding block_of is_whole row_in row_of has_length fields
+effect_read = refl
+
+clock_selector_read : block_of ControlInterface (9 ∷ 36 ∷ 11 ∷ 12 ∷ 2 ∷ 1 ∷ 7 ∷ 3 ∷ 4 ∷ [])
+    ≡ Some (variant.ClockSelector (record { id = 12; sources = 1 ∷ 7 ∷ []; controls = 3; name = 4 }))
+unfolding block_of is_whole row_in row_of has_length fields
+clock_selector_read = refl
+
+clock_multiplier_read : block_of ControlInterface (7 ∷ 36 ∷ 12 ∷ 13 ∷ 1 ∷ 15 ∷ 6 ∷ [])
+    ≡ Some (variant.ClockMultiplier (record { id = 13; source = 1; controls = 15; name = 6 }))
+unfolding block_of is_whole row_in row_of has_length fields
+clock_multiplier_read = refl
+
 general_read : block_of StreamingInterface (16 ∷ 36 ∷ 1 ∷ 2 ∷ 5 ∷ 1 ∷ 1 ∷ 0 ∷ 0 ∷ 0 ∷ 2 ∷ 3 ∷ 0 ∷ 0 ∷ 0 ∷ 0 ∷ [])
     ≡ Some (variant.General (record { link = 2; controls = 5; format_type = 1; formats = 1; channels = 2; locations = 3; names = 0 }))
 unfolding block_of is_whole row_in row_of has_length fields
