@@ -18,7 +18,23 @@ interface_context i =
 abbrev pub context_after : Context → block.Block → Context
 context_after place (variant.Interface i) = interface_context i
 context_after place (variant.Association a) = if is_audio_association a then place else context.ForeignInterface
-context_after place _ = place
+context_after place (variant.Configuration _) = place
+context_after place (variant.Endpoint _) = place
+context_after place (variant.Header _) = place
+context_after place (variant.InputTerminal _) = place
+context_after place (variant.OutputTerminal _) = place
+context_after place (variant.Mixer _) = place
+context_after place (variant.Selector _) = place
+context_after place (variant.Feature _) = place
+context_after place (variant.Effect _) = place
+context_after place (variant.ClockSource _) = place
+context_after place (variant.ClockSelector _) = place
+context_after place (variant.ClockMultiplier _) = place
+context_after place (variant.General _) = place
+context_after place (variant.TypeOne _) = place
+context_after place (variant.Extra _) = place
+context_after place (variant.ClassEndpoint _) = place
+context_after place (variant.Foreign _) = place
 
 -- the fact holds of each block in the context in which it stands
 abbrev pub EachIn : (Context → block.Block → Type 0) → Context → List block.Block → Type 0

@@ -31,7 +31,18 @@ IsKept (variant.Effect e) = IsEffect e.words
 IsKept (variant.ClockSelector c) = IsSelector c.sources
 IsKept (variant.Extra e) = IsExtra e.subtype e.rest
 IsKept (variant.Foreign bytes) = IsForeign bytes
-IsKept _ = Unit {0}
+IsKept (variant.Configuration _) = Unit {0}
+IsKept (variant.Association _) = Unit {0}
+IsKept (variant.Interface _) = Unit {0}
+IsKept (variant.Endpoint _) = Unit {0}
+IsKept (variant.Header _) = Unit {0}
+IsKept (variant.InputTerminal _) = Unit {0}
+IsKept (variant.OutputTerminal _) = Unit {0}
+IsKept (variant.ClockSource _) = Unit {0}
+IsKept (variant.ClockMultiplier _) = Unit {0}
+IsKept (variant.General _) = Unit {0}
+IsKept (variant.TypeOne _) = Unit {0}
+IsKept (variant.ClassEndpoint _) = Unit {0}
 
 -- some context reads the block's bytes as this block, and their number fits a byte
 pub record HasSpelling (b : Block) : Type 0 where

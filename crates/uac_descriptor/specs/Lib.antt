@@ -9,6 +9,7 @@ pub mod Endpoints
 pub mod Classes
 pub mod Reading
 -- What the laws say besides.
+pub mod Kinds
 pub mod Contexts
 pub mod Fields
 pub mod Turns

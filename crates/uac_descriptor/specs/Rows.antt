@@ -131,7 +131,22 @@ abbrev pub IsComplete : block.Block → Type 0
 IsComplete (variant.Feature f) = 1 ≤ length f.words
 IsComplete (variant.Effect e) = 1 ≤ length e.words
 IsComplete (variant.Foreign bytes) = IsWhole bytes
-IsComplete _ = Unit {0}
+IsComplete (variant.Configuration _) = Unit {0}
+IsComplete (variant.Association _) = Unit {0}
+IsComplete (variant.Interface _) = Unit {0}
+IsComplete (variant.Endpoint _) = Unit {0}
+IsComplete (variant.Header _) = Unit {0}
+IsComplete (variant.InputTerminal _) = Unit {0}
+IsComplete (variant.OutputTerminal _) = Unit {0}
+IsComplete (variant.Mixer _) = Unit {0}
+IsComplete (variant.Selector _) = Unit {0}
+IsComplete (variant.ClockSource _) = Unit {0}
+IsComplete (variant.ClockSelector _) = Unit {0}
+IsComplete (variant.ClockMultiplier _) = Unit {0}
+IsComplete (variant.General _) = Unit {0}
+IsComplete (variant.TypeOne _) = Unit {0}
+IsComplete (variant.Extra _) = Unit {0}
+IsComplete (variant.ClassEndpoint _) = Unit {0}
 
 -- these bytes spell this block in this context: they are its bytes, and there its row reads them
 pub record Spells (context : Context) (b : block.Block) (bytes : List ℕ) : Type 0 where

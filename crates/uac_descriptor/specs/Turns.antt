@@ -27,8 +27,25 @@ InTurn earlier (i ∷ interfaces) =
     (IsTrue (is_streaming_interface i) → Begins earlier i ⊎ Continues earlier i) × InTurn (i ∷ earlier) interfaces
 
 abbrev pub interface_of : block.Block → Option interface.Interface
+interface_of (variant.Configuration _) = None
+interface_of (variant.Association _) = None
 interface_of (variant.Interface i) = Some i
-interface_of _ = None
+interface_of (variant.Endpoint _) = None
+interface_of (variant.Header _) = None
+interface_of (variant.InputTerminal _) = None
+interface_of (variant.OutputTerminal _) = None
+interface_of (variant.Mixer _) = None
+interface_of (variant.Selector _) = None
+interface_of (variant.Feature _) = None
+interface_of (variant.Effect _) = None
+interface_of (variant.ClockSource _) = None
+interface_of (variant.ClockSelector _) = None
+interface_of (variant.ClockMultiplier _) = None
+interface_of (variant.General _) = None
+interface_of (variant.TypeOne _) = None
+interface_of (variant.Extra _) = None
+interface_of (variant.ClassEndpoint _) = None
+interface_of (variant.Foreign _) = None
 
 -- the interfaces among blocks
 abbrev pub interfaces_in : List block.Block → List interface.Interface

@@ -48,6 +48,17 @@ fn kept(block: &Block)
         Block::Foreign(block) => {
             let _ = &block.bytes;
         },
-        _ => {},
+        Block::Configuration(_)
+        | Block::Association(_)
+        | Block::Interface(_)
+        | Block::Endpoint(_)
+        | Block::Header(_)
+        | Block::InputTerminal(_)
+        | Block::OutputTerminal(_)
+        | Block::ClockSource(_)
+        | Block::ClockMultiplier(_)
+        | Block::General(_)
+        | Block::TypeOne(_)
+        | Block::ClassEndpoint(_) => {},
     }
 }
