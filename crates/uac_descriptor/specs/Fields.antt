@@ -5,7 +5,7 @@ use Rattle.uac_descriptor.specs.declared.standard.Endpoint as endpoint
 use Rattle.uac_descriptor.specs.declared.streaming.TypeOne as type_one
 use Rattle.uac_descriptor.specs.Endpoints.{transfer_type, packet_size, additional_transactions}
 
--- its transfers are isochronous
+-- whether an endpoint's transfers are isochronous
 abbrev pub is_isochronous : endpoint.Endpoint → Bool
 is_isochronous e = transfer_type e.attributes == 1
 
@@ -20,7 +20,7 @@ pub record IsFormat (t : type_one.TypeOne) : Type 0 where
   pub slots : (1 ≤ t.subslot) × (t.subslot ≤ 4)
   pub fits : (1 ≤ t.bits) × (t.bits ≤ 8 * t.subslot)
 
--- the same as tests, of what is wrong
+-- whether an endpoint is none of high speed, and a format is none: tests of what is wrong
 unfoldable pub is_no_high_speed : endpoint.Endpoint → Bool
 is_no_high_speed e =
     nat_lt e.interval 1 || nat_lt 16 e.interval || additional_transactions e.max_packet == 3 || nat_lt 1024 (packet_size e.max_packet)

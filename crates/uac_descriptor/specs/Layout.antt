@@ -10,7 +10,7 @@ pub record SelectorFields : Type 0 where
   pub controls : ℕ
   pub name : ℕ
 
--- its length fits a byte
+-- a selector's length fits a byte
 abbrev pub IsSelector : List ℕ → Type 0
 IsSelector sources = 7 + length sources ≤ 255
 
@@ -35,7 +35,7 @@ pub record FeatureFields : Type 0 where
   pub words : List ℕ
   pub name : ℕ
 
--- it has the master's word, and its length fits a byte
+-- a feature has the master's word, and its length fits a byte
 abbrev pub IsFeature : List ℕ → Type 0
 IsFeature words = (1 ≤ length words) × (6 + 4 * length words ≤ 255)
 

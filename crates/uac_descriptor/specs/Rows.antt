@@ -98,7 +98,7 @@ rows_of ForeignInterface rest = parting_rows
 unfoldable pub row_of : Context → ℕ → List ℕ → Row
 row_of context kind rest = row_beside kind (rows_of context rest) foreign
 
--- the same of a whole block
+-- the row of a whole block in this context
 unfoldable pub row_in : Context → List ℕ → Row
 row_in context [] = too_short
 row_in context (size ∷ []) = too_short
@@ -126,7 +126,7 @@ row (variant.Extra _) = extra
 row (variant.ClassEndpoint _) = class_endpoint
 row (variant.Foreign _) = foreign
 
--- it has the parts that its row asks for: the master's control word, and of a block that is kept whole all its bytes
+-- a block has the parts that its row asks for: the master's control word, and of a block that is kept whole all its bytes
 abbrev pub IsComplete : block.Block → Type 0
 IsComplete (variant.Feature f) = 1 ≤ length f.words
 IsComplete (variant.Effect e) = 1 ≤ length e.words

@@ -9,7 +9,7 @@ use Rattle.uac_grammar.specs.declared.fault.ReadStop.TheVariants.{Fault}
 abbrev pub is_shown : ℕ → GrammarFault → Bool
 is_shown n fault = not (fault.rule == 1) && nat_lt fault.at n
 
--- this fault, where n bytes show it
+-- a fault, where n bytes show it
 abbrev pub shown_within : ℕ → Option GrammarFault → Option GrammarFault
 shown_within n None = None
 shown_within n (Some fault) = if is_shown n fault then Some fault else None

@@ -33,7 +33,7 @@ abbrev pub is_header_list : List Letter → Bool
 is_header_list [] = false
 is_header_list (k ∷ ks) = is_same letter.Header k && list_all is_listed ks
 
--- they end with the control interface, its header and blocks of its list
+-- the letters end with the control interface, its header and blocks of its list
 abbrev pub is_in_list : List Letter → Bool
 is_in_list [] = false
 is_in_list (k ∷ ks) = is_same letter.ControlInterface k && is_header_list ks || is_in_list ks

@@ -78,7 +78,7 @@ IsPast n total = total < n
 abbrev pub IsShort : ℕ → ℕ → Type 0
 IsShort n total = n < total
 
--- it is so of the number of bytes from the first configuration on, and of its total
+-- a relation holds of the number of bytes from the first configuration on, and of its total
 abbrev pub ConfigurationTotal : (ℕ → ℕ → Type 0) → List block.Block → Type 0
 ConfigurationTotal IsSo [] = ⊥
 ConfigurationTotal IsSo (variant.Configuration c ∷ blocks) = IsSo (size (variant.Configuration c ∷ blocks)) c.total

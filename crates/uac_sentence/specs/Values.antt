@@ -36,7 +36,7 @@ HasValues place (variant.General g) = IsAllowed 0 g.controls × IsAllowed 1 g.co
 HasValues place (variant.TypeOne t) = IsFormat t
 HasValues place _ = Unit {0}
 
--- the same as tests, of what is wrong
+-- which values are wrong, as tests
 abbrev pub is_barred : ℕ → ℕ → Bool
 is_barred n controls = control_bits n controls == 2
 

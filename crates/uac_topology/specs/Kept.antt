@@ -28,7 +28,7 @@ has_pins kind.Selector = true
 has_pins kind.Feature = true
 has_pins kind.Effect = true
 
--- it has at least one pin
+-- every entity that takes a clock or a signal has at least one pin
 abbrev pub HavePins : List Entity → Type 0
 HavePins entities = All (λ e. has_pins e.kind ≡ true → 1 ≤ length e.sources) entities
 

@@ -18,6 +18,6 @@ joined (clocks.One c) (clocks.One d) = if c == d then clocks.One c else clocks.S
 joined (clocks.One c) clocks.Several = clocks.Several
 joined clocks.Several b = clocks.Several
 
--- this tells which clock differs from one of the list
+-- a summary tells which clock differs from one of the list
 abbrev pub Tells : Behind → List ℕ → Type 0
 Tells b list = (clock : ℕ) → list_any (λ c. not (c == clock)) list ≡ differs b clock

@@ -22,7 +22,7 @@ domains_of entities = each_once (filter_map clock_named entities)
 unfoldable pub names_new : List ℕ → Entity → Bool
 names_new clocks e = is_terminal e.kind && not (list_any (λ c. c == e.clock) clocks)
 
--- these clocks, and behind them the one that an entity names, if it is new
+-- the clocks so far, and after them the one that an entity names, if it is new
 unfoldable pub noted : List ℕ → Entity → List ℕ
 noted clocks e = if names_new clocks e then clocks ++ e.clock ∷ [] else clocks
 

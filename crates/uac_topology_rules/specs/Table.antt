@@ -31,7 +31,7 @@ at entities place = slice_index_or entities place nothing
 unfoldable pub found : List Entity → ℕ → Option ℕ
 found entities id = position (λ e. e.id == id) entities
 
--- the same, the number of entities where there is none
+-- the place of the entity with an id; the number of entities where there is none
 unfoldable pub place_of : List Entity → ℕ → ℕ
 place_of entities id = position_or_len (λ e. e.id == id) entities
 
