@@ -56,6 +56,6 @@ saturated sum = int_max (negsuc 2147483647) (int_min sum (pos 2147483647))
 abbrev pub floored : ℤ → ℕ → ℤ
 floored sample gain = floor_div (sample *ℤ pos gain) (2 ^ 30)
 
--- the same, held to 32 bits: a gain above one can leave them
+-- a sample scaled and held to 32 bits: a gain above one can leave them
 abbrev pub scaled : ℤ → ℕ → ℤ
 scaled sample gain = saturated (floored sample gain)

@@ -88,7 +88,7 @@ pub record AreFirstJobs (entities : List Entity) (controls : Controls) (count : 
 abbrev pub AreJobs : List Entity → Controls → List Job → Type 0
 AreJobs entities controls jobs = AreFirstJobs entities controls (length entities) jobs
 
--- the same values, but for those of the entity with this id
+-- the controls are as before, but for those of the entity with this id
 abbrev pub AreSameBut : ℕ → Controls → Controls → Type 0
 AreSameBut id before after = (other selector channel : ℕ) → (other ≡ id → ⊥) → before other selector channel ≡ after other selector channel
 

@@ -8,7 +8,7 @@ numbered n [] = []
 numbered n (None ∷ row) = numbered (suc n) row
 numbered n (Some frame ∷ row) = (n, frame) ∷ numbered (suc n) row
 
--- the same from 0 on
+-- the frames of a row, numbered from 0 on
 abbrev pub frames_in : List (Option (List ℤ)) → Frames
 frames_in row = numbered 0 row
 

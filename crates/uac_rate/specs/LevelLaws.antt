@@ -19,7 +19,7 @@ PacketsAddUp =
     (service : ℕ) (values : List ℕ) (value : ℕ) → service ≤ length values
     → frames_in_packet (suc service) (values ++ value ∷ []) ≡ frames_in_packet service values + frames_in_packet 1 (values ++ value ∷ [])
 
--- the same by the remainder: what the values before left, and what those of the packet give
+-- a packet's frames follow from the remainder that the values before left, and from those of the packet
 abbrev pub PacketsFollowRemainders : Type 0
 PacketsFollowRemainders =
     (values packet : List ℕ)

@@ -8,7 +8,7 @@ use Rattle.uac_clock.specs.declared.values.Nominal.{Nominal}
 abbrev pub report_of : Nominal → ℕ → ℕ → ℕ
 report_of values target level = max (values.lo * 65536) (min (values.f + 1024 * target - 1024 * level) (values.hi * 65536))
 
--- the same over the integers
+-- the report over the integers
 abbrev pub ReportsOverIntegers : Type 0
 ReportsOverIntegers =
     (values : Nominal) (target level : ℕ)

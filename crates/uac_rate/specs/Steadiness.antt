@@ -42,7 +42,7 @@ abbrev pub has_four_lost : List Bool → Bool
 has_four_lost [] = false
 has_four_lost (lost ∷ older) = nat_lt 3 (run (lost ∷ older)) || has_four_lost older
 
--- the same by the list: four in a row
+-- four reports in a row of the list were lost
 pub record HasFourInARow (reports : List Bool) : Type 0 where
   pub newer : List Bool
   pub older : List Bool
@@ -62,7 +62,7 @@ eight_streams = 0 ∷ 1 ∷ 2 ∷ 3 ∷ 4 ∷ 5 ∷ 6 ∷ 7 ∷ []
 abbrev pub is_steady : Given → Bool
 is_steady given = list_all is_slight given.deviations && keeps_feedback given.feedback eight_streams
 
--- the same as a fact
+-- all that was given is steady, as a fact
 abbrev pub IsSteady : Given → Type 0
 IsSteady given = is_steady given ≡ true
 
@@ -76,7 +76,7 @@ abbrev pub latest_run : List (List Bool) → ℕ
 latest_run [] = 0
 latest_run (latest ∷ earlier) = run latest
 
--- it is kept of what was given
+-- what `Steady` keeps of all that was given
 pub record KeepsGiven (kept : SteadyFields) (given : Given) : Type 0 where
   pub holds : kept.holds ≡ is_steady given
   pub eight : length kept.runs ≡ 8

@@ -16,7 +16,7 @@ GapsGoHome =
     × (owed p.target p.clock ≤ stored p.level p.host
     + left_of (pull_of values) anchor.age (owed p.target anchor.clock - stored anchor.level anchor.host))
 
--- the same over the integers, by the error at the anchor and at the point
+-- gaps over the integers, by the error at the anchor and at the point
 abbrev pub GapsOverIntegers : Type 0
 GapsOverIntegers =
     (values : Nominal) (anchor : Anchor) (p : Point) → HasRoom values → Gap values anchor p

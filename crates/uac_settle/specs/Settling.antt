@@ -26,7 +26,7 @@ farthest = 130 * 65536 + 65535
 abbrev pub settle_of : Nominal → ℕ
 settle_of values = 64 + div_ceil (farthest - four_frames) (pull_of values)
 
--- the same of a rate in Hz, if it is one of the twelve
+-- the bound of a rate in Hz, if it is one of the twelve
 abbrev pub bound_of : ℕ → Option ℕ
 bound_of hertz = option_map settle_of (nominal_of hertz)
 

@@ -48,7 +48,7 @@ pins_sample Feature job pins channel =
     scaled (gained job pins channel (2 * channel)) (slice_index job.gains.items (2 * channel + 1))
 pins_sample Effect job pins channel = input pins channel
 
--- the same by the frames of the unit's sources, pin by pin: a mixer takes all their channels in a row, a selector the chosen
+-- a unit's sample by the frames of its sources, pin by pin: a mixer takes all their channels in a row, a selector the chosen
 -- pin's channel, a feature and an effect their one source's
 abbrev pub unit_sample : UnitKind → Job → List (List ℤ) → ℕ → ℤ
 unit_sample Mixer job sources channel = saturated (mixed job (in_a_row sources) channel)
