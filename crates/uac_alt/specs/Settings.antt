@@ -21,7 +21,7 @@ setting_of settings number = option_map (λ s. s.setting) (find (λ s. s.interfa
 abbrev pub changed : ℕ → ℕ → InterfaceSetting → InterfaceSetting
 changed interface setting s = if s.interface == interface then record s { setting = setting } else s
 
--- the same settings, but that of this interface is the one given
+-- the settings with that of one interface replaced by the one given
 unfoldable pub with_setting : List InterfaceSetting → ℕ → ℕ → List InterfaceSetting
 with_setting settings interface setting = map (changed interface setting) settings
 

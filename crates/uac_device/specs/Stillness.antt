@@ -26,7 +26,7 @@ pub record HasBegun (domain : ℕ) (old new : List Lane) (before after : Frames)
       (outs : ℕ → Option OutStream) (ins : ℕ → Option InStream) → KeepsStreams old outs ins
       → (id : ℕ) → frame_on after id ≡ given_by domain id outs (ports old) (frame_on before id)
 
--- it ended: the streams from the terminals of the domain have the frames that these played
+-- a tick ended: the streams from the terminals of the domain have the frames that these played
 pub record HasEnded (domain : ℕ) (old new : List Lane) (wires : Frames) : Type 0 where
   pub stands :
       (on : ℕ → Bool) (played : ℕ → List ℤ) (outs : ℕ → Option OutStream) (ins : ℕ → Option InStream)

@@ -34,7 +34,7 @@ pub record IsOutFlow (ring : List (List ℤ)) (f : OutFlow) : Type 0 where
   pub target : (level : ℕ) → f.target ≡ Some level → level ≤ ring_frames
   pub frames : AreFrames f.stream.format.channels ring
 
--- they stand for this stream
+-- a ring and a flow stand for this stream to the device
 pub record KeepsOut (ring : List (List ℤ)) (f : OutFlow) (o : OutStream) : Type 0 where
   pub stream : stream_fields f.stream ≡ o.stream
   pub microframes : f.microframes ≡ kept_count o.microframes
@@ -49,7 +49,7 @@ pub record IsInFlow (ring : List (List ℤ)) (f : InFlow) : Type 0 where
   pub counted : f.microframes ≤ 8
   pub frames : AreFrames f.stream.format.channels ring
 
--- they stand for this stream
+-- a ring and a flow stand for this stream from the device
 pub record KeepsIn (ring : List (List ℤ)) (f : InFlow) (i : InStream) : Type 0 where
   pub stream : stream_fields f.stream ≡ i.stream
   pub microframes : f.microframes ≡ kept_count i.microframes

@@ -150,7 +150,7 @@ settled_in i = record i { microframes = i.microframes + 1 }
 abbrev pub reports_now : OutStream → Bool
 reports_now o = nat_lt 0 o.microframes && o.microframes % o.stream.period == 0
 
--- that report: the nominal value while the stream is priming
+-- the report that is due: the nominal value while the stream is priming
 unfoldable pub feedback_of : OutStream → Option ℕ
 feedback_of o =
     if reports_now o then Some (option_map_or (λ target. report_of o.stream.nominal target (out_level o)) o.target o.stream.nominal.f)

@@ -14,7 +14,7 @@ use Rattle.uac_alt.specs.Streams.{StreamFields, linked_channels, stream_of}
 use Rattle.uac_rate.specs.Packets.{frames_in_packet}
 use Rattle.uac_host.specs.HostWorld.{HostWorld, Pace, Track}
 
--- this at one interface, and elsewhere as before
+-- a value at one interface, and elsewhere what was there
 abbrev pub at_interface : {A : Type 0} → ℕ → A → (ℕ → A) → ℕ → A
 at_interface interface x before k = if k == interface then x else before k
 
@@ -50,7 +50,7 @@ within_nominal stream value = max (stream.nominal.lo * 65536) (min value (stream
 abbrev pub reported : ℕ → Pace → Pace
 reported value p = record p { value = within_nominal p.stream value }
 
--- the same of the stream that an interface runs
+-- the report comes to the stream that an interface runs
 unfoldable pub with_report : ℕ → ℕ → HostWorld → HostWorld
 with_report interface value w = record w { paces = at_interface interface (option_map (reported value) (w.paces interface)) w.paces }
 
@@ -99,7 +99,7 @@ used_next p = p.used ++ replicate p.stream.service p.value
 abbrev pub next_size : Pace → ℕ
 next_size p = frames_in_packet p.stream.service (used_next p)
 
--- the same of the stream that an interface runs; 0 where it runs none
+-- the next packet's frames of the stream that an interface runs; 0 where it runs none
 unfoldable pub size_of : HostWorld → ℕ → ℕ
 size_of w interface = option_map_or next_size (w.paces interface) 0
 
@@ -113,7 +113,7 @@ packet_of w interface =
 abbrev pub sent : Pace → Pace
 sent p = record p { used = used_next p }
 
--- the same of the stream that an interface runs, and of its track
+-- a packet was sent: the pace of the stream that an interface runs goes on, and its track
 unfoldable pub after_packet : ℕ → HostWorld → HostWorld
 after_packet interface w =
     record w {

@@ -40,7 +40,7 @@ changed_at interface change streams k = if k == interface then option_map change
 abbrev pub replaced_at : {S : Type 0} → ℕ → Option S → (ℕ → Option S) → ℕ → Option S
 replaced_at interface stream streams k = if k == interface then stream else streams k
 
--- the same, of which those of some interfaces change
+-- the streams by interface, of which those of some interfaces change
 abbrev pub changed_where : {S : Type 0} → (ℕ → Bool) → (ℕ → S → S) → (ℕ → Option S) → ℕ → Option S
 changed_where test change streams k = option_map (λ s. if test k then change k s else s) (streams k)
 

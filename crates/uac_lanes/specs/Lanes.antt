@@ -38,7 +38,7 @@ KeepsFlow ring (flow.In f) out in_ = (i : InStream) × (in_ ≡ Some i) × (out 
 abbrev pub KeepsLane : Lane → Option OutStream → Option InStream → Type 0
 KeepsLane l out in_ = KeepsFlow l.ring l.flow out in_
 
--- its interface runs a stream
+-- whether a lane's interface runs a stream
 abbrev pub is_running : Flow → Bool
 is_running flow.Idle = false
 is_running (flow.Out f) = true
@@ -100,7 +100,7 @@ WiredOut wires p = p.out ≡ false → 1 ≤ p.channels → IsWired wires p
 abbrev pub gives_to : ℕ → ℕ → Port → Bool
 gives_to domain id p = p.out && (p.clock == domain && p.terminal == id)
 
--- that frame: the next of the stream, or silence
+-- the frame that is given: the next of the stream, or silence
 abbrev pub frame_given : Option OutStream → Port → List ℤ
 frame_given out p = unwrap_or (option_and_then next_taken out) (silence p.channels)
 
