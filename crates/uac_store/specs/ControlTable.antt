@@ -182,6 +182,6 @@ ranges_as control.Mute pins attributes = None
 ranges_as control.Volume pins attributes = Some volumes
 ranges_as control.Enable pins attributes = None
 
--- those of the control with a selector; none where there is no such control, or it has none
+-- the subranges of the control with a selector; none where there is no such control, or it has none
 abbrev pub ranges_by : EntityKind → ℕ → ℕ → ℕ → Option (List Range)
 ranges_by k pins attributes selector = option_and_then (λ c. ranges_as c pins attributes) (control_of k selector)

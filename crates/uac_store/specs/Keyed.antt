@@ -14,6 +14,6 @@ same_key k l = k.entity == l.entity && (k.selector == l.selector && k.channel ==
 unfoldable pub value_of : List (Key × ℤ) → Key → Option ℤ
 value_of controls k = lookup (same_key k) controls
 
--- the same controls with the same values, but for this one
+-- the values of controls, with that of one replaced
 unfoldable pub with_value : List (Key × ℤ) → Key → ℤ → List (Key × ℤ)
 with_value controls k v = set_value (same_key k) controls v

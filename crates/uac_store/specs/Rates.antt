@@ -64,7 +64,7 @@ rate_by controls below e kind.Selector = None
 rate_by controls below e kind.Feature = None
 rate_by controls below e kind.Effect = None
 
--- the same, from an entity's id
+-- the rate that an entity gives, from its id
 unfoldable pub rate_step : List Entity → List (Key × ℤ) → (ℕ → Option ℕ) → ℕ → Option ℕ
 rate_step entities controls below id = option_and_then (λ e. rate_by controls below e e.kind) (named entities id)
 
