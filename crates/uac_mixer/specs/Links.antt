@@ -29,7 +29,7 @@ pub record HasActed (p : Setup) (sent : List ℕ) (told : AnswerFields) (old new
   pub device : IsControlled p sent told old.device new.device
   pub last : new.last ≡ Some told
 
--- it broke before the device acted, or after
+-- a transfer broke before the device acted, or after
 abbrev pub BreaksAs : When → Setup → List ℕ → LinkFields → LinkFields → Type 0
 BreaksAs when.Before p sent old new = IsUntouched old new
 BreaksAs when.After p sent old new = (told : AnswerFields) × HasActed p sent told old new
@@ -57,7 +57,7 @@ AreAsked control [] old new = new ≡ old
 AreAsked control (x ∷ xs) old new =
     (between : DeviceFields) × (told : AnswerFields) × IsControlled (get_of control x) [] told old between × AreAsked control xs between new
 
--- its function, its controls and its settings are as they were
+-- a device's function, its controls and its settings are as they were
 pub record IsAsBefore (old new : DeviceFields) : Type 0 where
   pub function : new.function ≡ old.function
   pub controls : new.controls ≡ old.controls

@@ -16,7 +16,7 @@ is_present entities k = option_map_or (λ e. is_declared_on e.kind e k.selector 
 abbrev pub width_at : List Entity → Key → ℕ
 width_at entities k = option_map_or (λ e. unwrap_or (entity_width e.kind k.selector) 0) (named entities k.entity) 0
 
--- its values are signed
+-- whether a control's values are signed
 abbrev pub signed_at : List Entity → Key → Bool
 signed_at entities k = option_map_or (λ e. is_signed e.kind k.selector) (named entities k.entity) false
 

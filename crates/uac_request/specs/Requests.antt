@@ -66,14 +66,14 @@ gets_interface p = is_request 129 10 p
 abbrev pub sets_interface : Setup → Bool
 sets_interface p = is_request 1 11 p
 
--- those to a control, and those to an interface
+-- the requests to a control, and those to an interface
 abbrev pub is_to_control : Setup → Bool
 is_to_control p = gets_cur p || gets_range p || sets_cur p
 
 abbrev pub is_to_interface : Setup → Bool
 is_to_interface p = gets_interface p || sets_interface p
 
--- those that get bytes
+-- the requests that get bytes
 abbrev pub is_get : Setup → Bool
 is_get p = gets_cur p || gets_range p || gets_descriptor p || gets_interface p
 
@@ -212,7 +212,7 @@ IsWithin true width (negsuc n) = 2 * n < 256 ^ width
 IsWithin false width (pos n) = n < 256 ^ width
 IsWithin false width (negsuc n) = ⊥
 
--- its values are signed, as a volume and a node are
+-- whether a control's values are signed, as those of a volume and a node are
 abbrev pub is_signed : EntityKind → ℕ → Bool
 is_signed k selector = option_map_or (λ f. f.signed) (facts_at k selector) false
 
