@@ -21,7 +21,7 @@ pub record StreamingFields : Type 0 where
   pub sent_packet : List ℕ
   pub fetched_packet : List ℕ
 
--- it stands, beside a device, for this world
+-- `Streaming` stands, beside a device, for this world
 pub record Stands (streaming : StreamingFields) (beside : devices.DeviceFields) (w : StreamingWorld) : Type 0 where
   pub device : devices.Stands beside w.device
   pub host : hosts.Stands streaming.host w.host

@@ -174,7 +174,7 @@ sent_lines detail lost interface w =
 abbrev pub is_out_due : StreamingWorld → ℕ → Bool
 is_out_due w interface = goes_out w.device.function interface && is_due_in w.device interface
 
--- the same where the interface runs a stream to the device that is due
+-- a packet's turn to the device, where the interface runs such a stream that is due
 unfoldable pub out_turn : ℕ → List SaidMark → ℕ → StreamingWorld → Telling StreamingWorld
 out_turn detail losses interface w =
     if is_out_due w interface
@@ -221,7 +221,7 @@ fetched_lines detail lost interface w =
 abbrev pub is_in_due : StreamingWorld → ℕ → Bool
 is_in_due w interface = comes_in w.device.function interface && is_due_in w.device interface
 
--- the same where the interface runs a stream from the device that is due
+-- a packet's turn from the device, where the interface runs such a stream that is due
 unfoldable pub in_packet_turn : ℕ → List SaidMark → ℕ → StreamingWorld → Telling StreamingWorld
 in_packet_turn detail losses interface w =
     if is_in_due w interface
@@ -261,7 +261,7 @@ found_lines clock w =
     map (λ s. says_under s.number) (filter (λ s. finds_empty clock w s.number) w.function.streams)
     ++ map (λ s. says_over s.number) (filter (λ s. finds_full clock w s.number) w.function.streams)
 
--- these are counted
+-- the counts of rings found empty or full, with those of a tick
 unfoldable pub found_counts : ℕ → DeviceWorld → (ℕ → StreamCounts) → ℕ → StreamCounts
 found_counts clock w met k =
     let c = if finds_empty clock w k then one_under (met k) else met k in
@@ -281,7 +281,7 @@ unfoldable pub settled_turn : ℕ → ℕ → StreamingWorld → Telling Streami
 settled_turn detail interface w =
     record { lines = settled_lines detail interface w.device; world = record w { device = settled interface w.device } }
 
--- it ends for all of them, by interface number
+-- the microframe ends for all streams, by interface number
 unfoldable pub all_settled : ℕ → StreamingWorld → Telling StreamingWorld
 all_settled detail w = in_turn (settled_turn detail) (numbers w.device.function) w
 
@@ -305,7 +305,7 @@ report_made lost value interface w =
 abbrev pub report_lines : ℕ → Bool → ℕ → ℕ → List Said
 report_lines detail lost value interface = if nat_le 2 detail then says_feedback interface value lost ∷ [] else []
 
--- the same where a report of the interface's stream is due
+-- a report's turn, where one of the interface's stream is due
 unfoldable pub report_turn : ℕ → List SaidMark → ℕ → StreamingWorld → Telling StreamingWorld
 report_turn detail losses interface w =
     let lost = loses_report losses interface in

@@ -7,7 +7,7 @@ pub record Telling (W : Type 0) : Type 0 where
   pub lines : List Said
   pub world : W
 
--- these lines, and then what is told
+-- some lines, and then what is told
 abbrev pub told_behind : {W : Type 0} → List Said → Telling W → Telling W
 told_behind lines told = record { lines = lines ++ told.lines; world = told.world }
 
