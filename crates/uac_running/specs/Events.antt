@@ -19,7 +19,7 @@ pub record Told : Type 0 where
   pub lines : List Said
   pub world : RunningWorld
 
--- these lines, and then what is told
+-- some lines, and then what is told
 abbrev pub with_lines_first : List Said → Told → Told
 with_lines_first lines told = record { lines = lines ++ told.lines; world = told.world }
 
@@ -35,7 +35,7 @@ next_frame j = tone_frame j.tone j.place j.channels
 abbrev pub given_one : ℕ → Jack → DeviceWorld → DeviceWorld
 given_one clock j w = if j.clock == clock then set_jack j.terminal (next_frame j) w else w
 
--- those of these jacks that are of a domain give their tones' next frames
+-- the jacks of a domain give their tones' next frames
 abbrev pub given : ℕ → List Jack → DeviceWorld → DeviceWorld
 given clock jacks w = fold (λ v j. set_jack j.terminal (next_frame j) v) w (filter (λ j. j.clock == clock) jacks)
 
@@ -77,7 +77,7 @@ tick_times (suc n) clock r = with_lines_first (tick clock r).lines (tick_times n
 unfoldable pub domain_microframe : ℕ → RunningWorld → Told
 domain_microframe clock r = tick_times (next_ticks clock r.device) clock (record r { device = advanced clock r.device })
 
--- the same of these domains, one after the other
+-- a microframe of several domains, one after the other
 unfoldable pub domain_microframes : List ℕ → RunningWorld → Told
 domain_microframes [] r = still r
 domain_microframes (clock ∷ clocks) r = with_lines_first (domain_microframe clock r).lines

@@ -42,7 +42,7 @@ none_counted clock = record { clock = clock; ticks = 0 }
 abbrev pub more_counted : ℕ → ℕ → TickCount → TickCount
 more_counted clock ticks c = if c.clock == clock then record c { ticks = at_most_u64 (c.ticks + ticks) } else c
 
--- it stands for this world, with meters that show this
+-- a running device stands for this world, with meters that show these readings
 pub record Stands (running : RunningFields) (shown : List Reading) (r : RunningWorld) : Type 0 where
   pub streaming : streaming.Stands running.streaming running.device (streaming_of r)
   pub view : running.view ≡ r.view
@@ -60,7 +60,7 @@ pub record StandsBetween (running : RunningFields) (shown : List Reading) (r : R
   pub now : Stands running shown r
   pub room : HaveRoom r.device
 
--- its jacks are input jacks of its function, each with its channels
+-- a running device's jacks are input jacks of its function, each with its channels
 pub record HasItsJacks (running : RunningFields) : Type 0 where
   pub kinds : All (λ j. is_input_jack (entity running.device.function.entities j.terminal) ≡ true) running.jacks
   pub channels : All (λ j. (entity running.device.function.entities j.terminal).cluster.channels ≡ j.channels) running.jacks
