@@ -41,11 +41,11 @@ abbrev pub stepped : Step → After → After
 stepped (done next lines) so_far = record so_far { lines = so_far.lines ++ lines; world = next; count = so_far.count + 1 }
 stepped (refused fault) so_far = record so_far { refusal = Some fault }
 
--- this where a line was refused before, else that
+-- the first where a line was refused before, else the second
 abbrev pub if_refused : Option BusFault → After → After → After
 if_refused None so_far next = next
 if_refused (Some fault) so_far next = so_far
 
--- the same of a line that isn't done where one before it was refused
+-- what lines and one more come to: that one isn't done where one before it was refused
 abbrev pub with_one_more : Result Phrase ℕ → After → After
 with_one_more said so_far = if_refused so_far.refusal so_far (stepped (said_step said so_far.world) so_far)

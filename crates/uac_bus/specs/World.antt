@@ -60,7 +60,7 @@ tone_of (hisses seed) = Noise (size_of seed)
 abbrev pub breaks_rule : ℕ → Step
 breaks_rule rule = refused (faults.Script rule)
 
--- it breaks the rule unless this holds
+-- a step that breaks the rule unless the condition holds
 abbrev pub unless : Bool → ℕ → Step → Step
 unless true rule step = step
 unless false rule step = breaks_rule rule
