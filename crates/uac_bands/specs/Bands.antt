@@ -67,7 +67,7 @@ pub record InBand (l : Life) : Type 0 where
 abbrev pub started_life : StreamFields → List ℕ → List (List Bool) → Life
 started_life stream steps reports = record { out = started_out stream; pace = started stream; steps = steps; reports = [] ∷ reports }
 
--- it is in its band
+-- a stream that was just primed is in its band
 abbrev pub StartsInBand : Type 0
 StartsInBand =
     (stream : StreamFields) (steps : List ℕ) (reports : List (List Bool)) → IsNominal stream.nominal

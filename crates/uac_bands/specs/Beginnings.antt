@@ -10,7 +10,7 @@ use Rattle.uac_running.specs.RunningWorld.{RunningWorld, at_start, with_detail, 
 use Rattle.uac_running.specs.Transfers.{with_break}
 use Rattle.uac_bands.specs.Run.{RunInBand}
 
--- it starts in its bands
+-- a run starts in its bands
 abbrev pub RunsStartInBand : Type 0
 RunsStartInBand =
     (descriptor : List ℕ) (function : FunctionFields) (meters : List Reading) → IsSoundFunction function

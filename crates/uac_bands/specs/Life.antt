@@ -24,7 +24,7 @@ pub record Life : Type 0 where
 abbrev pub clock_on : RunningWorld → ℕ → Option ℕ
 clock_on r interface = option_map (λ s. (entity_in r.device s.terminal).clock) (interface_in r.device.function interface)
 
--- its domain
+-- the domain of an interface's stream
 abbrev pub domain_on : RunningWorld → ℕ → Option Domain
 domain_on r interface = option_and_then (λ clock. find (λ d. d.clock == clock) r.device.domains) (clock_on r interface)
 
@@ -50,7 +50,7 @@ abbrev pub with_packet : Option (List ℕ) → Life → Life
 with_packet packet l =
     if is_due l.out.stream l.out.microframes then record l { out = after_packet packet l.out; pace = sent l.pace } else l
 
--- its domain ticks as often as its clock gives by one step more
+-- a stream's domain ticks as often as its clock gives by one step more
 abbrev pub with_step : ℕ → Life → Life
 with_step step l =
     let steps = l.steps ++ step ∷ [] in

@@ -42,7 +42,7 @@ abbrev pub next_life : List SaidMark → RunningWorld → ℕ → Life → Domai
 next_life losses r interface l d =
     life_after (packet_to (loses_out losses interface) interface (streaming_of r)) (step_in r.device d) (loses_report losses interface) l
 
--- its domain after a microframe
+-- a stream's domain after a microframe
 abbrev pub next_domain : RunningWorld → Domain → Domain
 next_domain r d = record d { steps = d.steps ++ step_in r.device d ∷ [] }
 
@@ -95,7 +95,7 @@ MicroframesKeepFed =
     (losses : List SaidMark) (r : RunningWorld) (interface : ℕ) (l : Life) (d : Domain) → IsOrdered r.device → Runs r interface l d
     → IsFed r interface l → IsFed (microframe losses r).world interface (next_life losses r interface l d)
 
--- its packet has as many frames as its rate values say
+-- a stream's packet has as many frames as its rate values say
 abbrev pub PacketsHaveTheirFrames : Type 0
 PacketsHaveTheirFrames =
     (r : RunningWorld) (interface : ℕ) (l : Life) → life_of r interface ≡ Some l → IsFed r interface l

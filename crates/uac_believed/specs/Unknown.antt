@@ -57,7 +57,7 @@ abbrev pub is_broken : Option AnswerFields → Bool
 is_broken None = true
 is_broken (Some told) = false
 
--- it is done
+-- whether a transfer was told to be done
 abbrev pub says_done : Option AnswerFields → Bool
 says_done None = false
 says_done (Some (with_bytes bytes)) = false

@@ -19,7 +19,7 @@ no_past = record { primed = 0; quiet = 0 }
 abbrev pub one_later : Bool → Past → Past
 one_later lost past = record { primed = past.primed + 1; quiet = if lost then 0 else past.quiet + 1 }
 
--- the same of a stream that was primed before it; for any other it begins
+-- the past of a stream that was primed before the microframe; for any other it begins
 abbrev pub past_behind : Bool → Option ℕ → Past → Past
 past_behind lost None past = no_past
 past_behind lost (Some target) past = one_later lost past
