@@ -75,7 +75,7 @@ pub data IsVerdict (description : Description) (blocks : List Block) : Outcome �
   -- their function is sound
   is_sound : (function : FunctionFields) → IsSound blocks → IsFunctionOf function blocks
       → IsVerdict description blocks (sound description blocks function)
-  -- it breaks a rule first
+  -- the descriptor breaks this rule first
   is_broken : (fault : TopologyFault) → first_broken blocks ≡ Some fault → IsVerdict description blocks (unsound fault)
 
 -- What is said of a descriptor, by what was taken and why no more was.

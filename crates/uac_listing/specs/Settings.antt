@@ -44,7 +44,7 @@ abbrev pub setting_line : FunctionFields → List (Key × ℤ) → StreamInterfa
 setting_line function controls s t =
     if t.number == 0 then idle_line s.number else running_line s t (is_valid function controls s t.number)
 
--- those of an interface, and of all interfaces
+-- the lines of an interface's settings, and of all interfaces'
 unfoldable pub interface_lines : FunctionFields → List (Key × ℤ) → StreamInterface → List ℕ
 interface_lines function controls s = flat_map (setting_line function controls s) s.settings
 

@@ -38,11 +38,11 @@ last_line (faults.Topology fault) number = unsound fault
 last_line faults.WriteFault number = unfinished
 last_line faults.NoMemory number = no_memory
 
--- it ends so, in this world
+-- a run that ends so, in this world
 abbrev pub ends : Outcome → World → Ending
 ends outcome w = record { outcome = outcome; meters = meters_in w }
 
--- this text, and then what follows
+-- a text, and then what follows
 abbrev pub with_text_first : List ℕ → Ending → Ending
 with_text_first text ending = record ending { outcome = record ending.outcome { text = text ++ ending.outcome.text } }
 

@@ -12,10 +12,10 @@ use Rattle.uac_transcript.specs.declared.report.StreamCounts.{StreamCounts}
 
 -- what came of a control transfer
 pub data Outcome : Type 0 where
-  -- these bytes, of a control or of the descriptor
+  -- the transfer brought these bytes, of a control or of the descriptor
   gave : List ℕ → Outcome
   was_done : Outcome
-  -- it was stalled by this rule
+  -- the transfer was stalled by this rule
   stalled : ℕ → Outcome
   broke : Outcome
 
@@ -25,7 +25,7 @@ pub data Sight : Type 0 where
   has_value : List ℕ → ℤ → Sight
   is_unknown : List ℕ → Sight
   was_set : Sight
-  -- its transfer was stalled by this rule
+  -- the element's transfer was stalled by this rule
   was_stalled : ℕ → Sight
   was_broken : Sight
 
