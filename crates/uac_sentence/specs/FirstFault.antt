@@ -5,7 +5,7 @@ use Rattle.std.specs.List.{AllByRecursion}
 use Rattle.uac_descriptor.specs.declared.context.Context.{Context}
 use Rattle.uac_descriptor.specs.declared.context.Context.TheVariants as context
 use Rattle.uac_descriptor.specs.declared.block.Block as block
-use Rattle.uac_descriptor.specs.declared.block.Block.TheVariants as variant
+use Rattle.uac_descriptor.specs.Kinds.{configuration_of, header_of}
 use Rattle.uac_descriptor.specs.Rows.{Spells}
 use Rattle.uac_descriptor.specs.Spelling.{spelling}
 use Rattle.uac_sentence.specs.declared.faults.GrammarFault.{GrammarFault}
@@ -15,7 +15,7 @@ use Rattle.uac_sentence.specs.Letter.{letter_of, context_after, is_listed}
 use Rattle.uac_sentence.specs.Order.{input}
 use Rattle.uac_sentence.specs.Production.{Allows}
 use Rattle.uac_sentence.specs.Values.{HasValues}
-use Rattle.uac_sentence.specs.Sentence.{EachIn, SpellsItself, InTurn, interface_of, size, spellings}
+use Rattle.uac_sentence.specs.Sentence.{EachIn, IsSoOf, SpellsItself, InTurn, interface_of, size, spellings}
 use Rattle.uac_sentence.specs.Earlier.{has, latest_is, is_named, is_second, is_unknown_in_list, stands_without_association}
 
 -- ---- where a block stands
@@ -81,15 +81,15 @@ IsShort n total = n < total
 -- a relation holds of the number of bytes from the first configuration on, and of its total
 abbrev pub ConfigurationTotal : (ℕ → ℕ → Type 0) → List block.Block → Type 0
 ConfigurationTotal IsSo [] = ⊥
-ConfigurationTotal IsSo (variant.Configuration c ∷ blocks) = IsSo (size (variant.Configuration c ∷ blocks)) c.total
-ConfigurationTotal IsSo (_ ∷ blocks) = ConfigurationTotal IsSo blocks
+ConfigurationTotal IsSo (b ∷ blocks) =
+    IsSoOf (configuration_of b) (λ c. IsSo (size (b ∷ blocks)) c.total) (ConfigurationTotal IsSo blocks)
 
 -- the blocks end with the list of the first header, and it is so of the number of its bytes and of the header's total
 abbrev pub HeaderTotal : (ℕ → ℕ → Type 0) → List block.Block → Type 0
 HeaderTotal IsSo [] = ⊥
-HeaderTotal IsSo (variant.Header h ∷ blocks) =
-    AllByRecursion (λ b. IsTrue (is_listed (letter_of b))) blocks × IsSo (size (variant.Header h ∷ blocks)) h.total
-HeaderTotal IsSo (_ ∷ blocks) = HeaderTotal IsSo blocks
+HeaderTotal IsSo (b ∷ blocks) =
+    IsSoOf (header_of b) (λ h. AllByRecursion (λ b. IsTrue (is_listed (letter_of b))) blocks × IsSo (size (b ∷ blocks)) h.total)
+    (HeaderTotal IsSo blocks)
 
 -- the block ends past the configuration's total, or in the header's list past the header's, or the list ends before it, short of that
 abbrev pub MissesTotal : List block.Block → block.Block → Type 0

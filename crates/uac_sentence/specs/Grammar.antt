@@ -1,11 +1,12 @@
 -- The rules G3 to G9, each by itself, over what the blocks so far leave to be remembered.
 use Rattle.std.specs.Prelude.{ℕ, ◌+◌, Bool, true, false, ◌&&◌, ◌||◌, not, ◌==◌, nat_lt, if◌then◌else◌, List, [], ◌∷◌, length, replicate}
 use Rattle.std.specs.Prelude.{slice_index_or, slice_set, Option, Some, None, is_none}
+use Rattle.std.specs.Option.{option_map, option_map_or}
 use Rattle.uac_descriptor.specs.declared.context.Context.TheVariants as context
+use Rattle.uac_descriptor.specs.Kinds.{configuration_of, header_of}
 use Rattle.uac_descriptor.specs.Reading.{block_of}
 use Rattle.uac_descriptor.specs.declared.standard.Interface as interface
 use Rattle.uac_descriptor.specs.declared.block.Block as block
-use Rattle.uac_descriptor.specs.declared.block.Block.TheVariants as variant
 use Rattle.uac_sentence.specs.declared.letters.Letter.{Letter}
 use Rattle.uac_sentence.specs.declared.letters.Letter.TheVariants as letter
 use Rattle.uac_sentence.specs.declared.stages.Stage.{Stage}
@@ -15,6 +16,7 @@ use Rattle.uac_sentence.specs.declared.states.Listing.{Listing}
 use Rattle.uac_sentence.specs.declared.states.Listing.TheVariants as listing
 use Rattle.uac_sentence.specs.declared.states.State.{State}
 use Rattle.uac_descriptor.specs.Classes.{is_control_interface, is_streaming_interface}
+use Rattle.uac_descriptor.specs.Turns.{interface_of}
 use Rattle.uac_sentence.specs.Letter.{letter_of, context_after, is_listed}
 use Rattle.uac_sentence.specs.Steps.{step, may_end, is_before_association}
 use Rattle.uac_sentence.specs.Values.{has_wrong_value}
@@ -25,8 +27,7 @@ use Rattle.uac_sentence.specs.Fault.{GrammarFault, Rules, faults_from}
 -- where the total ends, once the configuration is read
 abbrev pub end_after : Option ℕ → ℕ → block.Block → Option ℕ
 end_after (Some end) place b = Some end
-end_after None place (variant.Configuration c) = Some (place + c.total)
-end_after None place _ = None
+end_after None place b = option_map (λ c. place + c.total) (configuration_of b)
 
 -- the total ends before this place
 abbrev pub ends_before : Option ℕ → ℕ → Bool
@@ -41,27 +42,26 @@ ends_behind None place = false
 -- ---- the header's total: wTotalLength, Audio Class 2.0, 4.7.2
 
 abbrev pub listing_after : Listing → ℕ → block.Block → Listing
-listing_after listing.Awaited place (variant.Header h) = listing.Open (place + h.total)
-listing_after listing.Awaited place _ = listing.Awaited
+listing_after listing.Awaited place b = option_map_or (λ h. listing.Open (place + h.total)) (header_of b) listing.Awaited
 listing_after (listing.Open end) place b = if is_listed (letter_of b) then listing.Open end else listing.Closed
 listing_after listing.Closed place b = listing.Closed
 
 -- the place where the list is to end
 abbrev pub list_end : Listing → Option ℕ
 list_end (listing.Open end) = Some end
-list_end _ = None
+list_end listing.Awaited = None
+list_end listing.Closed = None
 
 -- ---- the numbers of interfaces and their settings: USB 2.0, 9.6.5
 
 abbrev pub used_after : List Bool → block.Block → List Bool
-used_after used (variant.Interface i) =
-    if is_control_interface i || is_streaming_interface i then slice_set used i.number true else used
-used_after used _ = used
+used_after used b =
+    option_map_or (λ i. if is_control_interface i || is_streaming_interface i then slice_set used i.number true else used) (interface_of b) used
 
 abbrev pub latest_after : Option Latest → block.Block → Option Latest
-latest_after latest (variant.Interface i) =
-    if is_streaming_interface i then Some (record { number = i.number; setting = i.setting }) else None
-latest_after latest _ = latest
+latest_after latest b =
+    option_map_or (λ i. if is_streaming_interface i then Some (record { number = i.number; setting = i.setting }) else None)
+    (interface_of b) latest
 
 -- the interface is the next setting of the latest one
 abbrev pub continues : Option Latest → interface.Interface → Bool
@@ -70,9 +70,9 @@ continues (Some latest) i = i.number == latest.number && i.setting == latest.set
 
 -- setting 0 of a streaming interface has a new number, and every other follows the one before it
 unfoldable pub is_in_turn : List Bool → Option Latest → block.Block → Bool
-is_in_turn used latest (variant.Interface i) =
-    not (is_streaming_interface i) || (if i.setting == 0 then not (slice_index_or used i.number false) else continues latest i)
-is_in_turn used latest _ = true
+is_in_turn used latest b =
+    option_map_or (λ i. not (is_streaming_interface i)
+    || (if i.setting == 0 then not (slice_index_or used i.number false) else continues latest i)) (interface_of b) true
 
 -- ---- the rules
 
@@ -124,9 +124,23 @@ is_listing stage.Listing = true
 is_listing _ = false
 
 abbrev pub is_audio_interface : Letter → Bool
+is_audio_interface letter.Device = false
+is_audio_interface letter.Configuration = false
+is_audio_interface letter.AudioAssociation = false
+is_audio_interface letter.ForeignAssociation = false
 is_audio_interface letter.ControlInterface = true
 is_audio_interface letter.StreamingInterface = true
-is_audio_interface _ = false
+is_audio_interface letter.ForeignInterface = false
+is_audio_interface letter.Endpoint = false
+is_audio_interface letter.Header = false
+is_audio_interface letter.Entity = false
+is_audio_interface letter.General = false
+is_audio_interface letter.TypeOne = false
+is_audio_interface letter.Extra = false
+is_audio_interface letter.ClassEndpoint = false
+is_audio_interface letter.Other = false
+is_audio_interface letter.UnknownSubtype = false
+is_audio_interface letter.Stray = false
 
 abbrev pub is_control : Letter → Bool
 is_control letter.ControlInterface = true

@@ -79,6 +79,20 @@ letter_of (variant.Foreign bytes) = whole_letter bytes
 
 -- the list after the header has entities, and for its total the class blocks of an unknown subtype
 abbrev pub is_listed : Letter → Bool
+is_listed Device = false
+is_listed Configuration = false
+is_listed AudioAssociation = false
+is_listed ForeignAssociation = false
+is_listed ControlInterface = false
+is_listed StreamingInterface = false
+is_listed ForeignInterface = false
+is_listed Endpoint = false
+is_listed Header = false
 is_listed Entity = true
+is_listed General = false
+is_listed TypeOne = false
+is_listed Extra = false
+is_listed ClassEndpoint = false
+is_listed Other = false
 is_listed UnknownSubtype = true
-is_listed _ = false
+is_listed Stray = false

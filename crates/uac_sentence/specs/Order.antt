@@ -39,7 +39,17 @@ ends_part ForeignAssociation = true
 ends_part ControlInterface = true
 ends_part StreamingInterface = true
 ends_part ForeignInterface = true
-ends_part _ = false
+ends_part Device = false
+ends_part Endpoint = false
+ends_part Header = false
+ends_part Entity = false
+ends_part General = false
+ends_part TypeOne = false
+ends_part Extra = false
+ends_part ClassEndpoint = false
+ends_part Other = false
+ends_part UnknownSubtype = false
+ends_part Stray = false
 
 abbrev pub stays_in_part : Letter → Bool
 stays_in_part k = not (ends_part k)

@@ -1,9 +1,9 @@
 -- The sentence: which blocks the bytes of a descriptor are. USB 2.0, 9.4.3, 9.6.3 and 9.6.5; Audio Class 2.0, 4.
-use Rattle.std.specs.Prelude.{true, false, ◌≡◌, ℕ, ◌<◌, Bool, List, [], ◌∷◌, length, flat_map, filter_map, take_while}
+use Rattle.std.specs.Prelude.{true, false, ◌≡◌, ℕ, ◌<◌, Bool, List, [], ◌∷◌, length, flat_map, filter_map, take_while, Option, Some, None}
 use Rattle.uac_descriptor.specs.declared.context.Context.{Context}
 use Rattle.uac_descriptor.specs.declared.context.Context.TheVariants as context
 use Rattle.uac_descriptor.specs.declared.block.Block as block
-use Rattle.uac_descriptor.specs.declared.block.Block.TheVariants as variant
+use Rattle.uac_descriptor.specs.Kinds.{configuration_of, header_of}
 use Rattle.uac_descriptor.specs.Rows.{Spells}
 use Rattle.uac_descriptor.specs.Spelling.{spelling}
 use Rattle.uac_sentence.specs.declared.letters.Letter.{Letter}
@@ -26,29 +26,46 @@ spellings blocks = flat_map spelling blocks
 abbrev pub size : List block.Block → ℕ
 size blocks = length (spellings blocks)
 
+-- it is so of what a block is, where it is that, and else of the blocks behind it
+abbrev pub IsSoOf : {A : Type 0} → Option A → (A → Type 0) → Type 0 → Type 0
+IsSoOf (Some a) IsSo Behind = IsSo a
+IsSoOf None IsSo Behind = Behind
+
 -- the first configuration's total is the number of its bytes and of all bytes after it
 abbrev pub HasWholeTotal : List block.Block → Type 0
 HasWholeTotal [] = Unit {0}
-HasWholeTotal (variant.Configuration c ∷ blocks) = size (variant.Configuration c ∷ blocks) ≡ c.total
-HasWholeTotal (_ ∷ blocks) = HasWholeTotal blocks
+HasWholeTotal (b ∷ blocks) = IsSoOf (configuration_of b) (λ c. size (b ∷ blocks) ≡ c.total) (HasWholeTotal blocks)
 
 -- a terminal, a unit or a clock entity
 abbrev pub is_entity : Letter → Bool
+is_entity letter.Device = false
+is_entity letter.Configuration = false
+is_entity letter.AudioAssociation = false
+is_entity letter.ForeignAssociation = false
+is_entity letter.ControlInterface = false
+is_entity letter.StreamingInterface = false
+is_entity letter.ForeignInterface = false
+is_entity letter.Endpoint = false
+is_entity letter.Header = false
 is_entity letter.Entity = true
-is_entity _ = false
+is_entity letter.General = false
+is_entity letter.TypeOne = false
+is_entity letter.Extra = false
+is_entity letter.ClassEndpoint = false
+is_entity letter.Other = false
+is_entity letter.UnknownSubtype = false
+is_entity letter.Stray = false
 
 -- the first header's total is the number of its bytes and of those of the entities after it
 abbrev pub HasListTotal : List block.Block → Type 0
 HasListTotal [] = Unit {0}
-HasListTotal (variant.Header h ∷ blocks) =
-    size (variant.Header h ∷ take_while (λ b. is_entity (letter_of b)) blocks) ≡ h.total
-HasListTotal (_ ∷ blocks) = HasListTotal blocks
+HasListTotal (b ∷ blocks) =
+    IsSoOf (header_of b) (λ h. size (b ∷ take_while (λ b. is_entity (letter_of b)) blocks) ≡ h.total) (HasListTotal blocks)
 
 -- the number of each interface is a byte
 abbrev pub HasSmallNumbers : List block.Block → Type 0
 HasSmallNumbers [] = Unit {0}
-HasSmallNumbers (variant.Interface i ∷ blocks) = (i.number < 256) × HasSmallNumbers blocks
-HasSmallNumbers (_ ∷ blocks) = HasSmallNumbers blocks
+HasSmallNumbers (b ∷ blocks) = IsSoOf (interface_of b) (λ i. (i.number < 256) × HasSmallNumbers blocks) (HasSmallNumbers blocks)
 
 -- these blocks are what the bytes say, in the standard's order, with the totals and the values that they must have
 pub record IsSentence (bytes : List ℕ) (blocks : List block.Block) : Type 0 where

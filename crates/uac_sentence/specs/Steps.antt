@@ -3,7 +3,8 @@ use Rattle.std.specs.Prelude.{Bool, true, false, Option, Some, None}
 use Rattle.uac_sentence.specs.declared.letters.Letter.{Letter}
 use Rattle.uac_sentence.specs.declared.letters.Letter.TheVariants.{Device, Configuration, AudioAssociation, ForeignAssociation}
 use Rattle.uac_sentence.specs.declared.letters.Letter.TheVariants.{ControlInterface, StreamingInterface, ForeignInterface, Endpoint, Header}
-use Rattle.uac_sentence.specs.declared.letters.Letter.TheVariants.{Entity, General, TypeOne, Extra, ClassEndpoint, Other}
+use Rattle.uac_sentence.specs.declared.letters.Letter.TheVariants.{Entity, General, TypeOne, Extra, ClassEndpoint, Other, UnknownSubtype}
+use Rattle.uac_sentence.specs.declared.letters.Letter.TheVariants.{Stray}
 use Rattle.uac_sentence.specs.declared.stages.Stage.{Stage}
 use Rattle.uac_sentence.specs.declared.stages.Stage.TheVariants.{Start, Due, Opening, Before, Announced, Headless, Listing, Quiet, Setting}
 use Rattle.uac_sentence.specs.declared.stages.Stage.TheVariants.{Formats, Formatted, FirstEndpoint, FirstDone, SecondEndpoint, Closing}
@@ -14,7 +15,20 @@ abbrev pub begin_part : Letter → Option Stage
 begin_part StreamingInterface = Some Setting
 begin_part ForeignAssociation = Some Behind
 begin_part ForeignInterface = Some Behind
-begin_part _ = None
+begin_part Device = None
+begin_part Configuration = None
+begin_part AudioAssociation = None
+begin_part ControlInterface = None
+begin_part Endpoint = None
+begin_part Header = None
+begin_part Entity = None
+begin_part General = None
+begin_part TypeOne = None
+begin_part Extra = None
+begin_part ClassEndpoint = None
+begin_part Other = None
+begin_part UnknownSubtype = None
+begin_part Stray = None
 
 -- where a block of this letter leads, or nowhere, where the order does not allow it
 abbrev pub step : Stage → Letter → Option Stage
@@ -82,7 +96,16 @@ may_end Opening = false
 may_end Before = false
 may_end Announced = false
 may_end Headless = false
-may_end _ = true
+may_end Listing = true
+may_end Quiet = true
+may_end Setting = true
+may_end Formats = true
+may_end Formatted = true
+may_end FirstEndpoint = true
+may_end FirstDone = true
+may_end SecondEndpoint = true
+may_end Closing = true
+may_end Behind = true
 
 -- the audio association has not come yet
 abbrev pub is_before_association : Stage → Bool
@@ -90,4 +113,15 @@ is_before_association Start = true
 is_before_association Due = true
 is_before_association Opening = true
 is_before_association Before = true
-is_before_association _ = false
+is_before_association Announced = false
+is_before_association Headless = false
+is_before_association Listing = false
+is_before_association Quiet = false
+is_before_association Setting = false
+is_before_association Formats = false
+is_before_association Formatted = false
+is_before_association FirstEndpoint = false
+is_before_association FirstDone = false
+is_before_association SecondEndpoint = false
+is_before_association Closing = false
+is_before_association Behind = false

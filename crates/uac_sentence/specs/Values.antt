@@ -34,7 +34,12 @@ HasValues place (variant.ClockSelector c) = (length c.sources ≢ 0) × IsAllowe
 HasValues place (variant.ClockMultiplier c) = IsAllowed 0 c.controls × IsAllowed 1 c.controls
 HasValues place (variant.General g) = IsAllowed 0 g.controls × IsAllowed 1 g.controls
 HasValues place (variant.TypeOne t) = IsFormat t
-HasValues place _ = Unit {0}
+HasValues place (variant.Configuration _) = Unit {0}
+HasValues place (variant.Association _) = Unit {0}
+HasValues place (variant.Interface _) = Unit {0}
+HasValues place (variant.Extra _) = Unit {0}
+HasValues place (variant.ClassEndpoint _) = Unit {0}
+HasValues place (variant.Foreign _) = Unit {0}
 
 -- which values are wrong, as tests
 abbrev pub is_barred : ℕ → ℕ → Bool
@@ -55,4 +60,9 @@ has_wrong_value place (variant.ClockSelector c) = length c.sources == 0 || is_ba
 has_wrong_value place (variant.ClockMultiplier c) = is_barred 0 c.controls || is_barred 1 c.controls
 has_wrong_value place (variant.General g) = is_barred 0 g.controls || is_barred 1 g.controls
 has_wrong_value place (variant.TypeOne t) = is_no_format t
-has_wrong_value place _ = false
+has_wrong_value place (variant.Configuration _) = false
+has_wrong_value place (variant.Association _) = false
+has_wrong_value place (variant.Interface _) = false
+has_wrong_value place (variant.Extra _) = false
+has_wrong_value place (variant.ClassEndpoint _) = false
+has_wrong_value place (variant.Foreign _) = false
