@@ -56,7 +56,8 @@ list_end listing.Closed = None
 
 abbrev pub used_after : List Bool → block.Block → List Bool
 used_after used b =
-    option_map_or (λ i. if is_control_interface i || is_streaming_interface i then slice_set used i.number true else used) (interface_of b) used
+    option_map_or (λ i. if is_control_interface i || is_streaming_interface i then slice_set used i.number true else used)
+    (interface_of b) used
 
 abbrev pub latest_after : Option Latest → block.Block → Option Latest
 latest_after latest b =
