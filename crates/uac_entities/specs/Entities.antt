@@ -162,7 +162,16 @@ entity_of (row.Mixer m) = Some (mixer m)
 entity_of (row.Selector s) = Some (selector s)
 entity_of (row.Feature f) = Some (feature f)
 entity_of (row.Effect e) = Some (effect e)
-entity_of _ = None
+entity_of (row.Configuration _) = None
+entity_of (row.Association _) = None
+entity_of (row.Interface _) = None
+entity_of (row.Endpoint _) = None
+entity_of (row.Header _) = None
+entity_of (row.General _) = None
+entity_of (row.TypeOne _) = None
+entity_of (row.Extra _) = None
+entity_of (row.ClassEndpoint _) = None
+entity_of (row.Foreign _) = None
 
 -- the entities of the blocks, in block order
 abbrev pub entities_of : List block.Block → List Entity
