@@ -25,8 +25,8 @@ pub fn is_no_high_speed(endpoint: &Endpoint) -> bool
         || 1024 < endpoint.packet_size()
 }
 
-/// Whether this is no Type I format (Audio Data Formats 2.0, 2.3.1.6): not 1 to 4 bytes a sample, or not 1 bit up to all of
-/// theirs.
+/// Whether a format is no Type I format (Audio Data Formats 2.0, 2.3.1.6): not 1 to 4 bytes a sample, or not 1 bit up to all
+/// of theirs.
 #[tactic(auto, unfolding(crate::specs::Fields::is_no_format))]
 pub fn is_no_format(format: &TypeOne) -> bool
     ensures { result ≡ is_no_format format.now }

@@ -84,8 +84,8 @@ fn keep(
     }
 }
 
-/// The same, of a block that a row of the layouts may read. It stands apart, so that the room that the rows take on the stack is
-/// prepared for such blocks alone.
+/// Reads and keeps, as `keep`, a whole block that a row of the layouts may read. This stands in a function of its own, so that the room
+/// that the rows take on the stack is prepared for such blocks alone.
 #[inline(never)]
 fn keep_by_row(
     alloc: Global,
