@@ -42,7 +42,7 @@ struct Rest {
 }
 
 impl Running {
-    /// So many microframes, printed as they come; in each of them these packets and reports are lost. It takes no memory.
+    /// Runs so many microframes, printed as they come; in each of them these packets and reports are lost. A run takes no memory.
     pub fn microframes<K: Sink>(
         &mut self,
         count: u32,
@@ -271,7 +271,8 @@ impl Running {
         ticks
     }
 
-    /// So many ticks of a domain. Where its jacks are silent they rest from the second tick on, and so do the lanes where no stream runs.
+    /// Does so many ticks of a domain. Where its jacks are silent they rest from the second tick on, and so do the lanes where no stream
+    /// runs.
     fn ticks<K: Sink>(
         &mut self,
         count: u32,
