@@ -5,6 +5,7 @@ ghost use Rattle.std.specs.List.{range_with_len};
 ghost use Rattle.std.specs.Prelude.{FitsSigned};
 ghost use Rattle.std.specs.Int.{w32};
 ghost use Rattle.std.specs.Simd.Lanes.{Each1};
+ghost use Rattle.uac_units.specs.declared.jobs.UnitKind.{UnitKind};
 ghost use Rattle.uac_units.specs.declared.jobs.UnitKind.TheVariants.{Mixer, Selector, Feature, Effect};
 ghost use Rattle.uac_units.specs.Lanes.{eight};
 ghost use Rattle.uac_units.specs.Rendering.{FitsKind, pins_sample, rendered};
@@ -13,9 +14,10 @@ use crate::counting::Steps;
 use crate::eights::{eight_gains, eight_inputs, narrow_eight, saturate_eight, scale_eight};
 use crate::jobs::{Job, Pins, UnitKind};
 use crate::nodes::{add_scaled, eight_nodes};
-use crate::plain::sample_of;
+use crate::plain::mix;
 use crate::rendering::Unit;
 use std::simd::prelude::*;
+use uac_gain::scale;
 use uac_pcm::Frame;
 
 /// A mixer (Audio Class 2.0, 3.13.3) on eight lanes.
@@ -34,6 +36,73 @@ pub struct LaneFeature;
 #[derive(Drop)]
 pub struct LaneEffect;
 
+/// What a kind of unit makes on lanes: the samples of eight output channels at a time, and the sample of one.
+trait OnLanes {
+    ghost lane_kind: { UnitKind };
+
+    /// The samples of eight output channels, from this one on.
+    fn eight(job: &Job, pins: &Pins, from: usize) -> i64x8
+        requires fits { FitsKind lane_kind job.now pins.now.items }
+        requires inside { from + 8 ≤ job.now.outputs }
+        ensures lanes { result ≡ eight (λ lane. pins_sample lane_kind job.now pins.now.items (from + lane)) }
+        ensures narrow { Each1 (FitsSigned w32) result };
+
+    /// The sample of an output channel.
+    fn one(job: &Job, pins: &Pins, channel: usize) -> i32
+        requires fits { FitsKind lane_kind job.now pins.now.items }
+        requires inside { channel < job.now.outputs }
+        ensures { result ≡ pins_sample lane_kind job.now pins.now.items channel };
+}
+
+impl OnLanes for LaneMixer {
+    ghost lane_kind = { Mixer };
+
+    fn eight(job: &Job, pins: &Pins, from: usize) -> i64x8 {
+        mix_eight(job, pins, from)
+    }
+
+    fn one(job: &Job, pins: &Pins, channel: usize) -> i32 {
+        mix(job, pins.as_slice(), channel)
+    }
+}
+
+impl OnLanes for LaneSelector {
+    ghost lane_kind = { Selector };
+
+    fn eight(job: &Job, pins: &Pins, from: usize) -> i64x8 {
+        eight_inputs(pins, job.pin as usize * job.outputs as usize + from)
+    }
+
+    fn one(job: &Job, pins: &Pins, channel: usize) -> i32 {
+        pins[job.pin as usize * job.outputs as usize + channel]
+    }
+}
+
+impl OnLanes for LaneFeature {
+    ghost lane_kind = { Feature };
+
+    fn eight(job: &Job, pins: &Pins, from: usize) -> i64x8 {
+        feature_eight(job, pins, from)
+    }
+
+    fn one(job: &Job, pins: &Pins, channel: usize) -> i32 {
+        let own = scale(pins[channel], job.gains[2 * channel]);
+        scale(own, job.gains[2 * channel + 1])
+    }
+}
+
+impl OnLanes for LaneEffect {
+    ghost lane_kind = { Effect };
+
+    fn eight(job: &Job, pins: &Pins, from: usize) -> i64x8 {
+        eight_inputs(pins, from)
+    }
+
+    fn one(_job: &Job, pins: &Pins, channel: usize) -> i32 {
+        pins[channel]
+    }
+}
+
 impl Unit for LaneMixer {
     ghost kind_of = { λ _. Mixer };
 
@@ -42,7 +111,7 @@ impl Unit for LaneMixer {
     }
 
     fn render(&self, job: &Job, pins: &Pins, out: &mut Frame, steps: &mut Steps) {
-        render_by_lanes(UnitKind::Mixer, job, pins, out, steps);
+        render_by_lanes::<LaneMixer>(job, pins, out, steps);
     }
 }
 
@@ -54,7 +123,7 @@ impl Unit for LaneSelector {
     }
 
     fn render(&self, job: &Job, pins: &Pins, out: &mut Frame, steps: &mut Steps) {
-        render_by_lanes(UnitKind::Selector, job, pins, out, steps);
+        render_by_lanes::<LaneSelector>(job, pins, out, steps);
     }
 }
 
@@ -66,7 +135,7 @@ impl Unit for LaneFeature {
     }
 
     fn render(&self, job: &Job, pins: &Pins, out: &mut Frame, steps: &mut Steps) {
-        render_by_lanes(UnitKind::Feature, job, pins, out, steps);
+        render_by_lanes::<LaneFeature>(job, pins, out, steps);
     }
 }
 
@@ -78,48 +147,33 @@ impl Unit for LaneEffect {
     }
 
     fn render(&self, job: &Job, pins: &Pins, out: &mut Frame, steps: &mut Steps) {
-        render_by_lanes(UnitKind::Effect, job, pins, out, steps);
+        render_by_lanes::<LaneEffect>(job, pins, out, steps);
     }
 }
 
-/// Makes `out` the samples of a unit of that kind, and counts one render.
-fn render_by_lanes(kind: UnitKind, job: &Job, pins: &Pins, out: &mut Frame, steps: &mut Steps)
-    requires fits { FitsKind kind job.now pins.now.items }
+/// Makes `out` the samples of a kind of unit, and counts one render. Each kind has these loops for itself, and asks for none in them.
+fn render_by_lanes<U: OnLanes>(job: &Job, pins: &Pins, out: &mut Frame, steps: &mut Steps)
+    requires fits { FitsKind U.lane_kind job.now pins.now.items }
     requires room { steps.old + 1 < 2 ^ 64 }
-    ensures samples { out.new.items ≡ rendered kind job.now pins.now.items }
+    ensures samples { out.new.items ≡ rendered U.lane_kind job.now pins.now.items }
     ensures counted { steps.new ≡ steps.old + 1 }
 {
-    render_eights(kind, job, pins, out);
+    render_eights::<U>(job, pins, out);
     for channel in job.outputs as usize / 8 * 8..job.outputs as usize {
-        out.push(sample_of(kind, job, pins, channel));
+        out.push(U::one(job, pins, channel));
     }
     steps.tick();
 }
 
 /// Makes `out` the samples of the output channels that come in whole eights.
-fn render_eights(kind: UnitKind, job: &Job, pins: &Pins, out: &mut Frame)
-    requires { FitsKind kind job.now pins.now.items }
-    ensures { out.new.items ≡ map (pins_sample kind job.now pins.now.items) (range_with_len 0 (job.now.outputs / 8 * 8)) }
+fn render_eights<U: OnLanes>(job: &Job, pins: &Pins, out: &mut Frame)
+    requires { FitsKind U.lane_kind job.now pins.now.items }
+    ensures { out.new.items ≡ map (pins_sample U.lane_kind job.now pins.now.items) (range_with_len 0 (job.now.outputs / 8 * 8)) }
 {
     out.clear();
     for block in 0..job.outputs as usize / 8 {
-        let samples = narrow_eight(eight_of(kind, job, pins, 8 * block)).to_array();
+        let samples = narrow_eight(U::eight(job, pins, 8 * block)).to_array();
         let _ = out.try_extend_from_slice(&samples);
-    }
-}
-
-/// The samples of eight output channels, from that one on, of a unit of that kind.
-fn eight_of(kind: UnitKind, job: &Job, pins: &Pins, from: usize) -> i64x8
-    requires fits { FitsKind kind job.now pins.now.items }
-    requires inside { from + 8 ≤ job.now.outputs }
-    ensures lanes { result ≡ eight (λ lane. pins_sample kind job.now pins.now.items (from + lane)) }
-    ensures narrow { Each1 (FitsSigned w32) result }
-{
-    match kind {
-        UnitKind::Mixer => mix_eight(job, pins, from),
-        UnitKind::Selector => eight_inputs(pins, job.pin as usize * job.outputs as usize + from),
-        UnitKind::Feature => feature_eight(job, pins, from),
-        UnitKind::Effect => eight_inputs(pins, from),
     }
 }
 

@@ -3,7 +3,7 @@
 ghost use Rattle.std.specs.Prelude.{◌≡◌, ◌↔◌, ◌+◌, ◌*◌, ◌^◌, ◌<◌, length, true};
 ghost use Rattle.uac_units.specs.declared.jobs.UnitKind.TheVariants.{Mixer, Selector, Feature, Effect};
 ghost use Rattle.uac_gain.specs.Gain.{scaled};
-ghost use Rattle.uac_units.specs.Rendering.{FitsKind, gained, input, pins_sample, rendered};
+ghost use Rattle.uac_units.specs.Rendering.{FitsKind, input, pins_sample, rendered};
 ghost use Rattle.uac_units.specs.Unity.{HasUnity};
 
 use crate::channels::fit;
@@ -226,25 +226,8 @@ fn render_selector(job: &Job, inputs: &[i32], out: &mut [i32])
     }
 }
 
-/// The sample of one output channel of a unit of that kind.
-pub(crate) fn sample_of(kind: UnitKind, job: &Job, pins: &Pins, channel: usize) -> i32
-    requires fits { FitsKind kind job.now pins.now.items }
-    requires inside { channel < job.now.outputs }
-    ensures { result ≡ pins_sample kind job.now pins.now.items channel }
-{
-    match kind {
-        UnitKind::Mixer => mix(job, pins.as_slice(), channel),
-        UnitKind::Selector => pins[job.pin as usize * job.outputs as usize + channel],
-        UnitKind::Feature => {
-            let own = gained(job, pins, channel, 2 * channel);
-            scale(own, job.gains[2 * channel + 1])
-        }
-        UnitKind::Effect => pins[channel],
-    }
-}
-
 /// The saturated sum of all inputs, each scaled by the gain of its node with this output.
-fn mix(job: &Job, inputs: &[i32], channel: usize) -> i32
+pub(crate) fn mix(job: &Job, inputs: &[i32], channel: usize) -> i32
     requires fits { FitsKind Mixer job.now inputs.now }
     requires inside { channel < job.now.outputs }
     ensures { result ≡ pins_sample Mixer job.now inputs.now channel }
@@ -256,15 +239,6 @@ fn mix(job: &Job, inputs: &[i32], channel: usize) -> i32
         sum += mixed_input(inputs, at, gains[at * outputs + channel]) as i64;
     }
     saturate(sum)
-}
-
-/// An input, scaled by the job's gain of that number.
-fn gained(job: &Job, pins: &Pins, at: usize, gain: usize) -> i32
-    requires input { at < length pins.now.items }
-    requires gain { gain < length job.now.gains.items }
-    ensures { result ≡ gained job.now pins.now.items at gain }
-{
-    scale(pins[at], job.gains[gain])
 }
 
 /// An input.

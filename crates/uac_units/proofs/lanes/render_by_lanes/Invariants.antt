@@ -4,5 +4,5 @@ use Rattle.uac_units.specs.Rendering.{pins_sample}
 use Rattle.uac_units.proofs.lanes.render_by_lanes.Given as goal
 
 abbrev pub invariant-loop-channel : goal.invariant-loop-channel
-invariant-loop-channel l =
-    l.out.items ≡ map (pins_sample l.kind l.job l.pins.items) (range_with_len 0 l.channel)
+invariant-loop-channel g l =
+    l.out.items ≡ map (pins_sample g.U.OnLanes.lane_kind l.job l.pins.items) (range_with_len 0 l.channel)

@@ -8,14 +8,14 @@ use Rattle.uac_units.proofs.LanesLemmas.{eight_more, handed-narrow, handed-sampl
 use Rattle.uac_units.proofs.lanes.render_eights.Goals as goal
 
 pub loop-block-preserved : goal.loop-block-preserved
-loop-block-preserved c =
-    let sample = pins_sample c.args.kind c.args.job.now c.args.pins.now.items in
+loop-block-preserved g c =
+    let sample = pins_sample g.U.OnLanes.lane_kind c.args.job.now c.args.pins.now.items in
     let at = 8 * c.loop-block.block in
     let full : length c.loop-block.out.items ≡ at = ap length c.loop-block.invariant ∙ length-map-range_with_len sample 0 at in
-    let same : c.narrow_eight.result ≡ c.eight_of.result = c.narrow_eight.ensures ∙ handed-samples c.eight_of.result c.eight_of.ensures.narrow in
-    let fits : Each1 (FitsSigned w32) c.narrow_eight.result = subst (Each1 (FitsSigned w32)) (sym same) c.eight_of.ensures.narrow in
+    let same : c.narrow_eight.result ≡ c.eight.result = c.narrow_eight.ensures ∙ handed-samples c.eight.result c.eight.ensures.narrow in
+    let fits : Each1 (FitsSigned w32) c.narrow_eight.result = subst (Each1 (FitsSigned w32)) (sym same) c.eight.ensures.narrow in
     let more : map (to_z w32) (map (of_z w32) c.narrow_eight.result) ≡ eight (λ lane. sample (at + lane)) =
-    handed-narrow c.narrow_eight.result fits ∙ same ∙ c.eight_of.ensures.lanes in
+    handed-narrow c.narrow_eight.result fits ∙ same ∙ c.eight.ensures.lanes in
     let long : length (map (to_z w32) (map (of_z w32) c.narrow_eight.result)) ≡ 8 = ap length more in
     where_ok c.try_extend_from_slice.result (c.try_extend_from_slice.ensures.variant.1 (omega (arith, full, long))) c.try_extend_from_slice.ensures.ok
     ∙ ap (λ xs. c.loop-block.out.items ++ xs) more

@@ -4,5 +4,5 @@ use Rattle.uac_units.specs.Rendering.{pins_sample}
 use Rattle.uac_units.proofs.lanes.render_eights.Given as goal
 
 abbrev pub invariant-loop-block : goal.invariant-loop-block
-invariant-loop-block l =
-    l.out.items ≡ map (pins_sample l.kind l.job l.pins.items) (range_with_len 0 (8 * l.block))
+invariant-loop-block g l =
+    l.out.items ≡ map (pins_sample g.U.OnLanes.lane_kind l.job l.pins.items) (range_with_len 0 (8 * l.block))
