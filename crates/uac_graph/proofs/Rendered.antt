@@ -14,7 +14,7 @@ use Rattle.uac_gain.specs.Gain.{scaled, saturated}
 use Rattle.uac_units.specs.declared.jobs.Job.{Job}
 use Rattle.uac_units.specs.declared.jobs.UnitKind.{UnitKind}
 use Rattle.uac_units.specs.declared.jobs.UnitKind.TheVariants as unit
-use Rattle.uac_units.specs.Rendering.{FitsKind, FitsNumbers, gained, in_a_row, input, pins_sample, rendered}
+use Rattle.uac_units.specs.Rendering.{FitsKind, FitsNumbers, in_a_row, input, pins_sample, rendered}
 use Rattle.uac_units.proofs.Samples.{selector-in_a_row, feature-in_a_row, effect-in_a_row}
 use Rattle.uac_graph.specs.Controls.{Controls, chosen_pin, control_value, feature_gain, node_gain, pin_of}
 use Rattle.uac_graph.specs.Jobs.{FitsFrames, HasJob, IsJob, gain_at, gain_count, unit_of}
@@ -48,11 +48,11 @@ mixer_sample : (controls : Controls) (id channels : ℕ) (frames : List (List �
 mixer_sample controls id channels frames job is channel below =
     ap (λ (inputs : List ℤ). saturated (fold (λ sum sample. sum +ℤ sample) (pos 0) inputs))
     (range_same
-    (λ at. gained job (in_a_row frames) at (at * job.outputs + channel))
+    (λ at. scaled (input (in_a_row frames) at) (get_or job.gains.items (at * job.outputs + channel) 0))
     (λ at. scaled (input (in_a_row frames) at) (node_gain controls id (at * channels + channel)))
     (length (in_a_row frames))
     (λ at inside.
-    ap (λ (outputs : ℕ). gained job (in_a_row frames) at (at * outputs + channel)) is.outputs
+    ap (λ (outputs : ℕ). scaled (input (in_a_row frames) at) (get_or job.gains.items (at * outputs + channel) 0)) is.outputs
     ∙ ap (scaled (input (in_a_row frames) at))
     (gain_of_job controls id unit.Mixer channels (length frames) (length (in_a_row frames)) (at * channels + channel) job is
     (node_below at channel (length (in_a_row frames)) channels inside below))))

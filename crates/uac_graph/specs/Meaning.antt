@@ -1,41 +1,43 @@
 -- The sample on each wire of a signal graph (Audio Class 2.0, 3.13: terminals and units), by recursion over entities.
 -- Profile: the arithmetic, and that an effect unit is always bypassed.
-use Rattle.std.specs.Prelude.{ℕ, ◌+◌, ◌*◌, zero, suc, if◌then◌else◌, ℤ, pos, ◌+ℤ◌, List, [], map, length, slice_index_or}
-use Rattle.std.specs.List.{fold, range_with_len}
+use Rattle.std.specs.Prelude.{ℕ, ◌+◌, ◌*◌, zero, suc, if◌then◌else◌, ℤ, pos, List, [], map, length}
+use Rattle.std.specs.List.{range_with_len}
 use Rattle.uac_entities.specs.declared.entity.Entity.{Entity}
 use Rattle.uac_entities.specs.declared.entity.EntityKind.{EntityKind}
 use Rattle.uac_entities.specs.declared.entity.EntityKind.TheVariants as kind
 use Rattle.uac_topology_rules.specs.Clusters.{is_input}
 use Rattle.uac_topology_rules.specs.Links.{signal_sources}
 use Rattle.uac_topology_rules.specs.Table.{at, place_of}
-use Rattle.uac_gain.specs.Gain.{scaled, saturated}
-use Rattle.uac_units.specs.Rendering.{input, in_a_row}
+use Rattle.uac_units.specs.declared.jobs.UnitKind.TheVariants as unit
+use Rattle.uac_units.specs.Rendering.{Setting, by_frames, input, pin_frame, unit_sample}
 use Rattle.uac_graph.specs.Controls.{Controls, feature_gain, node_gain, chosen_pin}
 
 -- the entity with this id; where no entity has it, one with no sources and no channels
 unfoldable pub entity : List Entity → ℕ → Entity
 entity entities id = at entities (place_of entities id)
 
--- the frame of a pin, counted from 0
-abbrev pub pin : List (List ℤ) → ℕ → List ℤ
-pin frames number = slice_index_or frames number []
+-- how the controls set the unit with this id, of so many output channels and pins. A mixer's controls are numbered by its nodes,
+-- by inputs; channels of a feature's controls count from 1, the master being 0
+abbrev pub set_by_controls : Controls → ℕ → ℕ → ℕ → Setting
+set_by_controls controls id outputs pins = record {
+  node = λ at channel. node_gain controls id (at * outputs + channel);
+  chosen = chosen_pin controls id pins;
+  own = λ channel. feature_gain controls id (channel + 1);
+  master = λ channel. feature_gain controls id 0;
+}
 
--- a mixer's output: the saturated sum of all input channels, each scaled by the gain of its node with this output
-abbrev pub mixed : Controls → ℕ → ℕ → List ℤ → ℕ → ℤ
-mixed controls id outputs inputs channel =
-    saturated (fold (λ sum sample. sum +ℤ sample) (pos 0)
-    (map (λ at. scaled (input inputs at) (node_gain controls id (at * outputs + channel))) (range_with_len 0 (length inputs))))
-
--- the sample of an output channel of the entity with this id, from the frames of its sources, pin by pin. A feature scales by
--- the channel's gain, then by the master's; channels of controls count from 1, the master being 0. An effect and an output
--- terminal pass their one source on; an input terminal and a clock entity take no signal
+-- the sample of an output channel of the entity with this id, from the frames of its sources, pin by pin. A unit's is its case; an
+-- output terminal passes its one source on; an input terminal and a clock entity take no signal
 abbrev pub sample_of : Controls → ℕ → EntityKind → ℕ → List (List ℤ) → ℕ → ℤ
+sample_of controls id kind.Mixer outputs frames channel =
+    unit_sample unit.Mixer (set_by_controls controls id outputs (length frames)) (by_frames frames) channel
+sample_of controls id kind.Selector outputs frames channel =
+    unit_sample unit.Selector (set_by_controls controls id outputs (length frames)) (by_frames frames) channel
 sample_of controls id kind.Feature outputs frames channel =
-    scaled (scaled (input (pin frames 0) channel) (feature_gain controls id (channel + 1))) (feature_gain controls id 0)
-sample_of controls id kind.Mixer outputs frames channel = mixed controls id outputs (in_a_row frames) channel
-sample_of controls id kind.Selector outputs frames channel = input (pin frames (chosen_pin controls id (length frames))) channel
-sample_of controls id kind.Effect outputs frames channel = input (pin frames 0) channel
-sample_of controls id kind.OutputTerminal outputs frames channel = input (pin frames 0) channel
+    unit_sample unit.Feature (set_by_controls controls id outputs (length frames)) (by_frames frames) channel
+sample_of controls id kind.Effect outputs frames channel =
+    unit_sample unit.Effect (set_by_controls controls id outputs (length frames)) (by_frames frames) channel
+sample_of controls id kind.OutputTerminal outputs frames channel = input (pin_frame frames 0) channel
 sample_of controls id kind.InputTerminal outputs frames channel = pos 0
 sample_of controls id kind.ClockSource outputs frames channel = pos 0
 sample_of controls id kind.ClockSelector outputs frames channel = pos 0

@@ -8,13 +8,13 @@ use Rattle.std.proofs.lemmas.Int.{ints}
 use Rattle.uac_units.specs.declared.jobs.Job.{Job}
 use Rattle.std.specs.Simd.Lanes.{Each1, zip2}
 use Rattle.uac_units.specs.Lanes.{HasRoom, eight}
-use Rattle.uac_units.specs.Rendering.{gained, input}
+use Rattle.uac_units.specs.Rendering.{input}
 use Rattle.uac_gain.specs.Gain.{floored, scaled}
 use Rattle.uac_units.proofs.LanesLemmas.{saturated-mag, eight-same, eight-each}
 
 -- one input, scaled by the gain of its node
 abbrev pub node : Job → List ℤ → ℕ → ℕ → ℤ
-node job pins channel at = gained job pins at (at * job.outputs + channel)
+node job pins channel at = scaled (input pins at) (slice_index job.gains.items (at * job.outputs + channel))
 
 -- the first n inputs together
 abbrev pub mixed_front : Job → List ℤ → ℕ → ℕ → ℤ

@@ -8,7 +8,7 @@ use Rattle.uac_gain.specs.Gain.{scaled}
 use Rattle.uac_units.specs.declared.jobs.Job.{Job}
 use Rattle.uac_units.specs.declared.jobs.UnitKind.{UnitKind}
 use Rattle.uac_units.specs.declared.jobs.UnitKind.TheVariants.{Mixer, Selector, Feature, Effect}
-use Rattle.uac_units.specs.Rendering.{in_a_row, pins_sample, unit_sample, rendered}
+use Rattle.uac_units.specs.Rendering.{by_frames, in_a_row, pins_sample, rendered, set_by, unit_sample}
 
 pub length-rendered : (kind : UnitKind) (job : Job) (pins : List ℤ) → length (rendered kind job pins) ≡ job.outputs
 unfolding rendered
@@ -37,18 +37,18 @@ pin-in_a_row (frame ∷ frames) outputs (suc pin) channel each h k =
     ∙ ap (λ i. get_or (in_a_row frames) i (pos 0)) (omega arith)
     ∙ pin-in_a_row frames outputs pin channel others (omega arith) k
 
-pub mixer-in_a_row : (job : Job) (sources : List (List ℤ)) (channel : ℕ) → pins_sample Mixer job (in_a_row sources) channel ≡ unit_sample Mixer job sources channel
+pub mixer-in_a_row : (job : Job) (sources : List (List ℤ)) (channel : ℕ) → pins_sample Mixer job (in_a_row sources) channel ≡ unit_sample Mixer (set_by job) (by_frames sources) channel
 mixer-in_a_row job sources channel = refl
 
 pub selector-in_a_row : (job : Job) (sources : List (List ℤ)) (channel : ℕ) → All (λ frame. length frame ≡ job.outputs) sources → job.pin < length sources → channel < job.outputs
-    → pins_sample Selector job (in_a_row sources) channel ≡ unit_sample Selector job sources channel
+    → pins_sample Selector job (in_a_row sources) channel ≡ unit_sample Selector (set_by job) (by_frames sources) channel
 selector-in_a_row job sources channel each h k = pin-in_a_row sources job.outputs job.pin channel each h k
 
 pub feature-in_a_row : (job : Job) (sources : List (List ℤ)) (channel : ℕ) → channel < length (get_or sources 0 [])
-    → pins_sample Feature job (in_a_row sources) channel ≡ unit_sample Feature job sources channel
+    → pins_sample Feature job (in_a_row sources) channel ≡ unit_sample Feature (set_by job) (by_frames sources) channel
 feature-in_a_row job sources channel h =
     ap (λ sample. scaled (scaled sample (get_or job.gains.items (2 * channel) 0)) (get_or job.gains.items (2 * channel + 1) 0)) (first-in_a_row sources channel h)
 
 pub effect-in_a_row : (job : Job) (sources : List (List ℤ)) (channel : ℕ) → channel < length (get_or sources 0 [])
-    → pins_sample Effect job (in_a_row sources) channel ≡ unit_sample Effect job sources channel
+    → pins_sample Effect job (in_a_row sources) channel ≡ unit_sample Effect (set_by job) (by_frames sources) channel
 effect-in_a_row job sources channel h = first-in_a_row sources channel h

@@ -21,41 +21,76 @@ pub record FitsKind (kind : UnitKind) (job : Job) (pins : List ℤ) : Type 0 whe
   pub most : job.outputs ≤ 32
   pub numbers : FitsNumbers kind job.outputs job.pin (length job.gains.items) (length pins)
 
--- the input channel of that number, counted over all pins
+-- the input channel of that number
 abbrev pub input : List ℤ → ℕ → ℤ
 input pins at = slice_index_or pins at (pos 0)
 
--- the input, scaled by the job's gain of that number
-abbrev pub gained : Job → List ℤ → ℕ → ℕ → ℤ
-gained job pins at gain = scaled (input pins at) (slice_index job.gains.items gain)
+-- how a unit is set, whichever of these its kind has: the gain of a mixer's node, by input and output, a selector's pin, from 0,
+-- and the two gains of a feature's channel, its own and the master's
+pub record Setting : Type 0 where
+  pub node : ℕ → ℕ → ℕ
+  pub chosen : ℕ
+  pub own : ℕ → ℕ
+  pub master : ℕ → ℕ
+
+-- what comes in at a unit: all channels of its pins, one after the other, those of each pin, and those of the only pin where it
+-- has one
+pub record Inputs : Type 0 where
+  pub all : List ℤ
+  pub of_pin : ℕ → ℕ → ℤ
+  pub of_only : ℕ → ℤ
 
 -- all inputs together, each scaled by the gain of its node with this output
-abbrev pub mixed : Job → List ℤ → ℕ → ℤ
-mixed job pins channel =
+abbrev pub mixed : (ℕ → ℕ → ℕ) → List ℤ → ℕ → ℤ
+mixed node inputs channel =
     fold (λ sum sample. sum +ℤ sample) (pos 0)
-    (map (λ at. gained job pins at (at * job.outputs + channel)) (range_with_len 0 (length pins)))
+    (map (λ at. scaled (input inputs at) (node at channel)) (range_with_len 0 (length inputs)))
+
+-- the sample of an output channel: a mixer's is the saturated sum, a selector's its chosen pin's, a feature's its one source's,
+-- scaled by the channel's gain and then by the master's, an effect's its one source's
+abbrev pub unit_sample : UnitKind → Setting → Inputs → ℕ → ℤ
+unit_sample Mixer setting inputs channel = saturated (mixed setting.node inputs.all channel)
+unit_sample Selector setting inputs channel = inputs.of_pin setting.chosen channel
+unit_sample Feature setting inputs channel = scaled (scaled (inputs.of_only channel) (setting.own channel)) (setting.master channel)
+unit_sample Effect setting inputs channel = inputs.of_only channel
+
+-- how a job sets its unit: a mixer's gains stand by inputs, a feature's in turn
+abbrev pub set_by : Job → Setting
+set_by job = record {
+  node = λ at channel. slice_index job.gains.items (at * job.outputs + channel);
+  chosen = job.pin;
+  own = λ channel. slice_index job.gains.items (2 * channel);
+  master = λ channel. slice_index job.gains.items (2 * channel + 1);
+}
 
 -- the channels of all frames, one after the other
 abbrev pub in_a_row : List (List ℤ) → List ℤ
 in_a_row [] = []
 in_a_row (frame ∷ frames) = frame ++ in_a_row frames
 
--- the sample of one output channel, over all pins in a row
-abbrev pub pins_sample : UnitKind → Job → List ℤ → ℕ → ℤ
-pins_sample Mixer job pins channel = saturated (mixed job pins channel)
-pins_sample Selector job pins channel = input pins (job.pin * job.outputs + channel)
-pins_sample Feature job pins channel =
-    scaled (gained job pins channel (2 * channel)) (slice_index job.gains.items (2 * channel + 1))
-pins_sample Effect job pins channel = input pins channel
+-- the frame of a pin, counted from 0
+abbrev pub pin_frame : List (List ℤ) → ℕ → List ℤ
+pin_frame frames pin = slice_index_or frames pin []
 
--- a unit's sample by the frames of its sources, pin by pin: a mixer takes all their channels in a row, a selector the chosen
--- pin's channel, a feature and an effect their one source's
-abbrev pub unit_sample : UnitKind → Job → List (List ℤ) → ℕ → ℤ
-unit_sample Mixer job sources channel = saturated (mixed job (in_a_row sources) channel)
-unit_sample Selector job sources channel = input (slice_index_or sources job.pin []) channel
-unit_sample Feature job sources channel =
-    scaled (gained job (slice_index_or sources 0 []) channel (2 * channel)) (slice_index job.gains.items (2 * channel + 1))
-unit_sample Effect job sources channel = input (slice_index_or sources 0 []) channel
+-- the inputs that are the frames of the unit's sources, pin by pin
+abbrev pub by_frames : List (List ℤ) → Inputs
+by_frames frames = record {
+  all = in_a_row frames;
+  of_pin = λ pin. input (pin_frame frames pin);
+  of_only = input (pin_frame frames 0);
+}
+
+-- the inputs that stand in a row, where each of several pins has so many
+abbrev pub by_row : ℕ → List ℤ → Inputs
+by_row channels pins = record {
+  all = pins;
+  of_pin = λ pin channel. input pins (pin * channels + channel);
+  of_only = input pins;
+}
+
+-- the sample of one output channel of a job, over all pins in a row
+abbrev pub pins_sample : UnitKind → Job → List ℤ → ℕ → ℤ
+pins_sample kind job pins channel = unit_sample kind (set_by job) (by_row job.outputs pins) channel
 
 -- the samples of all output channels
 unfoldable pub rendered : UnitKind → Job → List ℤ → List ℤ

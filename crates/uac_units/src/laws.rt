@@ -3,7 +3,7 @@
 ghost use Rattle.std.specs.Prelude.{◌≡◌, ℕ, ◌+◌, ◌^◌, ◌<◌, ◌≤◌, ℤ, pos, List, [], length, slice_index_or};
 ghost use Rattle.std.specs.List.{All};
 ghost use Rattle.uac_units.specs.Hearing.{heard};
-ghost use Rattle.uac_units.specs.Rendering.{in_a_row, pins_sample, rendered, unit_sample};
+ghost use Rattle.uac_units.specs.Rendering.{by_frames, in_a_row, pins_sample, rendered, set_by, unit_sample};
 ghost use Rattle.uac_units.specs.declared.hearing.MeterKind.{MeterKind};
 ghost use Rattle.uac_units.specs.declared.jobs.Job.{Job};
 ghost use Rattle.uac_units.specs.declared.jobs.UnitKind.{UnitKind};
@@ -19,14 +19,14 @@ pub fn each_output_has_its_sample()
 /// The pins in a row give what the sources' frames give, pin by pin.
 pub fn pins_are_the_sources()
     ensures mixer { (job : Job) (sources : List (List ℤ)) (channel : ℕ)
-        → pins_sample Mixer job (in_a_row sources) channel ≡ unit_sample Mixer job sources channel }
+        → pins_sample Mixer job (in_a_row sources) channel ≡ unit_sample Mixer (set_by job) (by_frames sources) channel }
     ensures selector { (job : Job) (sources : List (List ℤ)) (channel : ℕ) → All (λ frame. length frame ≡ job.outputs) sources
         → job.pin < length sources → channel < job.outputs
-        → pins_sample Selector job (in_a_row sources) channel ≡ unit_sample Selector job sources channel }
+        → pins_sample Selector job (in_a_row sources) channel ≡ unit_sample Selector (set_by job) (by_frames sources) channel }
     ensures feature { (job : Job) (sources : List (List ℤ)) (channel : ℕ) → channel < length (slice_index_or sources 0 [])
-        → pins_sample Feature job (in_a_row sources) channel ≡ unit_sample Feature job sources channel }
+        → pins_sample Feature job (in_a_row sources) channel ≡ unit_sample Feature (set_by job) (by_frames sources) channel }
     ensures effect { (job : Job) (sources : List (List ℤ)) (channel : ℕ) → channel < length (slice_index_or sources 0 [])
-        → pins_sample Effect job (in_a_row sources) channel ≡ unit_sample Effect job sources channel }
+        → pins_sample Effect job (in_a_row sources) channel ≡ unit_sample Effect (set_by job) (by_frames sources) channel }
 {}
 
 /// A meter's value never falls, and stays a number of 64 bits.
