@@ -1,10 +1,12 @@
 -- The function that the blocks describe, and whether it is sound.
 use Rattle.std.specs.Prelude.{◌≡◌, ◌↔◌, ℕ, cond, List, Option, Some, None, slice_get, unwrap_or}
 use Rattle.std.specs.List.{filter_map}
+use Rattle.std.specs.Option.{option_and_then, option_map}
 use Rattle.uac_descriptor.specs.Classes.{is_control_interface}
 use Rattle.uac_descriptor.specs.WellFormed.{AreWellFormed}
 use Rattle.uac_descriptor.specs.declared.block.Block as block
-use Rattle.uac_descriptor.specs.declared.block.Block.TheVariants as row
+use Rattle.uac_descriptor.specs.Kinds.{configuration_of}
+use Rattle.uac_descriptor.specs.Turns.{interface_of}
 use Rattle.uac_walk.specs.Cycles.{HasCycle}
 use Rattle.uac_entities.specs.Entities.{entities_of}
 use Rattle.uac_entities.specs.Settings.{alternates_of}
@@ -22,13 +24,11 @@ use Rattle.uac_topology.specs.declared.soundness.CheckStop.TheVariants as stop
 
 -- the number of a control interface (Audio Class 2.0, 4.7.1)
 unfoldable pub control_number : block.Block → Option ℕ
-control_number (row.Interface i) = cond (is_control_interface i) (Some i.number) None
-control_number _ = None
+control_number b = option_and_then (λ i. cond (is_control_interface i) (Some i.number) None) (interface_of b)
 
 -- the bytes of a configuration (USB 2.0, 9.6.3)
 unfoldable pub total_length : block.Block → Option ℕ
-total_length (row.Configuration c) = Some c.total
-total_length _ = None
+total_length b = option_map (λ c. c.total) (configuration_of b)
 
 -- the first that some block gives, 0 where none gives one
 abbrev pub first_given : (block.Block → Option ℕ) → List block.Block → ℕ
