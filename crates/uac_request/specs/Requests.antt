@@ -23,6 +23,7 @@ use Rattle.uac_store.specs.ControlTable.{at_selector, facts_at, is_settable, spr
 use Rattle.uac_store.specs.Controls.{count_of}
 use Rattle.uac_store.specs.Keyed.{key_of, value_of, with_value}
 use Rattle.uac_store.specs.Rates.{rate_of}
+use Rattle.uac_store.specs.Selectors.{AS_ACT_ALT_SETTING_CONTROL, AS_VAL_ALT_SETTINGS_CONTROL, CS_CLOCK_VALID_CONTROL}
 use Rattle.uac_store.specs.Values.{ranges_of, is_legal}
 use Rattle.uac_request.specs.declared.setup.Setup.{Setup}
 use Rattle.uac_request.specs.declared.told.Answer.{Answer}
@@ -114,9 +115,9 @@ entity_width k selector = option_map (λ f. f.width) (facts_at k selector)
 abbrev pub map_bytes : StreamInterface → ℕ
 map_bytes s = if nat_le (length s.settings) 8 then 1 else 2
 
--- the bytes of a streaming interface's control: 1 is the active setting, 2 the valid settings
+-- the bytes of a streaming interface's control: that of its active setting, and that of its valid settings
 abbrev pub stream_width : StreamInterface → ℕ → Option ℕ
-stream_width s selector = at_selector (Some 1 ∷ Some (1 + map_bytes s) ∷ []) selector
+stream_width s selector = at_selector ((AS_ACT_ALT_SETTING_CONTROL, 1) ∷ (AS_VAL_ALT_SETTINGS_CONTROL, 1 + map_bytes s) ∷ []) selector
 
 abbrev pub width_of : Owner → ℕ → Option ℕ
 width_of (by_entity e) selector = entity_width e.kind selector
@@ -385,7 +386,7 @@ connector_bytes e = e.cluster.channels ∷ (little_bytes 4 e.cluster.locations +
 
 -- a clock source is always valid, and all other controls of entities keep a value
 abbrev pub entity_bytes : EntityKind → Entity → List (Key × ℤ) → Key → List ℕ
-entity_bytes kind.ClockSource e controls k = if k.selector == 2 then 1 ∷ [] else kept_bytes controls k (entity_width e.kind k.selector)
+entity_bytes kind.ClockSource e controls k = if k.selector == CS_CLOCK_VALID_CONTROL then 1 ∷ [] else kept_bytes controls k (entity_width e.kind k.selector)
 entity_bytes kind.ClockSelector e controls k = kept_bytes controls k (entity_width e.kind k.selector)
 entity_bytes kind.ClockMultiplier e controls k = kept_bytes controls k (entity_width e.kind k.selector)
 entity_bytes kind.InputTerminal e controls k = connector_bytes e
@@ -409,7 +410,8 @@ valid_bytes function controls s =
 
 abbrev pub stream_bytes : FunctionFields → Held → StreamInterface → ℕ → List ℕ
 stream_bytes function held s selector =
-    if selector == 1 then unwrap_or (setting_of held.settings s.number) 0 ∷ [] else valid_bytes function held.controls s
+    if selector == AS_ACT_ALT_SETTING_CONTROL then unwrap_or (setting_of held.settings s.number) 0 ∷ []
+    else valid_bytes function held.controls s
 
 unfoldable pub cur_bytes : FunctionFields → Held → Setup → Owner → List ℕ
 cur_bytes function held p (by_entity e) = entity_bytes e.kind e held.controls (key_named p)

@@ -10,6 +10,7 @@ use crate::declared::{is_declared_on, is_writable_on, two_bits};
 use crate::owner::Owner;
 use uac_descriptor::General;
 use uac_store::controls::facts_at;
+use uac_store::selectors::{AS_ACT_ALT_SETTING_CONTROL, AS_VAL_ALT_SETTINGS_CONTROL};
 use uac_topology::{Entity, EntityKind, Setting, StreamInterface};
 
 /// The bytes of the control with a selector, None where there is none (Audio Class 2.0, 5.2.5).
@@ -44,8 +45,8 @@ fn stream_width(stream: &StreamInterface, selector: u8) -> Option<u8>
     ensures low { IfSome result (λ width. selector ≤ 2) }
 {
     match selector {
-        1 => Some(1),
-        2 => Some(1 + map_bytes(stream)),
+        AS_ACT_ALT_SETTING_CONTROL => Some(1),
+        AS_VAL_ALT_SETTINGS_CONTROL => Some(1 + map_bytes(stream)),
         _ => None,
     }
 }

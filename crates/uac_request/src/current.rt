@@ -11,6 +11,7 @@ use crate::setup::{Setup, high_byte, key_named};
 use crate::told::Reply;
 use crate::valid::valid_map;
 use uac_alt::Settings;
+use uac_store::selectors::{AS_ACT_ALT_SETTING_CONTROL, CS_CLOCK_VALID_CONTROL};
 use uac_store::{Key, Store};
 use uac_topology::{Entity, EntityKind, Function, StreamInterface};
 
@@ -49,7 +50,7 @@ fn write_entity(reply: &mut Reply, entity: &Entity, store: &Store, key: Key)
 {
     match entity.kind {
         EntityKind::InputTerminal | EntityKind::OutputTerminal => write_connector(reply, entity),
-        EntityKind::ClockSource if key.selector == 2 => reply.push(1),
+        EntityKind::ClockSource if key.selector == CS_CLOCK_VALID_CONTROL => reply.push(1),
         EntityKind::ClockSource
         | EntityKind::ClockSelector
         | EntityKind::ClockMultiplier
@@ -94,7 +95,7 @@ fn write_stream(
     requires { reply.old.items ≡ [] }
     ensures { reply.new.items ≡ spec.stream_bytes function.now (held_by store.now settings.now) stream.now selector }
 {
-    if selector == 1 {
+    if selector == AS_ACT_ALT_SETTING_CONTROL {
         reply.push(settings.get(stream.number).unwrap_or(0));
     } else {
         write_valid(reply, function, store, stream);

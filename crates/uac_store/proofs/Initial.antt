@@ -20,13 +20,13 @@ use Rattle.uac_store.proofs.Keeping.{value_of-append, controls_miss_channel, con
 
 -- what one entity gives a key
 unfoldable start_on : List Entity → Key → Entity → Option ℤ
-start_on all k e = if has_on all k e then Some (start_of all e k.channel) else None
+start_on all k e = if has_on all k e then Some (start_of all e k.selector k.channel) else None
 
 controls_value : (all : List Entity) (e : Entity) (k : Key) → k.entity ≡ e.id → value_of (controls_of all e) k ≡ start_on all k e
 unfolding start_on has_on controls_of
 controls_value all e k i = from (nat_lt 0 k.selector) (nat_le k.selector (selectors_of e.kind)) (nat_lt k.channel (count_of all e)) refl refl refl where
   start : Bool → Bool → Bool → Option ℤ
-  start low high has = if low && high && has then Some (start_of all e k.channel) else None
+  start low high has = if low && high && has then Some (start_of all e k.selector k.channel) else None
 
   from : (low high has : Bool) → nat_lt 0 k.selector ≡ low → nat_le k.selector (selectors_of e.kind) ≡ high → nat_lt k.channel (count_of all e) ≡ has
       → value_of (controls_of all e) k ≡ start (nat_lt 0 k.selector) (nat_le k.selector (selectors_of e.kind)) (nat_lt k.channel (count_of all e))
@@ -79,7 +79,7 @@ found_where_there : (all : List Entity) (k : Key) (o : Option Entity)
 unfolding start_on
 found_where_there all k None = refl
 found_where_there all k (Some e) = from (has_on all k e) where
-  from : (b : Bool) → is_some (if b then Some (start_of all e k.channel) else None) ≡ b
+  from : (b : Bool) → is_some (if b then Some (start_of all e k.selector k.channel) else None) ≡ b
   from true = refl
   from false = refl
 
@@ -101,7 +101,7 @@ first_pin pins some = from (nat_lt pins 256) where
 
 -- what an entity's control has at the start is a value that it takes: its first control, its second, and either
 start_first : (k : EntityKind) (pins : List ℕ) (outputs sources attributes channel : ℕ) → (has_pins k ≡ true → 1 ≤ sources) → nat_le 1 (selectors_of k) ≡ true
-    → takes_by k sources attributes 1 (start_by k (node_start pins outputs channel)) ≡ true
+    → takes_by k sources attributes 1 (start_by k 1 (node_start pins outputs channel)) ≡ true
 unfolding node_start
 start_first kind.ClockSource pins outputs sources attributes channel pin there = from (nat_lt (attributes % 4) 2) where
   from : (b : Bool) → (if b then 48000 == 48000 else is_listed 48000) ≡ true
@@ -121,7 +121,7 @@ start_first kind.Feature pins outputs sources attributes channel pin there = ref
 start_first kind.Effect pins outputs sources attributes channel pin there = refl
 
 start_second : (k : EntityKind) (pins : List ℕ) (outputs sources attributes channel : ℕ) → nat_le 2 (selectors_of k) ≡ true
-    → takes_by k sources attributes 2 (start_by k (node_start pins outputs channel)) ≡ true
+    → takes_by k sources attributes 2 (start_by k 2 (node_start pins outputs channel)) ≡ true
 unfolding node_start
 start_second kind.ClockSource pins outputs sources attributes channel there = cc
 start_second kind.ClockSelector pins outputs sources attributes channel there = cc
@@ -135,11 +135,11 @@ start_second kind.Effect pins outputs sources attributes channel there = cc
 
 start_taken : (k : EntityKind) (pins : List ℕ) (outputs sources attributes selector channel : ℕ) (has : Bool)
     → (has_pins k ≡ true → 1 ≤ sources) → (nat_lt 0 selector && nat_le selector (selectors_of k) && has) ≡ true
-    → takes_by k sources attributes selector (start_by k (node_start pins outputs channel)) ≡ true
+    → takes_by k sources attributes selector (start_by k selector (node_start pins outputs channel)) ≡ true
 start_taken k pins outputs sources attributes selector channel has pin there =
     let some : nat_lt 0 selector ≡ true = search (rules, there, and_parts) in
     let low : nat_le selector (selectors_of k) ≡ true = search (rules, there, and_parts) in
-    at_each k (λ s. takes_by k sources attributes s (start_by k (node_start pins outputs channel)) ≡ true) selector some low
+    at_each k (λ s. takes_by k sources attributes s (start_by k s (node_start pins outputs channel)) ≡ true) selector some low
     (start_first k pins outputs sources attributes channel pin) (start_second k pins outputs sources attributes channel)
 
 -- the controls at the start are those of the entities
@@ -153,9 +153,9 @@ initial_is_store all distinct have = record {
       → option_map_or (takes_on k.selector v) o false ≡ true
   from k v None is starts = cc
   from k v (Some e) is starts = given (has_on all k e) refl starts where
-    given : (b : Bool) → has_on all k e ≡ b → (if b then Some (start_of all e k.channel) else None) ≡ Some v → takes_on k.selector v e ≡ true
+    given : (b : Bool) → has_on all k e ≡ b → (if b then Some (start_of all e k.selector k.channel) else None) ≡ Some v → takes_on k.selector v e ≡ true
     given true there starts =
-        let i : start_of all e k.channel ≡ v = cc in
+        let i : start_of all e k.selector k.channel ≡ v = cc in
         subst (λ w. takes_on k.selector w e ≡ true) i
         (start_taken e.kind (pins_of all e) e.cluster.channels (length e.sources) e.attributes k.selector k.channel (nat_lt k.channel (count_of all e))
         (named_has (λ x. has_pins x.kind ≡ true → 1 ≤ length x.sources) all k.entity e have is) there)

@@ -84,19 +84,19 @@ module _ (all : List Entity) (e : Entity) (k : Key) where
   pub channels_miss_channel : (s n : ℕ) → n ≤ k.channel → value_of (first_channels all e s n) k ≡ None
   unfolding first_channels row
   channels_miss_channel s n h =
-      row_misses k e.id s (start_of all e) 0 n (λ c lo hi. other_channel k (key_of e.id s c) (λ i. omega arith))
+      row_misses k e.id s (start_of all e s) 0 n (λ c lo hi. other_channel k (key_of e.id s c) (λ i. omega arith))
 
   channels_miss_selector : (s n : ℕ) → (k.selector ≡ s → ⊥) → value_of (first_channels all e s n) k ≡ None
   unfolding first_channels row
-  channels_miss_selector s n h = row_misses k e.id s (start_of all e) 0 n (λ c lo hi. other_selector k (key_of e.id s c) h)
+  channels_miss_selector s n h = row_misses k e.id s (start_of all e s) 0 n (λ c lo hi. other_selector k (key_of e.id s c) h)
 
   channels_miss_entity : (s n : ℕ) → (k.entity ≡ e.id → ⊥) → value_of (first_channels all e s n) k ≡ None
   unfolding first_channels row
-  channels_miss_entity s n h = row_misses k e.id s (start_of all e) 0 n (λ c lo hi. other_entity k (key_of e.id s c) h)
+  channels_miss_entity s n h = row_misses k e.id s (start_of all e s) 0 n (λ c lo hi. other_entity k (key_of e.id s c) h)
 
-  channels_have : (s n : ℕ) → k.entity ≡ e.id → k.selector ≡ s → k.channel < n → value_of (first_channels all e s n) k ≡ Some (start_of all e k.channel)
+  channels_have : (s n : ℕ) → k.entity ≡ e.id → k.selector ≡ s → k.channel < n → value_of (first_channels all e s n) k ≡ Some (start_of all e k.selector k.channel)
   unfolding first_channels row
-  channels_have s n i j h = row_has k e.id s (start_of all e) 0 n i j (omega arith) (omega arith)
+  channels_have s n i j h = row_has k e.id s (start_of all e s) 0 n i j (omega arith) (omega arith) ∙ ap (λ t. Some (start_of all e t k.channel)) (sym j)
 
   -- the controls of one entity
   pub controls_miss_entity : (k.entity ≡ e.id → ⊥) → value_of (controls_of all e) k ≡ None
@@ -116,15 +116,15 @@ module _ (all : List Entity) (e : Entity) (k : Key) where
       (selectors_miss (a + 1) m (λ s lo hi. h s (omega arith) (omega arith)))
 
   pub selectors_have : (a m : ℕ) → k.entity ≡ e.id → a ≤ k.selector → k.selector < a + m → k.channel < count_of all e
-      → value_of (flat_map (channels_at all e) (range_with_len a m)) k ≡ Some (start_of all e k.channel)
+      → value_of (flat_map (channels_at all e) (range_with_len a m)) k ≡ Some (start_of all e k.selector k.channel)
   unfolding channels_at
   selectors_have a zero i lo hi h = absurd (omega arith)
   selectors_have a (suc m) i lo hi h = value_of-append (channels_at all e a) rest k ∙ from (k.selector == a) refl (λ away. selectors_have (a + 1) m i (omega arith) (omega arith) h) where
     rest : List (Key × ℤ)
     rest = flat_map (channels_at all e) (range_with_len (a + 1) m)
 
-    from : (b : Bool) → (k.selector == a) ≡ b → ((k.selector ≡ a → ⊥) → value_of rest k ≡ Some (start_of all e k.channel))
-        → option_or (value_of (channels_at all e a) k) (value_of rest k) ≡ Some (start_of all e k.channel)
+    from : (b : Bool) → (k.selector == a) ≡ b → ((k.selector ≡ a → ⊥) → value_of rest k ≡ Some (start_of all e k.selector k.channel))
+        → option_or (value_of (channels_at all e a) k) (value_of rest k) ≡ Some (start_of all e k.selector k.channel)
     from true here others = ap (λ o. option_or o (value_of rest k)) (channels_have a (count_of all e) i (eqb-true k.selector a here) h)
     from false other others =
         let away = eqb-false k.selector a other in

@@ -37,7 +37,7 @@ module _ (all : List Entity) (e : Entity) (before : List (Key × ℤ)) where
   -- one channel more
   pub channel_more : {S : Type 0} (s n : ℕ) (m : IndexMap Key ℤ S) (v : ℤ) (pins : List ℕ)
       → ((c : ℕ) → value_of before (key_of e.id s c) ≡ None) → pins ≡ pins_of all e
-      → v ≡ start_by e.kind (node_start pins e.cluster.channels n)
+      → v ≡ start_by e.kind s (node_start pins e.cluster.channels n)
       → m.entries ≡ before ++ first_channels all e s n
       → insert_entry same_key m.entries (key_of e.id s n) v ≡ before ++ first_channels all e s (n + 1)
   unfolding value_of start_of first_channels
@@ -45,11 +45,11 @@ module _ (all : List Entity) (e : Entity) (before : List (Key × ℤ)) where
       let k : Key = key_of e.id s n in
       let none : value_of m.entries k ≡ None =
       ap (λ es. value_of es k) now ∙ none_of_both before (first_channels all e s n) k (absent n) (channels_miss_channel all e k s n (omega arith)) in
-      let value : v ≡ start_of all e n = is_start ∙ ap (λ ps. start_by e.kind (node_start ps e.cluster.channels n)) is_pins in
+      let value : v ≡ start_of all e s n = is_start ∙ ap (λ ps. start_by e.kind s (node_start ps e.cluster.channels n)) is_pins in
       insert_entry-new same_key m k v none
       ∙ (λ j. now j ++ (k, value j) ∷ [])
-      ∙ append_assoc before (first_channels all e s n) ((k, start_of all e n) ∷ [])
-      ∙ ap (λ xs. before ++ xs) (sym (map-range_with_len_more (λ c. (key_of e.id s c, start_of all e c)) 0 n n (omega arith)))
+      ∙ append_assoc before (first_channels all e s n) ((k, start_of all e s n) ∷ [])
+      ∙ ap (λ xs. before ++ xs) (sym (map-range_with_len_more (λ c. (key_of e.id s c, start_of all e s c)) 0 n n (omega arith)))
 
   pub all_channels : (s n : ℕ) (m : List (Key × ℤ)) → n ≡ count_of all e
       → m ≡ before ++ first_channels all e s n → m ≡ before ++ channels_at all e s

@@ -1,40 +1,57 @@
 -- Each kind has the selectors 1 and 2 alone.
-use Rattle.std.proofs.Common.{◌≡◌, sym, subst, refl, ℕ, ◌-◌, ◌≤◌, ◌==◌, nat_lt, nat_le, Bool, true, false, length, get_or, Option, Some, None, is_some, ◌⊎◌, inl, inr, arith}
+use Rattle.std.proofs.Common.{◌≡◌, sym, subst, refl, ℕ, zero, suc, ◌*◌, ◌≤◌, ◌<◌, ◌==◌, nat_lt, nat_le, Bool, true, false, List, [], ◌∷◌, Option, Some, None, is_some, ◌⊎◌, inl, inr, arith}
+use Rattle.std.specs.List.{AllByRecursion}
 use Rattle.std.specs.Option.{option_map, option_map_or}
-use Rattle.std.proofs.lemmas.Bool.{cases_Bool}
-use Rattle.std.proofs.lemmas.List.{get_or_past}
+use Rattle.std.proofs.lemmas.Bool.{cases_Bool, eqb-true}
 use Rattle.uac_entities.specs.declared.entity.EntityKind.{EntityKind}
 use Rattle.uac_entities.specs.declared.entity.EntityKind.TheVariants as kind
 use Rattle.uac_store.specs.declared.controls.Control.{Control}
+use Rattle.uac_store.specs.declared.controls.Control.TheVariants as control
 use Rattle.uac_store.specs.declared.controls.Facts.{Facts}
-use Rattle.uac_store.specs.ControlTable.{control_of, controls_by, facts_at, facts_of, selectors_of}
+use Rattle.uac_store.specs.ControlTable.{at_selector, control_of, controls_by, count_by, facts_at, facts_of, selectors_of}
 
-pub two_controls : (k : EntityKind) → length (controls_by k) ≡ 2
-two_controls kind.ClockSource = refl
-two_controls kind.ClockSelector = refl
-two_controls kind.ClockMultiplier = refl
-two_controls kind.InputTerminal = refl
-two_controls kind.OutputTerminal = refl
-two_controls kind.Mixer = refl
-two_controls kind.Selector = refl
-two_controls kind.Feature = refl
-two_controls kind.Effect = refl
+-- what stands in a row at a selector has one of the row's selectors
+in_row : {A : Type 0} (row : List (ℕ × A)) (selector : ℕ) → AllByRecursion (λ r. (r.0 ≡ 1) ⊎ (r.0 ≡ 2)) row → is_some (at_selector row selector) ≡ true → (selector ≡ 1) ⊎ (selector ≡ 2)
+in_row [] selector each there = cc
+in_row (r ∷ row) selector each there = elim (cases_Bool (r.0 == selector)) [
+  | inl here ↦ subst (λ s. (s ≡ 1) ⊎ (s ≡ 2)) (eqb-true r.0 selector here) each.0
+  | inr other ↦ in_row row selector each.1 (rw other at there)
+]
+
+each_one_or_two : (k : EntityKind) → AllByRecursion (λ r. (r.0 ≡ 1) ⊎ (r.0 ≡ 2)) (controls_by k)
+each_one_or_two kind.ClockSource = (inl refl, (inr refl, tt))
+each_one_or_two kind.ClockSelector = (inl refl, tt)
+each_one_or_two kind.ClockMultiplier = (inl refl, (inr refl, tt))
+each_one_or_two kind.InputTerminal = (inr refl, tt)
+each_one_or_two kind.OutputTerminal = (inr refl, tt)
+each_one_or_two kind.Mixer = (inl refl, tt)
+each_one_or_two kind.Selector = (inl refl, tt)
+each_one_or_two kind.Feature = (inl refl, (inr refl, tt))
+each_one_or_two kind.Effect = (inl refl, tt)
 
 pub one_or_two : (k : EntityKind) (selector : ℕ) → is_some (control_of k selector) ≡ true → (selector ≡ 1) ⊎ (selector ≡ 2)
-one_or_two k selector there = elim (cases_Bool (selector == 0)) [
-  | inl is_zero ↦ (let no : false ≡ true = rw is_zero at there in cc)
-  | inr above ↦ elim (cases_Bool (nat_lt 2 selector)) [
-    | inl past ↦ (
-        let two : length (controls_by k) ≡ 2 = two_controls k in
-        let none : get_or (controls_by k) (selector - 1) None ≡ None = get_or_past (controls_by k) (selector - 1) None (grind arith) in
-        let no : false ≡ true = rw (above, none) at there in
-        cc)
-    | inr within ↦ elim (cases_Bool (selector == 1)) [
-      | inl one ↦ inl (grind arith)
-      | inr other ↦ inr (grind arith)
-    ]
-  ]
+one_or_two k selector there = in_row (controls_by k) selector (each_one_or_two k) there
+
+-- what isn't in a row stands at no selector
+none_in_row : (c : Control) (row : List (ℕ × Control)) (selector : ℕ) → AllByRecursion (λ r. r.1 ≡ c → ⊥) row → at_selector row selector ≡ Some c → ⊥
+none_in_row c [] selector each is = cc
+none_in_row c (r ∷ row) selector each is = elim (cases_Bool (r.0 == selector)) [
+  | inl here ↦ (let same : Some r.1 ≡ Some c = rw here at is in let one : r.1 ≡ c = cc in each.0 one)
+  | inr other ↦ none_in_row c row selector each.1 (rw other at is)
 ]
+
+-- a mixer alone has nodes, and where it has one it puts out a channel
+pub has_outputs : (k : EntityKind) (selector inputs outputs channel : ℕ) → control_of k selector ≡ Some control.MixerNode → channel < count_by k (inputs * outputs) outputs → 0 < outputs
+has_outputs kind.ClockSource selector inputs outputs channel is within = absurd (none_in_row control.MixerNode (controls_by kind.ClockSource) selector (λ same. cc, (λ same. cc, tt)) is)
+has_outputs kind.ClockSelector selector inputs outputs channel is within = absurd (none_in_row control.MixerNode (controls_by kind.ClockSelector) selector (λ same. cc, tt) is)
+has_outputs kind.ClockMultiplier selector inputs outputs channel is within = absurd (none_in_row control.MixerNode (controls_by kind.ClockMultiplier) selector (λ same. cc, (λ same. cc, tt)) is)
+has_outputs kind.InputTerminal selector inputs outputs channel is within = absurd (none_in_row control.MixerNode (controls_by kind.InputTerminal) selector (λ same. cc, tt) is)
+has_outputs kind.OutputTerminal selector inputs outputs channel is within = absurd (none_in_row control.MixerNode (controls_by kind.OutputTerminal) selector (λ same. cc, tt) is)
+has_outputs kind.Mixer selector inputs zero channel is within = absurd (omega arith)
+has_outputs kind.Mixer selector inputs (suc outputs) channel is within = omega arith
+has_outputs kind.Selector selector inputs outputs channel is within = absurd (none_in_row control.MixerNode (controls_by kind.Selector) selector (λ same. cc, tt) is)
+has_outputs kind.Feature selector inputs outputs channel is within = absurd (none_in_row control.MixerNode (controls_by kind.Feature) selector (λ same. cc, (λ same. cc, tt)) is)
+has_outputs kind.Effect selector inputs outputs channel is within = absurd (none_in_row control.MixerNode (controls_by kind.Effect) selector (λ same. cc, tt) is)
 
 -- where something is so of a control there is one
 pub some_so : (test : Facts → Bool) (k : EntityKind) (selector : ℕ) → option_map_or test (facts_at k selector) false ≡ true → is_some (control_of k selector) ≡ true

@@ -1,7 +1,8 @@
 -- The controls of an audio function's entities in one table: which control a selector names, and what is so of it (Audio Class 2.0, A.17
 -- and 5.2.5). Every other word on a kind's controls is read from here.
-use Rattle.std.specs.Prelude.{ℕ, ◌+◌, ◌-◌, ◌*◌, ◌%◌, ◌≤◌, ◌==◌, ◌&&◌, nat_le, nat_lt, Bool, true, false, if◌then◌else◌, ℤ, pos, negsuc}
-use Rattle.std.specs.Prelude.{List, [], ◌∷◌, map, get_or, Option, Some, None, is_some}
+use Rattle.std.specs.Prelude.{ℕ, ◌+◌, ◌*◌, ◌%◌, ◌≤◌, ◌==◌, ◌&&◌, nat_le, nat_lt, Bool, true, false, if◌then◌else◌, ℤ, pos, negsuc}
+use Rattle.std.specs.Prelude.{List, [], ◌∷◌, map, Option, Some, None, is_some}
+use Rattle.std.specs.Map.{lookup}
 use Rattle.std.specs.Option.{option_map, option_map_or, option_and_then}
 use Rattle.uac_clock.specs.Nominal.{is_listed, twelve_rates}
 use Rattle.uac_gain.specs.Gain.{gain_of}
@@ -13,24 +14,27 @@ use Rattle.uac_store.specs.declared.controls.Facts.{Facts}
 use Rattle.uac_store.specs.declared.controls.Spread.{Spread}
 use Rattle.uac_store.specs.declared.controls.Spread.TheVariants as spread
 use Rattle.uac_store.specs.declared.keys.Range.{Range}
+use Rattle.uac_store.specs.Selectors.{CS_SAM_FREQ_CONTROL, CS_CLOCK_VALID_CONTROL, CX_CLOCK_SELECTOR_CONTROL, CM_NUMERATOR_CONTROL}
+use Rattle.uac_store.specs.Selectors.{CM_DENOMINATOR_CONTROL, TE_CONNECTOR_CONTROL, MU_MIXER_CONTROL, SU_SELECTOR_CONTROL, FU_MUTE_CONTROL}
+use Rattle.uac_store.specs.Selectors.{FU_VOLUME_CONTROL, EU_ENABLE_CONTROL}
 
 -- ---- the table
 
--- the controls of a kind with selector 1 and with selector 2 (A.17.1 to A.17.8); none where this profile has none
-abbrev pub controls_by : EntityKind → List (Option Control)
-controls_by kind.ClockSource = Some control.SamplingFrequency ∷ Some control.ClockValid ∷ []
-controls_by kind.ClockSelector = Some control.ClockSelector ∷ None ∷ []
-controls_by kind.ClockMultiplier = Some control.Numerator ∷ Some control.Denominator ∷ []
-controls_by kind.InputTerminal = None ∷ Some control.Connector ∷ []
-controls_by kind.OutputTerminal = None ∷ Some control.Connector ∷ []
-controls_by kind.Mixer = Some control.MixerNode ∷ None ∷ []
-controls_by kind.Selector = Some control.Selector ∷ None ∷ []
-controls_by kind.Feature = Some control.Mute ∷ Some control.Volume ∷ []
-controls_by kind.Effect = Some control.Enable ∷ None ∷ []
+-- the controls of a kind by their selectors (A.17.1 to A.17.8), of those that this profile has
+abbrev pub controls_by : EntityKind → List (ℕ × Control)
+controls_by kind.ClockSource = (CS_SAM_FREQ_CONTROL, control.SamplingFrequency) ∷ (CS_CLOCK_VALID_CONTROL, control.ClockValid) ∷ []
+controls_by kind.ClockSelector = (CX_CLOCK_SELECTOR_CONTROL, control.ClockSelector) ∷ []
+controls_by kind.ClockMultiplier = (CM_NUMERATOR_CONTROL, control.Numerator) ∷ (CM_DENOMINATOR_CONTROL, control.Denominator) ∷ []
+controls_by kind.InputTerminal = (TE_CONNECTOR_CONTROL, control.Connector) ∷ []
+controls_by kind.OutputTerminal = (TE_CONNECTOR_CONTROL, control.Connector) ∷ []
+controls_by kind.Mixer = (MU_MIXER_CONTROL, control.MixerNode) ∷ []
+controls_by kind.Selector = (SU_SELECTOR_CONTROL, control.Selector) ∷ []
+controls_by kind.Feature = (FU_MUTE_CONTROL, control.Mute) ∷ (FU_VOLUME_CONTROL, control.Volume) ∷ []
+controls_by kind.Effect = (EU_ENABLE_CONTROL, control.Enable) ∷ []
 
--- what stands at a selector, from 1 on; none where nothing does
-abbrev pub at_selector : {A : Type 0} → List (Option A) → ℕ → Option A
-at_selector row selector = if selector == 0 then None else get_or row (selector - 1) None
+-- what stands at a selector; none where nothing does
+abbrev pub at_selector : {A : Type 0} → List (ℕ × A) → ℕ → Option A
+at_selector row selector = lookup (λ s. s == selector) row
 
 -- the control that a selector names
 abbrev pub control_of : EntityKind → ℕ → Option Control
@@ -103,17 +107,23 @@ IsSmall k inputs outputs = IsSmallOn (spread_of k) inputs outputs
 
 -- ---- their values
 
--- profile: at the start mute and volume are 0, selectors 1, a frequency 48000, numerator and denominator 1, enable 0, a node as given
-abbrev pub start_by : EntityKind → ℤ → ℤ
-start_by kind.ClockSource node = pos 48000
-start_by kind.ClockSelector node = pos 1
-start_by kind.ClockMultiplier node = pos 1
-start_by kind.InputTerminal node = pos 0
-start_by kind.OutputTerminal node = pos 0
-start_by kind.Mixer node = node
-start_by kind.Selector node = pos 1
-start_by kind.Feature node = pos 0
-start_by kind.Effect node = pos 0
+-- profile: the value of a control at the start, a node's as given; 0 stands where no value is kept, and nothing reads it
+abbrev pub start_as : Control → ℤ → ℤ
+start_as control.SamplingFrequency node = pos 48000
+start_as control.ClockValid node = pos 0
+start_as control.ClockSelector node = pos 1
+start_as control.Numerator node = pos 1
+start_as control.Denominator node = pos 1
+start_as control.Connector node = pos 0
+start_as control.MixerNode node = node
+start_as control.Selector node = pos 1
+start_as control.Mute node = pos 0
+start_as control.Volume node = pos 0
+start_as control.Enable node = pos 0
+
+-- the value at the start of the control with a selector; 0 where there is none
+abbrev pub start_by : EntityKind → ℕ → ℤ → ℤ
+start_by k selector node = option_map_or (λ c. start_as c node) (control_of k selector) (pos 0)
 
 -- the pins that a control of one byte can choose
 abbrev pub choices : ℕ → ℕ

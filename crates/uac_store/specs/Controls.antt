@@ -37,14 +37,14 @@ unfoldable pub node_start : List ℕ → ℕ → ℕ → ℤ
 node_start pins outputs node =
     if channel_within pins (node / outputs) == node % outputs then pos 0 else negsuc 32767
 
--- profile: at the start mute and volume are 0, selectors 1, a frequency 48000, numerator and denominator 1, enable 0
-unfoldable pub start_of : List Entity → Entity → ℕ → ℤ
-start_of entities e channel = start_by e.kind (node_start (pins_of entities e) e.cluster.channels channel)
+-- what an entity's control of a selector has at the start on a channel
+unfoldable pub start_of : List Entity → Entity → ℕ → ℕ → ℤ
+start_of entities e selector channel = start_by e.kind selector (node_start (pins_of entities e) e.cluster.channels channel)
 
 -- one control of an entity at the start, on its first channels
 unfoldable pub first_channels : List Entity → Entity → ℕ → ℕ → List (Key × ℤ)
 first_channels entities e selector n =
-    map (λ channel. (key_of e.id selector channel, start_of entities e channel)) (range_with_len 0 n)
+    map (λ channel. (key_of e.id selector channel, start_of entities e selector channel)) (range_with_len 0 n)
 
 -- one control of an entity at the start, on all its channels
 unfoldable pub channels_at : List Entity → Entity → ℕ → List (Key × ℤ)
@@ -69,7 +69,7 @@ has_control entities k = option_map_or (has_on entities k) (named entities k.ent
 -- what the control of this key has at the start, if there is one
 unfoldable pub start_at : List Entity → Key → Option ℤ
 start_at entities k =
-    option_and_then (λ e. if has_on entities k e then Some (start_of entities e k.channel) else None) (named entities k.entity)
+    option_and_then (λ e. if has_on entities k e then Some (start_of entities e k.selector k.channel) else None) (named entities k.entity)
 
 -- profile: the values that an entity's control takes
 unfoldable pub takes_on : ℕ → ℤ → Entity → Bool

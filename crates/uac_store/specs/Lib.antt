@@ -1,6 +1,7 @@
 -- The values of controls, which of them are legal, and the rates of clocks.
 -- What the program's theorem says: to be read and believed.
 pub mod Keyed
+pub mod Selectors
 pub mod ControlTable
 pub mod Controls
 pub mod Rates

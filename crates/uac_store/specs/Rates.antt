@@ -1,4 +1,4 @@
--- The rate of a clock entity (Audio Class 2.0, 3.13.5 and 4.7.2.1 to 4.7.2.3), found along its clock sources.
+-- The rate of a clock entity (Audio Class 2.0, 3.13.10 to 3.13.12 and 4.7.2.1 to 4.7.2.3), found along its clock sources.
 use Rattle.std.specs.Prelude.{◌≡◌, ℕ, ◌-◌, ◌*◌, ◌/◌, ◌%◌, ◌<◌, false, ◌==◌, ◌&&◌, nat_lt, zero, suc, ℤ, pos, if◌then◌else◌, List, length}
 use Rattle.std.specs.Prelude.{slice_get, Option, Some, None}
 use Rattle.std.specs.Option.{option_and_then}
@@ -12,6 +12,7 @@ use Rattle.uac_topology_rules.specs.Table.{place_of}
 use Rattle.uac_topology_rules.specs.Links.{clock_links}
 use Rattle.uac_store.specs.declared.keys.Key.{Key}
 use Rattle.uac_store.specs.Keyed.{key_of, value_of}
+use Rattle.uac_store.specs.Selectors.{CS_SAM_FREQ_CONTROL, CX_CLOCK_SELECTOR_CONTROL, CM_NUMERATOR_CONTROL, CM_DENOMINATOR_CONTROL}
 
 -- a number of hertz that is one of the twelve rates
 abbrev pub listed : ℕ → Option ℕ
@@ -40,16 +41,17 @@ value_at controls entity selector = value_of controls (key_of entity selector 0)
 
 -- the rate of a source by the controls: that of its frequency
 unfoldable pub source_rate : List (Key × ℤ) → ℕ → Option ℕ
-source_rate controls id = option_and_then of_frequency (value_at controls id 1)
+source_rate controls id = option_and_then of_frequency (value_at controls id CS_SAM_FREQ_CONTROL)
 
 -- the clock source that a clock selector chooses
 unfoldable pub chosen_source : List (Key × ℤ) → Entity → Option ℕ
-chosen_source controls e = option_and_then (chosen e.sources) (value_at controls e.id 1)
+chosen_source controls e = option_and_then (chosen e.sources) (value_at controls e.id CX_CLOCK_SELECTOR_CONTROL)
 
 -- the rate of a multiplier by the rate of its source
 unfoldable pub multiplier_rate : List (Key × ℤ) → ℕ → ℕ → Option ℕ
 multiplier_rate controls id rate =
-    option_and_then (λ n. option_and_then (multiplied rate n) (value_at controls id 2)) (value_at controls id 1)
+    option_and_then (λ n. option_and_then (multiplied rate n) (value_at controls id CM_DENOMINATOR_CONTROL))
+    (value_at controls id CM_NUMERATOR_CONTROL)
 
 -- one step: from the rates of its sources to that of an entity
 abbrev pub rate_by : List (Key × ℤ) → (ℕ → Option ℕ) → Entity → EntityKind → Option ℕ

@@ -4,6 +4,11 @@ ghost use Rattle.uac_store.specs.Controls as spec;
 ghost use Rattle.uac_store.specs.ControlTable as table;
 ghost use Rattle.uac_store.specs.ControlTable.{IsSmall};
 
+use crate::selectors::{
+    CM_DENOMINATOR_CONTROL, CM_NUMERATOR_CONTROL, CS_CLOCK_VALID_CONTROL, CS_SAM_FREQ_CONTROL,
+    CX_CLOCK_SELECTOR_CONTROL, EU_ENABLE_CONTROL, FU_MUTE_CONTROL, FU_VOLUME_CONTROL,
+    MU_MIXER_CONTROL, SU_SELECTOR_CONTROL, TE_CONNECTOR_CONTROL,
+};
 use uac_topology::{Entity, EntityKind, Function};
 
 /// A control of an entity (Audio Class 2.0, 5.2.5).
@@ -106,34 +111,47 @@ pub fn facts_of(control: Control) -> Facts
     }
 }
 
-// The controls of a kind with selector 1 and with selector 2 (A.17.1 to A.17.8).
-fn controls_by(kind: EntityKind) -> [Option<Control>; 2]
-    ensures { result ≡ table.controls_by kind }
+// The controls of a kind by their selectors (A.17.1 to A.17.8).
+fn controls_by(kind: EntityKind) -> &'static [(u8, Control)]
+    ensures { result.now ≡ table.controls_by kind }
 {
     match kind {
-        EntityKind::ClockSource => [Some(Control::SamplingFrequency), Some(Control::ClockValid)],
-        EntityKind::ClockSelector => [Some(Control::ClockSelector), None],
-        EntityKind::ClockMultiplier => [Some(Control::Numerator), Some(Control::Denominator)],
-        EntityKind::InputTerminal | EntityKind::OutputTerminal => [None, Some(Control::Connector)],
-        EntityKind::Mixer => [Some(Control::MixerNode), None],
-        EntityKind::Selector => [Some(Control::Selector), None],
-        EntityKind::Feature => [Some(Control::Mute), Some(Control::Volume)],
-        EntityKind::Effect => [Some(Control::Enable), None],
+        EntityKind::ClockSource => &[
+            (CS_SAM_FREQ_CONTROL, Control::SamplingFrequency),
+            (CS_CLOCK_VALID_CONTROL, Control::ClockValid),
+        ],
+        EntityKind::ClockSelector => &[(CX_CLOCK_SELECTOR_CONTROL, Control::ClockSelector)],
+        EntityKind::ClockMultiplier => &[
+            (CM_NUMERATOR_CONTROL, Control::Numerator),
+            (CM_DENOMINATOR_CONTROL, Control::Denominator),
+        ],
+        EntityKind::InputTerminal | EntityKind::OutputTerminal => &[(
+            TE_CONNECTOR_CONTROL,
+            Control::Connector,
+        )],
+        EntityKind::Mixer => &[(MU_MIXER_CONTROL, Control::MixerNode)],
+        EntityKind::Selector => &[(SU_SELECTOR_CONTROL, Control::Selector)],
+        EntityKind::Feature => &[
+            (FU_MUTE_CONTROL, Control::Mute),
+            (FU_VOLUME_CONTROL, Control::Volume),
+        ],
+        EntityKind::Effect => &[(EU_ENABLE_CONTROL, Control::Enable)],
     }
 }
 
 /// The control that a selector names, None where there is none.
+#[tactic(auto, using(crate::proofs::Tabled::one_or_two))]
 pub fn control_of(kind: EntityKind, selector: u8) -> Option<Control>
     ensures value { result ≡ table.control_of kind selector }
     ensures some { IfSome result (λ control. 1 ≤ selector) }
     ensures low { IfSome result (λ control. selector ≤ 2) }
 {
-    let controls = controls_by(kind);
-    match selector {
-        1 => controls[0],
-        2 => controls[1],
-        _ => None,
+    for row in controls_by(kind) {
+        if row.0 == selector {
+            return Some(row.1);
+        }
     }
+    None
 }
 
 /// What is so of the control that a selector names, None where there is none.

@@ -8,6 +8,8 @@ mod keys;
 pub mod laws;
 /// The rates of clock entities.
 mod rates;
+/// The selectors of controls.
+pub mod selectors;
 /// The values at the start.
 mod start;
 /// The store of all values.

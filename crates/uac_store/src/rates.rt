@@ -6,6 +6,9 @@ ghost use Rattle.uac_store.specs.Rates as spec;
 ghost use Rattle.uac_store.specs.Values.{changed};
 
 use crate::keys::Key;
+use crate::selectors::{
+    CM_DENOMINATOR_CONTROL, CM_NUMERATOR_CONTROL, CS_SAM_FREQ_CONTROL, CX_CLOCK_SELECTOR_CONTROL,
+};
 use crate::store::Store;
 use crate::values::Change;
 use uac_clock::RATES;
@@ -53,7 +56,7 @@ fn source_rate(store: &Store, change: Option<Change>, id: u8) -> Option<u32>
     requires { IfSome change (λ c. IsSome (value_of store.now c.key)) }
     ensures { result ≡ spec.source_rate (changed store.now change) id }
 {
-    let hertz = value(store, change, id, 1)?;
+    let hertz = value(store, change, id, CS_SAM_FREQ_CONTROL)?;
     of_frequency(hertz)
 }
 
@@ -63,7 +66,7 @@ fn chosen_source(store: &Store, change: Option<Change>, entity: &Entity) -> Opti
     requires { IfSome change (λ c. IsSome (value_of store.now c.key)) }
     ensures { result ≡ spec.chosen_source (changed store.now change) entity.now }
 {
-    let pin = value(store, change, entity.id, 1)?;
+    let pin = value(store, change, entity.id, CX_CLOCK_SELECTOR_CONTROL)?;
     chosen(entity.sources.as_slice(), pin)
 }
 
@@ -73,8 +76,8 @@ fn multiplier_rate(store: &Store, change: Option<Change>, id: u8, rate: u32) -> 
     requires { IfSome change (λ c. IsSome (value_of store.now c.key)) }
     ensures { result ≡ spec.multiplier_rate (changed store.now change) id rate }
 {
-    let numerator = value(store, change, id, 1)?;
-    let denominator = value(store, change, id, 2)?;
+    let numerator = value(store, change, id, CM_NUMERATOR_CONTROL)?;
+    let denominator = value(store, change, id, CM_DENOMINATOR_CONTROL)?;
     multiplied(rate, numerator, denominator)
 }
 

@@ -1,17 +1,18 @@
 // The values at the start.
 ghost use Rattle.std.specs.Prelude.{◌≡◌, ℕ, ◌*◌, ◌<◌, ◌++◌, None, IfOk, OnOk, sum};
 ghost use Rattle.uac_store.specs.Keyed.{key_of, value_of};
+ghost use Rattle.uac_store.specs.declared.controls.Control.TheVariants as controls;
 ghost use Rattle.uac_store.specs.ControlTable as table;
 ghost use Rattle.uac_store.specs.Controls as spec;
 ghost use Rattle.uac_store.specs.ControlTable.{IsSmall};
 ghost use Rattle.uac_store.specs.Controls.{IsKeyed, initial_controls, controls_of, channels_at};
 
-use crate::controls::{channels_of, count_of, selectors_of};
+use crate::controls::{Control, channels_of, control_of, count_of, selectors_of};
 use crate::keys::Key;
 use indexmap::IndexMap;
 use std::alloc::Global;
 use uac_descriptor::NoMemory;
-use uac_topology::{Entity, EntityKind, Function};
+use uac_topology::{Entity, Function};
 
 /// The volume that means silence (Audio Class 2.0, 5.2.5.7.2).
 const SILENCE: i32 = -32768;
@@ -68,23 +69,37 @@ fn add_channels(
             selector,
             channel: channel as u8,
         };
-        values.insert(key, start_of(entity, pins, channel))?;
+        values.insert(key, start_of(entity, selector, pins, channel))?;
     }
     Ok(())
 }
 
-fn start_of(entity: &Entity, pins: &[u8], channel: usize) -> i32
+// The value of an entity's control at the start, on one of its channels.
+#[tactic(auto, using(crate::proofs::Tabled::has_outputs))]
+fn start_of(entity: &Entity, selector: u8, pins: &[u8], channel: usize) -> i32
     requires { channel < table.count_by entity.now.kind (sum pins.now * entity.now.cluster.channels) entity.now.cluster.channels }
-    ensures { result ≡ table.start_by entity.now.kind (spec.node_start pins.now entity.now.cluster.channels channel) }
+    ensures { result ≡ table.start_by entity.now.kind selector (spec.node_start pins.now entity.now.cluster.channels channel) }
 {
-    match entity.kind {
-        EntityKind::ClockSource => 48000,
-        EntityKind::ClockSelector | EntityKind::ClockMultiplier | EntityKind::Selector => 1,
-        EntityKind::Mixer => node_start(pins, entity.cluster.channels as usize, channel),
-        EntityKind::InputTerminal
-        | EntityKind::OutputTerminal
-        | EntityKind::Feature
-        | EntityKind::Effect => 0,
+    match control_of(entity.kind, selector) {
+        Some(control) => start_as(control, pins, entity.cluster.channels as usize, channel),
+        None => 0,
+    }
+}
+
+// The value of a control at the start (profile).
+fn start_as(control: Control, pins: &[u8], outputs: usize, channel: usize) -> i32
+    requires { control ≡ controls.MixerNode → 0 < outputs }
+    ensures { result ≡ table.start_as control (spec.node_start pins.now outputs channel) }
+{
+    match control {
+        Control::SamplingFrequency => 48000,
+        Control::ClockSelector | Control::Numerator | Control::Denominator | Control::Selector => 1,
+        Control::MixerNode => node_start(pins, outputs, channel),
+        Control::Mute
+        | Control::Volume
+        | Control::Enable
+        | Control::ClockValid
+        | Control::Connector => 0,
     }
 }
 
