@@ -1,14 +1,16 @@
 -- Values that come back from their bytes.
-use Rattle.std.proofs.Common.{◌≡◌, ap, ℕ, ◌-◌, ◌*◌, ◌/◌, ◌%◌, ◌^◌, ◌==◌, ◌<◌, ◌≤◌, nat_lt, nat_le, Bool, true, false, ℤ, pos, negsuc, ◌⊎◌, inl, inr, length, unwrap_or, refl, is_some, arith}
+use Rattle.std.proofs.Common.{◌≡◌, ◌∙◌, sym, ap, [], ℕ, ◌-◌, ◌*◌, ◌/◌, ◌%◌, ◌^◌, ◌==◌, ◌<◌, ◌≤◌, nat_lt, nat_le, Bool, true, false, ℤ, pos, negsuc, ◌⊎◌, inl, inr, length, unwrap_or, refl, is_some, arith}
 use Rattle.std.proofs.lemmas.Bool.{cases_Bool}
-use Rattle.std.proofs.lemmas.List.FromFn.{length-map-range_with_len}
+use Rattle.std.proofs.lemmas.List.{append-nil}
+use Rattle.byteorder.specs.Endian.{little_bytes, little_number}
+use Rattle.byteorder.specs.Numbers.{length-bytes_low_first, little_number-reads_back}
 use Rattle.uac_clock.specs.Nominal.{is_listed}
 use Rattle.uac_entities.specs.declared.entity.EntityKind.{EntityKind}
 use Rattle.uac_entities.specs.declared.entity.EntityKind.TheVariants as kind
 use Rattle.uac_gain.specs.Gain.{gain_of}
 use Rattle.uac_store.specs.ControlTable.{choices, is_frequency, is_one_to, is_switch, selectors_of, takes_by}
 use Rattle.uac_store.proofs.Tabled.{at_each}
-use Rattle.uac_request.specs.Requests.{complement, entity_width, is_signed, IsWithin, little_bytes, little_number, value_bytes, value_from}
+use Rattle.uac_request.specs.Requests.{complement, entity_width, is_signed, IsWithin, value_bytes, value_from}
 
 -- ---- numbers
 
@@ -16,30 +18,13 @@ use Rattle.uac_request.specs.Requests.{complement, entity_width, is_signed, IsWi
 abbrev pub IsWidth : ℕ → Type 0
 IsWidth w = (w ≡ 1) ⊎ (w ≡ 2) ⊎ (w ≡ 4)
 
-one_back : (n : ℕ) → n < 256 → little_number (little_bytes 1 n) ≡ n
-unfolding little_number little_bytes
-one_back n few = omega arith
-
-two_back : (n : ℕ) → n < 65536 → little_number (little_bytes 2 n) ≡ n
-unfolding little_number little_bytes
-two_back n few = omega arith
-
-four_back : (n : ℕ) → n < 4294967296 → little_number (little_bytes 4 n) ≡ n
-unfolding little_number little_bytes
-four_back n few = omega arith
-
-number_back : (w n : ℕ) → IsWidth w → n < 256 ^ w → little_number (little_bytes w n) ≡ n
-number_back w n (inl one) few = rw one (one_back n (rw one at few))
-number_back w n (inr (inl two)) few = rw two (two_back n (rw two at few))
-number_back w n (inr (inr four)) few = rw four (four_back n (rw four at few))
-
-pub length_little : (w n : ℕ) → length (little_bytes w n) ≡ w
-unfolding little_bytes
-length_little w n = length-map-range_with_len (λ i. n / 256 ^ i % 256) 0 w
+-- a number comes back from its bytes
+number_back : (w n : ℕ) → n < 256 ^ w → little_number w (little_bytes w n) ≡ n
+number_back w n few = ap (little_number w) (sym (append-nil (little_bytes w n))) ∙ little_number-reads_back w n [] few
 
 pub length_value : (w : ℕ) (v : ℤ) → length (value_bytes w v) ≡ w
 unfolding value_bytes
-length_value w v = length_little w (complement w v)
+length_value w v = length-bytes_low_first 0 w (complement w v)
 
 -- ---- values, by the numbers that there are in their bytes
 
@@ -60,17 +45,17 @@ even_power w (inr (inr four)) = rw four refl
 module _ (w : ℕ) (wide : IsWidth w) where
   plain_back : (v : ℤ) → IsWithin false w v → value_from false (value_bytes w v) ≡ v
   unfolding value_from value_bytes
-  plain_back (pos n) within = ap pos (number_back w n wide within)
+  plain_back (pos n) within = rw (length-bytes_low_first 0 w n) (ap pos (number_back w n within))
   plain_back (negsuc n) within = absurd within
 
   signed_back : (v : ℤ) → IsWithin true w v → value_from true (value_bytes w v) ≡ v
   unfolding value_from value_bytes
   signed_back (pos n) within =
       let few : n < 256 ^ w = omega (arith, within) in
-      rw (length_little w n, number_back w n wide few, is_below n (256 ^ w) (even_power w wide) within) refl
+      rw (length-bytes_low_first 0 w n, number_back w n few, is_below n (256 ^ w) (even_power w wide) within) refl
   signed_back (negsuc n) within =
       let few : 256 ^ w - 1 - n < 256 ^ w = omega (arith, within) in
-      rw (length_little w (256 ^ w - 1 - n), number_back w (256 ^ w - 1 - n) wide few, is_above n (256 ^ w) within) (ap negsuc (turned_twice n (256 ^ w) within))
+      rw (length-bytes_low_first 0 w (256 ^ w - 1 - n), number_back w (256 ^ w - 1 - n) few, is_above n (256 ^ w) within) (ap negsuc (turned_twice n (256 ^ w) within))
 
   pub value_back : (signed : Bool) (v : ℤ) → IsWithin signed w v → value_from signed (value_bytes w v) ≡ v
   value_back true v within = signed_back v within

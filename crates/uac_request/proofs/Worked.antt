@@ -1,6 +1,7 @@
 -- Worked answers: a headset's, to requests byte by byte.
-use Rattle.std.proofs.Common.{◌≡◌, ℕ, ℤ, pos, negsuc, List, [], ◌∷◌, map, Some, None, unwrap_or, true, false, refl}
+use Rattle.std.proofs.Common.{◌≡◌, ℕ, ℤ, pos, negsuc, List, [], ◌∷◌, map, drop, get_or, Some, None, unwrap_or, true, false, refl}
 use Rattle.std.specs.List.{range_with_len}
+use Rattle.byteorder.specs.Endian.{little_number}
 use Rattle.uac_entities.specs.declared.entity.Entity.{Entity}
 use Rattle.uac_entities.specs.declared.entity.EntityKind.{EntityKind}
 use Rattle.uac_entities.specs.declared.entity.EntityKind.TheVariants as kind
@@ -10,13 +11,14 @@ use Rattle.uac_entities.specs.Streams.{named}
 use Rattle.uac_clock.specs.Nominal.{nominal_of, values_of}
 use Rattle.uac_gain.specs.Gain.{decibel_gain, raised_gain}
 use Rattle.uac_topology.specs.Function.{FunctionFields}
-use Rattle.uac_store.specs.Keyed.{value_of, with_value}
+use Rattle.uac_store.specs.Keyed.{key_of, value_of, with_value}
 use Rattle.uac_store.specs.Controls.{channels_at, controls_of, count_of, first_channels, has_on, initial_controls, start_of, takes, takes_on}
 use Rattle.uac_store.specs.Rates.{rate_of, rate_step, rate_within, source_rate}
+use Rattle.uac_store.specs.Selectors.{CS_SAM_FREQ_CONTROL, CS_CLOCK_VALID_CONTROL, CX_CLOCK_SELECTOR_CONTROL, CM_NUMERATOR_CONTROL, CM_DENOMINATOR_CONTROL, TE_CONNECTOR_CONTROL, MU_MIXER_CONTROL, SU_SELECTOR_CONTROL, FU_MUTE_CONTROL, FU_VOLUME_CONTROL, EU_ENABLE_CONTROL}
 use Rattle.uac_store.specs.Values.{are_clocked, is_legal, ranges_of}
 use Rattle.uac_alt.specs.Settings.{initial_settings, setting_of, with_setting}
 use Rattle.uac_alt.specs.Streams.{can_run, linked_channels, stream_at, stream_of}
-use Rattle.uac_request.specs.Requests.{Held, AnswerFields, with_bytes, with_descriptor, is_done, is_stalled, after_request, answered, breaks_q1, breaks_q2, breaks_q3, breaks_q4, breaks_q5, breaks_q6, breaks_q7, breaks_q8, breaks_q9, breaks_q10, breaks_q11, breaks_q12, cur_bytes, entity_width, first_broken, has_setting, is_signed, is_valid, left_by, little_bytes, little_number, node_bit, owner_of, range_bytes, reply_of, setup_of, valid_bytes, value_bytes, value_from}
+use Rattle.uac_request.specs.Requests.{Held, AnswerFields, with_bytes, with_descriptor, is_done, is_stalled, after_request, answered, breaks_q1, breaks_q2, breaks_q3, breaks_q4, breaks_q5, breaks_q6, breaks_q7, breaks_q8, breaks_q9, breaks_q10, breaks_q11, breaks_q12, cur_bytes, entity_bytes, entity_width, first_broken, has_setting, is_signed, is_valid, left_by, node_bit, owner_of, range_bytes, reply_of, setup_of, valid_bytes, value_bytes, value_from}
 
 abbrev with : ℕ → EntityKind → ℕ → List ℕ → ℕ → ℕ → ℕ → List ℕ → Entity
 with id k type sources clock channels locations controls =
@@ -113,21 +115,21 @@ one_byte = refl
 
 -- the range of a volume, cut at the length that is asked for
 range_cut : first (161 ∷ 2 ∷ 1 ∷ 2 ∷ 0 ∷ 3 ∷ 2 ∷ 0 ∷ []) [] ≡ with_bytes (2 ∷ 0 ∷ [])
-unfolding first reply_of headset owner_of entities named count_of answered range_bytes ranges_of has_on little_bytes value_bytes first_broken breaks_q1 breaks_q2 breaks_q3 breaks_q4 breaks_q5 breaks_q6 breaks_q7 breaks_q8 breaks_q9 breaks_q10 breaks_q11 breaks_q12
+unfolding first reply_of headset owner_of entities named count_of answered range_bytes ranges_of has_on value_bytes first_broken breaks_q1 breaks_q2 breaks_q3 breaks_q4 breaks_q5 breaks_q6 breaks_q7 breaks_q8 breaks_q9 breaks_q10 breaks_q11 breaks_q12
 range_cut = refl
 
 range_half : first (161 ∷ 2 ∷ 1 ∷ 2 ∷ 0 ∷ 3 ∷ 8 ∷ 0 ∷ []) [] ≡ with_bytes (2 ∷ 0 ∷ 0 ∷ 160 ∷ 0 ∷ 223 ∷ 0 ∷ 1 ∷ [])
-unfolding first reply_of headset owner_of entities named count_of answered range_bytes ranges_of has_on little_bytes value_bytes first_broken breaks_q1 breaks_q2 breaks_q3 breaks_q4 breaks_q5 breaks_q6 breaks_q7 breaks_q8 breaks_q9 breaks_q10 breaks_q11 breaks_q12
+unfolding first reply_of headset owner_of entities named count_of answered range_bytes ranges_of has_on value_bytes first_broken breaks_q1 breaks_q2 breaks_q3 breaks_q4 breaks_q5 breaks_q6 breaks_q7 breaks_q8 breaks_q9 breaks_q10 breaks_q11 breaks_q12
 range_half = refl
 
 range_whole : first (161 ∷ 2 ∷ 1 ∷ 2 ∷ 0 ∷ 3 ∷ 14 ∷ 0 ∷ []) []
     ≡ with_bytes (2 ∷ 0 ∷ 0 ∷ 160 ∷ 0 ∷ 223 ∷ 0 ∷ 1 ∷ 0 ∷ 224 ∷ 0 ∷ 12 ∷ 128 ∷ 0 ∷ [])
-unfolding first reply_of headset owner_of entities named count_of answered range_bytes ranges_of has_on little_bytes value_bytes first_broken breaks_q1 breaks_q2 breaks_q3 breaks_q4 breaks_q5 breaks_q6 breaks_q7 breaks_q8 breaks_q9 breaks_q10 breaks_q11 breaks_q12
+unfolding first reply_of headset owner_of entities named count_of answered range_bytes ranges_of has_on value_bytes first_broken breaks_q1 breaks_q2 breaks_q3 breaks_q4 breaks_q5 breaks_q6 breaks_q7 breaks_q8 breaks_q9 breaks_q10 breaks_q11 breaks_q12
 range_whole = refl
 
 -- a setting's map and the active setting of interface 1
 valid_settings : first (161 ∷ 1 ∷ 0 ∷ 2 ∷ 1 ∷ 0 ∷ 2 ∷ 0 ∷ []) [] ≡ with_bytes (1 ∷ 3 ∷ [])
-unfolding first at_start reply_of headset owner_of entities named answered cur_bytes valid_bytes is_valid stream_of stream_at can_run linked_channels little_bytes rate_of rate_within rate_step source_rate value_of initial_controls controls_of channels_at first_channels count_of start_of nominal_of values_of first_broken breaks_q1 breaks_q2 breaks_q3 breaks_q4 breaks_q5 breaks_q6 breaks_q7 breaks_q8 breaks_q9 breaks_q10 breaks_q11 breaks_q12
+unfolding first at_start reply_of headset owner_of entities named answered cur_bytes valid_bytes is_valid stream_of stream_at can_run linked_channels rate_of rate_within rate_step source_rate value_of initial_controls controls_of channels_at first_channels count_of start_of nominal_of values_of first_broken breaks_q1 breaks_q2 breaks_q3 breaks_q4 breaks_q5 breaks_q6 breaks_q7 breaks_q8 breaks_q9 breaks_q10 breaks_q11 breaks_q12
 valid_settings = refl
 
 active_setting : first (161 ∷ 1 ∷ 0 ∷ 1 ∷ 1 ∷ 0 ∷ 1 ∷ 0 ∷ []) [] ≡ with_bytes (0 ∷ [])
@@ -145,15 +147,15 @@ interface = refl
 
 -- a volume between two steps isn't legal, half a decibel and silence are
 between_steps : first (33 ∷ 1 ∷ 1 ∷ 2 ∷ 0 ∷ 3 ∷ 2 ∷ 0 ∷ []) (64 ∷ 0 ∷ []) ≡ is_stalled 9
-unfolding first at_start reply_of headset owner_of entities named count_of value_from little_number is_legal takes takes_on decibel_gain first_broken breaks_q1 breaks_q2 breaks_q3 breaks_q4 breaks_q5 breaks_q6 breaks_q7 breaks_q8 breaks_q9 breaks_q10 breaks_q11 breaks_q12
+unfolding first at_start reply_of headset owner_of entities named count_of value_from is_legal takes takes_on decibel_gain first_broken breaks_q1 breaks_q2 breaks_q3 breaks_q4 breaks_q5 breaks_q6 breaks_q7 breaks_q8 breaks_q9 breaks_q10 breaks_q11 breaks_q12
 between_steps = refl
 
 half_a_decibel : first (33 ∷ 1 ∷ 1 ∷ 2 ∷ 0 ∷ 3 ∷ 2 ∷ 0 ∷ []) (128 ∷ 0 ∷ []) ≡ is_done
-unfolding first at_start reply_of headset owner_of entities named count_of value_from little_number is_legal takes takes_on decibel_gain raised_gain answered first_broken breaks_q1 breaks_q2 breaks_q3 breaks_q4 breaks_q5 breaks_q6 breaks_q7 breaks_q8 breaks_q9 breaks_q10 breaks_q11 breaks_q12
+unfolding first at_start reply_of headset owner_of entities named count_of value_from is_legal takes takes_on decibel_gain raised_gain answered first_broken breaks_q1 breaks_q2 breaks_q3 breaks_q4 breaks_q5 breaks_q6 breaks_q7 breaks_q8 breaks_q9 breaks_q10 breaks_q11 breaks_q12
 half_a_decibel = refl
 
 silenced : first (33 ∷ 1 ∷ 1 ∷ 2 ∷ 0 ∷ 3 ∷ 2 ∷ 0 ∷ []) (0 ∷ 128 ∷ []) ≡ is_done
-unfolding first at_start reply_of headset owner_of entities named count_of value_from little_number is_legal takes takes_on decibel_gain answered first_broken breaks_q1 breaks_q2 breaks_q3 breaks_q4 breaks_q5 breaks_q6 breaks_q7 breaks_q8 breaks_q9 breaks_q10 breaks_q11 breaks_q12
+unfolding first at_start reply_of headset owner_of entities named count_of value_from is_legal takes takes_on decibel_gain answered first_broken breaks_q1 breaks_q2 breaks_q3 breaks_q4 breaks_q5 breaks_q6 breaks_q7 breaks_q8 breaks_q9 breaks_q10 breaks_q11 breaks_q12
 silenced = refl
 
 -- a setting that isn't there, and one that is
@@ -170,7 +172,7 @@ runs = refl
 
 -- while it runs, its clock's rate can't change
 rate_held : reply_of (headset 150) started (setup_of (33 ∷ 1 ∷ 0 ∷ 1 ∷ 0 ∷ 1 ∷ 4 ∷ 0 ∷ [])) (68 ∷ 172 ∷ 0 ∷ 0 ∷ []) ≡ is_stalled 10
-unfolding reply_of started after_request at_start headset has_setting is_valid stream_of stream_at can_run linked_channels entities named owner_of value_from little_number is_legal takes takes_on are_clocked with_value rate_of rate_within rate_step source_rate value_of initial_controls controls_of channels_at first_channels count_of start_of nominal_of values_of left_by setting_of with_setting initial_settings first_broken breaks_q1 breaks_q2 breaks_q3 breaks_q4 breaks_q5 breaks_q6 breaks_q7 breaks_q8 breaks_q9 breaks_q10 breaks_q11 breaks_q12
+unfolding reply_of started after_request at_start headset has_setting is_valid stream_of stream_at can_run linked_channels entities named owner_of value_from is_legal takes takes_on are_clocked with_value rate_of rate_within rate_step source_rate value_of initial_controls controls_of channels_at first_channels count_of start_of nominal_of values_of left_by setting_of with_setting initial_settings first_broken breaks_q1 breaks_q2 breaks_q3 breaks_q4 breaks_q5 breaks_q6 breaks_q7 breaks_q8 breaks_q9 breaks_q10 breaks_q11 breaks_q12
 rate_held = refl
 
 -- an endpoint of 144 bytes is too small at 192,000 Hz
@@ -178,7 +180,7 @@ fast : Held
 fast = after_request (headset 144) at_start (setup_of (33 ∷ 1 ∷ 0 ∷ 1 ∷ 0 ∷ 1 ∷ 4 ∷ 0 ∷ [])) (0 ∷ 238 ∷ 2 ∷ 0 ∷ [])
 
 too_small : reply_of (headset 144) fast (setup_of (1 ∷ 11 ∷ 1 ∷ 0 ∷ 1 ∷ 0 ∷ 0 ∷ 0 ∷ [])) [] ≡ is_stalled 12
-unfolding reply_of fast after_request at_start headset has_setting is_valid stream_of stream_at can_run linked_channels entities named owner_of value_from little_number is_legal takes takes_on are_clocked with_value rate_of rate_within rate_step source_rate value_of initial_controls controls_of channels_at first_channels count_of start_of nominal_of values_of left_by setting_of with_setting initial_settings first_broken breaks_q1 breaks_q2 breaks_q3 breaks_q4 breaks_q5 breaks_q6 breaks_q7 breaks_q8 breaks_q9 breaks_q10 breaks_q11 breaks_q12
+unfolding reply_of fast after_request at_start headset has_setting is_valid stream_of stream_at can_run linked_channels entities named owner_of value_from is_legal takes takes_on are_clocked with_value rate_of rate_within rate_step source_rate value_of initial_controls controls_of channels_at first_channels count_of start_of nominal_of values_of left_by setting_of with_setting initial_settings first_broken breaks_q1 breaks_q2 breaks_q3 breaks_q4 breaks_q5 breaks_q6 breaks_q7 breaks_q8 breaks_q9 breaks_q10 breaks_q11 breaks_q12
 too_small = refl
 
 -- ---- values as bytes, both ways
@@ -190,87 +192,115 @@ sent_as k selector v = value_bytes (unwrap_or (entity_width k selector) 0) v
 abbrev read_as : EntityKind → ℕ → List ℕ → ℤ
 read_as k selector bytes = value_from (is_signed k selector) bytes
 
--- a frequency of 48,000 Hz, a clock's second pin, a numerator of 8 and a denominator of 3
-frequency_out : sent_as kind.ClockSource 1 (pos 48000) ≡ 128 ∷ 187 ∷ 0 ∷ 0 ∷ []
-unfolding value_bytes little_bytes
+-- a frequency of 48,000 Hz
+frequency_out : sent_as kind.ClockSource CS_SAM_FREQ_CONTROL (pos 48000) ≡ 128 ∷ 187 ∷ 0 ∷ 0 ∷ []
+unfolding value_bytes
 frequency_out = refl
 
-frequency_in : read_as kind.ClockSource 1 (128 ∷ 187 ∷ 0 ∷ 0 ∷ []) ≡ pos 48000
-unfolding value_from little_number
+frequency_in : read_as kind.ClockSource CS_SAM_FREQ_CONTROL (128 ∷ 187 ∷ 0 ∷ 0 ∷ []) ≡ pos 48000
+unfolding value_from
 frequency_in = refl
 
-clock_pin_out : sent_as kind.ClockSelector 1 (pos 2) ≡ 2 ∷ []
-unfolding value_bytes little_bytes
+-- a clock's validity is always 1
+validity_told : (e : Entity) → entity_bytes kind.ClockSource e [] (key_of 1 CS_CLOCK_VALID_CONTROL 0) ≡ 1 ∷ []
+validity_told e = refl
+
+validity_out : sent_as kind.ClockSource CS_CLOCK_VALID_CONTROL (pos 1) ≡ 1 ∷ []
+unfolding value_bytes
+validity_out = refl
+
+validity_in : read_as kind.ClockSource CS_CLOCK_VALID_CONTROL (1 ∷ []) ≡ pos 1
+unfolding value_from
+validity_in = refl
+
+-- a clock's second pin, a numerator of 8 and a denominator of 3
+clock_pin_out : sent_as kind.ClockSelector CX_CLOCK_SELECTOR_CONTROL (pos 2) ≡ 2 ∷ []
+unfolding value_bytes
 clock_pin_out = refl
 
-clock_pin_in : read_as kind.ClockSelector 1 (2 ∷ []) ≡ pos 2
-unfolding value_from little_number
+clock_pin_in : read_as kind.ClockSelector CX_CLOCK_SELECTOR_CONTROL (2 ∷ []) ≡ pos 2
+unfolding value_from
 clock_pin_in = refl
 
-numerator_out : sent_as kind.ClockMultiplier 1 (pos 8) ≡ 8 ∷ 0 ∷ []
-unfolding value_bytes little_bytes
+numerator_out : sent_as kind.ClockMultiplier CM_NUMERATOR_CONTROL (pos 8) ≡ 8 ∷ 0 ∷ []
+unfolding value_bytes
 numerator_out = refl
 
-numerator_in : read_as kind.ClockMultiplier 1 (8 ∷ 0 ∷ []) ≡ pos 8
-unfolding value_from little_number
+numerator_in : read_as kind.ClockMultiplier CM_NUMERATOR_CONTROL (8 ∷ 0 ∷ []) ≡ pos 8
+unfolding value_from
 numerator_in = refl
 
-denominator_out : sent_as kind.ClockMultiplier 2 (pos 3) ≡ 3 ∷ 0 ∷ []
-unfolding value_bytes little_bytes
+denominator_out : sent_as kind.ClockMultiplier CM_DENOMINATOR_CONTROL (pos 3) ≡ 3 ∷ 0 ∷ []
+unfolding value_bytes
 denominator_out = refl
 
-denominator_in : read_as kind.ClockMultiplier 2 (3 ∷ 0 ∷ []) ≡ pos 3
-unfolding value_from little_number
+denominator_in : read_as kind.ClockMultiplier CM_DENOMINATOR_CONTROL (3 ∷ 0 ∷ []) ≡ pos 3
+unfolding value_from
 denominator_in = refl
 
+-- a terminal's connector is its cluster: eight channels, their locations 0x063F, low byte first, and the names from string 5 on
+connector : List ℕ
+connector = 8 ∷ 63 ∷ 6 ∷ 0 ∷ 0 ∷ 5 ∷ []
+
+abbrev eight : Entity
+eight = record (with 2 kind.InputTerminal 513 [] 1 8 1599 (4 ∷ [])) { cluster = record { channels = 8; locations = 1599; names = 5 } }
+
+connector_out : entity_bytes kind.InputTerminal eight [] (key_of 2 TE_CONNECTOR_CONTROL 0) ≡ connector
+unfolding connector
+connector_out = refl
+
+connector_in : (get_or connector 0 0 ≡ 8) × (little_number 4 (drop 1 connector) ≡ 1599) × (get_or connector 5 0 ≡ 5)
+unfolding connector
+connector_in = (refl, refl, refl)
+
 -- a silent node, and one of -1 dB
-silent_node_out : sent_as kind.Mixer 1 (negsuc 32767) ≡ 0 ∷ 128 ∷ []
-unfolding value_bytes little_bytes
+silent_node_out : sent_as kind.Mixer MU_MIXER_CONTROL (negsuc 32767) ≡ 0 ∷ 128 ∷ []
+unfolding value_bytes
 silent_node_out = refl
 
-silent_node_in : read_as kind.Mixer 1 (0 ∷ 128 ∷ []) ≡ negsuc 32767
-unfolding value_from little_number
+silent_node_in : read_as kind.Mixer MU_MIXER_CONTROL (0 ∷ 128 ∷ []) ≡ negsuc 32767
+unfolding value_from
 silent_node_in = refl
 
-low_node_in : read_as kind.Mixer 1 (0 ∷ 255 ∷ []) ≡ negsuc 255
-unfolding value_from little_number
+low_node_in : read_as kind.Mixer MU_MIXER_CONTROL (0 ∷ 255 ∷ []) ≡ negsuc 255
+unfolding value_from
 low_node_in = refl
 
 -- a pin, a mute, a volume of -6 dB and one of 0.5 dB, and an enable
-pin_out : sent_as kind.Selector 1 (pos 3) ≡ 3 ∷ []
-unfolding value_bytes little_bytes
+pin_out : sent_as kind.Selector SU_SELECTOR_CONTROL (pos 3) ≡ 3 ∷ []
+unfolding value_bytes
 pin_out = refl
 
-pin_in : read_as kind.Selector 1 (3 ∷ []) ≡ pos 3
-unfolding value_from little_number
+pin_in : read_as kind.Selector SU_SELECTOR_CONTROL (3 ∷ []) ≡ pos 3
+unfolding value_from
 pin_in = refl
 
-mute_out : sent_as kind.Feature 1 (pos 1) ≡ 1 ∷ []
-unfolding value_bytes little_bytes
+mute_out : sent_as kind.Feature FU_MUTE_CONTROL (pos 1) ≡ 1 ∷ []
+unfolding value_bytes
 mute_out = refl
 
-mute_in : read_as kind.Feature 1 (1 ∷ []) ≡ pos 1
-unfolding value_from little_number
+mute_in : read_as kind.Feature FU_MUTE_CONTROL (1 ∷ []) ≡ pos 1
+unfolding value_from
 mute_in = refl
 
-volume_out : sent_as kind.Feature 2 (negsuc 1535) ≡ 0 ∷ 250 ∷ []
-unfolding value_bytes little_bytes
+volume_out : sent_as kind.Feature FU_VOLUME_CONTROL (negsuc 1535) ≡ 0 ∷ 250 ∷ []
+unfolding value_bytes
 volume_out = refl
 
-volume_in : read_as kind.Feature 2 (0 ∷ 250 ∷ []) ≡ negsuc 1535
-unfolding value_from little_number
+volume_in : read_as kind.Feature FU_VOLUME_CONTROL (0 ∷ 250 ∷ []) ≡ negsuc 1535
+unfolding value_from
 volume_in = refl
 
-raised_volume_in : read_as kind.Feature 2 (128 ∷ 0 ∷ []) ≡ pos 128
-unfolding value_from little_number
+raised_volume_in : read_as kind.Feature FU_VOLUME_CONTROL (128 ∷ 0 ∷ []) ≡ pos 128
+unfolding value_from
 raised_volume_in = refl
 
-enable_out : sent_as kind.Effect 1 (pos 1) ≡ 1 ∷ []
-unfolding value_bytes little_bytes
+enable_out : sent_as kind.Effect EU_ENABLE_CONTROL (pos 1) ≡ 1 ∷ []
+unfolding value_bytes
 enable_out = refl
 
-enable_in : read_as kind.Effect 1 (1 ∷ []) ≡ pos 1
-unfolding value_from little_number
+enable_in : read_as kind.Effect EU_ENABLE_CONTROL (1 ∷ []) ≡ pos 1
+unfolding value_from
 enable_in = refl
 
 -- ---- bitmaps
@@ -293,5 +323,5 @@ nine_settings =
     }
 
 two_byte_map : valid_bytes (record (headset 150) { streams = nine_settings ∷ [] }) (initial_controls entities) nine_settings ≡ 2 ∷ 3 ∷ 1 ∷ []
-unfolding nine_settings valid_bytes is_valid stream_of stream_at can_run linked_channels headset entities named little_bytes rate_of rate_within rate_step source_rate value_of initial_controls controls_of channels_at first_channels count_of start_of nominal_of values_of
+unfolding nine_settings valid_bytes is_valid stream_of stream_at can_run linked_channels headset entities named rate_of rate_within rate_step source_rate value_of initial_controls controls_of channels_at first_channels count_of start_of nominal_of values_of
 two_byte_map = refl

@@ -3,9 +3,10 @@
 use Rattle.std.specs.Prelude.{◌≡◌, ◌<◌, ℕ, ◌+◌, ◌-◌, ◌*◌, ◌/◌, ◌%◌, ◌^◌, ◌==◌, ◌&&◌, ◌||◌, not, nat_le, nat_lt, Bool, true, false}
 use Rattle.std.specs.Prelude.{if◌then◌else◌, ℤ, pos, negsuc, List, [], ◌∷◌, ◌++◌, map, flat_map, length, get_or, take, sum, Option, Some}
 use Rattle.std.specs.Prelude.{None, is_some, unwrap_or}
-use Rattle.std.specs.List.{find, filter_map, list_any, range_with_len}
+use Rattle.std.specs.List.{find, filter_map, list_any}
 use Rattle.std.specs.Option.{option_and_then, option_map, option_map_or}
 use Rattle.std.specs.Ordering.{int_eq}
+use Rattle.byteorder.specs.Endian.{little_bytes, little_number}
 pub use Rattle.uac_sentence.specs.Grammar.{least}
 use Rattle.uac_entities.specs.Streams.{named}
 use Rattle.uac_entities.specs.declared.entity.Entity.{Entity}
@@ -189,22 +190,14 @@ is_writable (by_stream s) selector channel = false
 
 -- ---- values as bytes
 
--- so many bytes of a number, the lowest first
-unfoldable pub little_bytes : ℕ → ℕ → List ℕ
-little_bytes width n = map (λ i. n / 256 ^ i % 256) (range_with_len 0 width)
-
 -- the number that a value is in so many bytes, in two's complement where it is negative
 abbrev pub complement : ℕ → ℤ → ℕ
 complement width (pos n) = n
 complement width (negsuc n) = 256 ^ width - 1 - n
 
--- a value in so many bytes
+-- a value in so many bytes, the lowest first
 unfoldable pub value_bytes : ℕ → ℤ → List ℕ
 value_bytes width v = little_bytes width (complement width v)
-
--- the number that bytes are, the lowest first
-unfoldable pub little_number : List ℕ → ℕ
-little_number bytes = sum (map (λ i. get_or bytes i 0 * 256 ^ i) (range_with_len 0 (length bytes)))
 
 -- the values that have a place in so many bytes, with a sign or without
 abbrev pub IsWithin : Bool → ℕ → ℤ → Type 0
@@ -217,10 +210,10 @@ IsWithin false width (negsuc n) = ⊥
 abbrev pub is_signed : EntityKind → ℕ → Bool
 is_signed k selector = option_map_or (λ f. f.signed) (facts_at k selector) false
 
--- the value that bytes are
+-- the value that bytes are, the lowest first
 unfoldable pub value_from : Bool → List ℕ → ℤ
 value_from signed bytes =
-    let n = little_number bytes in
+    let n = little_number (length bytes) bytes in
     if signed && nat_le (256 ^ length bytes / 2) n then negsuc (256 ^ length bytes - 1 - n) else pos n
 
 -- ---- the rules

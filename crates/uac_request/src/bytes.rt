@@ -1,13 +1,15 @@
 // Values as the bytes of controls (Audio Class 2.0, 5.2.3.1 to 5.2.3.3).
-ghost use Rattle.std.specs.Prelude.{◌≡◌, ◌≤◌, ◌<◌, ◌+◌, ◌-◌, ◌^◌, ◌++◌, get_or, length};
+ghost use Rattle.std.specs.Prelude.{◌≡◌, ◌≤◌, ◌<◌, ◌+◌, ◌^◌, ◌++◌, length};
 ghost use Rattle.std.specs.Int.{w32};
 ghost use Rattle.std.specs.Int.RustNames.{FitsSigned};
 ghost use Rattle.arrayvec.specs.ArrayVec.{array_vec_len};
+ghost use Rattle.byteorder.specs.Endian.{little_bytes, little_number};
 ghost use Rattle.uac_request.specs.Requests as spec;
-ghost use Rattle.uac_request.specs.Requests.{little_bytes, value_bytes};
+ghost use Rattle.uac_request.specs.Requests.{value_bytes};
 
 use crate::told::Reply;
 use arrayvec::ArrayVec;
+use byteorder::{ByteOrder, LittleEndian};
 
 /// The bytes of a control's value, at most six.
 pub type ControlBytes = ArrayVec<u8, 6>;
@@ -23,19 +25,19 @@ pub fn value_bytes(width: u8, value: i32) -> ControlBytes
 }
 
 // The lowest bytes of a number, as many as are asked for, the lowest first.
-#[tactic(auto, unfolding(crate::specs::Requests::little_bytes))]
+#[tactic(auto, using(crate::proofs::Little::first_bytes))]
 fn number_bytes(width: u8, number: u64) -> ControlBytes
     requires { width ≤ 6 }
     ensures bytes { result.items ≡ little_bytes width number }
     ensures len { array_vec_len result ≡ width }
 {
+    let mut whole = [0; 8];
+    LittleEndian::write_u64(&mut whole, number);
     let mut bytes = ArrayVec::new();
-    let mut rest = number;
-    for _place in 0..width {
-        bytes.push((rest % 256) as u8);
-        rest /= 256;
+    match bytes.try_extend_from_slice(&whole[..usize::from(width)]) {
+        Ok(()) => bytes,
+        Err(_) => unreachable!(),
     }
-    bytes
 }
 
 /// Adds a value in so many bytes to a reply.
@@ -117,26 +119,17 @@ pub fn value_from(signed: bool, bytes: &[u8]) -> i64
 }
 
 // The number that at most four bytes are, the lowest first.
-#[tactic(auto, using(crate::proofs::Little::four_bytes, crate::proofs::Little::below_power))]
 fn number_from(bytes: &[u8]) -> u64
     requires { length bytes.now ≤ 4 }
-    ensures value { result ≡ spec.little_number bytes.now }
+    ensures value { result ≡ little_number (length bytes.now) bytes.now }
     ensures most { result < 256 ^ length bytes.now }
     ensures four { result < 2 ^ 32 }
 {
-    byte_at(bytes, 0)
-        + (byte_at(bytes, 1) << 8)
-        + (byte_at(bytes, 2) << 16)
-        + (byte_at(bytes, 3) << 24)
-}
-
-// A byte, 0 past the last.
-fn byte_at(bytes: &[u8], place: usize) -> u64
-    ensures value { result ≡ get_or bytes.now place 0 }
-    ensures most { result < 256 }
-{
-    match bytes.get(place) {
-        Some(byte) => u64::from(*byte),
-        None => 0,
+    match bytes.len() {
+        0 => 0,
+        1 => u64::from(bytes[0]),
+        2 => u64::from(LittleEndian::read_u16(bytes)),
+        3 => u64::from(LittleEndian::read_u24(bytes)),
+        _ => u64::from(LittleEndian::read_u32(bytes)),
     }
 }

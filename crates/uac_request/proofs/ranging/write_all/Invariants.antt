@@ -1,6 +1,7 @@
 use Rattle.std.proofs.Common.{◌≡◌, ◌+◌, ◌*◌, ◌++◌, length, flat_map, take}
 use Rattle.arrayvec.specs.ArrayVec.{array_vec_len}
-use Rattle.uac_request.specs.Requests.{little_bytes, one_range_bytes}
+use Rattle.byteorder.specs.Endian.{little_bytes}
+use Rattle.uac_request.specs.Requests.{one_range_bytes}
 use Rattle.uac_request.proofs.ranging.write_all.Given as goal
 
 abbrev pub invariant-loop-range : goal.invariant-loop-range
