@@ -10,12 +10,11 @@ use Rattle.std.proofs.Math.ListN as listn
 use Rattle.std.proofs.Math.ListN.{length-map}
 use Rattle.uac_walk.specs.Walk.{links, has_walk}
 use Rattle.uac_walk.proofs.Walks.{none_at}
-use Rattle.uac_entities.specs.Streams.{named}
+use Rattle.uac_entities.specs.Streams.{channels_of, named}
 use Rattle.uac_entities.specs.declared.entity.Entity.{Entity}
 use Rattle.uac_topology_rules.specs.Links.{signal_sources, signal_links}
 use Rattle.uac_topology_rules.specs.Table.{at, place_of, nothing}
 use Rattle.uac_topology_rules.proofs.Found.{or_len-le}
-use Rattle.uac_store.specs.Controls.{channels_of}
 use Rattle.uac_graph.specs.Meaning.{entity}
 
 -- the places of an entity's signal sources

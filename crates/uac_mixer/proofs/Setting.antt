@@ -5,10 +5,10 @@ use Rattle.std.proofs.lemmas.Bool.{and_parts, cases_Bool, eqb-true}
 use Rattle.uac_entities.specs.Streams.{named}
 use Rattle.uac_entities.specs.declared.entity.Entity.{Entity}
 use Rattle.uac_entities.specs.declared.stream.StreamInterface.{StreamInterface}
-use Rattle.uac_topology.specs.Function.{FunctionFields}
+use Rattle.uac_topology.specs.Function.{FunctionFields, interface_in}
 use Rattle.uac_store.specs.Controls.{IsStoreOf}
 use Rattle.uac_store.specs.Keyed.{with_value}
-use Rattle.uac_request.specs.Requests.{Held, after_request, answered, by_entity, by_stream, controls_set, cur_named, first_broken, high, is_done, is_stalled, key_named, left_by, low, owner_of, reply_of, sent_value, sets_cur, sets_interface, stream_in, with_bytes}
+use Rattle.uac_request.specs.Requests.{Held, after_request, answered, by_entity, by_stream, controls_set, cur_named, first_broken, high, is_done, is_stalled, key_named, left_by, low, owner_of, reply_of, sent_value, sets_cur, sets_interface, with_bytes}
 use Rattle.uac_request.specs.declared.setup.Setup.{Setup}
 use Rattle.uac_alt.specs.Settings.{with_setting}
 use Rattle.uac_request.proofs.Asked.{answered_cur, answered_set, left_cur, left_set}
@@ -113,7 +113,7 @@ unfolding owner_of
 on_control f index e is = elim (cases_Bool (low index == f.control_interface)) [
   | inl own ↦ own
   | inr other ↦ elim (cases_Bool (high index == 0)) [
-    | inl none_named ↦ (let stream : option_map by_stream (stream_in f (low index)) ≡ Some (by_entity e) = rw (other, none_named) at is in let no : false ≡ true = by_stream_alone (stream_in f (low index)) e stream in cc)
+    | inl none_named ↦ (let stream : option_map by_stream (interface_in f (low index)) ≡ Some (by_entity e) = rw (other, none_named) at is in let no : false ≡ true = by_stream_alone (interface_in f (low index)) e stream in cc)
     | inr more ↦ (let none : None ≡ Some (by_entity e) = rw (other, more) at is in cc)
   ]
 ]

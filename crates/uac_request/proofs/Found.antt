@@ -3,8 +3,8 @@ use Rattle.std.proofs.Common.{◌≡◌, ℕ, ◌==◌, if◌then◌else◌, Lis
 use Rattle.std.proofs.lemmas.Bool.{cases_Bool}
 use Rattle.std.specs.List.{find}
 use Rattle.uac_entities.specs.declared.stream.StreamInterface.{StreamInterface}
-use Rattle.uac_topology.specs.Function.{FunctionFields}
-use Rattle.uac_request.specs.Requests.{has_interface, stream_in}
+use Rattle.uac_topology.specs.Function.{FunctionFields, interface_in}
+use Rattle.uac_request.specs.Requests.{has_interface}
 
 has_number : (streams : List StreamInterface) (n : ℕ) (s : StreamInterface) → find (λ t. t.number == n) streams ≡ Some s → s.number ≡ n
 has_number [] n s found = cc
@@ -14,7 +14,7 @@ has_number (t ∷ streams) n s found = elim (cases_Bool (t.number == n)) [
 ]
 
 -- a streaming interface that was found has the number that was looked for, and the function has it
-pub number_found : (function : FunctionFields) (n : ℕ) (s : StreamInterface) → Some s ≡ stream_in function n → Some s.number ≡ (if has_interface function n then Some n else None)
+pub number_found : (function : FunctionFields) (n : ℕ) (s : StreamInterface) → Some s ≡ interface_in function n → Some s.number ≡ (if has_interface function n then Some n else None)
 number_found function n s found = elim (cases_Bool (n == function.control_interface)) [
   | inl own ↦ rw (own) (ap Some (has_number function.streams n s (sym found)))
   | inr other ↦ rw (other, ← found) (ap Some (has_number function.streams n s (sym found)))

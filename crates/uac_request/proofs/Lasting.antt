@@ -9,7 +9,7 @@ use Rattle.uac_entities.specs.declared.entity.EntityKind.{EntityKind}
 use Rattle.uac_entities.specs.declared.stream.Setting.{Setting}
 use Rattle.uac_entities.specs.declared.stream.StreamInterface.{StreamInterface}
 use Rattle.uac_topology_rules.specs.Links.{is_clock}
-use Rattle.uac_topology.specs.Function.{FunctionFields}
+use Rattle.uac_topology.specs.Function.{FunctionFields, interface_in}
 use Rattle.uac_store.specs.declared.keys.Key.{Key}
 use Rattle.uac_store.specs.Controls.{IsStoreOf, takes}
 use Rattle.uac_store.specs.Keyed.{value_of, with_value}
@@ -24,7 +24,7 @@ use Rattle.uac_store.specs.declared.controls.Facts.{Facts}
 use Rattle.uac_store.specs.ControlTable.{control_of, facts_of}
 use Rattle.uac_store.proofs.Tabled.{one_or_two}
 use Rattle.uac_request.specs.declared.setup.Setup.{Setup}
-use Rattle.uac_request.specs.Requests.{after_request, answered, AreSettingsOf, AreValidSettings, by_entity, by_stream, can_hold, controls_set, cur_named, entity_width, first_broken, gets_cur, gets_descriptor, gets_interface, gets_range, has_interface, has_setting, has_value, Held, held_by, high, is_done, is_empty, is_request, is_stalled, is_to_control, is_valid, key_named, left_by, low, Owner, owner_of, ranges_named, reply_of, sent_value, sets_cur, sets_interface, stream_in, AnswerFields, with_bytes, with_descriptor}
+use Rattle.uac_request.specs.Requests.{after_request, answered, AreSettingsOf, AreValidSettings, by_entity, by_stream, can_hold, controls_set, cur_named, entity_width, first_broken, gets_cur, gets_descriptor, gets_interface, gets_range, has_interface, has_setting, has_value, Held, held_by, high, is_done, is_empty, is_request, is_stalled, is_to_control, is_valid, key_named, left_by, low, Owner, owner_of, ranges_named, reply_of, sent_value, sets_cur, sets_interface, AnswerFields, with_bytes, with_descriptor}
 use Rattle.uac_request.proofs.Asked.{first_set_interface, no_interface, no_owner}
 use Rattle.uac_request.proofs.Owned.{entity_named}
 use Rattle.uac_request.proofs.Sent.{is_held}
@@ -204,13 +204,13 @@ or_true false = refl
 
 -- a setting that is taken up is valid
 valid_from : (function : FunctionFields) (controls : List (Key × ℤ)) (interface setting : ℕ) → has_setting function interface setting ≡ true → can_hold function controls interface setting ≡ true
-    → (setting == 0 || option_map_or (λ s. is_valid function controls s setting) (stream_in function interface) false) ≡ true
+    → (setting == 0 || option_map_or (λ s. is_valid function controls s setting) (interface_in function interface) false) ≡ true
 unfolding has_setting
 valid_from function controls interface setting has can = elim (cases_Bool (interface == function.control_interface)) [
   | inl own ↦ (let rests : (setting == 0) ≡ true = rw own at has in rw rests refl)
   | inr other ↦ (
-      let stream : option_map_or (λ (s : StreamInterface). list_any (λ (t : Setting). t.number == setting) s.settings) (stream_in function interface) false ≡ true = rw other at has in
-      from (stream_in function interface) stream can)
+      let stream : option_map_or (λ (s : StreamInterface). list_any (λ (t : Setting). t.number == setting) s.settings) (interface_in function interface) false ≡ true = rw other at has in
+      from (interface_in function interface) stream can)
 ] where
   from : (o : Option StreamInterface) → option_map_or (λ (s : StreamInterface). list_any (λ (t : Setting). t.number == setting) s.settings) o false ≡ true → option_map_or (λ s. is_valid function controls s setting) o true ≡ true → (setting == 0 || option_map_or (λ s. is_valid function controls s setting) o false) ≡ true
   from None stream can = cc
@@ -225,7 +225,7 @@ valid_stays function held p sent store are valid =
       | inl running ↦ (
           let after : List (Key × ℤ) = with_value held.controls (key_named p) (sent_value (by_entity set.e) (high p.value) sent) in
           let rates : (id : ℕ) → rate_of function.entities after id ≡ rate_of function.entities held.controls id = same_rate function.entities held.controls after (same_clocks function held p sent set running) in
-          (λ j. setting == 0 || option_map_or (λ s. valid_alike function held.controls after rates s setting j) (stream_in function interface) false) ∙ valid interface setting is)
+          (λ j. setting == 0 || option_map_or (λ s. valid_alike function held.controls after rates s setting j) (interface_in function interface) false) ∙ valid interface setting is)
       | inr rests ↦ rw (at_rest held.settings interface setting rests is) refl
     ]))
     (λ type number none interface setting is.
@@ -235,8 +235,8 @@ valid_stays function held p sent store are valid =
       | inl same ↦ (
           let here : Some p.value ≡ Some setting = rw (eq-eqb interface p.index same) at new in
           let is_it : p.value ≡ setting = cc in
-          subst (λ n. (setting == 0 || option_map_or (λ s. is_valid function held.controls s setting) (stream_in function n) false) ≡ true) (sym same)
-          (subst (λ n. (n == 0 || option_map_or (λ s. is_valid function held.controls s n) (stream_in function p.index) false) ≡ true) is_it
+          subst (λ n. (setting == 0 || option_map_or (λ s. is_valid function held.controls s setting) (interface_in function n) false) ≡ true) (sym same)
+          (subst (λ n. (n == 0 || option_map_or (λ s. is_valid function held.controls s n) (interface_in function p.index) false) ≡ true) is_it
           (valid_from function held.controls p.index p.value taken.has taken.can)))
       | inr other ↦ (let apart : (interface == p.index) ≡ false = grind arith in valid interface setting (rw apart at new))
     ])

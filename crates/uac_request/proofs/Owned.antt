@@ -7,12 +7,12 @@ use Rattle.uac_entities.specs.declared.entity.Entity.{Entity}
 use Rattle.uac_entities.specs.declared.entity.EntityKind.{EntityKind}
 use Rattle.uac_entities.specs.declared.entity.EntityKind.TheVariants as kind
 use Rattle.uac_entities.specs.declared.stream.StreamInterface.{StreamInterface}
-use Rattle.uac_topology.specs.Function.{FunctionFields}
+use Rattle.uac_topology.specs.Function.{FunctionFields, interface_in}
 use Rattle.uac_store.specs.declared.keys.Key.{Key}
 use Rattle.uac_store.specs.ControlTable.{count_by, selectors_of}
 use Rattle.uac_store.specs.Controls.{IsStoreOf, count_of, nodes_of, has_control, has_on}
 use Rattle.uac_store.specs.Keyed.{key_of, value_of}
-use Rattle.uac_request.specs.Requests.{by_entity, by_stream, high, low, owner_of, stream_in}
+use Rattle.uac_request.specs.Requests.{by_entity, by_stream, high, low, owner_of}
 
 -- what an entity is by its constructor
 by_entity_alone : (found : Option Entity) (e : Entity) → option_map by_entity found ≡ Some (by_entity e) → found ≡ Some e
@@ -29,7 +29,7 @@ unfolding owner_of
 entity_named function index e is = elim (cases_Bool (low index == function.control_interface)) [
   | inl own ↦ by_entity_alone (named function.entities (high index)) e (rw own at is)
   | inr other ↦ elim (cases_Bool (high index == 0)) [
-    | inl none_named ↦ (let stream : option_map by_stream (stream_in function (low index)) ≡ Some (by_entity e) = rw (other, none_named) at is in let not_one : None ≡ Some e = not_by_stream (stream_in function (low index)) e stream in cc)
+    | inl none_named ↦ (let stream : option_map by_stream (interface_in function (low index)) ≡ Some (by_entity e) = rw (other, none_named) at is in let not_one : None ≡ Some e = not_by_stream (interface_in function (low index)) e stream in cc)
     | inr more ↦ (let none : None ≡ Some (by_entity e) = rw (other, more) at is in cc)
   ]
 ]

@@ -15,7 +15,7 @@ use Rattle.uac_entities.specs.declared.entity.EntityKind.TheVariants as kind
 use Rattle.uac_entities.specs.declared.stream.Setting.{Setting}
 use Rattle.uac_entities.specs.declared.stream.StreamInterface.{StreamInterface}
 use Rattle.uac_topology_rules.specs.Links.{is_clock}
-use Rattle.uac_topology.specs.Function.{FunctionFields}
+use Rattle.uac_topology.specs.Function.{FunctionFields, interface_in}
 use Rattle.uac_store.specs.declared.keys.Key.{Key}
 use Rattle.uac_store.specs.declared.keys.Range.{Range}
 use Rattle.uac_store.specs.declared.controls.Spread.{Spread}
@@ -93,19 +93,15 @@ pub data Owner : Type 0 where
   by_entity : Entity → Owner
   by_stream : StreamInterface → Owner
 
--- the streaming interface with a number
-abbrev pub stream_in : FunctionFields → ℕ → Option StreamInterface
-stream_in function number = find (λ s. s.number == number) function.streams
-
 -- the function has this interface
 abbrev pub has_interface : FunctionFields → ℕ → Bool
-has_interface function number = number == function.control_interface || is_some (stream_in function number)
+has_interface function number = number == function.control_interface || is_some (interface_in function number)
 
 -- what keeps the controls that wIndex names: on the control interface the entity, on a streaming interface that, where no entity is named
 unfoldable pub owner_of : FunctionFields → ℕ → Option Owner
 owner_of function index =
     if low index == function.control_interface then option_map by_entity (named function.entities (high index))
-    else if high index == 0 then option_map by_stream (stream_in function (low index))
+    else if high index == 0 then option_map by_stream (interface_in function (low index))
     else None
 
 -- the bytes of the control with a selector; none where there is none
@@ -236,7 +232,7 @@ is_valid function controls s number =
 unfoldable pub has_setting : FunctionFields → ℕ → ℕ → Bool
 has_setting function interface number =
     if interface == function.control_interface then number == 0
-    else option_map_or (λ s. list_any (λ t. t.number == number) s.settings) (stream_in function interface) false
+    else option_map_or (λ s. list_any (λ t. t.number == number) s.settings) (interface_in function interface) false
 
 abbrev pub is_empty : List ℕ → Bool
 is_empty [] = true
@@ -265,7 +261,7 @@ has_value controls k value = option_map_or (int_eq value) (value_of controls k) 
 
 -- a setting that an interface has is valid; the control interface's is
 abbrev pub can_hold : FunctionFields → List (Key × ℤ) → ℕ → ℕ → Bool
-can_hold function controls interface setting = option_map_or (λ s. is_valid function controls s setting) (stream_in function interface) true
+can_hold function controls interface setting = option_map_or (λ s. is_valid function controls s setting) (interface_in function interface) true
 
 -- what keeps the control that a request names has this
 abbrev pub is_so_of : FunctionFields → Setup → (Owner → Bool) → Bool
@@ -465,7 +461,7 @@ AreSettingsOf function settings = (number : ℕ) → is_some (setting_of setting
 abbrev pub AreValidSettings : FunctionFields → Held → Type 0
 AreValidSettings function held =
     (interface setting : ℕ) → setting_of held.settings interface ≡ Some setting
-    → (setting == 0 || option_map_or (λ s. is_valid function held.controls s setting) (stream_in function interface) false) ≡ true
+    → (setting == 0 || option_map_or (λ s. is_valid function held.controls s setting) (interface_in function interface) false) ≡ true
 
 -- the controls' values and the settings, as what the device keeps
 abbrev pub held_by : List (Key × ℤ) → List InterfaceSetting → Held

@@ -30,21 +30,12 @@ pub(crate) fn owner_of(function: &Function, index: u16) -> Option<Owner<'_>>
     }
 }
 
-/// The streaming interface with a number.
-pub(crate) fn stream_in(function: &Function, number: u16) -> Option<&StreamInterface>
-    ensures { option_map (λ s. s.now) result ≡ spec.stream_in function.now number }
-{
-    function
-        .streams()
-        .iter()
-        .find(|stream| u16::from(stream.number) == number)
-}
-
 /// Whether the audio function has an interface of this number.
 pub(crate) fn has_interface(function: &Function, number: u16) -> bool
     ensures { result ≡ spec.has_interface function.now number }
 {
-    number == u16::from(function.control_interface()) || stream_in(function, number).is_some()
+    number == u16::from(function.control_interface())
+        || function.interface_numbered(number).is_some()
 }
 
 /// A number as that of an interface of the audio function, None where it has no such interface.
@@ -55,7 +46,7 @@ pub(crate) fn interface_named(function: &Function, number: u16) -> Option<u8>
     if number == u16::from(function.control_interface()) {
         return Some(function.control_interface());
     }
-    match stream_in(function, number) {
+    match function.interface_numbered(number) {
         Some(stream) => Some(stream.number),
         None => None,
     }

@@ -3,15 +3,11 @@ use Rattle.std.specs.Prelude.{◌≡◌, ℕ, ◌-◌, ◌*◌, ◌/◌, ◌%◌
 use Rattle.std.specs.Prelude.{if◌then◌else◌, List, [], ◌∷◌, map, length, sum, Option, Some, None, is_some, nat_eq}
 use Rattle.std.specs.List.{flat_map, range_with_len, IsDistinct, All}
 use Rattle.std.specs.Option.{option_and_then, option_map_or}
-use Rattle.uac_entities.specs.Streams.{named}
+use Rattle.uac_entities.specs.Streams.{channels_of, named}
 use Rattle.uac_entities.specs.declared.entity.Entity.{Entity}
 use Rattle.uac_store.specs.declared.keys.Key.{Key}
 use Rattle.uac_store.specs.ControlTable.{count_by, IsSmall, selectors_of, start_by, takes_by}
 use Rattle.uac_store.specs.Keyed.{key_of, value_of}
-
--- the channels of the entity with an id
-unfoldable pub channels_of : List Entity → ℕ → ℕ
-channels_of entities id = option_map_or (λ e. e.cluster.channels) (named entities id) 0
 
 -- the channels of each pin
 unfoldable pub pins_of : List Entity → Entity → List ℕ

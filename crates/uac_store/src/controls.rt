@@ -238,18 +238,7 @@ fn inputs_of(function: &Function, entity: &Entity) -> usize
 {
     let mut inputs = 0;
     for id in entity.sources.as_slice() {
-        inputs += usize::from(channels_of(function, *id));
+        inputs += usize::from(function.channels_of(*id));
     }
     inputs
-}
-
-/// The channels of the entity with an id, 0 where there is none.
-#[tactic(auto, unfolding(crate::specs::Controls::channels_of))]
-pub(crate) fn channels_of(function: &Function, id: u8) -> u8
-    ensures { result ≡ spec.channels_of function.now.entities id }
-{
-    match function.entity(id) {
-        Some(entity) => entity.cluster.channels,
-        None => 0,
-    }
 }

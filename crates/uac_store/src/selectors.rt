@@ -1,4 +1,4 @@
-//! The selectors of controls (Audio Class 2.0, A.17).
+// The selectors of controls (Audio Class 2.0, A.17).
 
 /// A clock source's frequency (A.17.1).
 pub const CS_SAM_FREQ_CONTROL: u8 = 0x01;

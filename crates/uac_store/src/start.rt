@@ -7,7 +7,7 @@ ghost use Rattle.uac_store.specs.Controls as spec;
 ghost use Rattle.uac_store.specs.ControlTable.{IsSmall};
 ghost use Rattle.uac_store.specs.Controls.{IsKeyed, initial_controls, controls_of, channels_at};
 
-use crate::controls::{Control, channels_of, control_of, count_of, selectors_of};
+use crate::controls::{Control, control_of, count_of, selectors_of};
 use crate::keys::Key;
 use indexmap::IndexMap;
 use std::alloc::Global;
@@ -137,7 +137,7 @@ fn pins_of(alloc: Global, function: &Function, entity: &Entity) -> Result<Vec<u8
 {
     let mut pins = Vec::new(alloc);
     for id in entity.sources.as_slice() {
-        pins.push(channels_of(function, *id))?;
+        pins.push(function.channels_of(*id))?;
     }
     Ok(pins)
 }
