@@ -1,6 +1,6 @@
 -- Values come back from their bytes.
 use Rattle.std.proofs.Common.{◌≡◌, refl, ap, ℕ, ◌-◌, ◌≤◌, ◌<◌, nat_le, true, false, if◌then◌else◌, ℤ, pos, negsuc, length, arith}
-use Rattle.uac_request.specs.Requests.{value_bytes, value_from, little_bytes, little_number}
+use Rattle.uac_request.specs.Requests.{value_bytes, value_from}
 use Rattle.uac_mixer.specs.declared.kinds.ElementKind.{ElementKind}
 use Rattle.uac_mixer.specs.declared.kinds.ElementKind.TheVariants as shown
 use Rattle.uac_mixer.specs.Elements.{fits_element, is_below, is_gain, is_signed_word, width_of}
@@ -8,15 +8,15 @@ use Rattle.uac_mixer.specs.Elements.{fits_element, is_below, is_gain, is_signed_
 -- ---- numbers
 
 one_byte : (n : ℕ) → n < 256 → value_from false (value_bytes 1 (pos n)) ≡ pos n
-unfolding value_from value_bytes little_bytes little_number
+unfolding value_from value_bytes
 one_byte n below = ap pos (omega arith)
 
 two_bytes : (n : ℕ) → n < 65536 → value_from false (value_bytes 2 (pos n)) ≡ pos n
-unfolding value_from value_bytes little_bytes little_number
+unfolding value_from value_bytes
 two_bytes n below = ap pos (omega arith)
 
 four_bytes : (n : ℕ) → n < 4294967296 → value_from false (value_bytes 4 (pos n)) ≡ pos n
-unfolding value_from value_bytes little_bytes little_number
+unfolding value_from value_bytes
 four_bytes n below = ap pos (omega arith)
 
 -- the sign of two bytes
@@ -27,11 +27,11 @@ negative : (n m : ℕ) → m ≡ 65535 - n → n < 32768 → (if nat_le 32768 m 
 negative n m is below = let high : nat_le 32768 m ≡ true = grind arith in let back : 65535 - m ≡ n = omega arith in rw high (ap negsuc back)
 
 signed_above : (n : ℕ) → n < 32768 → value_from true (value_bytes 2 (pos n)) ≡ pos n
-unfolding value_from value_bytes little_bytes little_number
+unfolding value_from value_bytes
 signed_above n below = not_negative n _ (omega arith) below
 
 signed_below : (n : ℕ) → n < 32768 → value_from true (value_bytes 2 (negsuc n)) ≡ negsuc n
-unfolding value_from value_bytes little_bytes little_number
+unfolding value_from value_bytes
 signed_below n below = negative n _ (omega arith) below
 
 -- ---- values
@@ -66,7 +66,7 @@ comes_back shown.Enable v fits = byte v fits
 
 -- a value has as many bytes as its control
 pub whole : (k : ElementKind) (v : ℤ) → length (value_bytes (width_of k) v) ≡ width_of k
-unfolding value_bytes little_bytes
+unfolding value_bytes
 whole shown.Rate v = refl
 whole shown.Clock v = refl
 whole shown.Times v = refl
