@@ -26,12 +26,14 @@ use uac_pcm::Frame;
 use uac_store::Store;
 use uac_topology::Function;
 use uac_units::{
-    Job, Pins, PlainEffect, PlainFeature, PlainMixer, PlainSelector, Rack, Steps, Unit, UnitKind,
+    Job, LaneEffect, LaneFeature, LaneMixer, LaneSelector, Pins, PlainEffect, PlainFeature,
+    PlainMixer, PlainSelector, Rack, Steps, Unit, UnitKind,
 };
 
-/// A mixer that hands its job to the plain one and counts how often it is asked.
+/// A mixer that hands its job to the plain one or to the one on lanes, and counts how often it is asked.
 #[derive(Drop)]
 struct CountingMixer {
+    lanes: bool,
     renders: Rc<Cell<u64>>,
 }
 
@@ -43,7 +45,11 @@ impl Unit for CountingMixer {
     }
 
     fn render(&self, job: &Job, pins: &Pins, out: &mut Frame, steps: &mut Steps) {
-        PlainMixer.render(job, pins, out, steps);
+        if self.lanes {
+            LaneMixer.render(job, pins, out, steps);
+        } else {
+            PlainMixer.render(job, pins, out, steps);
+        }
         self.renders.set(self.renders.get().saturating_add(1));
     }
 }
@@ -330,13 +336,22 @@ fn ticks_of_a_small_function(rt: HostRuntime) -> Result<(), Fail> {
     Ok(())
 }
 
-/// A rack of plain units and a mixer that counts.
-fn counting_rack(alloc: Global, renders: &Rc<Cell<u64>>) -> Result<Rack, AllocError>
+/// A rack of plain units, or of units on lanes, and a mixer that counts.
+fn counting_rack(alloc: Global, lanes: bool, renders: &Rc<Cell<u64>>) -> Result<Rack, AllocError>
     ensures { IfOk result (λ rack. IsFitted (λ v x. (⟦<dyn Unit as Unit>⟧ v).kind_of x) rack) }
 {
     let counting = CountingMixer {
+        lanes,
         renders: renders.clone()?,
     };
+    if lanes {
+        return Ok(Rack::new(
+            Box::new(alloc, counting)?,
+            Box::new(alloc, LaneSelector)?,
+            Box::new(alloc, LaneFeature)?,
+            Box::new(alloc, LaneEffect)?,
+        ));
+    }
     Ok(Rack::new(
         Box::new(alloc, counting)?,
         Box::new(alloc, PlainSelector)?,
@@ -345,8 +360,13 @@ fn counting_rack(alloc: Global, renders: &Rc<Cell<u64>>) -> Result<Rack, AllocEr
     ))
 }
 
-fn try_row(rt: &impl Abort, alloc: Global, renders: &Rc<Cell<u64>>) -> Result<(), AllocError> {
-    let rack = counting_rack(alloc, renders)?;
+fn try_row(
+    rt: &impl Abort,
+    alloc: Global,
+    lanes: bool,
+    renders: &Rc<Cell<u64>>,
+) -> Result<(), AllocError> {
+    let rack = counting_rack(alloc, lanes, renders)?;
     try_function(rt, alloc, Trial::Row, &rack)
 }
 
@@ -355,7 +375,16 @@ fn try_row(rt: &impl Abort, alloc: Global, renders: &Rc<Cell<u64>>) -> Result<()
 #[test]
 fn each_of_forty_mixers_is_rendered_once(rt: HostRuntime) -> Result<(), Fail> {
     let renders = Rc::new(rt.alloc(), Cell::new(0u64))?;
-    try_row(&rt, rt.alloc(), &renders)?;
+    try_row(&rt, rt.alloc(), false, &renders)?;
+    assert_eq!(rt; renders.get(), 40);
+    Ok(())
+}
+
+/// The same with units on lanes.
+#[test]
+fn each_of_forty_lane_mixers_is_rendered_once(rt: HostRuntime) -> Result<(), Fail> {
+    let renders = Rc::new(rt.alloc(), Cell::new(0u64))?;
+    try_row(&rt, rt.alloc(), true, &renders)?;
     assert_eq!(rt; renders.get(), 40);
     Ok(())
 }
