@@ -375,9 +375,10 @@ fn count_some(met: &mut [StreamCounts], found: Ticked)
     }
 }
 
-/// Puts the counts of a stream at its place, where there is such a place.
+/// Puts the counts of a stream at its place, where there is such a place; nothing changes where there is none.
 fn put_at(met: &mut [StreamCounts], place: usize, counts: StreamCounts)
-    ensures { place < length met.old → met.new ≡ set met.old place counts }
+    ensures put { place < length met.old → met.new ≡ set met.old place counts }
+    ensures past { length met.old ≤ place → met.new ≡ met.old }
 {
     if place < met.len() {
         met[place] = counts;
@@ -386,7 +387,8 @@ fn put_at(met: &mut [StreamCounts], place: usize, counts: StreamCounts)
 
 /// The counts at a place; of nothing met where there is none.
 fn counts_at(met: &[StreamCounts], place: usize) -> StreamCounts
-    ensures { place < length met.now → slice_get met.now place ≡ Some result }
+    ensures there { place < length met.now → slice_get met.now place ≡ Some result }
+    ensures past { length met.now ≤ place → result ≡ spec.nothing_met }
 {
     if place < met.len() {
         return met[place];

@@ -11,7 +11,7 @@ pub returns-in-Some-clause-met : goal.returns-in-Some-clause-met
 returns-in-Some-clause-met c met is =
     let function = c.args.function.now in
     let old : c.deref_mut.result.now ≡ met_in met function = c.deref_mut.ensures.value ∙ ap (λ (p : StreamingFields). p.met) c.self.view_is ∙ is in
-    let put = c.put_at.ensures (place_below function c.args.interface c.in-Some.place met c.deref_mut.result.now old c.in-Some.ensures) in
+    let put = c.put_at.ensures.put (place_below function c.args.interface c.in-Some.place met c.deref_mut.result.now old c.in-Some.ensures) in
     put_back c.self.inside.met.len c.put_at.new.met c.self.inside.met.items
     (ap length put ∙ length-set c.deref_mut.result.now c.in-Some.place c.args.counts ∙ c.deref_mut.ensures.len)
     ∙ put
