@@ -10,10 +10,11 @@ use Rattle.uac_script.specs.Phrase.{Phrase, idle, feeds, goes, controls, gets, s
 use Rattle.uac_script.specs.Reading.{answer}
 use Rattle.uac_request.specs.Requests.{setup_of}
 use Rattle.uac_running.specs.RunningWorld.{RunningWorld, with_detail, with_deviation, with_samples_on, with_tone, with_track}
+use Rattle.uac_running.specs.Naming.{are_frames, size_of}
 use Rattle.uac_running.specs.Events.{microframes}
 use Rattle.uac_running.specs.Transfers.{element_named, read_element, set_element, show_element, transfer, with_break}
 use Rattle.uac_bus.specs.declared.fault.BusFault.{BusFault}
-use Rattle.uac_bus.specs.World.{Step, World, are_frames, describing, done, on_element, refused, running, silently, size_of, start, step, step_running, told, tone_of, unless}
+use Rattle.uac_bus.specs.World.{Step, World, describing, done, on_element, refused, running, silently, start, step, step_running, told, tone_of, unless}
 use Rattle.uac_bus.specs.After.{after, and_then, said_step}
 use Rattle.uac_believed.specs.Unknown.{ElementsStay, Transfer, ValuesAreKnownAsTold, elements_in, get_by, if_done, last_or, set_by, tells, tells_in, told_of, transfer_of}
 use Rattle.uac_steady.proofs.Beginning.{feeds_bytes}

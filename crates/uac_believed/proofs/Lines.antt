@@ -7,10 +7,11 @@ use Rattle.uac_mixer.specs.Elements.{fits_element}
 use Rattle.uac_script.specs.Phrase.{Phrase, idle, feeds, goes, controls, gets, sets, shows, breaks, appends, tracks, jacks, deviates, runs, details, reports}
 use Rattle.uac_script.specs.Reading.{answer}
 use Rattle.uac_running.specs.RunningWorld.{RunningWorld, with_detail, with_deviation, with_samples_on, with_tone, with_track}
+use Rattle.uac_running.specs.Naming.{are_frames, size_of}
 use Rattle.uac_running.specs.Events.{microframes}
 use Rattle.uac_running.specs.Transfers.{element_named, read_element, set_element, show_element, transfer, with_break}
 use Rattle.uac_bus.specs.declared.fault.BusFault.{BusFault}
-use Rattle.uac_bus.specs.World.{Step, World, are_frames, describing, done, refused, running, silently, size_of, start, step, step_describing, step_running, told, tone_of, unless}
+use Rattle.uac_bus.specs.World.{Step, World, describing, done, refused, running, silently, start, step, step_describing, step_running, told, tone_of, unless}
 use Rattle.uac_bus.specs.After.{after, and_then, said_step}
 use Rattle.uac_believed.specs.Believed.{KnownValuesAreSo}
 use Rattle.uac_believed.proofs.Worlds.{IsBelieved, IsGood, Keeps, begins_good, is_so}

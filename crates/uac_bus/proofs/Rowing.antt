@@ -1,14 +1,8 @@
 -- The rows of the running device.
-use Rattle.std.proofs.Common.{◌≡◌, ℕ, ℤ, pos, Result, Bool, true, false, List, [], ◌∷◌, map, length, get_or, refl, sym, ap, subst, ◌∙◌, Option, None, Some, ◌&&◌, ◌==◌, arith}
-use Rattle.std.specs.Prelude.{position}
+use Rattle.std.proofs.Common.{◌≡◌, ℕ, ℤ, pos, Result, Bool, true, false, List, [], ◌∷◌, map, refl, ap, subst, ◌∙◌, Option, ◌&&◌}
 use Rattle.std.specs.Io.KnownBytes.{Appends}
-use Rattle.std.specs.List.{list_all, position_or_len}
-use Rattle.std.proofs.lemmas.List.{get_or_default, get_or_past}
-use Rattle.uac_entities.specs.declared.entity.Entity.{Entity}
+use Rattle.std.specs.List.{list_all}
 use Rattle.uac_entities.specs.declared.stream.StreamInterface.{StreamInterface}
-use Rattle.uac_topology_rules.specs.Table.{at, place_of, nothing}
-use Rattle.uac_topology_rules.proofs.Found.{position_is, position_none}
-use Rattle.uac_graph.specs.Meaning.{entity}
 use Rattle.uac_transcript.specs.Printing.{text_of}
 use Rattle.uac_units.specs.Hearing.{Reading}
 use Rattle.uac_script.specs.declared.line.Mark.{Mark}
@@ -16,11 +10,12 @@ use Rattle.uac_script.specs.Line.{said_mark}
 use Rattle.uac_script.specs.Phrase.{deviates, sets}
 use Rattle.uac_topology.specs.Function.{FunctionFields}
 use Rattle.uac_running.specs.RunningWorld.{RunningWorld}
+use Rattle.uac_running.specs.Naming.{are_frames, has_out, is_placed}
 use Rattle.uac_running.specs.Events.{Told}
 use Rattle.uac_running.specs.Kept.{RunningFields, StandsBetween}
 use Rattle.uac_bus.specs.declared.bus.BusStage.TheVariants as stages
 use Rattle.uac_bus.specs.declared.fault.BusFault.{BusFault}
-use Rattle.uac_bus.specs.World.{World, Step, told, step_running, unless, breaks_rule, is_placed, has_out, are_frames}
+use Rattle.uac_bus.specs.World.{World, Step, told, step_running, unless, breaks_rule}
 use Rattle.uac_bus.specs.Kept.{StandsFor, Reaches, IsCut, Does}
 use Rattle.uac_bus.proofs.Stepping.{unless_holds, unless_fails}
 
@@ -64,23 +59,6 @@ sets_said name kept value p p' written written' result exact does shown r s =
 -- the second rule is broken
 pub append_broken : (b c : Bool) (s : Step) → b ≡ true → c ≡ false → unless b 6 (unless c 7 s) ≡ breaks_rule 7
 append_broken b c s h k = unless_holds b 6 (unless c 7 s) h ∙ unless_fails c 7 s k
-
--- the channels of the entity that was found
-pub channels_at : (es : List Entity) (id place : ℕ) (found : List Entity) (default : Entity) → position (λ e. e.id == id) es ≡ Some place → found ≡ es
-    → (get_or found place default).cluster.channels ≡ (entity es id).cluster.channels
-unfolding entity at place_of
-channels_at es id place found default e same =
-    let p = position_is (λ (x : Entity). x.id == id) es place e in
-    ap (λ (xs : List Entity). (get_or xs place default).cluster.channels) same
-    ∙ ap (λ (x : Entity). x.cluster.channels) (get_or_default es place default nothing p.0)
-    ∙ ap (λ (k : ℕ). (get_or es k nothing).cluster.channels) (sym p.1)
-
-pub channels_nowhere : (es : List Entity) (id : ℕ) → position (λ e. e.id == id) es ≡ None → 0 ≡ (entity es id).cluster.channels
-unfolding entity at place_of
-channels_nowhere es id e =
-    let p : position_or_len (λ (x : Entity). x.id == id) es ≡ length es = position_none (λ (x : Entity). x.id == id) es e in
-    sym (ap (λ (k : ℕ). (get_or es k nothing).cluster.channels) p
-    ∙ ap (λ (x : Entity). x.cluster.channels) (get_or_past es (length es) nothing (omega arith)))
 
 -- ---- what is said of the kept function holds in the world
 

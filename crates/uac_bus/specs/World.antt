@@ -1,27 +1,22 @@
 -- The world under a script, and what each line makes of it (profile).
-use Rattle.std.specs.Prelude.{ℕ, ◌%◌, ◌==◌, ◌&&◌, not, Bool, true, false, ℤ, pos, negsuc, List, [], ◌∷◌, ◌++◌, length, Option, None, Some}
+use Rattle.std.specs.Prelude.{ℕ, Bool, true, false, List, [], ◌∷◌, ◌++◌, length, Option, None, Some}
 use Rattle.std.specs.Prelude.{Result, Ok, Err}
-use Rattle.std.specs.List.{list_any, list_all, find}
-use Rattle.std.specs.Option.{option_map_or}
+use Rattle.std.specs.List.{list_all}
 use Rattle.uac_pcm.specs.declared.tones.Tone.{Tone}
 use Rattle.uac_pcm.specs.declared.tones.Tone.TheVariants.{Silent, Ramp, Noise}
-use Rattle.uac_entities.specs.declared.stream.StreamInterface.{StreamInterface}
 use Rattle.uac_sentence.specs.declared.faults.GrammarFault.{GrammarFault}
 use Rattle.uac_sentence.specs.Grammar.{first_fault}
 use Rattle.uac_grammar.specs.Stop.{shown_fault}
 use Rattle.uac_topology_rules.specs.declared.fault.TopologyFault.{TopologyFault}
-use Rattle.uac_topology.specs.Function.{FunctionFields}
 use Rattle.uac_topology.specs.Topology.{first_broken}
-use Rattle.uac_graph.specs.Meaning.{entity}
 use Rattle.uac_units.specs.Hearing.{Reading}
-use Rattle.uac_script.specs.declared.line.MarkKind.{MarkKind}
-use Rattle.uac_script.specs.declared.line.MarkKind.TheVariants.{Out, In, Feedback}
-use Rattle.uac_script.specs.Phrase.{SaidTone, silent, ramps, hisses, SaidMark}
+use Rattle.uac_script.specs.Phrase.{SaidTone, silent, ramps, hisses}
 use Rattle.uac_script.specs.Phrase.{Phrase, idle, feeds, goes, controls, gets, sets, shows, breaks}
 use Rattle.uac_script.specs.Phrase.{appends, tracks, jacks, deviates, runs, details, reports}
 use Rattle.uac_transcript.specs.Transcript.{Said}
-use Rattle.uac_running.specs.RunningWorld.{RunningWorld, at_start, has_jack, has_domain, with_tone, with_deviation, with_detail}
+use Rattle.uac_running.specs.RunningWorld.{RunningWorld, at_start, with_tone, with_deviation, with_detail}
 use Rattle.uac_running.specs.RunningWorld.{with_samples_on, with_track}
+use Rattle.uac_running.specs.Naming.{are_frames, has_domain, has_jack, has_out, is_placed, size_of}
 use Rattle.uac_running.specs.Events.{Told, microframes}
 use Rattle.uac_running.specs.Transfers.{element_named, read_element, set_element, show_element, transfer, with_break}
 use Rattle.uac_request.specs.Requests.{setup_of}
@@ -45,11 +40,6 @@ pub data Step : Type 0 where
 -- no line was done yet
 abbrev pub start : List Reading → World
 start meters = describing [] meters
-
--- the number, which a range keeps from being negative
-abbrev pub size_of : ℤ → ℕ
-size_of (pos n) = n
-size_of (negsuc n) = 0
 
 abbrev pub tone_of : SaidTone → Tone
 tone_of silent = Silent
@@ -97,35 +87,6 @@ step_describing bytes meters goes = gone bytes meters
 step_describing bytes meters _ = breaks_rule 5
 
 -- ---- from there on
-
--- the interface carries a stream to the device, or one from it, and links to a terminal
-abbrev pub is_out : ℕ → StreamInterface → Bool
-is_out number s = s.number == number && (s.out && not (s.terminal == 0))
-
-abbrev pub is_in : ℕ → StreamInterface → Bool
-is_in number s = s.number == number && (not s.out && not (s.terminal == 0))
-
--- one of these streaming interfaces is such an interface
-abbrev pub has_out : List StreamInterface → ℕ → Bool
-has_out streams number = list_any (is_out number) streams
-
-abbrev pub has_in : List StreamInterface → ℕ → Bool
-has_in streams number = list_any (is_in number) streams
-
--- one of them has such packets or reports: to the device and feedback where it carries a stream to the device
-abbrev pub has_marked : List StreamInterface → MarkKind → ℕ → Bool
-has_marked streams Out number = has_out streams number
-has_marked streams In number = has_in streams number
-has_marked streams Feedback number = has_out streams number
-
--- a mark names one of them that has such packets or reports
-abbrev pub is_placed : List StreamInterface → SaidMark → Bool
-is_placed streams loss = has_marked streams loss.letter (size_of loss.place)
-
--- the samples are whole frames of the channels of the terminal to which the interface links
-unfoldable pub are_frames : FunctionFields → ℕ → ℕ → Bool
-are_frames function number count =
-    option_map_or (λ s. count % (entity function.entities s.terminal).cluster.channels == 0) (find (is_out number) function.streams) false
 
 abbrev pub told : Told → Step
 told t = done (running t.world) t.lines

@@ -9,8 +9,6 @@ mod describing;
 mod fault;
 /// The law that ties one line to all lines.
 pub mod laws;
-/// The marks of a line, and the streams that it names.
-mod naming;
 /// The lines of the running device.
 mod rows;
 /// The lines of transfers, and those that name an element.

@@ -14,11 +14,10 @@ ghost use Rattle.uac_bus.specs.Kept.{StandsFor, Does, is_append, is_final};
 
 use crate::bus::BusStage;
 use crate::fault::BusFault;
-use crate::naming::{are_frames, are_placed, has_out};
 use crate::transfers::{control, get, set, show};
 use uac_edges::Sink;
 use uac_pcm::Tone;
-use uac_running::Running;
+use uac_running::{Running, are_frames, are_placed, has_out};
 use uac_script::{LentLine, Mark};
 use uac_topology::laws::{functions_are_sound, interfaces_are_numbered};
 use uac_units::{Meter, Meters, Rack, Unit};

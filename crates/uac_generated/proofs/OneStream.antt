@@ -24,7 +24,7 @@ use Rattle.uac_device.specs.DeviceWorld.{stream_in_setting}
 use Rattle.uac_streaming.specs.StreamingWorld.{place_of}
 use Rattle.uac_bands.proofs.Once.{known_among}
 use Rattle.uac_configuration.specs.Description.{function_of}
-use Rattle.uac_bus.specs.World.{has_out, is_placed}
+use Rattle.uac_running.specs.Naming.{has_out, is_placed}
 use Rattle.uac_generated.proofs.Feeding.{function_at}
 use Rattle.uac_generated.proofs.Playing.{HasOne}
 use Rattle.uac_generated.proofs.Sound.{blocks_at}

@@ -11,11 +11,12 @@ use Rattle.uac_request.specs.Requests.{setup_of}
 use Rattle.uac_script.specs.Phrase.{SaidMark, Phrase, controls, deviates, goes, hisses, reports, runs, tracks}
 use Rattle.uac_script.specs.Reading.{answer}
 use Rattle.uac_transcript.specs.Transcript.{Said}
-use Rattle.uac_running.specs.RunningWorld.{RunningWorld, at_start, has_domain, with_deviation, with_track}
+use Rattle.uac_running.specs.RunningWorld.{RunningWorld, at_start, with_deviation, with_track}
+use Rattle.uac_running.specs.Naming.{has_domain, has_out, is_placed}
 use Rattle.uac_running.specs.Events.{microframes}
 use Rattle.uac_running.specs.Lines.{ready_line, report_lines}
 use Rattle.uac_running.specs.Transfers.{transfer, transferred}
-use Rattle.uac_bus.specs.World.{World, describing, done, finish_of, has_out, is_placed, running, silently, start, step, told}
+use Rattle.uac_bus.specs.World.{World, describing, done, finish_of, running, silently, start, step, told}
 use Rattle.uac_bus.proofs.Stepping.{unless_holds}
 use Rattle.uac_steady.specs.Scripts.{behind_lines, is_steady_in}
 use Rattle.uac_gen.specs.Descriptor.{descriptor_of}

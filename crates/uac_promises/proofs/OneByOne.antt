@@ -11,10 +11,11 @@ use Rattle.uac_mixer.specs.Elements.{fits_element}
 use Rattle.uac_script.specs.Phrase.{Phrase, idle, feeds, goes, controls, gets, sets, shows, breaks, appends, tracks, jacks, deviates, runs, details, reports}
 use Rattle.uac_transcript.specs.Transcript.{Said, says_answer, says_view}
 use Rattle.uac_running.specs.RunningWorld.{RunningWorld, with_detail, with_deviation, with_samples_on, with_tone, with_track}
+use Rattle.uac_running.specs.Naming.{size_of}
 use Rattle.uac_running.specs.Lines.{report_lines}
 use Rattle.uac_running.specs.Transfers.{element_named, read_element, set_element, show_element, transfer, transferred, with_break}
 use Rattle.uac_bus.specs.declared.fault.BusFault.{BusFault}
-use Rattle.uac_bus.specs.World.{Step, World, done, refused, running, size_of, step_running, told, tone_of}
+use Rattle.uac_bus.specs.World.{Step, World, done, refused, running, step_running, told, tone_of}
 use Rattle.uac_bands.proofs.Begun.{calls_keep_bands}
 use Rattle.uac_bands.proofs.LookingBack.{calls_look_back}
 use Rattle.uac_bands.proofs.Transferred.{transfers_keep_bands}

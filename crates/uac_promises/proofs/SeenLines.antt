@@ -5,8 +5,9 @@ use Rattle.uac_script.specs.Phrase.{SaidMark, Phrase, runs}
 use Rattle.uac_units.specs.Hearing.{Reading}
 use Rattle.uac_transcript.specs.Transcript.{Said}
 use Rattle.uac_running.specs.RunningWorld.{RunningWorld}
+use Rattle.uac_running.specs.Naming.{size_of}
 use Rattle.uac_running.specs.Events.{microframe, microframes}
-use Rattle.uac_bus.specs.World.{Step, World, describing, done, refused, running, size_of, step, step_describing, step_running}
+use Rattle.uac_bus.specs.World.{Step, World, describing, done, refused, running, step, step_describing, step_running}
 use Rattle.uac_bus.specs.After.{after, and_then}
 use Rattle.uac_homing.specs.Past.{Pasts, pasts_after}
 use Rattle.uac_steady.proofs.Steps.{gone_on, unless_is}

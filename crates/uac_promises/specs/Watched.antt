@@ -5,8 +5,9 @@ use Rattle.uac_script.specs.Phrase.{SaidMark, Phrase, idle, feeds, goes, control
 use Rattle.uac_script.specs.Phrase.{appends, tracks, jacks, deviates, runs, details, reports}
 use Rattle.uac_transcript.specs.Transcript.{Said}
 use Rattle.uac_running.specs.RunningWorld.{RunningWorld}
+use Rattle.uac_running.specs.Naming.{size_of}
 use Rattle.uac_running.specs.Events.{microframe}
-use Rattle.uac_bus.specs.World.{Step, World, describing, done, refused, running, size_of, step}
+use Rattle.uac_bus.specs.World.{Step, World, describing, done, refused, running, step}
 use Rattle.uac_homing.specs.Past.{Pasts, pasts_after}
 
 -- a printed line, the world after the microframe or the line of the script that printed it, and the pasts of its streams there

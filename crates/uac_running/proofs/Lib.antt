@@ -13,4 +13,5 @@ pub mod OutcomeLemmas
 pub mod ReadLemmas
 pub mod Reporting
 pub mod Printed
+pub mod Channels
 pub mod Worked

@@ -1,6 +1,5 @@
 -- The world from the descriptor's end on: the device's part, the host's, the view's, and the bus's, which is all else (profile).
 use Rattle.std.specs.Prelude.{ℕ, ◌==◌, Bool, if◌then◌else◌, ℤ, List, map, filter, Option, None}
-use Rattle.std.specs.List.{list_any}
 use Rattle.uac_pcm.specs.declared.tones.Tone.{Tone}
 use Rattle.uac_pcm.specs.declared.tones.Tone.TheVariants.{Silent}
 use Rattle.uac_entities.specs.declared.entity.Entity.{Entity}
@@ -63,14 +62,6 @@ at_start descriptor function meters =
       meters = meters;
       renders = 0;
     }
-
--- there is an input jack with this id
-abbrev pub has_jack : RunningWorld → ℕ → Bool
-has_jack r terminal = list_any (λ j. j.terminal == terminal) r.jacks
-
--- there is a domain with this clock
-abbrev pub has_domain : RunningWorld → ℕ → Bool
-has_domain r clock = list_any (λ d. d == clock) r.device.function.domains
 
 -- a jack, and with this tone from its first frame where it is the one with this id
 abbrev pub toned : ℕ → Tone → Jack → Jack

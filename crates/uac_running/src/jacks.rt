@@ -1,6 +1,6 @@
 // The jacks' tones.
-ghost use Rattle.std.specs.Prelude.{◌≡◌, ◌==◌, ◌≤◌, true, IfOk, map, filter};
-ghost use Rattle.std.specs.List.{All, list_any};
+ghost use Rattle.std.specs.Prelude.{◌≡◌, ◌≤◌, true, IfOk, map, filter};
+ghost use Rattle.std.specs.List.{All};
 ghost use Rattle.uac_graph.specs.Meaning.{entity};
 ghost use Rattle.uac_device.specs.Kept.{Stands};
 ghost use Rattle.uac_device.specs.DeviceWorld.{DeviceWorld};
@@ -51,13 +51,6 @@ fn silent_jack(entity: &Entity) -> Jack
         tone: Tone::Silent,
         place: 0,
     }
-}
-
-/// Whether one of the jacks has this id.
-pub(crate) fn has_jack(jacks: &[Jack], terminal: u8) -> bool
-    ensures { result ≡ list_any (λ j. j.terminal == terminal) jacks.now }
-{
-    jacks.iter().any(|jack| jack.terminal == terminal)
 }
 
 /// A jack gives this tone from now on, from its first frame.

@@ -7,6 +7,8 @@ mod counts;
 mod jacks;
 /// The microframes of a running device.
 mod microframes;
+/// What a line of the script names: jacks, domains, streams, and the packets and reports of these.
+mod naming;
 /// A running device.
 mod running;
 /// Printing what output jacks played.
@@ -18,6 +20,7 @@ mod transfers;
 
 pub use counts::TickCount;
 pub use jacks::Jack;
+pub use naming::{are_frames, are_placed, has_out};
 pub use running::Running;
 pub use transfers::fresh_view;
 pub use uac_transcript::StreamCounts;

@@ -19,7 +19,7 @@ ghost use Rattle.uac_streaming.specs.Kept as streams;
 ghost use Rattle.uac_streaming.specs.StreamingWorld.{streaming_start};
 
 use crate::counts::{TickCount, no_ticks};
-use crate::jacks::{Jack, has_jack, set_tone, silent_jacks};
+use crate::jacks::{Jack, set_tone, silent_jacks};
 use crate::report::{write_head, write_rest};
 use crate::transfers::fresh_viewed;
 use std::alloc::Global;
@@ -133,20 +133,6 @@ impl Running {
         ensures { result.now ≡ self.now.device.function }
     {
         self.device.function()
-    }
-
-    /// Whether there is an input jack with this id.
-    pub fn has_jack(&self, terminal: u8) -> bool
-        ensures { (meters : List Reading) (r : RunningWorld) → StandsBetween self.now meters r → result ≡ spec.has_jack r terminal }
-    {
-        has_jack(&self.jacks, terminal)
-    }
-
-    /// Whether there is a domain with this clock.
-    pub fn has_domain(&self, clock: u8) -> bool
-        ensures { (meters : List Reading) (r : RunningWorld) → StandsBetween self.now meters r → result ≡ spec.has_domain r clock }
-    {
-        self.device.function().domains().contains(&clock)
     }
 
     /// An input jack gives this tone from now on, from its first frame.

@@ -15,11 +15,12 @@ use Rattle.uac_transcript.specs.Transcript.{Said, Sight, Outcome, says_answer, s
 use Rattle.uac_transcript.specs.declared.report.StreamCounts.{StreamCounts}
 use Rattle.uac_running.specs.RunningWorld.{RunningWorld}
 use Rattle.uac_running.specs.RunningWorld as world
+use Rattle.uac_running.specs.Naming.{size_of}
 use Rattle.uac_running.specs.Events.{microframe, microframes}
 use Rattle.uac_running.specs.Lines.{domain_line, report_lines, says_stream, stream_line}
 use Rattle.uac_running.specs.Transfers.{element_named, read_element, set_element, show_element, transfer, transferred}
 use Rattle.uac_bus.specs.declared.fault.BusFault.{BusFault}
-use Rattle.uac_bus.specs.World.{Step, World, describing, done, refused, running, size_of, step_running, told, tone_of}
+use Rattle.uac_bus.specs.World.{Step, World, describing, done, refused, running, step_running, told, tone_of}
 use Rattle.uac_bands.specs.Run.{IsNearLevel, IsNoUnder, RunInBand}
 use Rattle.uac_bands.specs.Transfers.{IsSoundRun}
 use Rattle.uac_bands.proofs.Begun.{calls_keep_bands}

@@ -7,10 +7,11 @@ use Rattle.uac_mixer.specs.declared.element.Element.{Element}
 use Rattle.uac_script.specs.Phrase.{SaidMark, Phrase, SaidTone, idle, feeds, goes, controls, gets, sets, shows, breaks, appends, tracks, jacks, deviates, runs, details, reports}
 use Rattle.uac_units.specs.Hearing.{Reading}
 use Rattle.uac_running.specs.RunningWorld.{RunningWorld, with_detail, with_deviation, with_samples_on, with_tone, with_track}
+use Rattle.uac_running.specs.Naming.{are_frames, size_of}
 use Rattle.uac_running.specs.Events.{microframe, microframes}
 use Rattle.uac_running.specs.Transfers.{element_named, read_element, set_element, show_element, transfer, with_break}
 use Rattle.uac_bus.specs.declared.fault.BusFault.{BusFault}
-use Rattle.uac_bus.specs.World.{are_frames, silently, size_of, tone_of, Step, World, describing, done, on_element, refused, running, step_running, told, unless}
+use Rattle.uac_bus.specs.World.{silently, tone_of, Step, World, describing, done, on_element, refused, running, step_running, told, unless}
 use Rattle.uac_bands.proofs.LookingBack.{calls_look_back, looks_back}
 use Rattle.uac_steady.specs.Scripts.{is_steady_in}
 

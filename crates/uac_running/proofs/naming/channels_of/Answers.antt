@@ -1,6 +1,6 @@
 use Rattle.std.proofs.Common.{sym}
-use Rattle.uac_bus.proofs.Rowing.{channels_at, channels_nowhere}
-use Rattle.uac_bus.proofs.naming.channels_of.Goals as goal
+use Rattle.uac_running.proofs.Channels.{channels_at, channels_nowhere}
+use Rattle.uac_running.proofs.naming.channels_of.Goals as goal
 
 pub returns-in-Some : goal.returns-in-Some
 returns-in-Some c = channels_at c.args.function.now.entities c.args.id c.in-Some.place _ _ (sym c.in-Some.ensures) c.entities.ensures

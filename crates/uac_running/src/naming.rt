@@ -1,46 +1,73 @@
-// The marks of a line, and the streams that it names.
-ghost use Rattle.std.specs.Prelude.{◌≡◌, ◌==◌, ◌%◌};
-ghost use Rattle.std.specs.List.{list_all, find};
+// What a line of the script names: jacks, domains, streams, and the packets and reports of these.
+ghost use Rattle.std.specs.Prelude.{◌≡◌, ◌==◌, ◌%◌, List};
+ghost use Rattle.std.specs.List.{list_all, list_any, find};
 ghost use Rattle.std.specs.Option.{option_map};
 ghost use Rattle.uac_graph.specs.Meaning.{entity};
 ghost use Rattle.uac_script.specs.Line.{said_mark};
-ghost use Rattle.uac_bus.specs.World as world;
+ghost use Rattle.uac_units.specs.Hearing.{Reading};
+ghost use Rattle.uac_running.specs.Kept.{StandsBetween};
+ghost use Rattle.uac_running.specs.Naming as spec;
+ghost use Rattle.uac_running.specs.RunningWorld.{RunningWorld};
 
-use uac_entities::StreamInterface;
+use crate::jacks::Jack;
+use crate::running::Running;
 use uac_script::{Mark, MarkKind};
-use uac_topology::Function;
+use uac_topology::{Function, StreamInterface};
+
+impl Running {
+    /// Whether there is an input jack with this id.
+    pub fn has_jack(&self, terminal: u8) -> bool
+        ensures { (meters : List Reading) (r : RunningWorld) → StandsBetween self.now meters r → result ≡ spec.has_jack r terminal }
+    {
+        has_jack(&self.jacks, terminal)
+    }
+
+    /// Whether there is a domain with this clock.
+    pub fn has_domain(&self, clock: u8) -> bool
+        ensures { (meters : List Reading) (r : RunningWorld) → StandsBetween self.now meters r → result ≡ spec.has_domain r clock }
+    {
+        self.device.function().domains().contains(&clock)
+    }
+}
+
+/// Whether one of these is the jack with this id.
+fn has_jack(jacks: &[Jack], terminal: u8) -> bool
+    ensures { result ≡ list_any (λ j. j.terminal == terminal) jacks.now }
+{
+    jacks.iter().any(|jack| jack.terminal == terminal)
+}
 
 /// Whether the interface carries a stream to the device.
 fn is_out(stream: &StreamInterface, number: u8) -> bool
-    ensures { result ≡ world.is_out number stream.now }
+    ensures { result ≡ spec.is_out number stream.now }
 {
     stream.number == number && stream.out && stream.terminal != 0
 }
 
 /// Whether the interface carries a stream from the device.
 fn is_in(stream: &StreamInterface, number: u8) -> bool
-    ensures { result ≡ world.is_in number stream.now }
+    ensures { result ≡ spec.is_in number stream.now }
 {
     stream.number == number && !stream.out && stream.terminal != 0
 }
 
 /// Whether an interface of this number carries a stream to the device.
-pub(crate) fn has_out(streams: &[StreamInterface], number: u8) -> bool
-    ensures { result ≡ world.has_out streams.now number }
+pub fn has_out(streams: &[StreamInterface], number: u8) -> bool
+    ensures { result ≡ spec.has_out streams.now number }
 {
     streams.iter().any(|stream| is_out(stream, number))
 }
 
 /// Whether an interface of this number carries a stream from the device.
 fn has_in(streams: &[StreamInterface], number: u8) -> bool
-    ensures { result ≡ world.has_in streams.now number }
+    ensures { result ≡ spec.has_in streams.now number }
 {
     streams.iter().any(|stream| is_in(stream, number))
 }
 
 /// Whether a mark names an interface that has such packets or reports.
 fn is_placed(streams: &[StreamInterface], mark: &Mark) -> bool
-    ensures { result ≡ world.is_placed streams.now (said_mark mark.now) }
+    ensures { result ≡ spec.is_placed streams.now (said_mark mark.now) }
 {
     match mark.kind {
         MarkKind::Out => has_out(streams, mark.interface),
@@ -50,15 +77,15 @@ fn is_placed(streams: &[StreamInterface], mark: &Mark) -> bool
 }
 
 /// Whether each mark does.
-pub(crate) fn are_placed(streams: &[StreamInterface], marks: &[Mark]) -> bool
-    ensures { result ≡ list_all (λ mark. world.is_placed streams.now (said_mark mark)) marks.now }
+pub fn are_placed(streams: &[StreamInterface], marks: &[Mark]) -> bool
+    ensures { result ≡ list_all (λ mark. spec.is_placed streams.now (said_mark mark)) marks.now }
 {
     marks.iter().all(|mark| is_placed(streams, mark))
 }
 
 /// The terminal of the interface of this number that carries a stream to the device.
 fn out_terminal(streams: &[StreamInterface], number: u8) -> Option<u8>
-    ensures { result ≡ option_map (λ s. s.terminal) (find (world.is_out number) streams.now) }
+    ensures { result ≡ option_map (λ s. s.terminal) (find (spec.is_out number) streams.now) }
 {
     match streams.iter().find(|stream| is_out(stream, number)) {
         Some(stream) => Some(stream.terminal),
@@ -77,9 +104,9 @@ fn channels_of(function: &Function, id: u8) -> u8
 }
 
 /// Whether so many samples are whole frames of the interface that carries a stream to the device.
-#[tactic(auto, unfolding(crate::specs::World::are_frames))]
-pub(crate) fn are_frames(function: &Function, number: u8, count: usize) -> bool
-    ensures { result ≡ world.are_frames function.now number count }
+#[tactic(auto, unfolding(crate::specs::Naming::are_frames))]
+pub fn are_frames(function: &Function, number: u8, count: usize) -> bool
+    ensures { result ≡ spec.are_frames function.now number count }
 {
     match out_terminal(function.streams(), number) {
         Some(terminal) => are_whole(count, channels_of(function, terminal)),
