@@ -10,10 +10,10 @@ use Rattle.uac_bus.specs.World.{World, Step, done, refused, start}
 use Rattle.uac_bus.specs.After.{said_step}
 use Rattle.uac_describe.specs.declared.status.Status.TheVariants as statuses
 use Rattle.uac_describe.specs.Outcome.{End, at_end, read_failed, stopped}
-use Rattle.uac_scripts.specs.Transcript.{Ending, after_step, with_text_first, ends, goes, rest_done, transcript, unfinished}
+use Rattle.uac_scripts.specs.Transcript.{Ending, after_step, with_text_first, goes, transcript}
 use Rattle.uac_describe.specs.Closing.{HasEnded, Rests}
 use Rattle.uac_describe.proofs.Completing.{front_of}
-use Rattle.uac_scripts.proofs.Going.{goes_at, line_size}
+use Rattle.uac_scripts.proofs.Going.{goes_at, line_size, waits_for_more}
 
 -- ---- a script that stopped
 
@@ -34,11 +34,6 @@ told_same : (short short' : Ending) (longer longer' : List ℕ → End → Endin
     → IsTold short longer → IsTold short' longer'
 told_same short short' longer longer' same each (inl waits) = inl (ap (λ (e : Ending). e.outcome.status) same ∙ waits)
 told_same short short' longer longer' same each (inr stays) = inr (λ more end. each more end ∙ stays more end ∙ sym same)
-
--- bytes that no newline ends wait for more
-waits_for_more : (rest : List ℕ) (number : ℕ) (w : World) → rest_done rest stopped number w ≡ ends unfinished w
-waits_for_more [] number w = refl
-waits_for_more (b ∷ rest) number w = refl
 
 -- by what stands first, where that is told of what stands after a line
 told_by : (h : Head) (spare : ℕ) (bytes : List ℕ) (number : ℕ) (w : World) → head_of spare bytes ≡ h

@@ -5,7 +5,7 @@ use Rattle.std.specs.Io.KnownBytes.{Appends, Consumes, IsAtEnd, Keeps}
 use Rattle.uac_units.specs.Hearing.{Reading}
 use Rattle.uac_edges.specs.Faults.{Rose}
 use Rattle.uac_edges.specs.Writing.{AppendsFront}
-use Rattle.uac_script.specs.Lines.{line, long, past, unended, head_of, most_of_input, Splitting, Splits, Goes}
+use Rattle.uac_script.specs.Lines.{line, long, past, unended, head_of, most_of_input, Splitting, Splits, StopsAtLine, Goes}
 use Rattle.uac_script.specs.Reading.{answer}
 use Rattle.uac_script.specs.declared.lines.Next.{Next}
 use Rattle.uac_script.specs.declared.lines.Next.TheVariants as next
@@ -28,7 +28,7 @@ use Rattle.uac_describe.specs.declared.status.Status.{Status}
 use Rattle.uac_describe.specs.declared.status.Status.TheVariants as statuses
 use Rattle.uac_describe.specs.Outcome.{End, at_end, read_failed, stopped, Outcome, no_memory, read_fault}
 use Rattle.uac_describe.specs.Closing.{HasEnded, Closes}
-use Rattle.uac_scripts.specs.Run.{IsRun}
+use Rattle.uac_scripts.specs.Run.{IsPrompt, IsRun, StopsAtRefusal}
 use Rattle.uac_scripts.specs.Running.{IsSilent, Leaves, stop_outcome}
 use Rattle.uac_scripts.specs.Script.{IsLine, IsWanted, StandsBehind, wants}
 use Rattle.uac_scripts.specs.Lived.{IsLived}
@@ -36,7 +36,7 @@ use Rattle.uac_scripts.proofs.LivedLemmas.{transcript_is_lived, wanted_is_lived}
 use Rattle.uac_scripts.specs.Transcript.{Ending, misread, too_long, last_line, ends, with_text_first, after_step, closed_by, finished, goes, transcript}
 use Rattle.uac_describe.proofs.Answering.{told_status}
 use Rattle.uac_scripts.proofs.Cutting.{HasDone, none_done, done_more, one_more_done, front_cut, rest_cut}
-use Rattle.uac_scripts.proofs.Going.{line_size, goes_at, head_nothing, rest_is_done, rest_failed, with_text_first-with_text_first}
+use Rattle.uac_scripts.proofs.Going.{line_size, goes_at, head_nothing, rest_is_done, rest_failed, waits_for_more, with_text_first-with_text_first}
 
 -- What is to come, whatever bytes that may be: the text so far, and then what the lines from here on make of the world. After a
 -- last line that no newline ends the script is finished.
@@ -52,6 +52,7 @@ pub record IsFar (shown : List Reading) (left left' : Option (List ℕ)) (writte
   pub text : List ℕ
   pub world : World
   pub consumed : Consumes left left' taken
+  pub prompt : StopsAtRefusal shown taken
   pub size : length taken + lines.spare ≡ most_of_input + length lines.unread
   pub going : lines.stop ≡ None
   pub to_come : ToCome shown taken text lines left' world lines.ended
@@ -76,6 +77,7 @@ begins shown left written bus stands = record {
   text = [];
   world = start shown;
   consumed = Consumes-none left;
+  prompt = record { front = []; piece = []; parts = refl; going = ap (λ (e : Ending). e.outcome.status) (goes_at (unended []) most_of_input [] stopped 1 (start shown) (head_nothing most_of_input)); short = omega arith };
   size = refl;
   going = refl;
   to_come = (λ more end. refl);
@@ -100,6 +102,24 @@ Stands-meters bus shown w stands = shows bus.stage w stands.stage
     shows (stages.Running p) (describing bytes meters) s = absurd s
     shows (stages.Running p) (running r) s = s.now.meters
 
+-- ---- taking
+
+-- More was taken for the next line. Before the last piece none stood whole after the lines that were done.
+stops_later : (shown : List Reading) (taken text unread : List ℕ) (spare number : ℕ) (w : World)
+    → ((more : List ℕ) (end : End) → transcript shown (taken ++ more) end ≡ with_text_first text (goes spare (unread ++ more) end number w))
+    → StopsAtRefusal shown taken → (got : List ℕ) → StopsAtLine spare unread got → StopsAtRefusal shown (taken ++ got)
+stops_later shown taken text unread spare number w law before [] s = subst (StopsAtRefusal shown) (sym (append-nil taken)) before
+stops_later shown taken text unread spare number w law before (b ∷ got) s = record {
+  front = taken ++ s.front;
+  piece = s.piece;
+  parts = ap (λ (xs : List ℕ). taken ++ xs) s.parts ∙ sym (append_assoc taken s.front s.piece);
+  going =
+      ap (λ (e : Ending). e.outcome.status) (law s.front stopped
+      ∙ ap (with_text_first text) (goes_at (unended (unread ++ s.front)) spare (unread ++ s.front) stopped number w (s.open_yet (λ e. cc))
+      ∙ waits_for_more (unread ++ s.front) number w));
+  short = s.short;
+}
+
 -- ---- a line
 
 -- a line was handed out: the bytes taken up to it, why no more may be, and how the script goes on where the line is done; the bytes are
@@ -111,6 +131,7 @@ pub record HasLine (shown : List Reading) (text : List ℕ) (w : World) (left le
   pub go : World → Ending
   pub consumed : Consumes left left' taken
   pub ended : HasEnded end left' reads reads'
+  pub prompt : StopsAtRefusal shown taken
   pub size : length taken + lines.spare ≡ most_of_input + length lines.unread
   pub going : lines.stop ≡ None
   pub law : transcript shown taken end ≡ with_text_first text (after_step (said_step (answer lines.text) w) lines.number w go)
@@ -144,10 +165,10 @@ past_done shown taken text told number w next more end go law is =
 has_front : (shown : List Reading) (taken text got told rest : List ℕ) (old new : Splitting) (w : World) (left left' : Option (List ℕ)) (reads reads' : ℕ)
     → ((more : List ℕ) (end : End) → transcript shown (taken ++ more) end ≡ with_text_first text (goes old.spare (old.unread ++ more) end (old.number + 1) w))
     → length taken + old.spare ≡ most_of_input + length old.unread
-    → Consumes left left' (taken ++ got) → HasDone shown taken text old.unread w → length told + 1 + length rest ≡ length (old.unread ++ got)
+    → Consumes left left' (taken ++ got) → StopsAtRefusal shown (taken ++ got) → HasDone shown taken text old.unread w → length told + 1 + length rest ≡ length (old.unread ++ got)
     → head_of old.spare (old.unread ++ got) ≡ line told rest → Goes old new told rest (length told + 1) false → reads' ≡ reads
     → HasLine shown text w left left' old.number new reads reads'
-has_front shown taken text got told rest old new w left left' reads reads' law size consumed isdone whole head g still =
+has_front shown taken text got told rest old new w left left' reads reads' law size consumed prompt isdone whole head g still =
     let parts = front_cut old.spare (old.unread ++ got) told rest head in
     let after = past_line shown taken text got told rest old.unread old.spare old.number w law head in
     let spare-is : old.spare - (length told + 1) ≡ new.spare = let s = g.spare in omega arith in
@@ -160,6 +181,7 @@ has_front shown taken text got told rest old new w left left' reads reads' law s
       go = go;
       consumed = consumed;
       ended = still;
+      prompt = prompt;
       size = (let s = g.spare in let u : length new.unread ≡ length rest = ap length g.unread in omega (arith, length-append taken got, length-append old.unread got));
       going = g.going;
       law =
@@ -185,10 +207,10 @@ has_front shown taken text got told rest old new w left left' reads reads' law s
 has_rest : (shown : List Reading) (taken text got : List ℕ) (old new : Splitting) (w : World) (left left' : Option (List ℕ)) (reads reads' : ℕ)
     → ((more : List ℕ) (end : End) → transcript shown (taken ++ more) end ≡ with_text_first text (goes old.spare (old.unread ++ more) end (old.number + 1) w))
     → length taken + old.spare ≡ most_of_input + length old.unread
-    → Consumes left left' (taken ++ got) → HasDone shown taken text old.unread w → IsAtEnd left' → old.unread ++ got ≢ []
+    → Consumes left left' (taken ++ got) → StopsAtRefusal shown (taken ++ got) → HasDone shown taken text old.unread w → IsAtEnd left' → old.unread ++ got ≢ []
     → head_of old.spare (old.unread ++ got) ≡ unended (old.unread ++ got) → Goes old new (old.unread ++ got) [] (length (old.unread ++ got)) true → reads' ≡ reads
     → HasLine shown text w left left' old.number new reads reads'
-has_rest shown taken text got old new w left left' reads reads' law size consumed isdone over some head g still =
+has_rest shown taken text got old new w left left' reads reads' law size consumed prompt isdone over some head g still =
     let number-is : old.number + 1 ≡ new.number = sym g.number in
     let go : World → Ending = λ next. finished (old.number + 1 + 1) next in
     let at : transcript shown (taken ++ got) at_end ≡ with_text_first text (after_step (said_step (answer (old.unread ++ got)) w) (old.number + 1) w go) =
@@ -201,6 +223,7 @@ has_rest shown taken text got old new w left left' reads reads' law size consume
       go = go;
       consumed = consumed;
       ended = (over, still);
+      prompt = prompt;
       size = (let s = g.spare in let u : length new.unread ≡ length {A = ℕ} [] = ap length g.unread in omega (arith, length-append taken got, length-append old.unread got));
       going = g.going;
       law =
@@ -230,15 +253,20 @@ module _ (shown shown' : List Reading) (left mid left' : Option (List ℕ)) (wri
       → transcript shown (far.taken ++ more) end ≡ with_text_first far.text (goes old.spare (old.unread ++ more) end (old.number + 1) far.world)
   goes_on open_yet = subst (λ (b : Bool). ToCome shown far.taken far.text old mid far.world b) open_yet far.to_come
 
+  -- where more was taken
+  stops_on : old.ended ≡ false → (got : List ℕ) → StopsAtLine old.spare old.unread got → StopsAtRefusal shown (far.taken ++ got)
+  stops_on open_yet got s = stops_later shown far.taken far.text old.unread old.spare (old.number + 1) far.world (goes_on open_yet) far.prompt got s
+
   line_of : old.ended ≡ false → Splits old new mid left' reads reads' (Ok next.Line) → reads' ≡ reads → HasLine shown far.text far.world left left' old.number new reads reads'
   line_of open_yet splits still =
       let consumed : Consumes left left' (far.taken ++ splits.taken) = Consumes-Consumes left mid left' far.taken splits.taken far.consumed splits.consumed in
+      let prompt : StopsAtRefusal shown (far.taken ++ splits.taken) = stops_on open_yet splits.taken splits.prompt in
       elim splits.comes as (λ _. HasLine shown far.text far.world left left' old.number new reads reads') [
         | inl front ↦
-            has_front shown far.taken far.text splits.taken front.0 front.1 old new far.world left left' reads reads' (goes_on open_yet) far.size consumed (far.cut open_yet)
+            has_front shown far.taken far.text splits.taken front.0 front.1 old new far.world left left' reads reads' (goes_on open_yet) far.size consumed prompt (far.cut open_yet)
             (line_size old.spare (old.unread ++ splits.taken) front.0 front.1 front.2) front.2 front.3 still
         | inr rest ↦
-            has_rest shown far.taken far.text splits.taken old new far.world left left' reads reads' (goes_on open_yet) far.size consumed (far.cut open_yet) rest.2 rest.0 rest.1 rest.3 still
+            has_rest shown far.taken far.text splits.taken old new far.world left left' reads reads' (goes_on open_yet) far.size consumed prompt (far.cut open_yet) rest.2 rest.0 rest.1 rest.3 still
       ]
 
   -- the next line was handed out
@@ -271,6 +299,7 @@ far_on shown shown' shown'' left mid left' written written' written'' bus bus' o
       text = far.text ++ text_of d.more;
       world = d.next;
       consumed = has.consumed;
+      prompt = has.prompt;
       size = has.size;
       going = has.going;
       to_come = has.on d.next d.more d.is;
@@ -308,7 +337,7 @@ is_wanted shown taken text told rest w isdone is_line whole takes = record {
 }
 
 module _ (shown shown' : List Reading) (left left' : Option (List ℕ)) (reads reads' : ℕ) (written mid written' : Option (List ℕ)) (writes writes' writes'' : ℕ) (status : Status) where
-  pub ends_run : (taken text : List ℕ) (end : End) (ending : Ending) → Consumes left left' taken → HasEnded end left' reads reads' → length taken ≤ most_of_input + 1
+  pub ends_run : (taken text : List ℕ) (end : End) (ending : Ending) → Consumes left left' taken → HasEnded end left' reads reads' → IsPrompt (Some Run) shown taken
       → transcript shown taken end ≡ with_text_first text ending → Appends written mid text → writes' ≡ writes
       → Closes ending.outcome mid written' writes' writes'' status → (status ≢ statuses.WriteFault → shown' ≡ ending.meters)
       → IsRun (Some Run) shown shown' left left' reads reads' written written' writes writes'' status
@@ -327,7 +356,7 @@ module _ (shown shown' : List Reading) (left left' : Option (List ℕ)) (reads r
   }
 
   -- memory was wanted at a line, after others that were done
-  pub memory_run : (taken text told rest : List ℕ) (w : World) (end : End) → Consumes left left' taken → HasEnded end left' reads reads' → length taken ≤ most_of_input + 1
+  pub memory_run : (taken text told rest : List ℕ) (w : World) (end : End) → Consumes left left' taken → HasEnded end left' reads reads' → IsPrompt (Some Run) shown taken
       → HasDone shown taken text (told ++ rest) w → IsLine told → StandsBehind rest → wants (answer told) w ≡ true
       → Appends written mid text → writes' ≡ writes → Closes no_memory mid written' writes' writes'' status → shown' ≡ meters_in w
       → IsRun (Some Run) shown shown' left left' reads reads' written written' writes writes'' status
@@ -363,8 +392,8 @@ module _ (shown shown' shown'' : List Reading) (left left' : Option (List ℕ)) 
   ended : HasEnded has.end left' first reads'
   ended = ended_earlier has.end left' first reads reads' reads-early has.ended
 
-  prompt : length has.taken ≤ most_of_input + 1
-  prompt = let s = has.size in omega arith
+  prompt : IsPrompt (Some Run) shown has.taken
+  prompt = (let s = has.size in omega arith, has.prompt)
 
   refused_run : (fault : BusFault) → said_step (answer new.text) w ≡ refused fault → IsSilent shown' shown'' mid mid' before after
       → Closes (last_line fault new.number) mid' written' after last status → IsRun (Some Run) shown shown'' left left' first reads' written written' writes last status
@@ -411,6 +440,14 @@ module _ (shown shown' shown'' : List Reading) (left left' : Option (List ℕ)) 
 module _ (shown shown' : List Reading) (left mid left' : Option (List ℕ)) (written written' written'' : Option (List ℕ)) (bus : BusFields) (old new : Splitting)
     (first reads reads' writes before last : ℕ) (status : Status)
     (far : IsFar shown left mid written written' bus shown' old) (within : length new.unread ≤ new.spare + 1) (early : reads ≡ first) (first-writes : before ≡ writes) where
+  -- what was taken for the line that stopped them
+  stopped_prompt : old.ended ≡ false → (got : List ℕ) → StopsAtLine old.spare old.unread got → new.unread ≡ old.unread ++ got → new.spare ≡ old.spare
+      → IsPrompt (Some Run) shown (far.taken ++ got)
+  stopped_prompt open_yet got s unread spare = (
+    let size = far.size in let u : length new.unread ≡ length (old.unread ++ got) = ap length unread in omega (arith, length-append far.taken got, length-append old.unread got),
+    stops_on shown shown' left mid left' written written' bus old new reads reads' far open_yet got s,
+  )
+
   -- the lines stopped, and their last line was printed
   stopped_by : (why : LineStop) → old.ended ≡ false → Splits old new mid left' reads reads' (Err why) → (why ≢ stops.Failed → reads' ≡ reads)
       → Closes (stop_outcome why new.number) written' written'' before last status → IsRun (Some Run) shown shown' left left' first reads' written written'' writes last status
@@ -418,7 +455,7 @@ module _ (shown shown' : List Reading) (left mid left' : Option (List ℕ)) (wri
       let halt = splits.comes.1 in
       ends_run shown shown' left left' first reads' written written' written'' writes before last status (far.taken ++ splits.taken) far.text stopped (ends (misread 1 new.number) far.world)
       (Consumes-Consumes left mid left' far.taken splits.taken far.consumed splits.consumed) (calm (λ e. cc) ∙ early)
-      (let s = far.size in let u : length new.unread ≡ length (old.unread ++ splits.taken) = ap length halt.unread in let n = halt.spare in omega (arith, length-append far.taken splits.taken, length-append old.unread splits.taken))
+      (stopped_prompt open_yet splits.taken splits.prompt halt.unread halt.spare)
       (goes_on shown shown' left mid left' written written' bus old new reads reads' far open_yet splits.taken stopped
       ∙ ap (with_text_first far.text) (goes_at long old.spare (old.unread ++ splits.taken) stopped (old.number + 1) far.world splits.comes.0
       ∙ ap (λ (n : ℕ). ends (misread 1 n) far.world) (sym halt.number)))
@@ -427,7 +464,7 @@ module _ (shown shown' : List Reading) (left mid left' : Option (List ℕ)) (wri
       let halt = splits.comes.1 in
       ends_run shown shown' left left' first reads' written written' written'' writes before last status (far.taken ++ splits.taken) far.text stopped (ends too_long far.world)
       (Consumes-Consumes left mid left' far.taken splits.taken far.consumed splits.consumed) (calm (λ e. cc) ∙ early)
-      (let s = far.size in let u : length new.unread ≡ length (old.unread ++ splits.taken) = ap length halt.unread in let n = halt.spare in omega (arith, length-append far.taken splits.taken, length-append old.unread splits.taken))
+      (stopped_prompt open_yet splits.taken splits.prompt halt.unread halt.spare)
       (goes_on shown shown' left mid left' written written' bus old new reads reads' far open_yet splits.taken stopped
       ∙ ap (with_text_first far.text) (goes_at past old.spare (old.unread ++ splits.taken) stopped (old.number + 1) far.world splits.comes.0))
       far.appended first-writes closed (λ _. Stands-meters bus shown' far.world far.stands)
@@ -435,7 +472,7 @@ module _ (shown shown' : List Reading) (left mid left' : Option (List ℕ)) (wri
       let halt = splits.comes.2 in
       ends_run shown shown' left left' first reads' written written' written'' writes before last status (far.taken ++ splits.taken) far.text read_failed (ends read_fault far.world)
       (Consumes-Consumes left mid left' far.taken splits.taken far.consumed splits.consumed) (subst (λ (n : ℕ). Rose n reads') early splits.comes.1)
-      (let s = far.size in let u : length new.unread ≡ length (old.unread ++ splits.taken) = ap length halt.unread in let n = halt.spare in omega (arith, length-append far.taken splits.taken, length-append old.unread splits.taken))
+      (stopped_prompt open_yet splits.taken splits.prompt halt.unread halt.spare)
       (goes_on shown shown' left mid left' written written' bus old new reads reads' far open_yet splits.taken read_failed
       ∙ ap (with_text_first far.text) (goes_at (unended (old.unread ++ splits.taken)) old.spare (old.unread ++ splits.taken) read_failed (old.number + 1) far.world splits.comes.0
       ∙ rest_failed (old.unread ++ splits.taken) (old.number + 1) far.world))
@@ -463,7 +500,7 @@ module _ (shown shown' : List Reading) (left mid left' : Option (List ℕ)) (wri
     pub over : IsAtEnd left'
     pub same : new ≡ old
     pub law : transcript shown taken at_end ≡ with_text_first far.text (finished (old.number + 1) far.world)
-    pub prompt : length taken ≤ most_of_input + 1
+    pub prompt : IsPrompt (Some Run) shown taken
 
   is_over : (ended : Bool) → old.ended ≡ ended → (ended ≡ false → Splits old new mid left' reads reads' (Ok next.End))
       → (ended ≡ true → (new ≡ old) × (left' ≡ mid)) → length new.unread ≤ new.spare + 1 → IsOver
@@ -478,7 +515,7 @@ module _ (shown shown' : List Reading) (left mid left' : Option (List ℕ)) (wri
         over = subst IsAtEnd (sym kept.1) parts.0;
         same = kept.0;
         law = parts.1;
-        prompt = (let s = far.size in omega arith);
+        prompt = (let s = far.size in omega arith, far.prompt);
       }
   is_over false is splits same within =
       let now = splits refl in
@@ -492,7 +529,10 @@ module _ (shown shown' : List Reading) (left mid left' : Option (List ℕ)) (wri
             goes_on shown shown' left mid left' written written' bus old new reads reads' far is now.taken at_end
             ∙ ap (λ (xs : List ℕ). with_text_first far.text (goes old.spare xs at_end (old.number + 1) far.world)) none
             ∙ ap (with_text_first far.text) (goes_at (unended []) old.spare [] at_end (old.number + 1) far.world (head_nothing old.spare));
-        prompt = (let s = far.size in let u : length (old.unread ++ now.taken) ≡ length {A = ℕ} [] = ap length none in omega (arith, length-append far.taken now.taken, length-append old.unread now.taken));
+        prompt = (
+          let s = far.size in let u : length (old.unread ++ now.taken) ≡ length {A = ℕ} [] = ap length none in omega (arith, length-append far.taken now.taken, length-append old.unread now.taken),
+          stops_on shown shown' left mid left' written written' bus old new reads reads' far is now.taken now.prompt,
+        );
       }
 
   pub finished_run : (got : Next) → got ≡ next.End → (old.ended ≡ false → Splits old new mid left' reads reads' (Ok got)) → (old.ended ≡ true → (new ≡ old) × (left' ≡ mid)) → length new.unread ≤ new.spare + 1

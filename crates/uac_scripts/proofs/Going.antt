@@ -6,10 +6,10 @@ use Rattle.uac_script.specs.Looking.{line_end}
 use Rattle.uac_script.specs.Reading.{answer}
 use Rattle.uac_script.proofs.HeadLemmas.{Cases, is_long, is_line, is_past, is_unended, cases_of, line_end_within}
 use Rattle.uac_bus.specs.World.{World, Step, done, refused}
-use Rattle.uac_describe.specs.Outcome.{End, at_end, read_failed, read_fault}
+use Rattle.uac_describe.specs.Outcome.{End, at_end, read_failed, read_fault, stopped}
 use Rattle.uac_transcript.specs.Printing.{text_of}
 use Rattle.uac_bus.specs.After.{said_step}
-use Rattle.uac_scripts.specs.Transcript.{Ending, ends, with_text_first, after_step, finished, rest_done, by_head, goes_within, goes}
+use Rattle.uac_scripts.specs.Transcript.{Ending, ends, with_text_first, after_step, finished, rest_done, by_head, goes_within, goes, unfinished}
 
 -- a line and its newline are some of the bytes, and the rest stands after them
 pub line_size : (spare : ℕ) (bytes text rest : List ℕ) → head_of spare bytes ≡ line text rest → length text + 1 + length rest ≡ length bytes
@@ -92,6 +92,11 @@ rest_is_done (b ∷ rest) number w some = refl
 pub rest_failed : (rest : List ℕ) (number : ℕ) (w : World) → rest_done rest read_failed number w ≡ ends read_fault w
 rest_failed [] number w = refl
 rest_failed (b ∷ rest) number w = refl
+
+-- bytes that no newline ends wait for more
+pub waits_for_more : (rest : List ℕ) (number : ℕ) (w : World) → rest_done rest stopped number w ≡ ends unfinished w
+waits_for_more [] number w = refl
+waits_for_more (b ∷ rest) number w = refl
 
 -- a text and another after it
 pub with_text_first-with_text_first : (a b : List ℕ) (ending : Ending) → with_text_first a (with_text_first b ending) ≡ with_text_first (a ++ b) ending

@@ -1,7 +1,7 @@
 -- One call of the program, as its source and its sink see it (profile).
-use Rattle.std.specs.Prelude.{◌≡◌, ◌≢◌, ◌≤◌, ℕ, ◌+◌, ◌⊎◌, List, [], length, Option, None, Some, codes}
+use Rattle.std.specs.Prelude.{◌≡◌, ◌≢◌, ◌≤◌, ℕ, ◌+◌, ◌⊎◌, List, [], ◌++◌, length, Option, None, Some, codes}
 use Rattle.std.specs.Io.KnownBytes.{Consumes}
-use Rattle.uac_script.specs.Lines.{most_of_input}
+use Rattle.uac_script.specs.Lines.{most_of_input, piece_size}
 use Rattle.uac_units.specs.Hearing.{Reading}
 use Rattle.uac_scripts.specs.declared.jobs.Job.{Job}
 use Rattle.uac_scripts.specs.declared.jobs.Job.TheVariants.{Describe, Run}
@@ -9,16 +9,25 @@ use Rattle.uac_describe.specs.declared.status.Status.{Status}
 use Rattle.uac_describe.specs.declared.status.Status.TheVariants as statuses
 use Rattle.uac_describe.specs.Reading.{StopsThere}
 use Rattle.uac_describe.specs.Closing.{Closes, HasEnded}
-use Rattle.uac_describe.specs.Outcome.{End, Outcome, no_memory, Answers}
-use Rattle.uac_scripts.specs.Transcript.{Ending, transcript}
+use Rattle.uac_describe.specs.Outcome.{End, stopped, Outcome, no_memory, Answers}
+use Rattle.uac_scripts.specs.Transcript.{Ending, transcript, unfinished}
 use Rattle.uac_scripts.specs.Script.{IsWanted}
 use Rattle.uac_scripts.specs.Lived.{IsLived}
 
--- How many bytes are taken past what decides: of a descriptor all but at most the last 4,096 show no fault, and of a script at
--- most one byte is taken past the limit.
-abbrev pub IsPrompt : Option Job → List ℕ → Type 0
-IsPrompt (Some Run) taken = length taken ≤ most_of_input + 1
-IsPrompt _ taken = StopsThere taken
+-- Taking stopped at the refusal: what was taken before the last piece comes to no last line, whatever follows it.
+pub record StopsAtRefusal (shown : List Reading) (taken : List ℕ) : Type 0 where
+  pub front : List ℕ
+  pub piece : List ℕ
+  pub parts : taken ≡ front ++ piece
+  pub going : (transcript shown front stopped).outcome.status ≡ unfinished.status
+  pub short : length piece ≤ piece_size
+
+-- How many bytes are taken past what decides: of a descriptor all but at most the last 4,096 show no fault; and of a script none of the
+-- lines in all but at most the last 8,192 is refused, and at most one byte is taken past the limit.
+abbrev pub IsPrompt : Option Job → List Reading → List ℕ → Type 0
+IsPrompt None shown taken = StopsThere taken
+IsPrompt (Some (Describe description)) shown taken = StopsThere taken
+IsPrompt (Some Run) shown taken = (length taken ≤ most_of_input + 1) × StopsAtRefusal shown taken
 
 -- the words are no command
 abbrev pub usage : Outcome
@@ -57,7 +66,7 @@ pub record IsRun (command : Option Job) (shown shown' : List Reading) (left left
   pub ending : Ending
   pub consumed : Consumes left left' taken
   pub ended : HasEnded end left' reads reads'
-  pub prompt : IsPrompt command taken
+  pub prompt : IsPrompt command shown taken
   pub meant : IsEnding command shown taken end ending ⊎ WantsMemory command shown taken ending
   pub lived : IsLivedFor command shown taken ending
   pub closed : Closes ending.outcome written written' writes writes' status
