@@ -73,10 +73,8 @@ impl Reader {
         }
         let mut rest = piece;
         while !rest.is_empty() {
-            match self.take(rest) {
-                Ok(count) => rest = &rest[count..],
-                Err(stop) => return Err(stop),
-            }
+            let count = self.take(rest)?;
+            rest = &rest[count..];
         }
         Ok(())
     }
