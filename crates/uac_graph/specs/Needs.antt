@@ -1,4 +1,4 @@
--- The units that the output terminals of a clock domain need (Audio Class 2.0, 3.13.5: a clock domain).
+-- The units that the output terminals of a clock domain need (Audio Class 2.0, "Clock Domain").
 use Rattle.std.specs.Prelude.{ℕ, zero, suc, Bool, true, false, ◌==◌, ◌&&◌, ◌||◌, if◌then◌else◌, List, map, length, filter}
 use Rattle.std.specs.List.{list_any}
 use Rattle.uac_entities.specs.declared.entity.Entity.{Entity}

@@ -4,28 +4,22 @@ ghost use Rattle.uac_graph.specs.Controls as spec;
 ghost use Rattle.uac_graph.specs.Controls.{held_in};
 
 use uac_gain::gain;
+use uac_store::selectors::{
+    FU_MUTE_CONTROL, FU_VOLUME_CONTROL, MU_MIXER_CONTROL, SU_SELECTOR_CONTROL,
+};
 use uac_store::{Key, Store};
 
 /// A gain of 0 decibels.
 const UNITY: u32 = 1073741824;
 
-/// The selector of a feature unit's mute control (Audio Class 2.0, A.17.7).
-const MUTE: u8 = 1;
-
-/// The selector of a feature unit's volume control (Audio Class 2.0, A.17.7).
-const VOLUME: u8 = 2;
-
-/// The selector of a mixer's nodes and of a selector's pin (Audio Class 2.0, A.17.5 and A.17.6).
-const ONLY: u8 = 1;
-
 /// The gain of a feature unit's channel, 0 being the master; none where it is muted.
 pub(crate) fn feature_gain(store: &Store, id: u8, channel: u8) -> u32
     ensures { result ≡ spec.feature_gain (held_in store.now) id channel }
 {
-    if control_value(store, id, MUTE, channel) != 0 {
+    if control_value(store, id, FU_MUTE_CONTROL, channel) != 0 {
         0
     } else {
-        volume_gain(store, id, VOLUME, channel)
+        volume_gain(store, id, FU_VOLUME_CONTROL, channel)
     }
 }
 
@@ -33,7 +27,7 @@ pub(crate) fn feature_gain(store: &Store, id: u8, channel: u8) -> u32
 pub(crate) fn node_gain(store: &Store, id: u8, node: u8) -> u32
     ensures { result ≡ spec.node_gain (held_in store.now) id node }
 {
-    volume_gain(store, id, ONLY, node)
+    volume_gain(store, id, MU_MIXER_CONTROL, node)
 }
 
 /// The pin, from 0, that a selector of so many pins has chosen.
@@ -41,7 +35,7 @@ pub(crate) fn chosen_pin(store: &Store, id: u8, pins: usize) -> u16
     requires { pins ≤ 256 }
     ensures { result ≡ spec.chosen_pin (held_in store.now) id pins }
 {
-    let value = control_value(store, id, ONLY, 0);
+    let value = control_value(store, id, SU_SELECTOR_CONTROL, 0);
     if value >= 1 && value as usize <= pins {
         (value - 1) as u16
     } else {
