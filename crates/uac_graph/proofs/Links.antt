@@ -1,16 +1,12 @@
 -- From ids to places along the signal links.
-use Rattle.std.proofs.Common.{◌≡◌, ◌∙◌, ap, sym, arith, ℕ, suc, ◌<◌, ◌==◌, false, List, Option, length, get_or, slice_get, map, ◌⊎◌, inl, inr}
+use Rattle.std.proofs.Common.{◌≡◌, ◌∙◌, ap, sym, arith, ℕ, suc, ◌<◌, false, List, length, get_or, map, ◌⊎◌, inl, inr}
 use Rattle.std.specs.List.{list_any}
-use Rattle.std.specs.Option.{option_map_or}
 use Rattle.std.proofs.lemmas.Bool.{cases_lt}
 use Rattle.std.proofs.lemmas.List.{get_or_past}
-use Rattle.std.proofs.lemmas.List.Folds.{find_at}
-use Rattle.std.proofs.lemmas.Option.{slice_get-get_or, slice_get_past}
 use Rattle.std.proofs.Math.ListN as listn
 use Rattle.std.proofs.Math.ListN.{length-map}
 use Rattle.uac_walk.specs.Walk.{links, has_walk}
 use Rattle.uac_walk.proofs.Walks.{none_at}
-use Rattle.uac_entities.specs.Streams.{channels_of, named}
 use Rattle.uac_entities.specs.declared.entity.Entity.{Entity}
 use Rattle.uac_topology_rules.specs.Links.{signal_sources, signal_links}
 use Rattle.uac_topology_rules.specs.Table.{at, place_of, nothing}
@@ -48,16 +44,3 @@ place_or_none entities id =
       | inl below ↦ inl below
       | inr past ↦ inr (omega (arith, or_len-le (λ (e : Entity). Rattle.std.specs.Prelude.nat_eq e.id id) entities))
     ]
-
--- the channels of an entity, found by its id
-pub channels_named : (entities : List Entity) (id : ℕ) → channels_of entities id ≡ (entity entities id).cluster.channels
-unfolding channels_of named place_of entity at
-channels_named entities id = ap channels (find_at (λ (e : Entity). e.id == id) entities) ∙ from (place_or_none entities id) where
-  channels : Option Entity → ℕ
-  channels o = option_map_or (λ e. e.cluster.channels) o 0
-
-  from : (place_of entities id < length entities) ⊎ (place_of entities id ≡ length entities)
-      → channels (slice_get entities (place_of entities id)) ≡ (entity entities id).cluster.channels
-  from (inl below) = ap channels (slice_get-get_or entities (place_of entities id) nothing below)
-  from (inr past) =
-      ap channels (slice_get_past entities (place_of entities id) (omega arith)) ∙ sym (ap (λ (e : Entity). e.cluster.channels) (entity_past entities id past))

@@ -20,8 +20,9 @@ use Rattle.uac_graph.specs.Jobs.{FitsFrames, takes_signal}
 use Rattle.uac_graph.specs.Meaning.{entity, frame_of, sample_of}
 use Rattle.uac_graph.specs.Needs.{reaches}
 use Rattle.uac_graph.specs.Wiring.{AreWiresOf, Frames, frame_on, samples_on}
+use Rattle.uac_topology_rules.proofs.Channels.{channels_placed}
 use Rattle.uac_topology_rules.proofs.KnownSteps.{map_same}
-use Rattle.uac_graph.proofs.Links.{channels_named, source_ends}
+use Rattle.uac_graph.proofs.Links.{source_ends}
 use Rattle.uac_graph.proofs.Walking.{signal_below, signal_channels, signal_sources_of}
 
 -- a walk of no links always leads on
@@ -99,14 +100,14 @@ fit_pins entities id sound signal = sound.fits (place_of entities id) (signal_be
 pub held_pins : (entities : List Entity) (frames : Frames) (id : ℕ) → IsSignalGraph entities → AreWiresOf entities frames
     → is_clock (entity entities id).kind ≡ false
     → map length (map (samples_on frames) (entity entities id).sources) ≡ pins_of entities (entity entities id)
-unfolding pins_of
+unfolding pins_of entity
 held_pins entities frames id sound fitting signal =
     let e = entity entities id in
     map-map length (samples_on frames) e.sources
     ∙ map_same (λ s. length (samples_on frames s)) (channels_of entities) e.sources
     (λ k below.
     held_channels entities frames (get_or e.sources k 0) fitting (source_signal entities id k sound signal below)
-    ∙ sym (channels_named entities (get_or e.sources k 0)))
+    ∙ sym (channels_placed entities (get_or e.sources k 0)))
 
 -- what an entity takes from its sources fits it
 pub fits_frames : (entities : List Entity) (frames : Frames) (id : ℕ) → IsSignalGraph entities → AreWiresOf entities frames

@@ -9,7 +9,6 @@ ghost use Rattle.uac_units.specs.declared.jobs.UnitKind.TheVariants.{Selector};
 ghost use Rattle.uac_graph.specs.Controls.{held_in};
 ghost use Rattle.uac_graph.specs.Jobs as spec;
 ghost use Rattle.uac_graph.specs.Jobs.{HasJob, IsAskable, IsJob};
-ghost use Rattle.uac_graph.specs.Meaning.{entity};
 ghost use Rattle.uac_graph.specs.Needs as needs;
 ghost use Rattle.uac_graph.specs.Wiring.{samples_on};
 
@@ -101,21 +100,9 @@ fn inputs_of(table: &EntityTable, entity: &Entity) -> usize
 {
     let mut inputs = 0;
     for source in entity.sources.as_slice() {
-        inputs += channels_of(table, *source) as usize;
+        inputs += table.channels_of(*source) as usize;
     }
     inputs
-}
-
-// The channels of the entity with an id, 0 where there is none.
-fn channels_of(table: &EntityTable, id: u8) -> u8
-    ensures { result ≡ (entity table.now id).cluster.channels }
-{
-    let place = table.place_of(id);
-    if place < table.as_slice().len() {
-        table.at(place).cluster.channels
-    } else {
-        0
-    }
 }
 
 // Makes it the job of an entity's unit over so many input channels, under the controls held.

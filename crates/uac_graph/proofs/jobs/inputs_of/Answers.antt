@@ -1,21 +1,18 @@
-use Rattle.std.proofs.Common.{◌∙◌, ap, sym, arith, get_or, sum_by, take_all}
+use Rattle.std.proofs.Common.{◌∙◌, ap, sym, arith, sum_by, take_all}
 use Rattle.std.proofs.lemmas.List.Sums.{sum-map, sum_by_more}
 use Rattle.uac_entities.specs.Streams.{channels_of}
 use Rattle.uac_store.specs.Controls.{pins_of}
 use Rattle.uac_store.proofs.Starting.{inputs_within}
-use Rattle.uac_graph.proofs.Links.{channels_named}
 use Rattle.uac_graph.proofs.jobs.inputs_of.Goals as goal
 
 pub overflow_add-inputs : goal.overflow_add-inputs
 overflow_add-inputs c =
     let within = inputs_within c.args.table.now c.args.entity.now c.as_slice-source-items.result.now c.loop-source.source-index c.as_slice-source-items.ensures c.loop-source-test.true c.requires in
-    let more = c.channels_of.ensures ∙ sym (channels_named c.args.table.now (get_or c.as_slice-source-items.result.now c.loop-source.source-index 0)) in
-    omega (arith, within, c.loop-source.invariant, more)
+    omega (arith, within, c.loop-source.invariant, c.channels_of.ensures.value)
 
 pub loop-source-preserved : goal.loop-source-preserved
 loop-source-preserved c =
-    let more = c.channels_of.ensures ∙ sym (channels_named c.args.table.now (get_or c.as_slice-source-items.result.now c.loop-source.source-index 0)) in
-    omega (arith, c.loop-source.invariant, more, sum_by_more (channels_of c.args.table.now) c.as_slice-source-items.result.now c.loop-source.source-index 0 c.loop-source-test.true)
+    omega (arith, c.loop-source.invariant, c.channels_of.ensures.value, sum_by_more (channels_of c.args.table.now) c.as_slice-source-items.result.now c.loop-source.source-index 0 c.loop-source-test.true)
 
 pub returns : goal.returns
 unfolding pins_of
