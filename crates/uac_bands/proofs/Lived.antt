@@ -5,11 +5,11 @@ use Rattle.std.specs.Option.{option_and_then, option_map, option_map_or}
 use Rattle.std.proofs.lemmas.Option.{option_and_then_some}
 use Rattle.uac_units.specs.Hearing.{at_most_u64}
 use Rattle.uac_rate.specs.Steadiness.{one_more}
-use Rattle.uac_topology.specs.Function.{FunctionFields}
+use Rattle.uac_topology.specs.Function.{FunctionFields, interface_in}
 use Rattle.uac_graph.specs.Meaning.{entity}
 use Rattle.uac_flow.specs.Streams.{OutStream, after_packet, feedback_of, is_due}
 use Rattle.uac_host.specs.HostWorld.{Pace, Track}
-use Rattle.uac_host.specs.Calls.{interface_in, packet_of, reported, sent}
+use Rattle.uac_host.specs.Calls.{packet_of, reported, sent}
 use Rattle.uac_device.specs.DeviceWorld.{Domain, step_in}
 use Rattle.uac_script.specs.Phrase.{SaidMark}
 use Rattle.uac_streaming.specs.StreamingWorld.{StreamingWorld, all_reported, all_settled, goes_out, in_packet_turn, in_packets, loses_out, loses_report, numbers, out_packets, out_turn, packet_to, place_of, goes_out, report_turn, settled_turn}

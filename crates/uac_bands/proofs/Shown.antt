@@ -6,14 +6,14 @@ use Rattle.std.proofs.lemmas.Bool.{cases_Bool, eqb-false, eqb-true, true≢false
 use Rattle.std.proofs.lemmas.List.Quantifiers.{position-Some}
 use Rattle.uac_pcm.specs.Packets.{packed}
 use Rattle.uac_entities.specs.declared.stream.StreamInterface.{StreamInterface}
-use Rattle.uac_topology.specs.Function.{FunctionFields}
+use Rattle.uac_topology.specs.Function.{FunctionFields, interface_in}
 use Rattle.uac_store.specs.declared.keys.Key.{Key}
 use Rattle.uac_rate.specs.Steadiness.{Given}
 use Rattle.uac_rate.specs.Steadiness as steadiness
 use Rattle.uac_graph.specs.Meaning.{entity}
 use Rattle.uac_flow.specs.Streams.{OutStream, after_packet, feedback_of, is_due, settled_out}
 use Rattle.uac_host.specs.HostWorld.{Pace, Track}
-use Rattle.uac_host.specs.Calls.{after_frames, interface_in, next_frames, next_size, packet_of, reported, sent, size_of, with_report}
+use Rattle.uac_host.specs.Calls.{after_frames, next_frames, next_size, packet_of, reported, sent, size_of, with_report}
 use Rattle.uac_host.specs.Calls.{after_packet as host_sends}
 use Rattle.uac_lanes.specs.InterfaceStreams.{either_due}
 use Rattle.uac_device.specs.DeviceWorld.{Domain, feedback_in, is_due_in, received, settled}

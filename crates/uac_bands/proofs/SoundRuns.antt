@@ -6,7 +6,7 @@ use Rattle.std.proofs.lemmas.Bool.{eqb-true}
 use Rattle.std.proofs.lemmas.List.Elements.{All-cons, All-head, All-map, All-nil, All-tail}
 use Rattle.uac_pcm.specs.declared.tones.Tone.{Tone}
 use Rattle.uac_rate.specs.Steadiness.{is_slight}
-use Rattle.uac_topology.specs.Function.{FunctionFields}
+use Rattle.uac_topology.specs.Function.{FunctionFields, interface_in}
 use Rattle.uac_topology.specs.Topology.{IsSoundFunction}
 use Rattle.uac_store.specs.Controls.{IsStoreOf}
 use Rattle.uac_store.specs.declared.keys.Key.{Key}
@@ -16,7 +16,7 @@ use Rattle.uac_request.specs.Requests.{AreSettingsOf}
 use Rattle.uac_flow.specs.Streams.{OutStream}
 use Rattle.uac_host.specs.HostWorld.{HostWorld, Track}
 use Rattle.uac_graph.specs.Meaning.{entity}
-use Rattle.uac_host.specs.Calls.{after_frames, channels_at, interface_in, size_of, with_report, with_samples}
+use Rattle.uac_host.specs.Calls.{after_frames, channels_at, size_of, with_report, with_samples}
 use Rattle.uac_host.specs.Calls as calls
 use Rattle.uac_host.specs.Calls.{after_packet as host_sends}
 use Rattle.uac_host.proofs.KeptLemmas.{even_after}

@@ -14,7 +14,7 @@ use Rattle.uac_topology_rules.specs.Clusters.{cluster_of, clustered, is_input}
 use Rattle.uac_topology_rules.specs.Domains.{clock_named, domains_of, each_once}
 use Rattle.uac_topology_rules.specs.Links.{is_terminal}
 use Rattle.uac_topology_rules.specs.Table.{at, nothing, place_of, with_cluster}
-use Rattle.uac_topology.specs.Function.{FunctionFields}
+use Rattle.uac_topology.specs.Function.{FunctionFields, interface_in}
 use Rattle.uac_topology.specs.Topology.{IsSoundFunction}
 use Rattle.uac_topology.proofs.Clustered.{clustered-at, length-clustered}
 use Rattle.uac_topology.proofs.PinLemmas.{have_pins}
@@ -24,7 +24,7 @@ use Rattle.uac_store.proofs.Initial.{initial_is_store}
 use Rattle.uac_store.proofs.Soundness.{keyed}
 use Rattle.uac_request.proofs.Started.{are_settings}
 use Rattle.uac_host.specs.HostWorld.{fresh_host}
-use Rattle.uac_host.specs.Calls.{channels_at, interface_in}
+use Rattle.uac_host.specs.Calls.{channels_at}
 use Rattle.uac_device.specs.DeviceWorld.{at_rest, fresh}
 use Rattle.uac_device.specs.Linked.{IsBusInput}
 use Rattle.uac_device.proofs.LinkedLemmas.{linked}

@@ -5,7 +5,7 @@ use Rattle.std.specs.Option.{option_and_then, option_map, option_map_or}
 use Rattle.std.proofs.Math.Bool.{or-true}
 use Rattle.std.proofs.lemmas.Bool.{and_parts, eqb-true, true≢false}
 use Rattle.uac_entities.specs.declared.stream.StreamInterface.{StreamInterface}
-use Rattle.uac_topology.specs.Function.{FunctionFields}
+use Rattle.uac_topology.specs.Function.{FunctionFields, interface_in}
 use Rattle.uac_alt.specs.Streams.{StreamFields}
 use Rattle.uac_alt.specs.Settings.{setting_of, with_setting}
 use Rattle.uac_alt.specs.declared.settings.InterfaceSetting.{InterfaceSetting}
@@ -14,7 +14,7 @@ use Rattle.uac_request.specs.Requests.{AreSettingsOf, Held, AnswerFields, after_
 use Rattle.uac_request.specs.declared.setup.Setup.{Setup}
 use Rattle.uac_request.proofs.Lasting.{settings_stay, store_stays}
 use Rattle.uac_flow.specs.Streams.{OutStream}
-use Rattle.uac_host.specs.Calls.{interface_in, with_stream}
+use Rattle.uac_host.specs.Calls.{with_stream}
 use Rattle.uac_lanes.specs.InterfaceStreams.{out_from}
 use Rattle.uac_device.specs.DeviceWorld.{restarted, sets_interface, tells_done}
 use Rattle.uac_running.specs.RunningWorld.{RunningWorld}

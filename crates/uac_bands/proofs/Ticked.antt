@@ -5,13 +5,12 @@ use Rattle.std.specs.Option.{option_and_then, option_map, option_map_or}
 use Rattle.uac_clock.specs.Nominal.{nominal_of, step_of}
 use Rattle.uac_clock.specs.Ticks.{ticks_in}
 use Rattle.uac_entities.specs.declared.stream.StreamInterface.{StreamInterface}
-use Rattle.uac_topology.specs.Function.{FunctionFields}
+use Rattle.uac_topology.specs.Function.{FunctionFields, interface_in}
 use Rattle.uac_store.specs.declared.keys.Key.{Key}
 use Rattle.uac_store.specs.Rates.{rate_of}
 use Rattle.uac_graph.specs.Meaning.{entity}
 use Rattle.uac_flow.specs.Streams.{after_taking, after_ticks}
 use Rattle.uac_host.specs.HostWorld.{Track}
-use Rattle.uac_host.specs.Calls.{interface_in}
 use Rattle.uac_device.specs.DeviceWorld.{DeviceWorld, Domain, advanced, is_on, next_ticks, set_jack, step_in, steps_with_next, ticked}
 use Rattle.uac_streaming.specs.StreamingWorld.{StreamingWorld}
 use Rattle.uac_running.specs.declared.jacks.Jack.{Jack}

@@ -7,7 +7,8 @@ use Rattle.uac_clock.specs.Ticks.{ticks_in}
 use Rattle.uac_rate.specs.Steadiness.{one_more}
 use Rattle.uac_flow.specs.Streams.{OutStream, after_packet, after_taking, after_ticks, feedback_of, is_due, settled_out}
 use Rattle.uac_host.specs.HostWorld.{Pace}
-use Rattle.uac_host.specs.Calls.{interface_in, reported, sent}
+use Rattle.uac_topology.specs.Function.{interface_in}
+use Rattle.uac_host.specs.Calls.{reported, sent}
 use Rattle.uac_device.specs.DeviceWorld.{Domain, entity_in}
 use Rattle.uac_streaming.specs.StreamingWorld.{place_of}
 use Rattle.uac_running.specs.RunningWorld.{RunningWorld}

@@ -1,20 +1,17 @@
 -- Samples that are whole frames of a stream to the device, as the host takes them.
-use Rattle.std.proofs.Common.{◌≡◌, ◌∙◌, refl, ap, subst, arith, ℕ, zero, suc, ◌<◌, ◌%◌, ◌==◌, ℤ, Bool, true, false, cond, ◌&&◌, not, nat_eq, List, [], ◌∷◌, map, length, get_or, slice_get, Option, Some, None}
+use Rattle.std.proofs.Common.{◌≡◌, ◌∙◌, refl, ap, subst, arith, ℕ, suc, ◌<◌, ◌%◌, ◌==◌, ℤ, Bool, true, false, cond, ◌&&◌, not, nat_eq, List, [], ◌∷◌, map, length, get_or, Option, Some, None}
 use Rattle.std.specs.List.{find}
 use Rattle.std.specs.Option.{option_map_or}
 use Rattle.std.proofs.lemmas.Bool.{and_parts, eqb-true}
-use Rattle.std.proofs.lemmas.List.Folds.{find_at}
 use Rattle.std.proofs.lemmas.Map.Keys.{IsDistinct-tail}
-use Rattle.uac_entities.specs.declared.entity.Entity.{Entity}
 use Rattle.uac_entities.specs.declared.stream.StreamInterface.{StreamInterface}
-use Rattle.uac_entities.specs.Streams.{named}
-use Rattle.uac_topology_rules.specs.Table.{at, place_of}
-use Rattle.uac_topology.specs.Function.{FunctionFields}
+use Rattle.uac_topology.specs.Function.{FunctionFields, interface_in}
 use Rattle.uac_topology.specs.Kept.{AreNumbered}
 use Rattle.uac_alt.specs.Streams.{linked_channels}
 use Rattle.uac_graph.specs.Meaning.{entity}
 use Rattle.uac_device.proofs.GivenFrames.{find_own}
-use Rattle.uac_host.specs.Calls.{AreWhole, channels_at, interface_in}
+use Rattle.uac_device.proofs.StreamsLemmas.{channels_linked}
+use Rattle.uac_host.specs.Calls.{AreWhole, channels_at}
 use Rattle.uac_running.specs.Naming.{are_frames, is_out}
 
 -- what was found stands at a place, and passes
@@ -40,24 +37,12 @@ only_one function number s numbered found =
     (subst (λ (x : StreamInterface). find (λ t. t.number == x.number) function.streams ≡ Some x) there.2
     (find_own (λ (t : StreamInterface). t.number) function.streams there.0 s apart there.1))
 
--- the channels of the entity at a place, where a place past the end has none
-channels_there : (es : List Entity) (k : ℕ) → option_map_or (λ (e : Entity). e.cluster.channels) (slice_get es k) 0 ≡ (at es k).cluster.channels
-unfolding at
-channels_there [] k = refl
-channels_there (e ∷ es) zero = refl
-channels_there (e ∷ es) (suc k) = channels_there es k
-
-linked : (function : FunctionFields) (s : StreamInterface) → linked_channels function s ≡ (entity function.entities s.terminal).cluster.channels
-unfolding linked_channels named entity place_of
-linked function s =
-    ap (λ (o : Option Entity). option_map_or (λ (e : Entity). e.cluster.channels) o 0) (find_at (λ (e : Entity). e.id == s.terminal) function.entities)
-    ∙ channels_there function.entities (place_of function.entities s.terminal)
-
+-- the channels of the terminal to which the interface with a number links
 channels_on : (function : FunctionFields) (number : ℕ) (s : StreamInterface) → interface_in function number ≡ Some s
     → channels_at function number ≡ (entity function.entities s.terminal).cluster.channels
 unfolding channels_at
 channels_on function number s found =
-    ap (λ (o : Option StreamInterface). option_map_or (linked_channels function) o 0) found ∙ linked function s
+    ap (λ (o : Option StreamInterface). option_map_or (linked_channels function) o 0) found ∙ channels_linked function s
 
 -- samples that are frames of the line's interface are whole for the host
 pub are_whole : (function : FunctionFields) (number : ℕ) (samples : List ℤ) → AreNumbered function → are_frames function number (length samples) ≡ true

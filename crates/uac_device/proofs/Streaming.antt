@@ -8,7 +8,7 @@ use Rattle.std.proofs.lemmas.Map.Keys.{IsDistinct-tail}
 use Rattle.uac_entities.specs.declared.entity.Entity.{Entity}
 use Rattle.uac_entities.specs.declared.stream.StreamInterface.{StreamInterface}
 use Rattle.uac_topology_rules.specs.Rules.{is_output}
-use Rattle.uac_topology.specs.Function.{FunctionFields}
+use Rattle.uac_topology.specs.Function.{FunctionFields, interface_in}
 use Rattle.uac_topology.specs.Kept.{AreNumbered}
 use Rattle.uac_graph.specs.Meaning.{entity}
 use Rattle.uac_graph.specs.Wiring.{AreWiresOf, Frames, frame_on}
@@ -18,7 +18,7 @@ use Rattle.uac_flow.specs.Streams.{InStream, OutStream, after_packet, after_send
 use Rattle.uac_lanes.specs.declared.lane.Lane.{Lane}
 use Rattle.uac_lanes.specs.declared.lane.Port.{Port}
 use Rattle.uac_lanes.specs.InterfaceStreams.{NoneRuns, changed_at, runs_either}
-use Rattle.uac_device.specs.DeviceWorld.{DeviceWorld, interface_in, is_on, played_to, received, sent, settled}
+use Rattle.uac_device.specs.DeviceWorld.{DeviceWorld, is_on, played_to, received, sent, settled}
 use Rattle.uac_device.specs.Kept.{DeviceFields, IsDevice, Stands}
 use Rattle.uac_device.specs.Linked.{AreLinked}
 use Rattle.uac_lanes.specs.Lanes.{KeepsLane, KeepsStreams, WiredIn, WiredOut, idle_lane, port_of, ports}
@@ -168,5 +168,5 @@ ports_played device wires w played numbered linked is same outputs =
     (let s = get_or device.function.streams k d in
     let output = linked.outputs k d below other some in
     let here : is_output (entity w.function.entities s.terminal).kind ≡ true = subst (λ (f : FunctionFields). is_output (entity f.entities s.terminal).kind ≡ true) same output in
-    let own : interface_in w s.number ≡ Some s = subst (λ (f : FunctionFields). find (λ t. t.number == s.number) f.streams ≡ Some s) same (own_interface device.function k d numbered below) in
+    let own : interface_in w.function s.number ≡ Some s = subst (λ (f : FunctionFields). find (λ t. t.number == s.number) f.streams ≡ Some s) same (own_interface device.function k d numbered below) in
     outputs s.terminal here ∙ sym (ap (λ (o : Option StreamInterface). Some (option_map_or (λ t. played t.terminal) o [])) own)))

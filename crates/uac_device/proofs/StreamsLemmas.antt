@@ -1,14 +1,10 @@
 -- The stream that a setting runs is one that its interface can run.
-use Rattle.std.proofs.Common.{◌≡◌, ◌∙◌, sym, ap, subst, refl, arith, ℕ, zero, suc, ◌-◌, ◌*◌, ◌/◌, ◌^◌, ◌≤◌, ◌==◌, Bool, true, false, List, [], ◌∷◌, Option, Some, None, slice_get, inl, inr}
+use Rattle.std.proofs.Common.{◌≡◌, ◌∙◌, sym, subst, refl, arith, ℕ, zero, suc, ◌-◌, ◌*◌, ◌/◌, ◌^◌, ◌≤◌, Bool, true, false, Option, Some, None, inl, inr}
 use Rattle.std.proofs.Math.Nat.{div-mul-le_self}
-use Rattle.std.specs.Option.{option_map_or}
 use Rattle.std.proofs.lemmas.Bool.{and_parts, leb-true}
-use Rattle.std.proofs.lemmas.List.Folds.{find_at}
 use Rattle.uac_descriptor.specs.declared.standard.Endpoint.{Endpoint}
-use Rattle.uac_entities.specs.Streams.{named}
-use Rattle.uac_entities.specs.declared.entity.Entity.{Entity}
 use Rattle.uac_entities.specs.declared.stream.StreamInterface.{StreamInterface}
-use Rattle.uac_topology_rules.specs.Table.{at, place_of}
+use Rattle.uac_topology_rules.proofs.Channels.{channels_placed}
 use Rattle.uac_topology.specs.Function.{FunctionFields}
 use Rattle.uac_topology.specs.Topology.{IsSoundFunction}
 use Rattle.uac_topology.proofs.RangeLemmas.{in_range}
@@ -39,18 +35,10 @@ reports_each true first (Some e) least answers is =
 reports_each true first None least answers is = absurd (cc)
 reports_each false first second least answers is = absurd (cc)
 
--- the channels of the entity at a place, where a place past the end has none
-channels_at : (es : List Entity) (k : ℕ) → option_map_or (λ (e : Entity). e.cluster.channels) (slice_get es k) 0 ≡ (at es k).cluster.channels
-unfolding at
-channels_at [] k = refl
-channels_at (e ∷ es) zero = refl
-channels_at (e ∷ es) (suc k) = channels_at es k
-
-channels_linked : (function : FunctionFields) (s : StreamInterface) → linked_channels function s ≡ (entity function.entities s.terminal).cluster.channels
-unfolding linked_channels named entity place_of
-channels_linked function s =
-    ap (λ (o : Option Entity). option_map_or (λ (e : Entity). e.cluster.channels) o 0) (find_at (λ (e : Entity). e.id == s.terminal) function.entities)
-    ∙ channels_at function.entities (place_of function.entities s.terminal)
+-- the channels that an interface's terminal has are those of the entity with its id
+pub channels_linked : (function : FunctionFields) (s : StreamInterface) → linked_channels function s ≡ (entity function.entities s.terminal).cluster.channels
+unfolding linked_channels entity
+channels_linked function s = channels_placed function.entities s.terminal
 
 -- a stream of a setting is one that its interface can run
 pub stream_fits : (function : FunctionFields) → IsSoundFunction function → (rate interface setting : ℕ) (stream : StreamFields)

@@ -8,10 +8,9 @@ use Rattle.uac_clock.specs.Nominal.{nominal_of, step_of}
 use Rattle.uac_clock.specs.Ticks.{ticks_in}
 use Rattle.uac_entities.specs.declared.entity.Entity.{Entity}
 use Rattle.uac_descriptor.specs.Standard.{USB_STREAMING}
-use Rattle.uac_entities.specs.declared.stream.StreamInterface.{StreamInterface}
 use Rattle.uac_topology_rules.specs.Clusters.{is_input}
 use Rattle.uac_topology_rules.specs.Rules.{is_output}
-use Rattle.uac_topology.specs.Function.{FunctionFields}
+use Rattle.uac_topology.specs.Function.{FunctionFields, interface_in}
 use Rattle.uac_store.specs.declared.keys.Key.{Key}
 use Rattle.uac_store.specs.Controls.{initial_controls}
 use Rattle.uac_store.specs.Rates.{rate_of}
@@ -103,14 +102,10 @@ fresh function =
 abbrev pub stream_to : DeviceWorld → ℕ → Option OutStream
 stream_to w id = option_and_then (λ s. w.outs s.number) (find (λ s. s.terminal == id) w.function.streams)
 
--- the interface with a number, if there is one
-abbrev pub interface_in : DeviceWorld → ℕ → Option StreamInterface
-interface_in w number = find (λ s. s.number == number) w.function.streams
-
 -- the terminal to which the interface with a number links is of a clock domain
 abbrev pub is_on : DeviceWorld → ℕ → ℕ → Bool
 is_on w clock interface =
-    option_map_or (λ s. (entity_in w s.terminal).clock == clock) (interface_in w interface) false
+    option_map_or (λ s. (entity_in w s.terminal).clock == clock) (interface_in w.function interface) false
 
 -- how many frames lie in the ring of an interface's stream; none where none runs
 unfoldable pub level_of : DeviceWorld → ℕ → ℕ
@@ -176,7 +171,7 @@ input_of clock w id = if is_streamed clock (entity_in w id) then streamed w id e
 
 -- the frame that the terminal to which an interface links last played
 abbrev pub played_to : DeviceWorld → (ℕ → List ℤ) → ℕ → List ℤ
-played_to w played interface = option_map_or (λ s. played s.terminal) (interface_in w interface) []
+played_to w played interface = option_map_or (λ s. played s.terminal) (interface_in w.function interface) []
 
 -- one tick of a domain: each of its output terminals plays the samples of its wire, under the controls held now; the streams to
 -- its terminals gave their frames, and those from its terminals have what these played
@@ -272,7 +267,7 @@ tells_done (is_stalled rule) = false
 unfoldable pub stream_in_setting : FunctionFields → List (Key × ℤ) → ℕ → ℕ → Option StreamFields
 stream_in_setting function controls interface setting =
     option_and_then (λ s. option_and_then (λ rate. stream_of function rate interface setting) (rate_at function controls s))
-    (find (λ s. s.number == interface) function.streams)
+    (interface_in function interface)
 
 -- an interface's stream starts anew, or stops where none is given
 unfoldable pub restarted : ℕ → Option StreamFields → DeviceWorld → DeviceWorld

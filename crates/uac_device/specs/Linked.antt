@@ -1,11 +1,11 @@
 -- The terminals to which the interfaces of a sound function link (Audio Class 2.0, 4.9.2), and the streams that its settings run.
 use Rattle.std.specs.Prelude.{◌≡◌, ℕ, ◌<◌, ◌≤◌, ◌==◌, true, false, length, get_or, position, Some}
-use Rattle.std.specs.List.{All, find}
+use Rattle.std.specs.List.{All}
 use Rattle.uac_entities.specs.declared.entity.Entity.{Entity}
 use Rattle.uac_entities.specs.declared.stream.StreamInterface.{StreamInterface}
 use Rattle.uac_topology_rules.specs.Clusters.{is_input}
 use Rattle.uac_topology_rules.specs.Rules.{is_output}
-use Rattle.uac_topology.specs.Function.{FunctionFields}
+use Rattle.uac_topology.specs.Function.{FunctionFields, interface_in}
 use Rattle.uac_graph.specs.Meaning.{entity}
 use Rattle.uac_alt.specs.Streams.{StreamFields}
 use Rattle.uac_flow.specs.Flows.{CanRun}
@@ -33,7 +33,7 @@ pub record AreLinked (function : FunctionFields) : Type 0 where
 pub record FitsInterface (function : FunctionFields) (interface : ℕ) (stream : StreamFields) : Type 0 where
   pub runs : CanRun stream
   pub carrier : StreamInterface
-  pub there : find (λ s. s.number == interface) function.streams ≡ Some carrier
+  pub there : interface_in function interface ≡ Some carrier
   pub out : stream.out ≡ carrier.out
   pub channels : stream.channels ≡ (entity function.entities carrier.terminal).cluster.channels
   pub some : 1 ≤ stream.channels

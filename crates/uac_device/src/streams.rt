@@ -1,7 +1,7 @@
 // The stream that a request starts.
-ghost use Rattle.std.specs.Prelude.{◌≡◌, ◌==◌, Some};
-ghost use Rattle.std.specs.List.{find};
+ghost use Rattle.std.specs.Prelude.{◌≡◌, Some};
 ghost use Rattle.std.specs.Option.{option_and_then, option_map};
+ghost use Rattle.uac_topology.specs.Function.{interface_in};
 ghost use Rattle.uac_alt.specs.Streams.{stream_fields, stream_of};
 ghost use Rattle.uac_request.specs.Requests as requests;
 ghost use Rattle.uac_device.specs.DeviceWorld as spec;
@@ -39,20 +39,10 @@ pub fn stream_asked(
 ) -> Option<Stream>
     ensures { option_map stream_fields result ≡ stream_in_setting function.now store.now interface setting }
 {
-    match carrier_of(function, interface) {
+    match function.interface_numbered(interface) {
         Some(streaming) => stream_now(function, store, streaming, setting),
         None => None,
     }
-}
-
-// The streaming interface with a number.
-fn carrier_of(function: &Function, interface: u16) -> Option<&StreamInterface>
-    ensures { option_map (λ s. s.now) result ≡ find (λ s. s.number == interface) function.now.streams }
-{
-    function
-        .streams()
-        .iter()
-        .find(|stream| u16::from(stream.number) == interface)
 }
 
 // The stream of an interface in a setting, at the rate of its terminal's clock now.
@@ -62,7 +52,7 @@ fn stream_now(
     streaming: &StreamInterface,
     setting: u16,
 ) -> Option<Stream>
-    ensures { find (λ s. s.number == streaming.now.number) function.now.streams ≡ Some streaming.now
+    ensures { interface_in function.now streaming.now.number ≡ Some streaming.now
         → option_map stream_fields result ≡ option_and_then (λ rate. stream_of function.now rate streaming.now.number setting)
         (requests.rate_at function.now store.now streaming.now) }
 {
@@ -79,7 +69,7 @@ fn stream_in(
     streaming: &StreamInterface,
     setting: u16,
 ) -> Option<Stream>
-    ensures { find (λ s. s.number == streaming.now.number) function.now.streams ≡ Some streaming.now
+    ensures { interface_in function.now streaming.now.number ≡ Some streaming.now
         → option_map stream_fields result ≡ stream_of function.now rate streaming.now.number setting }
 {
     match number_among(streaming.settings.as_slice(), setting) {

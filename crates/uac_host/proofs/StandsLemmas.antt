@@ -11,7 +11,7 @@ use Rattle.std.proofs.lemmas.List.Elements.{All-append}
 use Rattle.uac_pcm.specs.Packets.{packed, unpacked}
 use Rattle.uac_pcm.specs.declared.tones.Tone.{Tone}
 use Rattle.uac_entities.specs.declared.stream.StreamInterface.{StreamInterface}
-use Rattle.uac_topology.specs.Function.{FunctionFields}
+use Rattle.uac_topology.specs.Function.{FunctionFields, interface_in}
 use Rattle.uac_topology.specs.Kept.{AreInRange}
 use Rattle.uac_topology.specs.Topology.{IsSoundFunction}
 use Rattle.uac_alt.specs.Streams.{StreamFields, stream_fields, stream_of}
@@ -19,7 +19,7 @@ use Rattle.uac_alt.specs.declared.values.Stream.{Stream}
 use Rattle.uac_host.specs.declared.lanes.Lane.{Lane}
 use Rattle.uac_host.specs.HostWorld.{HostWorld, Pace, Track, fresh_host}
 use Rattle.uac_host.specs.Fields.{IsRunnable, PaceFields, TrackFields}
-use Rattle.uac_host.specs.Calls.{AreWhole, IsStreamOf, after_frames, after_packet, at_interface, channels_at, heard_in, in_frames, interface_in, next_frames, next_size, packet_of, reported, sent, size_of, started, with_report, with_samples, with_stream, with_tone}
+use Rattle.uac_host.specs.Calls.{AreWhole, IsStreamOf, after_frames, after_packet, at_interface, channels_at, heard_in, in_frames, next_frames, next_size, packet_of, reported, sent, size_of, started, with_report, with_samples, with_stream, with_tone}
 use Rattle.uac_host.specs.Kept.{IsKept, Stands, kept_lane, kept_pace, kept_report, kept_track, lane_on, resting_lane}
 use Rattle.uac_host.proofs.CallsLemmas.{after_frames_none}
 use Rattle.uac_host.proofs.StreamsLemmas.{carried_by, channels_of, runnable}

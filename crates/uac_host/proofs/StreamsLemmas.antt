@@ -2,12 +2,12 @@
 use Rattle.std.proofs.Common.{◌≡◌, ℕ, ◌-◌, ◌^◌, ◌≤◌, Option, Some, sym, ap, subst, ◌∙◌, arith, zero, suc}
 use Rattle.std.specs.Option.{option_map_or}
 use Rattle.uac_entities.specs.declared.stream.StreamInterface.{StreamInterface}
-use Rattle.uac_topology.specs.Function.{FunctionFields}
+use Rattle.uac_topology.specs.Function.{FunctionFields, interface_in}
 use Rattle.uac_topology.specs.Kept.{AreInRange}
 use Rattle.uac_alt.specs.Streams.{StreamFields, linked_channels, packet_room}
 use Rattle.uac_alt.proofs.Fitting.{first_room}
 use Rattle.uac_alt.proofs.Parts.{parts_of, ran_of}
-use Rattle.uac_host.specs.Calls.{IsStreamOf, channels_at, interface_in}
+use Rattle.uac_host.specs.Calls.{IsStreamOf, channels_at}
 use Rattle.uac_host.specs.Fields.{IsRunnable}
 
 -- 1, 2, 4 or 8 microframes

@@ -2,14 +2,13 @@
 -- nominal one: USB 2.0, 5.12.4.2).
 use Rattle.std.specs.Prelude.{◌≡◌, ℕ, ◌+◌, ◌-◌, ◌*◌, ◌/◌, ◌%◌, ◌==◌, if◌then◌else◌, min, max, ℤ}
 use Rattle.std.specs.Prelude.{List, [], ◌++◌, map, length, take, drop, replicate, Option, Some}
-use Rattle.std.specs.List.{find, range_with_len}
+use Rattle.std.specs.List.{range_with_len}
 use Rattle.std.specs.Option.{option_map, option_map_or}
 use Rattle.std.specs.Simd.{first_chunks}
 use Rattle.uac_pcm.specs.Packets.{packed, unpacked}
 use Rattle.uac_pcm.specs.Tones.{tone_sample}
 use Rattle.uac_pcm.specs.declared.tones.Tone.{Tone}
-use Rattle.uac_entities.specs.declared.stream.StreamInterface.{StreamInterface}
-use Rattle.uac_topology.specs.Function.{FunctionFields}
+use Rattle.uac_topology.specs.Function.{FunctionFields, interface_in}
 use Rattle.uac_alt.specs.Streams.{StreamFields, linked_channels, stream_of}
 use Rattle.uac_rate.specs.Packets.{frames_in_packet}
 use Rattle.uac_host.specs.HostWorld.{HostWorld, Pace, Track}
@@ -17,10 +16,6 @@ use Rattle.uac_host.specs.HostWorld.{HostWorld, Pace, Track}
 -- a value at one interface, and elsewhere what was there
 abbrev pub at_interface : {A : Type 0} → ℕ → A → (ℕ → A) → ℕ → A
 at_interface interface x before k = if k == interface then x else before k
-
--- the streaming interface with a number, if there is one
-abbrev pub interface_in : FunctionFields → ℕ → Option StreamInterface
-interface_in function number = find (λ s. s.number == number) function.streams
 
 -- the channels of the terminal to which an interface links; 0 where there is none
 unfoldable pub channels_at : FunctionFields → ℕ → ℕ

@@ -5,7 +5,8 @@ use Rattle.std.specs.Option.{option_map}
 use Rattle.uac_host.specs.declared.lanes.Lane.{Lane}
 use Rattle.uac_host.specs.Fields.{PaceFields, TrackFields}
 use Rattle.uac_host.specs.HostWorld.{HostWorld, Pace, Track, silent_track}
-use Rattle.uac_host.specs.Calls.{IsStreamOf, channels_at, within_nominal, interface_in}
+use Rattle.uac_topology.specs.Function.{interface_in}
+use Rattle.uac_host.specs.Calls.{IsStreamOf, channels_at, within_nominal}
 
 -- how a stream is kept: the remainder of its rate values stands for them all
 abbrev pub kept_pace : Pace → PaceFields

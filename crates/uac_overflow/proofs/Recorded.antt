@@ -14,7 +14,7 @@ use Rattle.uac_rate.specs.Steadiness.{is_slight}
 use Rattle.uac_rate.proofs.LevelsLemmas.{interval_size, slight_step, whole_ticks}
 use Rattle.uac_rate.proofs.PacketsLemmas.{by_remainder}
 use Rattle.uac_entities.specs.declared.stream.StreamInterface.{StreamInterface}
-use Rattle.uac_topology.specs.Function.{FunctionFields}
+use Rattle.uac_topology.specs.Function.{FunctionFields, interface_in}
 use Rattle.uac_store.specs.declared.keys.Key.{Key}
 use Rattle.uac_store.specs.Rates.{rate_of}
 use Rattle.uac_graph.specs.Meaning.{entity}
@@ -22,7 +22,6 @@ use Rattle.uac_alt.specs.Settings.{setting_of}
 use Rattle.uac_alt.specs.Streams.{StreamFields}
 use Rattle.uac_alt.specs.declared.settings.InterfaceSetting.{InterfaceSetting}
 use Rattle.uac_flow.specs.Streams.{InStream, OutStream, in_level, is_due}
-use Rattle.uac_host.specs.Calls.{interface_in}
 use Rattle.uac_device.specs.DeviceWorld.{DeviceWorld, Domain}
 use Rattle.uac_script.specs.Phrase.{SaidMark}
 use Rattle.uac_streaming.specs.StreamingWorld.{all_settled, comes_in, goes_out, out_packets}

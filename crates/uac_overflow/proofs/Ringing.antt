@@ -5,14 +5,13 @@ use Rattle.std.specs.Option.{option_and_then, option_map, option_map_or}
 use Rattle.std.proofs.Math.Nat.{min-eq_left}
 use Rattle.uac_clock.specs.Nominal.{nominal_of, step_of}
 use Rattle.uac_clock.specs.Ticks.{ticks_in}
-use Rattle.uac_topology.specs.Function.{FunctionFields}
+use Rattle.uac_topology.specs.Function.{FunctionFields, interface_in}
 use Rattle.uac_store.specs.declared.keys.Key.{Key}
 use Rattle.uac_store.specs.Rates.{rate_of}
 use Rattle.uac_graph.specs.Meaning.{entity}
 use Rattle.uac_alt.specs.Streams.{StreamFields}
 use Rattle.uac_alt.specs.declared.settings.InterfaceSetting.{InterfaceSetting}
 use Rattle.uac_flow.specs.Streams.{InStream, OutStream, after_packet, after_putting, after_sending, after_taking, after_ticks, in_level, is_due, is_full, sent_frames, settled_in, settled_out}
-use Rattle.uac_host.specs.Calls.{interface_in}
 use Rattle.uac_lanes.specs.InterfaceStreams.{either_due}
 use Rattle.uac_device.specs.DeviceWorld.{DeviceWorld, Domain, advanced, feedback_in, is_due_in, is_on, next_ticks, received, set_jack, settled, step_in, steps_with_next, ticked}
 use Rattle.uac_device.specs.DeviceWorld.{sent as device_sends}

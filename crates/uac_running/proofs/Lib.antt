@@ -13,5 +13,4 @@ pub mod OutcomeLemmas
 pub mod ReadLemmas
 pub mod Reporting
 pub mod Printed
-pub mod Channels
 pub mod Worked

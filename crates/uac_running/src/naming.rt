@@ -2,7 +2,6 @@
 ghost use Rattle.std.specs.Prelude.{◌≡◌, ◌==◌, ◌%◌, List};
 ghost use Rattle.std.specs.List.{list_all, list_any, find};
 ghost use Rattle.std.specs.Option.{option_map};
-ghost use Rattle.uac_graph.specs.Meaning.{entity};
 ghost use Rattle.uac_script.specs.Line.{said_mark};
 ghost use Rattle.uac_units.specs.Hearing.{Reading};
 ghost use Rattle.uac_running.specs.Kept.{StandsBetween};
@@ -30,7 +29,7 @@ impl Running {
     }
 }
 
-/// Whether one of these is the jack with this id.
+/// Whether one of the jacks has this id.
 fn has_jack(jacks: &[Jack], terminal: u8) -> bool
     ensures { result ≡ list_any (λ j. j.terminal == terminal) jacks.now }
 {
@@ -93,23 +92,13 @@ fn out_terminal(streams: &[StreamInterface], number: u8) -> Option<u8>
     }
 }
 
-/// The channels that an entity puts out; none where there is no such entity.
-fn channels_of(function: &Function, id: u8) -> u8
-    ensures { result ≡ (entity function.now.entities id).cluster.channels }
-{
-    match function.find(id) {
-        Some(place) => function.entities()[place].cluster.channels,
-        None => 0,
-    }
-}
-
 /// Whether so many samples are whole frames of the interface that carries a stream to the device.
-#[tactic(auto, unfolding(crate::specs::Naming::are_frames))]
+#[tactic(auto, unfolding(crate::specs::Naming::are_frames, uac_graph::specs::Meaning::entity))]
 pub fn are_frames(function: &Function, number: u8, count: usize) -> bool
     ensures { result ≡ spec.are_frames function.now number count }
 {
     match out_terminal(function.streams(), number) {
-        Some(terminal) => are_whole(count, channels_of(function, terminal)),
+        Some(terminal) => are_whole(count, function.channels_of(terminal)),
         None => false,
     }
 }

@@ -4,13 +4,13 @@ use Rattle.std.specs.List.{find}
 use Rattle.std.specs.Option.{option_map}
 use Rattle.std.proofs.lemmas.Bool.{cases_Bool, cases_eq}
 use Rattle.uac_entities.specs.declared.stream.StreamInterface.{StreamInterface}
-use Rattle.uac_topology.specs.Function.{FunctionFields}
+use Rattle.uac_topology.specs.Function.{FunctionFields, interface_in}
 use Rattle.uac_rate.specs.Steadiness as steadiness
 use Rattle.uac_alt.specs.Streams.{StreamFields, stream_fields}
 use Rattle.uac_alt.specs.declared.values.Stream.{Stream}
 use Rattle.uac_device.specs.Kept as devices
 use Rattle.uac_host.specs.HostWorld.{HostWorld, Pace}
-use Rattle.uac_host.specs.Calls.{IsStreamOf, at_interface, interface_in, with_stream}
+use Rattle.uac_host.specs.Calls.{IsStreamOf, at_interface, with_stream}
 use Rattle.uac_host.specs.Kept as hosts
 use Rattle.uac_host.specs.declared.lanes.Lane.{Lane}
 use Rattle.uac_host.proofs.StandsLemmas.{elsewhere, here}

@@ -4,8 +4,7 @@ use Rattle.std.specs.List.{range_with_len}
 use Rattle.std.specs.Option.{option_map}
 use Rattle.uac_entities.specs.declared.stream.StreamInterface.{StreamInterface}
 use Rattle.std.proofs.lemmas.List.FromFn.{filter_of_map_range_with_len_more}
-use Rattle.uac_topology.specs.Function.{FunctionFields}
-use Rattle.uac_host.specs.Calls.{interface_in}
+use Rattle.uac_topology.specs.Function.{FunctionFields, interface_in}
 
 as_they_are : (ns : List ℕ) → map (λ n. n) ns ≡ ns
 as_they_are [] = refl

@@ -8,13 +8,13 @@ use Rattle.std.proofs.lemmas.List.Kept.{AllPairs-from_increasing, IsStrictlyIncr
 use Rattle.std.specs.Option.{option_map_or}
 use Rattle.std.specs.Io.KnownBytes.{Appends}
 use Rattle.uac_edges.specs.Writing.{AppendsFront}
-use Rattle.uac_topology.specs.Function.{FunctionFields}
+use Rattle.uac_topology.specs.Function.{FunctionFields, interface_in}
 use Rattle.uac_flow.specs.declared.arrival.Arrival.{Arrival}
 use Rattle.uac_device.specs.Kept as devices
 use Rattle.uac_device.specs.DeviceWorld.{DeviceWorld, ZerosFitIn, arrival_in, feedback_in, frames_in, is_due_in, packet_in, received, sent, settled}
 use Rattle.uac_host.specs.Kept as hosts
 use Rattle.uac_host.specs.HostWorld.{HostWorld}
-use Rattle.uac_host.specs.Calls.{heard_in, interface_in, size_of}
+use Rattle.uac_host.specs.Calls.{heard_in, size_of}
 use Rattle.uac_script.specs.Phrase.{SaidMark}
 use Rattle.uac_transcript.specs.Transcript.{Said, says_feedback, says_frame, says_in}
 use Rattle.uac_transcript.specs.Printing.{Prints, text_of}

@@ -5,7 +5,7 @@ use Rattle.std.specs.Prelude.{ℕ, ◌+◌, ◌==◌, ◌&&◌, not, nat_le, Boo
 use Rattle.std.specs.Prelude.{filter, position, Option, Some, None, is_some}
 use Rattle.std.specs.List.{list_any, range_with_len}
 use Rattle.std.specs.Option.{option_map_or}
-use Rattle.uac_topology.specs.Function.{FunctionFields}
+use Rattle.uac_topology.specs.Function.{FunctionFields, interface_in}
 use Rattle.uac_alt.specs.Streams.{StreamFields}
 use Rattle.uac_rate.specs.Steadiness.{Given, nothing_given, reported, restarted}
 use Rattle.uac_flow.specs.Streams.{is_dry, is_full}
@@ -15,7 +15,7 @@ use Rattle.uac_units.specs.Hearing.{at_most_u64}
 use Rattle.uac_device.specs.DeviceWorld.{DeviceWorld, arrival_in, feedback_in, frames_in, fresh, is_due_in, is_on, level_of, packet_in}
 use Rattle.uac_device.specs.DeviceWorld.{received, sent, settled, target_of}
 use Rattle.uac_host.specs.HostWorld.{HostWorld, fresh_host}
-use Rattle.uac_host.specs.Calls.{after_packet, heard_in, interface_in, packet_of, size_of, with_report, with_stream}
+use Rattle.uac_host.specs.Calls.{after_packet, heard_in, packet_of, size_of, with_report, with_stream}
 use Rattle.uac_script.specs.Phrase.{SaidMark}
 use Rattle.uac_script.specs.declared.line.MarkKind.{MarkKind}
 use Rattle.uac_script.specs.declared.line.MarkKind.TheVariants as marks

@@ -6,7 +6,8 @@ ghost use Rattle.uac_alt.specs.Streams.{stream_fields};
 ghost use Rattle.uac_rate.specs.Steadiness.{deviated, is_steady, reported, restarted};
 ghost use Rattle.uac_device.specs.Kept as devices;
 ghost use Rattle.uac_device.specs.DeviceWorld.{DeviceWorld, arrival_in, frames_in, fresh, met_of, packet_in, received};
-ghost use Rattle.uac_host.specs.Calls.{AreWhole, IsStreamOf, interface_in, size_of, with_report, with_samples, with_tone};
+ghost use Rattle.uac_topology.specs.Function.{interface_in};
+ghost use Rattle.uac_host.specs.Calls.{AreWhole, IsStreamOf, size_of, with_report, with_samples, with_tone};
 ghost use Rattle.uac_transcript.specs.declared.report.StreamCounts as counted;
 ghost use Rattle.uac_streaming.specs.StreamingWorld.{StreamingWorld, followed, found_counts, packet_fetched, packet_sent, packet_to};
 ghost use Rattle.uac_streaming.specs.StreamingWorld.{report_made, streaming_start};
@@ -341,9 +342,7 @@ fn number_of(function: &Function, interface: u16) -> Option<u8>
     ensures { result ≡ option_map (λ s. s.number) (interface_in function.now interface) }
 {
     function
-        .streams()
-        .iter()
-        .find(|stream| u16::from(stream.number) == interface)
+        .interface_numbered(interface)
         .map(|stream| stream.number)
 }
 

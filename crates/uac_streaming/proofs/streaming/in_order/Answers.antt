@@ -1,7 +1,7 @@
 use Rattle.std.proofs.Common.{◌≡◌, ◌∙◌, ap, sym, arith, ℕ, filter, is_some}
 use Rattle.std.specs.List.{range_with_len}
 use Rattle.std.proofs.Common.{Vec, Global}
-use Rattle.uac_host.specs.Calls.{interface_in}
+use Rattle.uac_topology.specs.Function.{interface_in}
 use Rattle.uac_streaming.specs.StreamingWorld.{numbers}
 use Rattle.uac_streaming.proofs.Numbered.{number_nowhere, number_there}
 use Rattle.uac_streaming.proofs.streaming.in_order.Goals as goal

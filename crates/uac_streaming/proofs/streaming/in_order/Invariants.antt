@@ -1,6 +1,6 @@
 use Rattle.std.proofs.Common.{◌≡◌, filter, is_some}
 use Rattle.std.specs.List.{range_with_len}
-use Rattle.uac_host.specs.Calls.{interface_in}
+use Rattle.uac_topology.specs.Function.{interface_in}
 use Rattle.uac_streaming.proofs.streaming.in_order.Given as goal
 
 abbrev pub invariant-loop-at : goal.invariant-loop-at
