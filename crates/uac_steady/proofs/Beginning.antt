@@ -1,30 +1,33 @@
 -- The lines of a descriptor: what they feed is bytes, so each interface's number is a byte, and the device that the bytes describe
 -- starts in its bands.
-use Rattle.std.proofs.Common.{◌≡◌, sym, refl, subst, ℕ, zero, suc, ◌⊎◌, ◌<◌, ◌==◌, Bool, true, false, cond, if◌then◌else◌, List, [], ◌∷◌, ◌++◌, Option, None, Some, Result, Ok, Err, inl, inr}
+use Rattle.std.proofs.Common.{◌≡◌, sym, refl, subst, ℕ, zero, suc, ◌⊎◌, ◌<◌, ◌==◌, Bool, true, false, cond, if◌then◌else◌, List, [], ◌∷◌, ◌++◌, map, Option, None, Some, Result, Ok, Err, inl, inr}
 use Rattle.std.specs.List.{All, cons_option, filter_map}
 use Rattle.std.specs.Result.{result_ok}
-use Rattle.std.proofs.lemmas.List.Elements.{All-cons, All-nil}
+use Rattle.std.proofs.lemmas.List.Elements.{All-cons, All-map, All-nil}
 use Rattle.hex.specs.Hex.{decode_of}
 use Rattle.hex.proofs.HexLemmas.{decode_of-ok}
 use Rattle.uac_descriptor.specs.Classes.{is_streaming_interface}
 use Rattle.uac_descriptor.specs.Reading.{AreBytes}
+use Rattle.uac_descriptor.specs.Spelling.{spelling}
 use Rattle.uac_descriptor.specs.WellFormed.{AreWellFormed}
 use Rattle.uac_descriptor.specs.declared.block.Block as block
 use Rattle.uac_descriptor.specs.declared.block.Block.TheVariants as row
 use Rattle.uac_sentence.specs.Grammar.{first_fault}
-use Rattle.uac_sentence.specs.Sentence.{HasSmallNumbers}
+use Rattle.uac_sentence.specs.Sentence.{HasSmallNumbers, spellings}
 use Rattle.uac_sentence.specs.declared.faults.GrammarFault.{GrammarFault}
-use Rattle.uac_sentence.proofs.SentenceLaw.{none_sentence, small_numbers}
+use Rattle.uac_sentence.proofs.SentenceLaw.{bytes_right, none_sentence, small_numbers}
 use Rattle.uac_sentence.proofs.WellFormedLaw.{sentence_is_well_formed}
-use Rattle.uac_entities.specs.Entities.{entities_of}
+use Rattle.uac_entities.specs.Entities.{entities_of, entity_of}
 use Rattle.uac_entities.specs.Settings.{alternate_at, alternate_of, alternates_of}
 use Rattle.uac_entities.specs.Streams.{stream_at, stream_of}
 use Rattle.uac_entities.specs.declared.alternate.Alternate.{Alternate}
 use Rattle.uac_entities.specs.declared.entity.Entity.{Entity}
 use Rattle.uac_entities.specs.declared.stream.StreamInterface.{StreamInterface}
+use Rattle.uac_topology_rules.specs.Clusters.{clustered}
 use Rattle.uac_topology_rules.specs.declared.fault.TopologyFault.{TopologyFault}
 use Rattle.uac_topology.specs.Function.{FunctionFields}
 use Rattle.uac_topology.specs.Topology.{IsSoundFunction, first_broken}
+use Rattle.uac_topology.proofs.Clustered.{seen_alike}
 use Rattle.uac_grammar.specs.Stop.{shown_fault}
 use Rattle.uac_script.specs.Phrase.{Phrase, idle, feeds, goes, controls, gets, sets, shows, breaks, appends, tracks, jacks, deviates, runs, details, reports}
 use Rattle.uac_script.specs.Line.{IsRow, Says}
@@ -89,10 +92,51 @@ module _ (es : List Entity) (whole : List Alternate) where
       by false each = each
   small_streams (b ∷ blocks) small = small_streams blocks small
 
+-- ---- the ids of entities
+
+abbrev HasSmallId : Entity → Type 0
+HasSmallId e = e.id < 256
+
+small_first : (e : Entity) (es : List Entity) → HasSmallId e → All HasSmallId es → All HasSmallId (e ∷ es)
+small_first e es here rest = All-cons HasSmallId e es here rest
+
+-- the fourth byte of an entity's block is its id
+small_entities : (blocks : List block.Block) → AreBytes (spellings blocks) → All HasSmallId (entities_of blocks)
+unfolding spelling entity_of
+small_entities [] are = All-nil HasSmallId
+small_entities (row.ClockSource c ∷ blocks) are =
+    small_first _ _ (are 3) (small_entities blocks (bytes_right (spelling (row.ClockSource c)) (spellings blocks) are))
+small_entities (row.ClockSelector c ∷ blocks) are =
+    small_first _ _ (are 3) (small_entities blocks (bytes_right (spelling (row.ClockSelector c)) (spellings blocks) are))
+small_entities (row.ClockMultiplier c ∷ blocks) are =
+    small_first _ _ (are 3) (small_entities blocks (bytes_right (spelling (row.ClockMultiplier c)) (spellings blocks) are))
+small_entities (row.InputTerminal t ∷ blocks) are =
+    small_first _ _ (are 3) (small_entities blocks (bytes_right (spelling (row.InputTerminal t)) (spellings blocks) are))
+small_entities (row.OutputTerminal t ∷ blocks) are =
+    small_first _ _ (are 3) (small_entities blocks (bytes_right (spelling (row.OutputTerminal t)) (spellings blocks) are))
+small_entities (row.Mixer m ∷ blocks) are =
+    small_first _ _ (are 3) (small_entities blocks (bytes_right (spelling (row.Mixer m)) (spellings blocks) are))
+small_entities (row.Selector s ∷ blocks) are =
+    small_first _ _ (are 3) (small_entities blocks (bytes_right (spelling (row.Selector s)) (spellings blocks) are))
+small_entities (row.Feature f ∷ blocks) are =
+    small_first _ _ (are 3) (small_entities blocks (bytes_right (spelling (row.Feature f)) (spellings blocks) are))
+small_entities (row.Effect e ∷ blocks) are =
+    small_first _ _ (are 3) (small_entities blocks (bytes_right (spelling (row.Effect e)) (spellings blocks) are))
+small_entities (b ∷ blocks) are = small_entities blocks (bytes_right (spelling b) (spellings blocks) are)
+
+abbrev AreSmall : List ℕ → Type 0
+AreSmall ids = All (λ n. n < 256) ids
+
+small_ids : (blocks : List block.Block) → AreBytes (spellings blocks) → AreSmall (map (λ e. e.id) (clustered (entities_of blocks)))
+small_ids blocks are =
+    subst AreSmall (sym (seen_alike (entities_of blocks) 0 (λ e. e.id) (λ e c. refl)))
+    (All-map (λ n. n < 256) (λ e. e.id) (entities_of blocks) (small_entities blocks are))
+
 -- the function that bytes without a fault describe
 pub record IsDescribed (function : FunctionFields) : Type 0 where
   pub sound : IsSoundFunction function
   pub small : All (λ s. s.number < 256) function.streams
+  pub ids : AreSmall (map (λ e. e.id) function.entities)
 
 pub described : (bytes : List ℕ) → AreBytes bytes → first_fault bytes ≡ None → first_broken (blocks_of bytes) ≡ None
     → IsDescribed (function_of (blocks_of bytes))
@@ -111,6 +155,8 @@ described bytes are whole sound =
       );
       small = small_streams (entities_of read) (alternates_of read) read
           (subst HasSmallNumbers (sym same) (small_numbers blocks (subst AreBytes sentence.1.spelt are)));
+      ids = subst (λ (bs : List block.Block). AreSmall (map (λ e. e.id) (clustered (entities_of bs)))) (sym same)
+          (small_ids blocks (subst AreBytes sentence.1.spelt are));
     }
 
 -- ---- lines
