@@ -1,4 +1,5 @@
--- What the host knows.
+-- What the host knows, and what the report counts.
 -- What the laws say besides.
 pub mod Believed
 pub mod Unknown
+pub mod Counts

@@ -1,5 +1,6 @@
-// The laws of what the host knows.
+// The laws of what the host knows, and of what the report counts.
 ghost use Rattle.uac_believed.specs.Believed.{KnownValuesAreSo};
+ghost use Rattle.uac_believed.specs.Counts.{CountsStayFar};
 ghost use Rattle.uac_believed.specs.Unknown.{ElementsStay, UnknownValuesAreLost, ValuesAreKnownAsTold};
 
 /// What the host knows of a control is the device's value, whatever was sent, set, answered, stalled or broken before: so it is after
@@ -23,4 +24,10 @@ pub fn values_are_known_as_told()
 /// The controls that the host's view shows are the same ones, in the same order, after every list of lines from the descriptor's end on.
 pub fn elements_stay()
     ensures { ElementsStay }
+{}
+
+/// No count of a run comes near the greatest number of 64 bits, at which it would stand still: after every list of lines, as many as an
+/// input can have, each is below 2^63. So no sum was ever cut, and each count is the true number.
+pub fn counts_stay_far()
+    ensures { CountsStayFar }
 {}
