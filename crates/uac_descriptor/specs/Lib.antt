@@ -8,10 +8,10 @@ pub mod Rows
 pub mod Endpoints
 pub mod Classes
 pub mod Reading
--- What the laws say besides.
 pub mod Kinds
+pub mod Turns
+-- What the laws say besides.
 pub mod Contexts
 pub mod Fields
-pub mod Turns
 pub mod WellFormed
 pub mod Laws
