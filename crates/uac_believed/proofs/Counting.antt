@@ -8,12 +8,11 @@ use Rattle.std.proofs.lemmas.List.Elements.{All-cons, All-map, All-nil, All-weak
 use Rattle.std.proofs.lemmas.List.FromFn.{length-range_with_len}
 use Rattle.std.proofs.lemmas.List.Sums.{count_by-le-length, length-filter}
 use Rattle.uac_clock.specs.Ticks.{ticks_in}
-use Rattle.uac_topology.specs.Function.{FunctionFields}
+use Rattle.uac_topology.specs.Function.{FunctionFields, interface_in}
 use Rattle.uac_graph.proofs.NeedsLemmas.{needed_few}
 use Rattle.uac_units.specs.Hearing.{at_most_u64}
 use Rattle.uac_flow.specs.declared.arrival.Arrival.{Arrival}
 use Rattle.uac_flow.specs.declared.arrival.Arrival.TheVariants as arrivals
-use Rattle.uac_host.specs.Calls.{interface_in}
 use Rattle.uac_device.specs.DeviceWorld.{DeviceWorld, Domain, advanced, arrival_in, feedback_in, next_ticks, received, renders_of, sent, set_jack, settled, step_in, steps_with_next, ticked}
 use Rattle.uac_device.specs.Kept.{IsInRange}
 use Rattle.uac_script.specs.Phrase.{SaidMark}
