@@ -1,5 +1,5 @@
 -- Reading each element of a view in turn.
-use Rattle.std.proofs.Common.{◌≡◌, ◌∙◌, refl, ap, sym, subst, ℕ, ◌+◌, ◌<◌, ◌≤◌, ◌==◌, Bool, true, false, if◌then◌else◌, ℤ, List, [], ◌∷◌, ◌++◌, map, length, take, zero, suc, slice_get, slice_index_or, Option, Some, None, IfSome, IsSome, inl, inr, arith}
+use Rattle.std.proofs.Common.{◌≡◌, ◌∙◌, refl, ap, sym, subst, ℕ, ◌+◌, ◌<◌, ◌≤◌, ◌==◌, Bool, true, false, if◌then◌else◌, ℤ, List, [], ◌∷◌, ◌++◌, map, length, take, zero, suc, slice_get, slice_index_or, Option, Some, None, IfSome, IsSome, Result, Ok, Err, IsErrAnd, OnErr, is_ok, inl, inr, arith}
 use Rattle.std.specs.List.{All, AllByRecursion}
 use Rattle.std.specs.Option.{option_map}
 use Rattle.std.proofs.lemmas.Bool.{cases_lt}
@@ -215,3 +215,12 @@ read_whole at now old new so past =
         told = so.told;
       };
     }
+
+-- what holds where a result is an error
+pub at_err : {T E : Type 0} (Q : E → Type 0) (P : Type 0) (r : Result T E) → IsErrAnd r Q → P → OnErr r P
+at_err Q P (Ok x) fails p = absurd fails
+at_err Q P (Err e) fails p = p
+
+pub none_of_err : {T E : Type 0} (Q : E → Type 0) (r : Result T E) → IsErrAnd r Q → is_ok r ≡ false
+none_of_err Q (Ok x) fails = absurd fails
+none_of_err Q (Err e) fails = refl

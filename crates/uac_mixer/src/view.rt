@@ -59,14 +59,10 @@ impl View {
         ensures unread { result ≡ Err faults.NoMemory → L.state link.new ≡ L.state link.old }
         ensures told { (fault : Option When) → (L.state link.old).fault ≡ Some fault → result ≡ Err faults.Broken → IsSome fault }
     {
-        let mut view = match listing::listed(alloc, link.function()) {
-            Ok(elements) => View { elements },
-            Err(_) => return Err(ViewFault::NoMemory),
-        };
-        match view.read_all(link) {
-            Ok(()) => Ok(view),
-            Err(_) => Err(ViewFault::Broken),
-        }
+        let elements = listing::listed(alloc, link.function())?;
+        let mut view = View { elements };
+        view.read_all(link)?;
+        Ok(view)
     }
 
     // Reads each element in turn, where none is known yet.
@@ -81,10 +77,7 @@ impl View {
         ensures told { (fault : Option When) → (L.state link.old).fault ≡ Some fault → OnErr result (IsSome fault) }
     {
         for at in 0..self.elements().len() {
-            match self.get(at, link) {
-                Ok(_) => {}
-                Err(broken) => return Err(broken),
-            }
+            self.get(at, link)?;
         }
         Ok(())
     }

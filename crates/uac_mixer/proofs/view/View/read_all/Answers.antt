@@ -1,6 +1,7 @@
 -- Each element in turn, and where it broke.
-use Rattle.std.proofs.Common.{◌∙◌, ap, arith, length, refl}
-use Rattle.uac_mixer.proofs.Reading.{as_long, element_there, read_broke, read_more, read_none, read_whole}
+use Rattle.std.proofs.Common.{◌∙◌, ap, arith, length, refl, subst, sym}
+use Rattle.uac_mixer.specs.Agreement.{IsReading}
+use Rattle.uac_mixer.proofs.Reading.{as_long, at_err, element_there, none_of_err, read_broke, read_more, read_none, read_whole}
 use Rattle.uac_mixer.proofs.view.View.read_all.Goals as goal
 
 pub loop-at-init : goal.loop-at-init
@@ -10,24 +11,24 @@ pub loop-at-preserved : goal.loop-at-preserved
 loop-at-preserved g c =
     let e = element_there c.loop-at.self.elements c.loop-at.at (let long = as_long c.loop-at.at c.args.self.now c.loop-at.self (g.L.Link.state c.args.link.now) (g.L.Link.state c.loop-at.link) c.loop-at.invariant.read c.requires in omega (arith, c.loop-at-test.true, c.loop-at.auto.at-end, ap length c.elements-at-end.ensures, long)) in
     record {
-      place = c.in-Ok.ensures.place ∙ c.loop-at.invariant.place;
-      read = read_more c.loop-at.at e.0 _ c.loop-at.self c.get.new.self (g.L.Link.state c.args.link.now) (g.L.Link.state c.loop-at.link) (g.L.Link.state c.get.new.link) c.loop-at.invariant.read e.1 (c.in-Ok.ensures.made e.0 e.1) c.in-Ok.ensures.kept c.in-Ok.ensures.as_before;
+      place = c.in_ok-get.ensures.place ∙ c.loop-at.invariant.place;
+      read = read_more c.loop-at.at e.0 _ c.loop-at.self c.get.new.self (g.L.Link.state c.args.link.now) (g.L.Link.state c.loop-at.link) (g.L.Link.state c.get.new.link) c.loop-at.invariant.read e.1 (c.in_ok-get.ensures.made e.0 e.1) c.in_ok-get.ensures.kept c.in_ok-get.ensures.as_before;
     }
 
-pub returns-in-Err-clause-asked : goal.returns-in-Err-clause-asked
-returns-in-Err-clause-asked g c =
+pub returns-in_err-get-clause-asked : goal.returns-in_err-get-clause-asked
+returns-in_err-get-clause-asked g c =
     let e = element_there c.loop-at.self.elements c.loop-at.at (let long = as_long c.loop-at.at c.args.self.now c.loop-at.self (g.L.Link.state c.args.link.now) (g.L.Link.state c.loop-at.link) c.loop-at.invariant.read c.requires in omega (arith, c.loop-at-test.true, c.loop-at.auto.at-end, ap length c.elements-at-end.ensures, long)) in
-    (read_broke c.loop-at.at e.0 c.loop-at.self c.get.new.self (g.L.Link.state c.args.link.now) (g.L.Link.state c.loop-at.link) (g.L.Link.state c.get.new.link) c.loop-at.invariant.read (c.in-Err.ensures.made e.0 e.1) c.in-Err.ensures.as_before).reading
+    subst (λ b. IsReading b (g.L.Link.state c.args.link.now) (g.L.Link.state c.get.new.link)) (sym (none_of_err _ c.from_residual.result c.from_residual.ensures.1)) ((read_broke c.loop-at.at e.0 c.loop-at.self c.get.new.self (g.L.Link.state c.args.link.now) (g.L.Link.state c.loop-at.link) (g.L.Link.state c.get.new.link) c.loop-at.invariant.read (c.in_err-get.ensures.made e.0 e.1) c.in_err-get.ensures.as_before).reading)
 
-pub returns-in-Err-clause-broken : goal.returns-in-Err-clause-broken
-returns-in-Err-clause-broken g c =
+pub returns-in_err-get-clause-broken : goal.returns-in_err-get-clause-broken
+returns-in_err-get-clause-broken g c =
     let e = element_there c.loop-at.self.elements c.loop-at.at (let long = as_long c.loop-at.at c.args.self.now c.loop-at.self (g.L.Link.state c.args.link.now) (g.L.Link.state c.loop-at.link) c.loop-at.invariant.read c.requires in omega (arith, c.loop-at-test.true, c.loop-at.auto.at-end, ap length c.elements-at-end.ensures, long)) in
-    (read_broke c.loop-at.at e.0 c.loop-at.self c.get.new.self (g.L.Link.state c.args.link.now) (g.L.Link.state c.loop-at.link) (g.L.Link.state c.get.new.link) c.loop-at.invariant.read (c.in-Err.ensures.made e.0 e.1) c.in-Err.ensures.as_before).broken
+    at_err _ _ c.from_residual.result c.from_residual.ensures.1 ((read_broke c.loop-at.at e.0 c.loop-at.self c.get.new.self (g.L.Link.state c.args.link.now) (g.L.Link.state c.loop-at.link) (g.L.Link.state c.get.new.link) c.loop-at.invariant.read (c.in_err-get.ensures.made e.0 e.1) c.in_err-get.ensures.as_before).broken)
 
-pub returns-in-Err-clause-told : goal.returns-in-Err-clause-told
-returns-in-Err-clause-told g c =
+pub returns-in_err-get-clause-told : goal.returns-in_err-get-clause-told
+returns-in_err-get-clause-told g c =
     let e = element_there c.loop-at.self.elements c.loop-at.at (let long = as_long c.loop-at.at c.args.self.now c.loop-at.self (g.L.Link.state c.args.link.now) (g.L.Link.state c.loop-at.link) c.loop-at.invariant.read c.requires in omega (arith, c.loop-at-test.true, c.loop-at.auto.at-end, ap length c.elements-at-end.ensures, long)) in
-    (read_broke c.loop-at.at e.0 c.loop-at.self c.get.new.self (g.L.Link.state c.args.link.now) (g.L.Link.state c.loop-at.link) (g.L.Link.state c.get.new.link) c.loop-at.invariant.read (c.in-Err.ensures.made e.0 e.1) c.in-Err.ensures.as_before).told
+    λ fault is. at_err _ _ c.from_residual.result c.from_residual.ensures.1 ((read_broke c.loop-at.at e.0 c.loop-at.self c.get.new.self (g.L.Link.state c.args.link.now) (g.L.Link.state c.loop-at.link) (g.L.Link.state c.get.new.link) c.loop-at.invariant.read (c.in_err-get.ensures.made e.0 e.1) c.in_err-get.ensures.as_before).told fault is)
 
 pub returns-clause-view : goal.returns-clause-view
 returns-clause-view g c =
