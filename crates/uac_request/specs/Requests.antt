@@ -261,7 +261,8 @@ has_value controls k value = option_map_or (int_eq value) (value_of controls k) 
 
 -- a setting that an interface has is valid; the control interface's is
 abbrev pub can_hold : FunctionFields → List (Key × ℤ) → ℕ → ℕ → Bool
-can_hold function controls interface setting = option_map_or (λ s. is_valid function controls s setting) (interface_in function interface) true
+can_hold function controls interface setting =
+    option_map_or (λ s. is_valid function controls s setting) (interface_in function interface) true
 
 -- what keeps the control that a request names has this
 abbrev pub is_so_of : FunctionFields → Setup → (Owner → Bool) → Bool
@@ -375,7 +376,8 @@ connector_bytes e = e.cluster.channels ∷ (little_bytes 4 e.cluster.locations +
 
 -- a clock source is always valid, and all other controls of entities keep a value
 abbrev pub entity_bytes : EntityKind → Entity → List (Key × ℤ) → Key → List ℕ
-entity_bytes kind.ClockSource e controls k = if k.selector == CS_CLOCK_VALID_CONTROL then 1 ∷ [] else kept_bytes controls k (entity_width e.kind k.selector)
+entity_bytes kind.ClockSource e controls k =
+    if k.selector == CS_CLOCK_VALID_CONTROL then 1 ∷ [] else kept_bytes controls k (entity_width e.kind k.selector)
 entity_bytes kind.ClockSelector e controls k = kept_bytes controls k (entity_width e.kind k.selector)
 entity_bytes kind.ClockMultiplier e controls k = kept_bytes controls k (entity_width e.kind k.selector)
 entity_bytes kind.InputTerminal e controls k = connector_bytes e
