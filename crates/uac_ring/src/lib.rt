@@ -1,4 +1,4 @@
-//! The ring of a stream: its frames between the bus and the signal graph, first in, first out, in one block of memory.
+//! The ring of a stream: its frames between the bus and the signal graph, first in, first out, in two blocks of memory.
 #![tactic(auto)]
 
 /// Where its frames lie.
