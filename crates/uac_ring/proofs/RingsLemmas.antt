@@ -1,10 +1,9 @@
 -- The oldest frame of a ring is the first that came and is not gone.
-use Rattle.std.proofs.Common.{◌≡◌, ℕ, zero, suc, ◌+◌, ◌<◌, ◌≤◌, ℤ, List, [], ◌∷◌, ◌++◌, length, drop, map, set, slice_get, Option, Some, None, IsNone, ◌↔◌, OnSome, option_copied, Bor, arith, ap, ◌∙◌, sym, refl}
+use Rattle.std.proofs.Common.{◌≡◌, ℕ, zero, suc, ◌+◌, ◌<◌, ◌≤◌, ℤ, List, [], ◌∷◌, ◌++◌, length, drop, map, set, slice_get, Option, Some, None, OnSome, option_copied, Bor, arith, ap, ◌∙◌, sym, refl}
 use Rattle.std.specs.Option.{option_map}
 use Rattle.std.proofs.lemmas.List.{get_or_at, length-append, length-drop, map-set, set_at}
 use Rattle.std.proofs.lemmas.Option.{same_Some, slice_get-get_or, slice_get-map, slice_get_past}
 use Rattle.uac_ring.specs.Rings.{Holds}
-use Rattle.uac_ring.specs.Cells.{frames_in}
 
 -- the element at a place, where the list from there on is known
 pub element_at : {X : Type 0} (xs : List X) (n : ℕ) (y : X) (ys : List X) → drop n xs ≡ y ∷ ys
@@ -21,48 +20,23 @@ element_at (x ∷ xs) (suc n) y ys e =
     (further.0, further.1, omega arith)
 
 -- a ring whose oldest frame is taken
-pub held_taken : {X : Type 0} (v : X → List ℤ) (oldest : Option X) (ring left came : List (List ℤ)) (gone : ℕ)
-    → option_map v oldest ≡ slice_get ring 0 → left ≡ drop 1 ring → Holds came gone ring
-    → (option_map v oldest ≡ slice_get came gone) × OnSome oldest (Holds came (gone + 1) left)
-held_taken v None [] left came gone is_oldest others held =
-    let short : length came ≤ gone = let all = sym (length-drop gone came) ∙ ap length (sym held.1) in omega arith in
+pub taken : {X : Type 0} (v : X → List ℤ) (items left : List X) (oldest : Option X) (ring came : List (List ℤ)) (gone : ℕ) → map v items ≡ ring
+    → oldest ≡ slice_get items 0 → left ≡ drop 1 items → Holds came gone ring
+    → (option_map v oldest ≡ slice_get came gone) × OnSome oldest (Holds came (gone + 1) (map v left))
+taken v [] left None ring came gone seen is_oldest others held =
+    let empty : drop gone came ≡ [] = sym held.1 ∙ sym seen in
+    let short : length came ≤ gone = let all = sym (length-drop gone came) ∙ ap length empty in omega arith in
     (sym (slice_get_past came gone short), tt)
-held_taken v (Some x) [] left came gone is_oldest others held = cc
-held_taken v None (y ∷ ys) left came gone is_oldest others held = cc
-held_taken v (Some x) (y ∷ ys) left came gone is_oldest others held =
-    let same : v x ≡ y = cc in
-    let there = element_at came gone y ys (sym held.1) in
+taken v [] left (Some x) ring came gone seen is_oldest others held = cc
+taken v (y ∷ ys) left None ring came gone seen is_oldest others held = cc
+taken {X = X} v (y ∷ ys) left (Some x) ring came gone seen is_oldest others held =
+    let same : x ≡ y = cc in
+    let there = element_at came gone (v y) (map v ys) (sym held.1 ∙ sym seen) in
     let room : suc gone ≤ length came = there.2 in
     let step : gone + 1 ≡ suc gone = omega arith in
-    let others_held : left ≡ drop (gone + 1) came = others ∙ sym there.1 ∙ ap (λ (n : ℕ). drop n came) (sym step) in
-    (ap (λ z. Some z) same ∙ sym there.0, (omega arith, others_held))
-
--- a ring that lets its oldest frame go
-pub held_less : (ring left came : List (List ℤ)) (gone : ℕ) → left ≡ drop 1 ring → Holds came gone ring → gone < length came → Holds came (gone + 1) left
-held_less [] left came gone others held more =
-    let short : length came ≤ gone = let all = sym (length-drop gone came) ∙ ap length (sym held.1) in omega arith in
-    absurd (let no : ⊥ = omega arith in no)
-held_less (y ∷ ys) left came gone others held more =
-    (held_taken (λ (f : List ℤ). f) (Some y) (y ∷ ys) left came gone refl others held).1
-
--- the oldest frame of a ring
-pub held_front : {X : Type 0} (v : X → List ℤ) (oldest : Option X) (ring came : List (List ℤ)) (gone : ℕ)
-    → option_map v oldest ≡ slice_get ring 0 → Holds came gone ring → option_map v oldest ≡ slice_get came gone
-held_front v oldest ring came gone is_oldest held = (held_taken v oldest ring (drop 1 ring) came gone is_oldest refl held).0
-
--- where no frame lies apart, all lie whole
-pub all_whole : (oldest : Option (List ℤ)) (narrow wide ring : List (List ℤ)) → oldest ≡ None → (oldest ≡ None → narrow ≡ [])
-    → frames_in oldest narrow wide ≡ ring → wide ≡ ring
-all_whole None narrow wide ring is none seen = ap (λ (ns : List (List ℤ)). ns ++ wide) (sym (none refl)) ∙ seen
-all_whole (Some f) narrow wide ring is none seen = cc
-
--- a frame is found exactly where there is one
-pub none_where_empty : {X : Type 0} (v : X → List ℤ) (oldest : Option X) (ring : List (List ℤ)) → option_map v oldest ≡ slice_get ring 0
-    → IsNone oldest ↔ (length ring ≡ 0)
-none_where_empty v None [] is = (λ _. refl, λ _. refl)
-none_where_empty v None (y ∷ ys) is = cc
-none_where_empty v (Some x) [] is = cc
-none_where_empty v (Some x) (y ∷ ys) is = (λ no. cc, λ no. cc)
+    let others_held : map v left ≡ drop (gone + 1) came =
+    ap (λ (xs : List X). map v xs) others ∙ sym there.1 ∙ ap (λ (n : ℕ). drop n came) (sym step) in
+    (ap (λ z. Some (v z)) same ∙ sym there.0, (omega arith, others_held))
 
 -- what a lent value shows is what it shows as a value
 pub lent : {X : Type 0} (v : X → List ℤ) (oldest : Option (Bor X)) → option_map (λ x. v x.now) oldest ≡ option_map v (option_copied oldest)

@@ -1,8 +1,6 @@
-//! The ring of a stream: its frames between the bus and the signal graph, first in, first out, in two blocks of memory.
+//! The ring of a stream: its frames between the bus and the signal graph, first in, first out, in one block of memory.
 #![tactic(auto)]
 
-/// Where its frames lie.
-mod cells;
 /// The ring and its calls.
 mod ring;
 #[cfg(test)]

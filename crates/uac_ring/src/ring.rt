@@ -1,14 +1,13 @@
-// A bounded queue of frames over circular buffers.
+// A bounded queue of frames over a circular buffer.
 ghost use Rattle.std.specs.Prelude.{◌≡◌, ◌↔◌, ◌≤◌, ◌<◌, ◌+◌, ℕ, ℤ, List, [], ◌∷◌, ◌++◌, length, drop, map, slice_get};
 ghost use Rattle.std.specs.Prelude.{IsNone, IsErr, IfOk, OnSome, OnOk, OnErr};
 ghost use Rattle.std.specs.Option.{option_map};
 ghost use Rattle.uac_ring.specs.Rings.{Holds, ring_frames};
 
-use crate::cells::{Narrow, move_all, narrowed, push_copy, refill, widened};
+use arrayvec::ArrayVec;
 use circular_buffer::HeapCircularBuffer;
 use std::alloc::Global;
 use std::marker::Model;
-use std::mem::replace;
 use uac_descriptor::NoMemory;
 use uac_pcm::Frame;
 
@@ -21,27 +20,21 @@ pub struct Full;
 
 /// The frames of a stream that have come and have not gone yet, in the order in which they came.
 ///
-/// Frames of one channel and of two lie in cells of 16 bytes, so that a stream walks through little memory; the oldest of them lies
-/// apart as a whole frame, which is lent. Wider frames lie whole, in 136 bytes. Where both kinds come, all lie whole.
-/// So a ring takes 311,296 bytes of memory, and eight rings take 2,490,368.
+/// A frame takes 136 bytes, so a ring takes 278,528 bytes of memory, and eight rings take 2,228,224.
 #[derive(Drop)]
 pub struct Ring {
-    oldest: Option<Frame>,
-    narrow: HeapCircularBuffer<Narrow>,
-    wide: HeapCircularBuffer<Frame>,
+    frames: HeapCircularBuffer<Frame>,
 }
 
 impl Model for Ring {
-    ghost use Rattle.std.specs.Prelude.{ℤ, List, map};
-    ghost use Rattle.std.specs.Option.{option_map};
-    ghost use Rattle.uac_ring.specs.Cells.{IsRing, frames_in};
+    ghost use Rattle.std.specs.Prelude.{◌≡◌, ◌≤◌, ℤ, List, length, map};
+    ghost use Rattle.uac_ring.specs.Rings.{ring_frames};
 
     ghost Value = { List (List ℤ) };
 
-    ghost view = { λ r. frames_in (option_map (λ f. f.items) r.oldest) (map (λ c. c.items) r.narrow.items) (map (λ f. f.items) r.wide.items) };
+    ghost view = { λ r. map (λ frame. frame.items) r.frames.items };
 
-    ghost invariant = { λ r. IsRing (option_map (λ f. f.items) r.oldest) (map (λ c. c.items) r.narrow.items) (map (λ f. f.items) r.wide.items)
-        r.narrow.capacity r.wide.capacity };
+    ghost invariant = { λ r. (r.frames.capacity ≡ ring_frames) × (length r.frames.items ≤ ring_frames) };
 }
 
 impl Ring {
@@ -49,13 +42,8 @@ impl Ring {
     pub fn new(alloc: Global) -> Result<Ring, NoMemory>
         ensures { IfOk result (λ ring. ring ≡ []) }
     {
-        let narrow = HeapCircularBuffer::with_capacity(alloc, RING_FRAMES as usize)?;
-        let wide = HeapCircularBuffer::with_capacity(alloc, RING_FRAMES as usize)?;
-        Ok(Ring {
-            oldest: None,
-            narrow,
-            wide,
-        })
+        let frames = HeapCircularBuffer::with_capacity(alloc, RING_FRAMES as usize)?;
+        Ok(Ring { frames })
     }
 
     /// Appends a copy of a frame; `Full` exactly where the ring holds all that it can, and then it stays as it was.
@@ -66,47 +54,45 @@ impl Ring {
         ensures holds { (came : List (List ℤ)) (gone : ℕ) → Holds came gone self.old
             → OnOk result (Holds (came ++ frame.now.items ∷ []) gone self.new) }
     {
-        if self.level() == RING_FRAMES {
-            return Err(Full);
+        let samples = frame.as_slice();
+        // Most frames have one channel or two. These are made where they are to lie.
+        if samples.len() == 1 {
+            return self.push(mono(samples[0]));
         }
-        match narrowed(frame) {
-            Some(cell) => self.put_narrow(cell),
-            None => self.put_wide(frame),
+        if samples.len() == 2 {
+            return self.push(stereo(samples[0], samples[1]));
         }
-        Ok(())
+        self.put_wide(frame)
     }
 
-    // Appends a frame of one channel or two, for which there is room.
+    // Appends a frame; `Full` exactly where the ring holds all that it can, and then it stays as it was.
     #[inline]
-    fn put_narrow(&mut self, cell: Narrow)
-        requires { length self.old < ring_frames }
-        ensures { self.new ≡ self.old ++ cell.items ∷ [] }
+    fn push(&mut self, frame: Frame) -> Result<(), Full>
+        ensures full { IsErr result ↔ (length self.old ≡ ring_frames) }
+        ensures appended { OnOk result (self.new ≡ self.old ++ frame.items ∷ []) }
+        ensures unchanged { OnErr result (self.new ≡ self.old) }
     {
-        if self.oldest.is_some() {
-            let _ = self.narrow.try_push_back(cell);
-            return;
+        match self.frames.try_push_back(frame) {
+            Ok(()) => Ok(()),
+            Err(_) => Err(Full),
         }
-        if self.wide.is_empty() {
-            self.oldest = Some(widened(&cell));
-            return;
-        }
-        let _ = self.wide.try_push_back(widened(&cell));
     }
 
-    // Appends a copy of a frame, for which there is room. All frames lie whole from now on.
+    // Appends a copy of a frame, whose samples are written where an empty frame was put; `Full` exactly where the ring holds all that it
+    // can, and then it stays as it was.
     #[inline(never)]
-    fn put_wide(&mut self, frame: &Frame)
-        requires { length self.old < ring_frames }
-        ensures { self.new ≡ self.old ++ frame.now.items ∷ [] }
+    fn put_wide(&mut self, frame: &Frame) -> Result<(), Full>
+        ensures full { IsErr result ↔ (length self.old ≡ ring_frames) }
+        ensures appended { OnOk result (self.new ≡ self.old ++ frame.now.items ∷ []) }
+        ensures unchanged { OnErr result (self.new ≡ self.old) }
     {
-        match replace(&mut self.oldest, None) {
-            Some(oldest) => {
-                let _ = self.wide.try_push_back(oldest);
-                move_all(&mut self.narrow, &mut self.wide);
-            }
-            None => {}
+        let level = self.frames.len();
+        match self.frames.try_push_back(ArrayVec::new()) {
+            Ok(()) => {}
+            Err(_) => return Err(Full),
         }
-        push_copy(&mut self.wide, frame);
+        fill(&mut self.frames, level, frame);
+        Ok(())
     }
 
     /// Takes the oldest frame out; None exactly where there is none.
@@ -117,24 +103,7 @@ impl Ring {
         ensures holds { (came : List (List ℤ)) (gone : ℕ) → Holds came gone self.old
             → (option_map (λ frame. frame.items) result ≡ slice_get came gone) × OnSome result (Holds came (gone + 1) self.new) }
     {
-        self.pull()
-    }
-
-    // Takes the oldest frame out of where it lies.
-    #[inline]
-    fn pull(&mut self) -> Option<Frame>
-        ensures none { IsNone result ↔ (length self.old ≡ 0) }
-        ensures oldest { option_map (λ frame. frame.items) result ≡ slice_get self.old 0 }
-        ensures others { self.new ≡ drop 1 self.old }
-    {
-        if self.oldest.is_none() {
-            return self.wide.pop_front();
-        }
-        let next = match self.narrow.pop_front() {
-            Some(cell) => Some(widened(&cell)),
-            None => None,
-        };
-        replace(&mut self.oldest, next)
+        self.frames.pop_front()
     }
 
     /// The oldest frame, lent; None exactly where there is none.
@@ -144,19 +113,7 @@ impl Ring {
         ensures holds { (came : List (List ℤ)) (gone : ℕ) → Holds came gone self.now
             → option_map (λ frame. frame.now.items) result ≡ slice_get came gone }
     {
-        self.first()
-    }
-
-    // The oldest frame, lent from where it lies.
-    #[inline]
-    fn first(&self) -> Option<&Frame>
-        ensures none { IsNone result ↔ (length self.now ≡ 0) }
-        ensures oldest { option_map (λ frame. frame.now.items) result ≡ slice_get self.now 0 }
-    {
-        match &self.oldest {
-            Some(oldest) => Some(oldest),
-            None => self.wide.front(),
-        }
+        self.frames.front()
     }
 
     /// Lets the oldest frame go; where there is none, the ring stays empty.
@@ -165,25 +122,7 @@ impl Ring {
         ensures holds { (came : List (List ℤ)) (gone : ℕ) → Holds came gone self.old → gone < length came
             → Holds came (gone + 1) self.new }
     {
-        self.step();
-    }
-
-    // Lets the oldest frame go from where it lies.
-    #[inline]
-    fn step(&mut self)
-        ensures { self.new ≡ drop 1 self.old }
-    {
-        let oldest = match &mut self.oldest {
-            Some(oldest) => oldest,
-            None => {
-                let _oldest = self.wide.pop_front();
-                return;
-            }
-        };
-        match self.narrow.pop_front() {
-            Some(cell) => refill(oldest, &cell),
-            None => self.oldest = None,
-        }
+        let _oldest = self.take();
     }
 
     /// The number of frames that the ring holds.
@@ -192,16 +131,46 @@ impl Ring {
         ensures bounded { result ≤ ring_frames }
         ensures holds { (came : List (List ℤ)) (gone : ℕ) → Holds came gone self.now → gone + result ≡ length came }
     {
-        let apart = if self.oldest.is_some() { 1 } else { 0 };
-        apart + self.narrow.len() as u32 + self.wide.len() as u32
+        self.frames.len() as u32
     }
 
     /// Lets all frames go.
     pub fn clear(&mut self)
         ensures { self.new ≡ [] }
     {
-        self.oldest = None;
-        self.narrow.clear();
-        self.wide.clear();
+        self.frames.clear();
+    }
+}
+
+// A frame of one channel.
+#[inline]
+fn mono(only: i32) -> Frame
+    ensures { result.items ≡ only ∷ [] }
+{
+    let mut frame: Frame = ArrayVec::new();
+    frame.push(only);
+    frame
+}
+
+// A frame of two channels.
+#[inline]
+fn stereo(left: i32, right: i32) -> Frame
+    ensures { result.items ≡ left ∷ right ∷ [] }
+{
+    let mut frame: Frame = ArrayVec::new();
+    frame.push(left);
+    frame.push(right);
+    frame
+}
+
+// Gives the frame at a place, which is the newest and empty, these samples.
+fn fill(frames: &mut HeapCircularBuffer<Frame>, place: usize, frame: &Frame)
+    ensures filled { (older : List (List ℤ)) → map (λ f. f.items) frames.old.items ≡ older ++ [] ∷ [] → place ≡ length older
+        → map (λ f. f.items) frames.new.items ≡ older ++ frame.now.items ∷ [] }
+    ensures capacity { frames.new.capacity ≡ frames.old.capacity }
+{
+    if let Some(newest) = frames.get_mut(place) {
+        // A frame has room for the samples of a frame.
+        let _ = newest.try_extend_from_slice(frame.as_slice());
     }
 }

@@ -1,5 +1,4 @@
 // A ring filled and emptied, and what no clause says: that memory is found.
-use crate::cells::Narrow;
 use crate::{Full, RING_FRAMES, Ring};
 use arrayvec::ArrayVec;
 use std::mem::size_of;
@@ -36,10 +35,8 @@ fn frames_leave_in_the_order_in_which_they_came(rt: HostRuntime) {
 #[test]
 fn eight_rings_take_less_than_three_megabytes(rt: HostRuntime) {
     let frame = size_of::<Frame>();
-    let narrow = size_of::<Narrow>();
-    let ring = (frame + narrow) * RING_FRAMES as usize;
+    let ring = frame * RING_FRAMES as usize;
     assert_eq!(rt; frame, 136);
-    assert_eq!(rt; narrow, 16);
-    assert_eq!(rt; ring, 311296);
-    assert_eq!(rt; 8 * ring, 2490368);
+    assert_eq!(rt; ring, 278528);
+    assert_eq!(rt; 8 * ring, 2228224);
 }

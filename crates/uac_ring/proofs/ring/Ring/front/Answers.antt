@@ -1,6 +1,8 @@
-use Rattle.uac_ring.proofs.RingsLemmas.{held_front}
+use Rattle.std.proofs.Common.{◌∙◌, refl}
+use Rattle.uac_ring.proofs.RingsLemmas.{lent, taken}
 use Rattle.uac_ring.proofs.ring.Ring.front.Goals as goal
 
 pub returns-clause-holds : goal.returns-clause-holds
 returns-clause-holds c = λ came gone held.
-    held_front (λ frame. frame.now.items) c.first.result c.args.self.now came gone c.first.ensures.oldest held
+    lent (λ frame. frame.items) c.front.result
+    ∙ (taken (λ frame. frame.items) c.self.inside.frames.items _ _ c.args.self.now came gone c.self.view_is c.front.ensures refl held).0

@@ -3,7 +3,7 @@ use Rattle.std.proofs.lemmas.List.{length-append, length-map}
 use Rattle.std.proofs.lemmas.Option.{none-some, slice_get-get_or}
 use Rattle.uac_pcm.proofs.Packing.{where_ok}
 use Rattle.uac_ring.proofs.RingsLemmas.{newest_seen, newest_turned}
-use Rattle.uac_ring.proofs.cells.fill.Goals as goal
+use Rattle.uac_ring.proofs.ring.fill.Goals as goal
 
 pub returns-in-Some-clause-filled : goal.returns-in-Some-clause-filled
 returns-in-Some-clause-filled c = λ older seen is_last.
