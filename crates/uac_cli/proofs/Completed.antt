@@ -18,8 +18,9 @@ use Rattle.uac_describe.specs.Closing.{Closes, Rests}
 use Rattle.uac_scripts.specs.Run.{IsRun}
 use Rattle.uac_cli.specs.Call.{AreAnswered, IsCall, IsDone}
 use Rattle.uac_describe.specs.Settling.{settling}
-use Rattle.uac_cli.specs.Completeness.{ComesTo, HasInput, IsComplete}
-use Rattle.uac_scripts.specs.Transcript.{Ending, transcript}
+use Rattle.uac_cli.specs.Completeness.{ComesTo, HasInput, IsComplete, ScriptComesTo}
+use Rattle.uac_scripts.specs.Transcript.{Ending}
+use Rattle.uac_scripts.proofs.Agreeing.{one_transcript}
 use Rattle.uac_scripts.proofs.Completing.{done_once}
 use Rattle.uac_describe.proofs.Completing.{said_once}
 
@@ -58,13 +59,15 @@ module _ (w w' : Option (List ℕ)) (f f' : ℕ) (status : Status) (quiet : Rest
     ]
 
     script_whole : IsRun (Some Run) shown shown' a b r r' w w' f f' status → a ≡ Some bytes → Rests r r' → status ≢ statuses.WriteFault
-        → (transcript shown bytes at_end).outcome ≡ outcome → IsWhole outcome
+        → ScriptComesTo shown bytes outcome → IsWhole outcome
     script_whole run is rests written said = elim run.meant as (λ _. IsWhole outcome) [
       | inl ends ↦
+          let now = one_transcript shown run.taken run.end run.ending ends in
+          let all = one_transcript shown bytes at_end said.0 said.1 in
           let closed = closed_whole run.ending.outcome w w' f f' status quiet run.closed in
           let same = done_once shown bytes run.taken a b r r' run.end is run.consumed rests run.ended
-          (λ fault. written (closed.0 ∙ ap (λ (e : Ending). e.outcome.status) ends ∙ fault)) in
-          whole_of run.ending.outcome outcome (ap (λ (e : Ending). e.outcome) (ends ∙ sym same) ∙ said) run.closed
+          (λ fault. written (closed.0 ∙ ap (λ (e : Ending). e.outcome.status) now ∙ fault)) in
+          whole_of run.ending.outcome outcome (ap (λ (e : Ending). e.outcome) (now ∙ sym same ∙ sym all) ∙ said.2) run.closed
       | inr wanted ↦ wanted_of run.ending outcome (ap (λ (e : Ending). e.outcome.status) wanted.is) run.closed
     ]
 

@@ -1,10 +1,11 @@
 -- A generated script is done to its end.
-use Rattle.std.proofs.Common.{◌≡◌, ◌∙◌, sym, ap, ℕ, ◌+◌, ◌<◌, ◌≤◌, arith, List, [], ◌∷◌, ◌++◌, length, Option, None, Result, Ok}
+use Rattle.std.proofs.Common.{◌≡◌, ◌∙◌, sym, ap, ℕ, ◌+◌, ◌<◌, ◌≤◌, arith, List, [], ◌∷◌, ◌++◌, length, map, Option, None, Result, Ok}
 use Rattle.std.specs.List.{AllByRecursion}
 use Rattle.std.proofs.lemmas.List.{append-nil}
 use Rattle.uac_gen.specs.Generator.{generated}
 use Rattle.uac_gen.specs.Script.{script_of}
 use Rattle.uac_script.specs.Lines.{most_of_input, unended}
+use Rattle.uac_script.specs.Reading.{answer}
 use Rattle.uac_transcript.specs.Printing.{text_of}
 use Rattle.uac_bus.specs.declared.fault.BusFault.{BusFault}
 use Rattle.uac_bus.specs.World.{World, finish_of}
@@ -17,8 +18,10 @@ use Rattle.uac_describe.specs.declared.status.Status.TheVariants as statuses
 use Rattle.uac_describe.specs.Outcome.{at_end}
 use Rattle.uac_scripts.specs.Script as script
 use Rattle.uac_scripts.specs.Script.{IsLine, come_to, with_newlines}
-use Rattle.uac_scripts.specs.Transcript.{Ending, with_text_first, closed_by, ends, finished, goes, transcript}
+use Rattle.uac_scripts.specs.Transcript.{Ending, with_text_first, closed_by, ends, finished}
+use Rattle.uac_scripts.specs.Computed.{goes, transcript}
 use Rattle.uac_cli.specs.Generated.{GeneratedScriptsRunWhole}
+use Rattle.uac_scripts.proofs.Agreeing.{all_say, is_transcript}
 use Rattle.uac_scripts.proofs.Going.{goes_at, head_nothing}
 use Rattle.uac_scripts.proofs.ScriptLemmas.{script_lines}
 
@@ -50,11 +53,14 @@ generated_scripts_run_whole number shown small =
     let done = generated_scripts_are_done number shown small in
     let fits : length (with_newlines texts) ≤ most_of_input = (let less : length (script_of number) < most_of_input = is.fits in bounded number less) in
     record {
+      saids = map answer texts;
+      say = all_say texts;
       transcript_is =
-          ap (λ (bytes : List ℕ). transcript shown bytes at_end) (all_bytes number)
+          is_transcript shown (script_of number) at_end _
+          (sym (ap (λ (bytes : List ℕ). transcript shown bytes at_end) (all_bytes number)
           ∙ script_lines shown texts [] at_end (are_lines texts is.lines) fits
-          ∙ none_refused a 1 _ _ done.none_refused (ended _ (length texts + 1) a.world done.ends);
-      promised = all_scripts_keep_promises texts shown (generated_scripts_are_steady number shown small);
+          ∙ none_refused a 1 _ _ done.none_refused (ended _ (length texts + 1) a.world done.ends)));
+      promised = all_scripts_keep_promises texts (map answer texts) shown (all_say texts) (generated_scripts_are_steady number shown small);
     }
   where
     all_bytes : (n : ℕ) → script_of n ≡ with_newlines (generated n) ++ []

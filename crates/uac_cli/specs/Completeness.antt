@@ -12,9 +12,13 @@ use Rattle.uac_describe.specs.declared.status.Status.{Status}
 use Rattle.uac_describe.specs.declared.status.Status.TheVariants as statuses
 use Rattle.uac_describe.specs.Closing.{Rests}
 use Rattle.uac_describe.specs.Outcome.{Answers, Outcome, at_end}
-use Rattle.uac_scripts.specs.Transcript.{transcript}
+use Rattle.uac_scripts.specs.Transcript.{Ending, IsTranscript}
 use Rattle.uac_cli.specs.Call.{reads_all}
 use Rattle.uac_describe.specs.Settling.{settling}
+
+-- a script of these bytes and no more has this outcome
+abbrev pub ScriptComesTo : List Reading → List ℕ → Outcome → Type 0
+ScriptComesTo shown bytes outcome = (ending : Ending) × IsTranscript shown bytes at_end ending × (ending.outcome ≡ outcome)
 
 -- What a command comes to over an input that is these bytes and no more: `check`, `show` and `elements` say what is said of them where they
 -- end, `run` does their lines to the end, `gen` does those of its number's script, and `settle` takes no input.
@@ -22,8 +26,8 @@ abbrev pub ComesTo : Command → List Reading → List ℕ → Outcome → Type 
 ComesTo commands.Check shown bytes outcome = AreBytes bytes × Answers Check bytes at_end outcome
 ComesTo commands.Show shown bytes outcome = AreBytes bytes × Answers Show bytes at_end outcome
 ComesTo commands.Elements shown bytes outcome = AreBytes bytes × Answers Elements bytes at_end outcome
-ComesTo commands.Run shown bytes outcome = (transcript shown bytes at_end).outcome ≡ outcome
-ComesTo (commands.Gen number) shown bytes outcome = (transcript shown (script_of number) at_end).outcome ≡ outcome
+ComesTo commands.Run shown bytes outcome = ScriptComesTo shown bytes outcome
+ComesTo (commands.Gen number) shown bytes outcome = ScriptComesTo shown (script_of number) outcome
 ComesTo commands.Settle shown bytes outcome = settling ≡ outcome
 
 -- the source has these bytes and no more, and no read of it failed, where the command reads it

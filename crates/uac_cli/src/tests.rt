@@ -1,13 +1,23 @@
 // The top call over sources and sinks in memory. Each row's text and status are those that the rules ask for.
-ghost use Rattle.std.specs.Prelude.{◌<◌};
+ghost use Rattle.std.specs.Prelude.{◌≡◌, ◌<◌, IfOk};
+ghost use Rattle.uac_units.specs.Fitting.{IsFitted};
 
 use super::*;
 use crate::boxes::run_in_boxes;
 use std::alloc::{AllocError, Global};
+use std::cell::Cell;
 use std::process::Abort;
+use std::rc::Rc;
 use std::test::Fail;
+use uac_bus::Bus;
 use uac_descriptor::{ByteList, NoMemory, WordList};
 use uac_edges::{MemorySink, MemorySource, Source, SteadySource};
+use uac_pcm::Frame;
+use uac_script::Line;
+use uac_units::{
+    Job, LaneEffect, LaneFeature, LaneMixer, LaneSelector, Meters, Pins, PlainEffect, PlainFeature,
+    PlainMixer, PlainSelector, Rack, Steps, Unit, UnitKind,
+};
 
 /// The least descriptor: 35 bytes, blocks at 0, 9, 17 and 26.
 const MINIMAL: [u8; 35] = [
@@ -15,7 +25,13 @@ const MINIMAL: [u8; 35] = [
     0x24, 1, 0, 2, 4, 9, 0, 0,
 ];
 
-/// What `show` prints of it.
+/// The same with a clock source, whose frequency a host may set: 43 bytes.
+const CLOCKED: [u8; 43] = [
+    9, 2, 43, 0, 1, 1, 0, 0x80, 0x32, 8, 11, 0, 1, 1, 0, 0x20, 0, 9, 4, 0, 0, 0, 1, 1, 0x20, 0, 9,
+    0x24, 1, 0, 2, 4, 17, 0, 0, 8, 0x24, 0x0A, 1, 3, 7, 0, 0,
+];
+
+/// What `show` prints of the least.
 const LISTING: &[u8] =
     b"0 configuration 090223000101008032\n9 association 080b000101002000\n17 interface 090400000001012000\n26 header 092401000204090000\n";
 
@@ -300,6 +316,48 @@ fn no_call_behind_the_end(rt: HostRuntime) -> Result<(), Fail> {
     Ok(())
 }
 
+/// A script whose second line is refused. It ends 4 bytes, and as many stand behind it.
+const REFUSED: &[u8] = b"#\nx\n#\nq\n";
+
+/// `run` of that script in pieces of so many bytes leaves these bytes in the source: it takes no piece behind the refused line.
+fn expect_left(rt: &impl Abort, alloc: Global, cut: usize, left: &[u8]) -> Result<(), AllocError>
+    requires { 0 < cut }
+{
+    let mut source = source_of(alloc, REFUSED, cut, &[])?;
+    let text = b"script S2 line 2\n";
+    expect(
+        rt,
+        alloc,
+        &["run"],
+        &mut source,
+        64,
+        &[],
+        text,
+        Status::Script,
+    )?;
+    let mut byte = [0u8];
+    for expected in left {
+        assert_eq!(rt; source.take(&mut byte), Ok(1));
+        assert_eq!(rt; byte[0], *expected);
+    }
+    assert_eq!(rt; source.take(&mut byte), Ok(0));
+    Ok(())
+}
+
+#[test]
+fn no_piece_behind_a_refused_line(rt: HostRuntime) -> Result<(), Fail> {
+    for (cut, left) in [
+        (1, b"#\nq\n".as_slice()),
+        (2, b"#\nq\n".as_slice()),
+        (3, b"q\n".as_slice()),
+        (5, b"\nq\n".as_slice()),
+        (64, b"".as_slice()),
+    ] {
+        expect_left(&rt, rt.alloc(), cut, left)?;
+    }
+    Ok(())
+}
+
 /// The least descriptor, two microframes, and a report. The descriptor is accepted in the second line, which 75 bytes end.
 const SCRIPT: &[u8] =
     b"d 090223000101008032080b000101002000090400000001012000092401000204090000\ng\nm 2\nq\n";
@@ -347,6 +405,11 @@ fn sink_fails_at_each_call(rt: HostRuntime) -> Result<(), Fail> {
             b"ok blocks 4 entities 0 streams 0 domains 0\n".as_slice(),
         ),
         ("show", MINIMAL.as_slice(), LISTING),
+        (
+            "elements",
+            CLOCKED.as_slice(),
+            b"rate.1.0 rw 48000\n".as_slice(),
+        ),
         ("run", SCRIPT, TRANSCRIPT),
     ] {
         for taken in 0..text.len() + 1 {
@@ -424,5 +487,129 @@ fn source_of_a_script_fails_at_each_call(rt: HostRuntime) -> Result<(), Fail> {
         expect_behind(&rt, rt.alloc(), taken, b"read fault\n", Status::ReadFault)?;
     }
     expect_behind(&rt, rt.alloc(), SCRIPT.len() + 1, b"", Status::Ok)?;
+    Ok(())
+}
+
+/// A unit that hands its job to another, and counts beside others how often it is asked.
+#[derive(Drop)]
+struct Counting<U> {
+    unit: U,
+    renders: Rc<Cell<u64>>,
+}
+
+impl<U: Unit> Unit for Counting<U> {
+    ghost kind_of = { λ c. U.kind_of c.unit };
+
+    fn kind(&self) -> UnitKind {
+        self.unit.kind()
+    }
+
+    fn render(&self, job: &Job, pins: &Pins, out: &mut Frame, steps: &mut Steps) {
+        self.unit.render(job, pins, out, steps);
+        self.renders.set(self.renders.get().saturating_add(1));
+    }
+}
+
+fn counted<U: Unit>(unit: U, renders: &Rc<Cell<u64>>) -> Result<Counting<U>, AllocError>
+    ensures { IfOk result (λ c. U.kind_of c.unit ≡ U.kind_of unit) }
+{
+    Ok(Counting {
+        unit,
+        renders: renders.clone()?,
+    })
+}
+
+/// Eight boxes that count, those of each rack together.
+fn counting_racks(
+    alloc: Global,
+    plain: &Rc<Cell<u64>>,
+    lanes: &Rc<Cell<u64>>,
+) -> Result<Racks, AllocError>
+    ensures plain { IfOk result (λ racks. IsFitted (λ v x. (⟦<dyn Unit as Unit>⟧ v).kind_of x) racks.plain) }
+    ensures lanes { IfOk result (λ racks. IsFitted (λ v x. (⟦<dyn Unit as Unit>⟧ v).kind_of x) racks.lanes) }
+{
+    Ok(Racks {
+        plain: Rack::new(
+            Box::new(alloc, counted(PlainMixer, plain)?)?,
+            Box::new(alloc, counted(PlainSelector, plain)?)?,
+            Box::new(alloc, counted(PlainFeature, plain)?)?,
+            Box::new(alloc, counted(PlainEffect, plain)?)?,
+        ),
+        lanes: Rack::new(
+            Box::new(alloc, counted(LaneMixer, lanes)?)?,
+            Box::new(alloc, counted(LaneSelector, lanes)?)?,
+            Box::new(alloc, counted(LaneFeature, lanes)?)?,
+            Box::new(alloc, counted(LaneEffect, lanes)?)?,
+        ),
+    })
+}
+
+/// The text of `gen 1`, without meters.
+const GENERATED: &[u8] =
+    b"ready entities 24 streams 1 domains 1\nc done\nc done\ntime 8000\nsteady yes\ndomain 1 rate 32000 ticks 32000\nstream 1 out setting 1 level 256 target 256 under 0 over 0 lost 120 missed 398\nrenders 672000\n";
+
+/// `gen 1` with these words behind it asks the boxes of each rack together so often.
+fn expect_counts(
+    rt: &impl Abort,
+    alloc: Global,
+    words: &[&str],
+    plain_asked: u64,
+    lanes_asked: u64,
+) -> Result<(), AllocError> {
+    let plain = Rc::new(alloc, Cell::new(0u64))?;
+    let lanes = Rc::new(alloc, Cell::new(0u64))?;
+    let racks = counting_racks(alloc, &plain, &lanes)?;
+    let words = strings(alloc, words)?;
+    let mut source = source_of(alloc, b"", 1, &[])?;
+    let mut sink = sink_in_memory(alloc, 64, &[])?;
+    let mut meters = Meters::new(Vec::new(alloc));
+    let status = uac_main(alloc, &words, &mut source, &mut sink, &racks, &mut meters);
+    assert_eq!(rt; sink.written(), GENERATED);
+    assert_eq!(rt; status, Status::Ok);
+    assert_eq!(rt; plain.get(), plain_asked);
+    assert_eq!(rt; lanes.get(), lanes_asked);
+    Ok(())
+}
+
+#[test]
+fn the_rack_that_is_chosen_is_asked(rt: HostRuntime) -> Result<(), Fail> {
+    expect_counts(&rt, rt.alloc(), &["gen", "1"], 672000, 0)?;
+    expect_counts(&rt, rt.alloc(), &["gen", "1", "--rack", "lanes"], 0, 672000)?;
+    Ok(())
+}
+
+/// Whether a bus does the line of this text.
+fn is_done(
+    bus: &mut Bus,
+    text: &[u8],
+    rack: &Rack,
+    meters: &mut Meters,
+    sink: &mut MemorySink,
+) -> bool
+    requires { IsFitted (λ v x. (⟦<dyn Unit as Unit>⟧ v).kind_of x) rack.now }
+{
+    if text.len() > 4096 {
+        return false;
+    }
+    match Line::read(text) {
+        Ok(line) => bus.line(&line, rack, meters, sink).is_ok(),
+        Err(_) => false,
+    }
+}
+
+#[test]
+fn bus_does_one_line_after_the_other(rt: HostRuntime) -> Result<(), Fail> {
+    let alloc = rt.alloc();
+    let renders = Rc::new(alloc, Cell::new(0u64))?;
+    let racks = counting_racks(alloc, &renders, &renders)?;
+    let mut sink = sink_in_memory(alloc, 64, &[])?;
+    let mut meters = Meters::new(Vec::new(alloc));
+    let mut bus = Bus::new(alloc);
+    for text in SCRIPT.split(|byte| *byte == b'\n') {
+        assert!(rt; is_done(&mut bus, text, &racks.plain, &mut meters, &mut sink));
+    }
+    assert!(rt; bus.finish().is_ok());
+    let text = b"ready entities 0 streams 0 domains 0\ntime 2\nsteady yes\nrenders 0\n";
+    assert_eq!(rt; sink.written(), text.as_slice());
     Ok(())
 }

@@ -1,12 +1,13 @@
 -- Lines in a row: each leaves the world good and keeps what is promised.
-use Rattle.std.proofs.Common.{◌≡◌, ◌∙◌, ◌+◌, sym, refl, subst, ℕ, true, List, [], ◌∷◌, ◌++◌, map, None, Result, Ok, Err, rules}
-use Rattle.std.specs.List.{All, AllByRecursion}
-use Rattle.std.proofs.lemmas.List.{map-append}
+use Rattle.std.proofs.Common.{◌≡◌, ◌∙◌, ◌+◌, sym, refl, subst, ℕ, true, List, [], ◌∷◌, ◌++◌, None, Result, Ok, Err, rules}
+use Rattle.std.specs.List.{All, AllByRecursion, AllZip}
 use Rattle.std.proofs.lemmas.List.Elements.{All-append, All-from_recursion, All-map, All-nil, All-weaker, recursion_from_All}
 use Rattle.uac_descriptor.specs.Reading.{AreBytes}
 use Rattle.uac_units.specs.Hearing.{Reading}
 use Rattle.uac_script.specs.Phrase.{Phrase, feeds}
+use Rattle.uac_script.specs.Line.{Says}
 use Rattle.uac_script.specs.Reading.{answer}
+use Rattle.uac_script.proofs.Answered.{says_only}
 use Rattle.uac_transcript.specs.Transcript.{Said}
 use Rattle.uac_bus.specs.World.{Step, World, describing, done, refused, running, start, step}
 use Rattle.uac_bus.specs.After.{After, after, and_then, said_step, with_one_more}
@@ -14,7 +15,7 @@ use Rattle.uac_bus.proofs.AfterLemmas.{after_one_more}
 use Rattle.uac_bands.specs.Run.{IsNearLevel, IsNoUnder}
 use Rattle.uac_overflow.specs.Recording.{IsNoOver}
 use Rattle.uac_homing.specs.Past.{Pasts, no_pasts}
-use Rattle.uac_steady.specs.Scripts.{IsInBand, behind_lines, is_steady_in}
+use Rattle.uac_steady.specs.Scripts.{IsInBand, is_steady_in}
 use Rattle.uac_steady.proofs.Behind.{lines_look_back}
 use Rattle.uac_steady.proofs.Beginning.{feeds_bytes}
 use Rattle.uac_promises.specs.Watched.{Watch, and_then_seen, line_seen, microframes_of, watched}
@@ -72,23 +73,24 @@ module _ (laws : LawsOfSteps) where
   step_keeps_all phrase (describing bytes meters) pasts good feed = describing_keeps_all laws bytes meters pasts phrase good feed
   step_keeps_all phrase (running r) pasts good feed = running_keeps_all laws r pasts good phrase
 
-  lines_keep_all : (texts : List (List ℕ)) → TheRest (map answer texts)
+  lines_keep_all : (texts : List (List ℕ)) (saids : List (Result Phrase ℕ)) → AllZip Says texts saids → TheRest saids
   unfolding after watched
-  lines_keep_all [] w pasts good steady = none_more w pasts good
-  lines_keep_all (text ∷ texts) w pasts good steady = by (answer text) refl (lines_keep_all texts) steady
+  lines_keep_all [] [] say w pasts good steady = none_more w pasts good
+  lines_keep_all [] (said ∷ saids) say w pasts good steady = absurd say
+  lines_keep_all (text ∷ texts) [] say w pasts good steady = absurd say
+  lines_keep_all (text ∷ texts) (said ∷ saids) say w pasts good steady = by said (says_only text said say.0) (lines_keep_all texts saids say.1) steady
     where
-      by : (said : Result Phrase ℕ) → answer text ≡ said → TheRest (map answer texts)
-          → is_steady_in (after (said ∷ map answer texts) w).world ≡ true
-          → LeavesAll (after (said ∷ map answer texts) w).world (watched (said ∷ map answer texts) w pasts).lines
+      by : (one : Result Phrase ℕ) → one ≡ answer text → TheRest saids → is_steady_in (after (one ∷ saids) w).world ≡ true
+          → LeavesAll (after (one ∷ saids) w).world (watched (one ∷ saids) w pasts).lines
       by (Ok phrase) is rest h =
-          with_first (map answer texts) w pasts good phrase (step phrase w)
+          with_first saids w pasts good phrase (step phrase w)
           (step_keeps_all phrase w pasts good
           (λ more same. feeds_bytes text more (let all : answer text ≡ Ok (feeds more) = cc in all))) rest h
       by (Err rule) is rest h = none_more w pasts good
 
   pub steady_scripts_keep_promises : SteadyScriptsKeepPromises
-  steady_scripts_keep_promises texts shown steady =
-      let leaves = lines_keep_all texts (start shown) no_pasts (λ i. no_bytes i) steady in
+  steady_scripts_keep_promises texts saids shown say steady =
+      let leaves = lines_keep_all texts saids say (start shown) no_pasts (λ i. no_bytes i) steady in
       record { band = leaves.band; recorded = leaves.recorded; kept = leaves.kept }
     where
       no_bytes : AreBytes []
@@ -98,11 +100,11 @@ module _ (laws : LawsOfSteps) where
 
 -- what holds of all lines that are seen holds of all that are printed
 all_printed : (P : Said → Type 0) → ((watch : Watch) → IsKept watch → P watch.said)
-    → (texts : List (List ℕ)) (shown : List Reading) → KeepsPromises texts shown → All P (behind_lines texts shown).lines
-all_printed P each texts shown keeps =
-    subst (All P) (lines_are_seen (map answer texts) (start shown) no_pasts)
-    (All-map P said_in (watched (map answer texts) (start shown) no_pasts).lines
-    (All-weaker IsKept (λ watch. P watch.said) each (watched (map answer texts) (start shown) no_pasts).lines keeps.kept))
+    → (saids : List (Result Phrase ℕ)) (shown : List Reading) → KeepsPromises saids shown → All P (after saids (start shown)).lines
+all_printed P each saids shown keeps =
+    subst (All P) (lines_are_seen saids (start shown) no_pasts)
+    (All-map P said_in (watched saids (start shown) no_pasts).lines
+    (All-weaker IsKept (λ watch. P watch.said) each (watched saids (start shown) no_pasts).lines keeps.kept))
 
 -- what holds of lines one after the other holds of the later
 latter : (P : Said → Type 0) (front back : List Said) → All P (front ++ back) → All P back
@@ -112,27 +114,40 @@ latter P front back all = All-from_recursion P back (by front (recursion_from_Al
     by [] each = each
     by (x ∷ xs) each = by xs each.1
 
+-- each of the texts and one more says its own
+one_more_says : (texts : List (List ℕ)) (saids : List (Result Phrase ℕ)) (text : List ℕ) (said : Result Phrase ℕ)
+    → AllZip Says texts saids → Says text said → AllZip Says (texts ++ text ∷ []) (saids ++ said ∷ [])
+one_more_says [] [] text said say says = (says, tt)
+one_more_says [] (s ∷ saids) text said say says = absurd say
+one_more_says (t ∷ texts) [] text said say says = absurd say
+one_more_says (t ∷ texts) (s ∷ saids) text said say says = (say.0, one_more_says texts saids text said say.1 says)
+
 pub one_more_line_is_kept : SteadyScriptsKeepPromises → OneMoreLineIsKept
-one_more_line_is_kept promises texts text shown next lines whole does steady =
-    let keeps = promises (texts ++ text ∷ []) shown (subst (λ (a : After). is_steady_in a.world ≡ true) (sym becomes) steady) in
+one_more_line_is_kept promises texts saids text said shown next lines say says whole does steady =
+    let keeps =
+    promises (texts ++ text ∷ []) all shown (one_more_says texts saids text said say says)
+    (subst (λ (a : After). is_steady_in a.world ≡ true) (sym becomes) steady) in
     record {
-      no_under = kept IsNoUnder (all_printed IsNoUnder (λ watch is. is.no_under) (texts ++ text ∷ []) shown keeps);
-      no_over = kept IsNoOver (all_printed IsNoOver (λ watch is. is.no_over) (texts ++ text ∷ []) shown keeps);
-      near = kept IsNearLevel (all_printed IsNearLevel (λ watch is. is.near) (texts ++ text ∷ []) shown keeps);
+      no_under = kept IsNoUnder (all_printed IsNoUnder (λ watch is. is.no_under) all shown keeps);
+      no_over = kept IsNoOver (all_printed IsNoOver (λ watch is. is.no_over) all shown keeps);
+      near = kept IsNearLevel (all_printed IsNearLevel (λ watch is. is.near) all shown keeps);
     }
   where
+    all : List (Result Phrase ℕ)
+    all = saids ++ said ∷ []
+
     so_far : After
-    so_far = behind_lines texts shown
+    so_far = after saids (start shown)
 
     one : After
     one = record so_far { lines = so_far.lines ++ lines; world = next; count = so_far.count + 1 }
 
-    by : (a : After) → a.refusal ≡ None → said_step (answer text) a.world ≡ done next lines
-        → with_one_more (answer text) a ≡ record a { lines = a.lines ++ lines; world = next; count = a.count + 1 }
+    by : (a : After) → a.refusal ≡ None → said_step said a.world ≡ done next lines
+        → with_one_more said a ≡ record a { lines = a.lines ++ lines; world = next; count = a.count + 1 }
     by a none is = rw (none, is) refl
 
-    becomes : behind_lines (texts ++ text ∷ []) shown ≡ one
-    becomes = rw map-append (after_one_more (map answer texts) (answer text) (start shown) ∙ by so_far whole does)
+    becomes : after all (start shown) ≡ one
+    becomes = after_one_more saids said (start shown) ∙ by so_far whole does
 
-    kept : (P : Said → Type 0) → All P (behind_lines (texts ++ text ∷ []) shown).lines → All P lines
-    kept P all = latter P so_far.lines lines (subst (λ (a : After). All P a.lines) becomes all)
+    kept : (P : Said → Type 0) → All P (after all (start shown)).lines → All P lines
+    kept P every = latter P so_far.lines lines (subst (λ (a : After). All P a.lines) becomes every)

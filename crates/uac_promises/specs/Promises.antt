@@ -1,9 +1,9 @@
 -- What is promised of every line that a steady script prints (profile; feedback is that of USB 2.0, 5.12.4.2).
 use Rattle.std.specs.Prelude.{◌≡◌, ℕ, true, List, map, None, Result}
-use Rattle.std.specs.List.{All}
+use Rattle.std.specs.List.{All, AllZip}
 use Rattle.uac_units.specs.Hearing.{Reading}
+use Rattle.uac_script.specs.Line.{Says}
 use Rattle.uac_script.specs.Phrase.{Phrase}
-use Rattle.uac_script.specs.Reading.{answer}
 use Rattle.uac_transcript.specs.Transcript.{Said}
 use Rattle.uac_bus.specs.World.{World, describing, done, running, start}
 use Rattle.uac_bus.specs.After.{after, said_step}
@@ -11,7 +11,7 @@ use Rattle.uac_bands.specs.Run.{IsNearLevel, IsNoUnder}
 use Rattle.uac_overflow.specs.Recording.{AreRecorded, IsNoOver}
 use Rattle.uac_homing.specs.Past.{Pasts, no_pasts}
 use Rattle.uac_homing.specs.Homing.{IsClose}
-use Rattle.uac_steady.specs.Scripts.{IsInBand, behind_lines, is_steady_in}
+use Rattle.uac_steady.specs.Scripts.{IsInBand, is_steady_in}
 use Rattle.uac_promises.specs.Watched.{Watch, watched}
 
 -- a level is close in a world
@@ -39,16 +39,18 @@ LinesAreSeen =
     (saids : List (Result Phrase ℕ)) (w : World) (pasts : Pasts)
     → map (λ watch. watch.said) (watched saids w pasts).lines ≡ (after saids w).lines
 
--- lines of a script that leave a steady world: each stream is in its band there, and every line that they printed is as promised
-pub record KeepsPromises (texts : List (List ℕ)) (shown : List Reading) : Type 0 where
-  pub band : IsInBand (behind_lines texts shown).world
-  pub recorded : IsRecordedIn (behind_lines texts shown).world
-  pub kept : All IsKept (watched (map answer texts) (start shown) no_pasts).lines
+-- what the lines of a script said, which leave a steady world: each stream is in its band there, and every line that they printed is as
+-- promised
+pub record KeepsPromises (saids : List (Result Phrase ℕ)) (shown : List Reading) : Type 0 where
+  pub band : IsInBand (after saids (start shown)).world
+  pub recorded : IsRecordedIn (after saids (start shown)).world
+  pub kept : All IsKept (watched saids (start shown) no_pasts).lines
 
--- so it is for every list of lines
+-- so it is for every list of lines, by what each says
 abbrev pub SteadyScriptsKeepPromises : Type 0
 SteadyScriptsKeepPromises =
-    (texts : List (List ℕ)) (shown : List Reading) → is_steady_in (behind_lines texts shown).world ≡ true → KeepsPromises texts shown
+    (texts : List (List ℕ)) (saids : List (Result Phrase ℕ)) (shown : List Reading) → AllZip Says texts saids
+    → is_steady_in (after saids (start shown)).world ≡ true → KeepsPromises saids shown
 
 -- what one line more prints, after lines of which none was refused, in a world that is steady after it
 pub record PrintsKept (lines : List Said) : Type 0 where
@@ -58,6 +60,7 @@ pub record PrintsKept (lines : List Said) : Type 0 where
 
 abbrev pub OneMoreLineIsKept : Type 0
 OneMoreLineIsKept =
-    (texts : List (List ℕ)) (text : List ℕ) (shown : List Reading) (next : World) (lines : List Said)
-    → (behind_lines texts shown).refusal ≡ None → said_step (answer text) (behind_lines texts shown).world ≡ done next lines
+    (texts : List (List ℕ)) (saids : List (Result Phrase ℕ)) (text : List ℕ) (said : Result Phrase ℕ) (shown : List Reading)
+    (next : World) (lines : List Said) → AllZip Says texts saids → Says text said
+    → (after saids (start shown)).refusal ≡ None → said_step said (after saids (start shown)).world ≡ done next lines
     → is_steady_in next ≡ true → PrintsKept lines

@@ -10,7 +10,8 @@ use Rattle.uac_bus.specs.World.{World, Step, done, refused, start}
 use Rattle.uac_bus.specs.After.{said_step}
 use Rattle.uac_describe.specs.declared.status.Status.TheVariants as statuses
 use Rattle.uac_describe.specs.Outcome.{End, at_end, read_failed, stopped}
-use Rattle.uac_scripts.specs.Transcript.{Ending, after_step, with_text_first, goes, transcript}
+use Rattle.uac_scripts.specs.Transcript.{Ending, after_step, with_text_first}
+use Rattle.uac_scripts.specs.Computed.{goes, transcript}
 use Rattle.uac_describe.specs.Closing.{HasEnded, Rests}
 use Rattle.uac_describe.proofs.Completing.{front_of}
 use Rattle.uac_scripts.proofs.Going.{goes_at, line_size, waits_for_more}

@@ -12,6 +12,7 @@ use Rattle.uac_script.specs.declared.lines.Next.TheVariants as next
 use Rattle.uac_script.specs.declared.lines.LineStop.{LineStop}
 use Rattle.uac_script.specs.declared.lines.LineStop.TheVariants as stops
 use Rattle.uac_edges.proofs.Consuming.{Consumes-none, Consumes-Consumes}
+use Rattle.uac_script.proofs.Answered.{answer_says}
 use Rattle.uac_script.proofs.HeadLemmas.{head_line-more}
 use Rattle.uac_edges.proofs.WritingLemmas.{Appends-twice, Appends-none, AppendsFront-after, AppendsFront-longer}
 use Rattle.uac_bus.specs.declared.fault.BusFault.{BusFault}
@@ -33,8 +34,10 @@ use Rattle.uac_scripts.specs.Running.{IsSilent, Leaves, stop_outcome}
 use Rattle.uac_scripts.specs.Script.{IsLine, IsWanted, StandsBehind, wants}
 use Rattle.uac_scripts.specs.Lived.{IsLived}
 use Rattle.uac_scripts.proofs.LivedLemmas.{transcript_is_lived, wanted_is_lived}
-use Rattle.uac_scripts.specs.Transcript.{Ending, misread, too_long, last_line, ends, with_text_first, after_step, closed_by, finished, goes, transcript}
+use Rattle.uac_scripts.specs.Transcript.{Ending, misread, too_long, last_line, ends, with_text_first, after_step, closed_by, finished, unfinished}
+use Rattle.uac_scripts.specs.Computed.{goes, transcript}
 use Rattle.uac_describe.proofs.Answering.{told_status}
+use Rattle.uac_scripts.proofs.Agreeing.{all_say, is_transcript}
 use Rattle.uac_scripts.proofs.Cutting.{HasDone, none_done, done_more, one_more_done, front_cut, rest_cut}
 use Rattle.uac_scripts.proofs.Going.{line_size, goes_at, head_nothing, rest_is_done, rest_failed, waits_for_more, with_text_first-with_text_first}
 
@@ -77,7 +80,7 @@ begins shown left written bus stands = record {
   text = [];
   world = start shown;
   consumed = Consumes-none left;
-  prompt = record { front = []; piece = []; parts = refl; going = ap (λ (e : Ending). e.outcome.status) (goes_at (unended []) most_of_input [] stopped 1 (start shown) (head_nothing most_of_input)); short = omega arith };
+  prompt = record { front = []; piece = []; parts = refl; ending = ends unfinished (start shown); so_far = is_transcript shown [] stopped (ends unfinished (start shown)) (sym (goes_at (unended []) most_of_input [] stopped 1 (start shown) (head_nothing most_of_input))); going = refl; short = omega arith };
   size = refl;
   going = refl;
   to_come = (λ more end. refl);
@@ -113,10 +116,12 @@ stops_later shown taken text unread spare number w law before (b ∷ got) s = re
   front = taken ++ s.front;
   piece = s.piece;
   parts = ap (λ (xs : List ℕ). taken ++ xs) s.parts ∙ sym (append_assoc taken s.front s.piece);
-  going =
-      ap (λ (e : Ending). e.outcome.status) (law s.front stopped
+  ending = with_text_first text (ends unfinished w);
+  so_far =
+      is_transcript shown (taken ++ s.front) stopped (with_text_first text (ends unfinished w)) (sym (law s.front stopped
       ∙ ap (with_text_first text) (goes_at (unended (unread ++ s.front)) spare (unread ++ s.front) stopped number w (s.open_yet (λ e. cc))
-      ∙ waits_for_more (unread ++ s.front) number w));
+      ∙ waits_for_more (unread ++ s.front) number w)));
+  going = refl;
   short = s.short;
 }
 
@@ -329,7 +334,11 @@ is_wanted shown taken text told rest w isdone is_line whole takes = record {
   lines = isdone.lines;
   line = is_line;
   whole = whole;
+  saids = map answer isdone.texts;
+  say = all_say isdone.texts;
   done = isdone.accepted;
+  said = answer told;
+  says = answer_says told;
   takes = subst (λ (v : World). wants (answer told) v ≡ true) isdone.reached takes;
   is =
       ap (λ (t : List ℕ). with_text_first t (ends no_memory w)) isdone.printed
@@ -348,7 +357,7 @@ module _ (shown shown' : List Reading) (left left' : Option (List ℕ)) (reads r
     consumed = consumed;
     ended = ended;
     prompt = prompt;
-    meant = inl (sym law);
+    meant = inl (is_transcript shown taken end (with_text_first text ending) (sym law));
     lived = subst (IsLived shown taken) law (transcript_is_lived shown taken end);
     closed = closes_after ending.outcome text written mid written' writes writes' writes'' status front still closed;
     heard = heard;

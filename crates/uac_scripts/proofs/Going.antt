@@ -9,7 +9,8 @@ use Rattle.uac_bus.specs.World.{World, Step, done, refused}
 use Rattle.uac_describe.specs.Outcome.{End, at_end, read_failed, read_fault, stopped}
 use Rattle.uac_transcript.specs.Printing.{text_of}
 use Rattle.uac_bus.specs.After.{said_step}
-use Rattle.uac_scripts.specs.Transcript.{Ending, ends, with_text_first, after_step, finished, rest_done, by_head, goes_within, goes, unfinished}
+use Rattle.uac_scripts.specs.Transcript.{Ending, ends, with_text_first, after_step, finished, unfinished, lines_by}
+use Rattle.uac_scripts.specs.Computed.{rest_done, by_head, goes_within, goes}
 
 -- a line and its newline are some of the bytes, and the rest stands after them
 pub line_size : (spare : ℕ) (bytes text rest : List ℕ) → head_of spare bytes ≡ line text rest → length text + 1 + length rest ≡ length bytes
@@ -30,7 +31,7 @@ line_size spare bytes text rest h = go (cases_of spare bytes)
 
 -- ---- more fuel
 
-after_step_same : (s : Step) (number : ℕ) (w : World) (go go' : World → Ending) → ((next : World) → go next ≡ go' next) → after_step s number w go ≡ after_step s number w go'
+pub after_step_same : (s : Step) (number : ℕ) (w : World) (go go' : World → Ending) → ((next : World) → go next ≡ go' next) → after_step s number w go ≡ after_step s number w go'
 after_step_same (done next lines) number w go go' same = ap (with_text_first (text_of lines)) (same next)
 after_step_same (refused fault) number w go go' same = refl
 
@@ -44,7 +45,7 @@ by_head_same (unended text) end number w go go' same = refl
 
 goes_within_same : (m n spare : ℕ) (bytes : List ℕ) (end : End) (number : ℕ) (w : World) → length bytes < m → length bytes < n
     → goes_within m spare bytes end number w ≡ goes_within n spare bytes end number w
-unfolding goes_within
+unfolding lines_by
 goes_within_same zero n spare bytes end number w p q = absurd (omega arith)
 goes_within_same (suc m) zero spare bytes end number w p q = absurd (omega arith)
 goes_within_same (suc m) (suc n) spare bytes end number w p q =
@@ -59,7 +60,7 @@ abbrev go_on : ℕ → End → ℕ → List ℕ → List ℕ → World → Endin
 go_on spare end number text rest next = goes (spare - (length text + 1)) rest end (number + 1) next
 
 goes_by : (spare : ℕ) (bytes : List ℕ) (end : End) (number : ℕ) (w : World) → goes spare bytes end number w ≡ by_head (head_of spare bytes) end number w (go_on spare end number)
-unfolding goes goes_within
+unfolding goes lines_by
 goes_by spare bytes end number w =
     ap (λ (n : ℕ). goes_within n spare bytes end number w) (add-one (length bytes))
     ∙ by_head_same (head_of spare bytes) end number w

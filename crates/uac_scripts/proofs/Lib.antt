@@ -1,3 +1,4 @@
+pub mod Agreeing
 pub mod Completing
 pub mod Cutting
 pub mod Following

@@ -15,8 +15,10 @@ use Rattle.uac_bus.specs.After.{After, after, and_then, said_step}
 use Rattle.uac_promises.proofs.AllScripts.{all_scripts_keep_promises}
 use Rattle.uac_describe.specs.Outcome.{End, Outcome, at_end, no_memory, read_failed, stopped}
 use Rattle.uac_scripts.specs.Script.{IsLine, IsWanted, with_newlines}
-use Rattle.uac_scripts.specs.Transcript.{Ending, after_step, with_text_first, by_head, ends, finished, goes, goes_within, rest_done, transcript}
+use Rattle.uac_scripts.specs.Transcript.{Ending, after_step, with_text_first, ends, finished, lines_by}
+use Rattle.uac_scripts.specs.Computed.{by_head, goes, goes_within, rest_done, transcript}
 use Rattle.uac_scripts.specs.Lived.{AreFirst, IsLast, IsLived, at_the_end, at_a_refusal, at_a_long_line, behind_the_limit, at_a_failed_read, at_a_failed_write, without_memory}
+use Rattle.uac_scripts.proofs.Agreeing.{all_say}
 use Rattle.uac_scripts.proofs.Cutting.{front_cut, rest_cut}
 use Rattle.uac_scripts.proofs.Going.{with_text_first-with_text_first}
 
@@ -135,7 +137,7 @@ step_lived (done next lines) text rest number w go is_line step lived = one_firs
 step_lived (refused fault) text rest number w go is_line step lived = none_done w _ _ (at_a_refusal fault number)
 
 goes_lived : (n spare : ℕ) (bytes : List ℕ) (end : End) (number : ℕ) (w : World) → IsLivedFrom w bytes (goes_within n spare bytes end number w)
-unfolding goes_within
+unfolding lines_by
 goes_lived zero spare bytes end number w = none_done w bytes _ at_a_failed_write
 goes_lived (suc n) spare bytes end number w =
     by (λ text rest next. goes_lived n (spare - (length text + 1)) rest end (number + 1) next) (head_of spare bytes) refl
@@ -161,33 +163,35 @@ pub transcript_lived : (shown : List Reading) (taken : List ℕ) (end : End) →
 unfolding transcript goes
 transcript_lived shown taken end = goes_lived (length taken + 1) most_of_input taken end 1 (start shown)
 
--- where memory was wanted at a line, those in front of it were done
-pub wanted_lived : (shown : List Reading) (taken : List ℕ) (ending : Ending) → IsWanted shown taken ending → IsLivedFrom (start shown) taken ending
-wanted_lived shown taken ending is = record {
-  texts = is.texts;
-  lines = is.lines;
-  first = inl (is.text ++ is.rest, is.cut);
-  done = is.done;
-  last = no_memory;
-  is_last = without_memory;
-  printed = is.is;
-}
-
 -- so each line that it printed is as promised
 lived_run : (shown : List Reading) (taken : List ℕ) (ending : Ending) → IsLivedFrom (start shown) taken ending → IsLived shown taken ending
 lived_run shown taken ending lived = record {
   texts = lived.texts;
   lines = lived.lines;
   first = lived.first;
+  saids = map answer lived.texts;
+  say = all_say lived.texts;
   done = lived.done;
   last = lived.last;
   is_last = lived.is_last;
   printed = lived.printed;
-  promised = all_scripts_keep_promises lived.texts shown;
+  promised = all_scripts_keep_promises lived.texts (map answer lived.texts) shown (all_say lived.texts);
 }
 
 pub transcript_is_lived : (shown : List Reading) (taken : List ℕ) (end : End) → IsLived shown taken (transcript shown taken end)
 transcript_is_lived shown taken end = lived_run shown taken _ (transcript_lived shown taken end)
 
+-- where memory was wanted at a line, those in front of it were done
 pub wanted_is_lived : (shown : List Reading) (taken : List ℕ) (ending : Ending) → IsWanted shown taken ending → IsLived shown taken ending
-wanted_is_lived shown taken ending is = lived_run shown taken ending (wanted_lived shown taken ending is)
+wanted_is_lived shown taken ending is = record {
+  texts = is.texts;
+  lines = is.lines;
+  first = inl (is.text ++ is.rest, is.cut);
+  saids = is.saids;
+  say = is.say;
+  done = is.done;
+  last = no_memory;
+  is_last = without_memory;
+  printed = is.is;
+  promised = all_scripts_keep_promises is.texts is.saids shown is.say;
+}

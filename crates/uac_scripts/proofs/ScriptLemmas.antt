@@ -20,7 +20,8 @@ use Rattle.uac_bus.specs.World.{World, Step, done, refused, start}
 use Rattle.uac_bus.specs.After.{After, after, and_then, said_step}
 use Rattle.uac_describe.specs.Outcome.{End}
 use Rattle.uac_scripts.specs.Script.{IsLine, behind_lines, come_to, with_newlines}
-use Rattle.uac_scripts.specs.Transcript.{Ending, after_step, with_text_first, ends, goes, last_line, transcript}
+use Rattle.uac_scripts.specs.Transcript.{Ending, after_step, with_text_first, ends, last_line}
+use Rattle.uac_scripts.specs.Computed.{goes, transcript}
 use Rattle.uac_scripts.proofs.Going.{with_text_first-with_text_first, goes_at}
 
 -- ---- a line stands first

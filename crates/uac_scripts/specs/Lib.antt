@@ -4,5 +4,7 @@ pub mod Run
 pub mod Transcript
 pub mod Script
 pub mod Lived
+-- What the laws say besides.
+pub mod Computed
 -- What the contracts below them cite: steps of the code, no part of what is promised.
 pub mod Running

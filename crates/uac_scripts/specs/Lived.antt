@@ -1,10 +1,14 @@
 -- A run, line by line: the lines of its script that were done, what they printed, and what is promised of that (profile).
-use Rattle.std.specs.Prelude.{◌≡◌, ℕ, true, ◌⊎◌, List, [], ◌∷◌, ◌++◌, None}
-use Rattle.std.specs.List.{AllByRecursion}
+use Rattle.std.specs.Prelude.{◌≡◌, ℕ, true, ◌⊎◌, List, [], ◌∷◌, ◌++◌, None, Result}
+use Rattle.std.specs.List.{AllByRecursion, AllZip}
 use Rattle.uac_units.specs.Hearing.{Reading}
+use Rattle.uac_script.specs.Line.{Says}
+use Rattle.uac_script.specs.Phrase.{Phrase}
 use Rattle.uac_transcript.specs.Printing.{text_of}
 use Rattle.uac_bus.specs.declared.fault.BusFault.{BusFault}
-use Rattle.uac_steady.specs.Scripts.{behind_lines, is_steady_in}
+use Rattle.uac_bus.specs.World.{start}
+use Rattle.uac_bus.specs.After.{after}
+use Rattle.uac_steady.specs.Scripts.{is_steady_in}
 use Rattle.uac_promises.specs.Promises.{KeepsPromises}
 use Rattle.uac_describe.specs.declared.status.Status.TheVariants as statuses
 use Rattle.uac_describe.specs.Outcome.{Outcome, no_memory, read_fault}
@@ -29,15 +33,17 @@ AreFirst texts taken =
     ((rest : List ℕ) × (taken ≡ with_newlines texts ++ rest))
     ⊎ ((front : List (List ℕ)) × (text : List ℕ) × (texts ≡ front ++ text ∷ []) × (taken ≡ with_newlines front ++ text))
 
--- the lines that were done, none of which was refused; their typed lines spell the text, but for how the run ended; and where what they
--- gave is steady, every line that they printed is as promised: none tells of a ring that was found empty, or that had no room, and each
--- level of a primed stream is near its target
+-- the lines that were done, by what each says, none of which was refused; their typed lines spell the text, but for how the run ended; and
+-- where what they gave is steady, every line that they printed is as promised: none tells of a ring that was found empty, or that had no
+-- room, and each level of a primed stream is near its target
 pub record IsLived (shown : List Reading) (taken : List ℕ) (ending : Ending) : Type 0 where
   pub texts : List (List ℕ)
   pub lines : AllByRecursion IsLine texts
   pub first : AreFirst texts taken
-  pub done : (behind_lines texts shown).refusal ≡ None
+  pub saids : List (Result Phrase ℕ)
+  pub say : AllZip Says texts saids
+  pub done : (after saids (start shown)).refusal ≡ None
   pub last : Outcome
   pub is_last : IsLast last
-  pub printed : ending ≡ with_text_first (text_of (behind_lines texts shown).lines) (ends last (behind_lines texts shown).world)
-  pub promised : is_steady_in (behind_lines texts shown).world ≡ true → KeepsPromises texts shown
+  pub printed : ending ≡ with_text_first (text_of (after saids (start shown)).lines) (ends last (after saids (start shown)).world)
+  pub promised : is_steady_in (after saids (start shown)).world ≡ true → KeepsPromises saids shown

@@ -10,7 +10,7 @@ use Rattle.uac_describe.specs.declared.status.Status.TheVariants as statuses
 use Rattle.uac_describe.specs.Reading.{StopsThere}
 use Rattle.uac_describe.specs.Closing.{Closes, HasEnded}
 use Rattle.uac_describe.specs.Outcome.{End, stopped, Outcome, no_memory, Answers}
-use Rattle.uac_scripts.specs.Transcript.{Ending, transcript, unfinished}
+use Rattle.uac_scripts.specs.Transcript.{Ending, IsTranscript, unfinished}
 use Rattle.uac_scripts.specs.Script.{IsWanted}
 use Rattle.uac_scripts.specs.Lived.{IsLived}
 
@@ -19,7 +19,9 @@ pub record StopsAtRefusal (shown : List Reading) (taken : List ℕ) : Type 0 whe
   pub front : List ℕ
   pub piece : List ℕ
   pub parts : taken ≡ front ++ piece
-  pub going : (transcript shown front stopped).outcome.status ≡ unfinished.status
+  pub ending : Ending
+  pub so_far : IsTranscript shown front stopped ending
+  pub going : ending.outcome.status ≡ unfinished.status
   pub short : length piece ≤ piece_size
 
 -- How many bytes are taken past what decides: of a descriptor all but at most the last 4,096 show no fault; and of a script none of the
@@ -42,7 +44,7 @@ IsOutcome (Some Run) taken end outcome = ⊥
 
 -- What a call comes to, with meters that show this at first.
 abbrev pub IsEnding : Option Job → List Reading → List ℕ → End → Ending → Type 0
-IsEnding (Some Run) shown taken end ending = ending ≡ transcript shown taken end
+IsEnding (Some Run) shown taken end ending = IsTranscript shown taken end ending
 IsEnding command shown taken end ending = IsOutcome command taken end ending.outcome × (ending.meters ≡ shown)
 
 -- Memory was wanted: for a descriptor, and then `no memory` is the whole text; or at a line of a script that takes some.

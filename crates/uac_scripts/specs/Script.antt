@@ -1,10 +1,10 @@
 -- A script as a list of lines, and what they come to (profile).
-use Rattle.std.specs.Prelude.{◌≡◌, ◌≢◌, ℕ, ◌+◌, ◌≤◌, ◌⊎◌, Bool, true, false, List, [], ◌∷◌, ◌++◌, length, map, flat_map}
+use Rattle.std.specs.Prelude.{◌≡◌, ◌≢◌, ℕ, ◌+◌, ◌≤◌, ◌⊎◌, Bool, true, false, List, [], ◌∷◌, ◌++◌, length, flat_map}
 use Rattle.std.specs.Prelude.{Option, None, Some, Result, Ok, Err}
-use Rattle.std.specs.List.{All, AllByRecursion}
+use Rattle.std.specs.List.{All, AllByRecursion, AllZip}
 use Rattle.uac_script.specs.Lines.{most_of_line}
 use Rattle.uac_script.specs.Phrase.{Phrase}
-use Rattle.uac_script.specs.Reading.{answer}
+use Rattle.uac_script.specs.Line.{Says}
 use Rattle.uac_units.specs.Hearing.{Reading}
 use Rattle.uac_transcript.specs.Printing.{text_of}
 use Rattle.uac_bus.specs.declared.fault.BusFault.{BusFault}
@@ -41,7 +41,8 @@ abbrev pub wants : Result Phrase ℕ → World → Bool
 wants (Ok phrase) w = may_want phrase w
 wants (Err rule) w = false
 
--- Memory was wanted at a line: those in front of it were done, it is one that takes memory, and after their text stands `no memory`.
+-- Memory was wanted at a line: those in front of it were done, by what each says, it says one that takes memory, and after their text
+-- stands `no memory`.
 pub record IsWanted (shown : List Reading) (taken : List ℕ) (ending : Ending) : Type 0 where
   pub texts : List (List ℕ)
   pub text : List ℕ
@@ -50,7 +51,10 @@ pub record IsWanted (shown : List Reading) (taken : List ℕ) (ending : Ending) 
   pub lines : AllByRecursion IsLine texts
   pub line : IsLine text
   pub whole : StandsBehind rest
-  pub done : (after (map answer texts) (start shown)).refusal ≡ None
-  pub takes : wants (answer text) (after (map answer texts) (start shown)).world ≡ true
-  pub is : ending ≡ with_text_first (text_of (after (map answer texts) (start shown)).lines)
-      (ends no_memory (after (map answer texts) (start shown)).world)
+  pub saids : List (Result Phrase ℕ)
+  pub say : AllZip Says texts saids
+  pub done : (after saids (start shown)).refusal ≡ None
+  pub said : Result Phrase ℕ
+  pub says : Says text said
+  pub takes : wants said (after saids (start shown)).world ≡ true
+  pub is : ending ≡ with_text_first (text_of (after saids (start shown)).lines) (ends no_memory (after saids (start shown)).world)

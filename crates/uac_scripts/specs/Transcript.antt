@@ -1,8 +1,9 @@
 -- What `run` comes to, from the bytes of the script that were taken and from why no more were (profile).
-use Rattle.std.specs.Prelude.{ℕ, zero, suc, ◌+◌, ◌-◌, List, [], ◌∷◌, ◌++◌, length, Result, Ok, Err, codes, decimal}
+use Rattle.std.specs.Prelude.{◌≡◌, ℕ, zero, suc, ◌+◌, ◌-◌, List, [], ◌∷◌, ◌++◌, length, Result, Ok, Err, codes, decimal}
 use Rattle.uac_units.specs.Hearing.{Reading}
 use Rattle.uac_script.specs.Lines.{Head, line, long, past, unended, head_of, most_of_input}
-use Rattle.uac_script.specs.Reading.{answer}
+use Rattle.uac_script.specs.Line.{Says}
+use Rattle.uac_script.specs.Phrase.{Phrase}
 use Rattle.uac_transcript.specs.Printing.{text_of}
 use Rattle.uac_bus.specs.declared.fault.BusFault.{BusFault}
 use Rattle.uac_bus.specs.declared.fault.BusFault.TheVariants as faults
@@ -59,30 +60,37 @@ closed_by (Err fault) number w = ends (last_line fault number) w
 unfoldable pub finished : ℕ → World → Ending
 finished number w = closed_by (finish_of w) number w
 
+-- what each text says
+abbrev pub Sayings : Type 0
+Sayings = List ℕ → Result Phrase ℕ
+
 -- the bytes after the last newline: at the end they are the last line, if there are any
-abbrev pub rest_done : List ℕ → End → ℕ → World → Ending
-rest_done [] at_end number w = finished number w
-rest_done (b ∷ rest) at_end number w = after_step (said_step (answer (b ∷ rest)) w) number w (λ next. finished (number + 1) next)
-rest_done rest read_failed number w = ends read_fault w
-rest_done rest stopped number w = ends unfinished w
+abbrev pub rest_by : Sayings → List ℕ → End → ℕ → World → Ending
+rest_by says [] at_end number w = finished number w
+rest_by says (b ∷ rest) at_end number w = after_step (said_step (says (b ∷ rest)) w) number w (λ next. finished (number + 1) next)
+rest_by says rest read_failed number w = ends read_fault w
+rest_by says rest stopped number w = ends unfinished w
 
 -- by what stands first in the bytes; `go` goes on after a line
-abbrev pub by_head : Head → End → ℕ → World → (List ℕ → List ℕ → World → Ending) → Ending
-by_head (line text rest) end number w go = after_step (said_step (answer text) w) number w (go text rest)
-by_head long end number w go = ends (misread 1 number) w
-by_head past end number w go = ends too_long w
-by_head (unended text) end number w go = rest_done text end number w
+abbrev pub head_by : Sayings → Head → End → ℕ → World → (List ℕ → List ℕ → World → Ending) → Ending
+head_by says (line text rest) end number w go = after_step (said_step (says text) w) number w (go text rest)
+head_by says long end number w go = ends (misread 1 number) w
+head_by says past end number w go = ends too_long w
+head_by says (unended text) end number w go = rest_by says text end number w
 
 -- the lines of these bytes, of which so many count, from the line with this number on; at most n lines
-unfoldable pub goes_within : ℕ → ℕ → List ℕ → End → ℕ → World → Ending
-goes_within zero spare bytes end number w = ends unfinished w
-goes_within (suc n) spare bytes end number w =
-    by_head (head_of spare bytes) end number w (λ text rest next. goes_within n (spare - (length text + 1)) rest end (number + 1) next)
+unfoldable pub lines_by : Sayings → ℕ → ℕ → List ℕ → End → ℕ → World → Ending
+lines_by says zero spare bytes end number w = ends unfinished w
+lines_by says (suc n) spare bytes end number w =
+    head_by says (head_of spare bytes) end number w
+    (λ text rest next. lines_by says n (spare - (length text + 1)) rest end (number + 1) next)
 
--- each line has a byte at least
-unfoldable pub goes : ℕ → List ℕ → End → ℕ → World → Ending
-goes spare bytes end number w = goes_within (length bytes + 1) spare bytes end number w
+-- the lines of a script are done in order, up to the first that is refused: each has a byte at least
+abbrev pub transcript_by : Sayings → List Reading → List ℕ → End → Ending
+transcript_by says shown taken end = lines_by says (length taken + 1) most_of_input taken end 1 (start shown)
 
--- the transcript of a script: its lines are done in order, up to the first that is refused
-unfoldable pub transcript : List Reading → List ℕ → End → Ending
-transcript shown taken end = goes most_of_input taken end 1 (start shown)
+-- the transcript of a script: each line is done that its text says by the table of spellings
+pub record IsTranscript (shown : List Reading) (taken : List ℕ) (end : End) (ending : Ending) : Type 0 where
+  pub says : Sayings
+  pub by_table : (text : List ℕ) → Says text (says text)
+  pub is : ending ≡ transcript_by says shown taken end

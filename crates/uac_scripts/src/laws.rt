@@ -11,7 +11,7 @@ ghost use Rattle.uac_bus.specs.After.{after};
 ghost use Rattle.uac_describe.specs.declared.status.Status.{Status};
 ghost use Rattle.uac_describe.specs.Outcome.{End, stopped};
 ghost use Rattle.uac_scripts.specs.Script.{IsLine, come_to, with_newlines};
-ghost use Rattle.uac_scripts.specs.Transcript.{goes, transcript};
+ghost use Rattle.uac_scripts.specs.Computed.{HasOneTranscript, goes, transcript};
 
 /// The transcript of bytes that are lines and a rest: the text of what the lines come to one after the other, by what each says,
 /// up to the first refusal, which names its line; and where none is refused, then what the rest comes to in the world that they leave.
@@ -39,4 +39,9 @@ pub fn script_is_what_its_lines_say()
 pub fn refusal_stays()
     ensures { (shown : List Reading) (taken more : List ℕ) (end : End) → (transcript shown taken stopped).outcome.status ≢ Status.WriteFault
         → transcript shown (taken ++ more) end ≡ transcript shown taken stopped }
+{}
+
+/// The table of spellings gives a script one transcript: what each text says there is what the other laws compute.
+pub fn a_script_has_one_transcript()
+    ensures { HasOneTranscript }
 {}
