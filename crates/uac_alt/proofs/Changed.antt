@@ -3,11 +3,11 @@ use Rattle.std.proofs.Common.{◌≡◌, ◌≢◌, ◌∙◌, ℕ, ◌==◌, �
 use Rattle.std.proofs.lemmas.Bool.{cases_Bool, cases_eq}
 use Rattle.std.proofs.lemmas.List.{get_or_default}
 use Rattle.std.proofs.lemmas.List.Edits.{map_over_more}
-use Rattle.uac_alt.specs.Settings.{changed, setting_of, with_setting}
+use Rattle.uac_alt.specs.AltSettings.{interface_setting_after, setting_of, with_setting}
 use Rattle.uac_alt.specs.declared.settings.InterfaceSetting.{InterfaceSetting}
 
 -- that interface's is the new one
-of_itself : (settings : List InterfaceSetting) (interface setting : ℕ) → IsSome (setting_of settings interface) → setting_of (map (changed interface setting) settings) interface ≡ Some setting
+of_itself : (settings : List InterfaceSetting) (interface setting : ℕ) → IsSome (setting_of settings interface) → setting_of (map (interface_setting_after interface setting) settings) interface ≡ Some setting
 unfolding setting_of
 of_itself [] interface setting there = cc
 of_itself (s ∷ settings) interface setting there = elim (cases_Bool (s.interface == interface)) [
@@ -16,7 +16,7 @@ of_itself (s ∷ settings) interface setting there = elim (cases_Bool (s.interfa
 ]
 
 -- another's stays
-of_another : (settings : List InterfaceSetting) (interface setting n : ℕ) → n ≢ interface → setting_of (map (changed interface setting) settings) n ≡ setting_of settings n
+of_another : (settings : List InterfaceSetting) (interface setting n : ℕ) → n ≢ interface → setting_of (map (interface_setting_after interface setting) settings) n ≡ setting_of settings n
 unfolding setting_of
 of_another [] interface setting n other = refl
 of_another (s ∷ settings) interface setting n other = elim (cases_Bool (s.interface == interface)) [

@@ -4,15 +4,15 @@ use Rattle.std.specs.List.{All}
 use Rattle.std.proofs.Math.Nat.{div-mul-le_self, le-div_iff_mul-le}
 use Rattle.std.proofs.lemmas.Nat.{mul-le}
 use Rattle.uac_descriptor.specs.Endpoints.{additional_transactions, packet_size}
-use Rattle.uac_descriptor.specs.Fields.{IsHighSpeed}
+use Rattle.uac_descriptor.specs.BlockFields.{IsHighSpeed}
 use Rattle.uac_descriptor.specs.declared.standard.Endpoint.{Endpoint}
 use Rattle.uac_entities.specs.declared.stream.StreamInterface.{StreamInterface}
 use Rattle.uac_pcm.proofs.PacketsLemmas.{frame_bytes-pos}
 use Rattle.uac_topology.specs.Function.{FunctionFields}
-use Rattle.uac_topology.specs.Kept.{AreInRange, IsInRange}
+use Rattle.uac_topology.specs.FunctionKept.{AreInRange, IsInRange}
 use Rattle.uac_topology.specs.Topology.{IsSoundFunction}
-use Rattle.uac_topology.proofs.RangeLemmas.{in_range}
-use Rattle.uac_alt.specs.Streams.{packet_room, stream_of, StreamFields}
+use Rattle.uac_topology.proofs.Ranges.{in_range}
+use Rattle.uac_alt.specs.AltStreams.{packet_room, stream_of, StreamFields}
 use Rattle.uac_alt.proofs.Formats.{stream_format}
 use Rattle.uac_alt.proofs.Parts.{Parts, all_found, parts_of, ran_of}
 
@@ -26,8 +26,8 @@ small_room e high =
 pub first_room : (function : FunctionFields) (rate interface number : ℕ) (s : StreamFields) → AreInRange function.streams
     → (parts : Parts function rate interface number s) → packet_room parts.first ≤ 3072
 first_room function rate interface number s ranges parts =
-    let settings = all_found (λ (c : StreamInterface). All IsInRange c.settings) (λ c. c.number == interface) function.streams parts.carrier ranges parts.carried in
-    let range : IsInRange parts.setting = all_found IsInRange (λ t. t.number == number) parts.carrier.settings parts.setting settings parts.set in
+    let settings = all_found (λ (c : StreamInterface). All IsInRange c.settings) (λ c. c.number == interface) function.streams parts.streaming_interface ranges parts.carried in
+    let range : IsInRange parts.setting = all_found IsInRange (λ t. t.number == number) parts.streaming_interface.settings parts.setting settings parts.set in
     small_room parts.first (range.first parts.first parts.has_first)
 
 -- a packet has at most 3072 bytes
@@ -43,7 +43,7 @@ few_bytes function rate interface number s sound is =
 pub interval_fits : (function : FunctionFields) (rate interface number : ℕ) (s : StreamFields) → IsSoundFunction function → stream_of function rate interface number ≡ Some s → s.service * s.nominal.hi ≤ s.most
 interval_fits function rate interface number s sound is =
     let p = parts_of function rate interface number s is in
-    let ran = ran_of function p.carrier p.setting p.nominal p.general p.type_one p.first p.runs in
+    let ran = ran_of function p.streaming_interface p.setting p.nominal p.general p.type_one p.first p.runs in
     let some : 0 < s.channels * s.subslot = frame_bytes-pos s.channels s.subslot s.bits (stream_format function rate interface number s sound is) in
     let bytes : 0 < p.general.channels * p.type_one.subslot = subst (λ (t : StreamFields). 0 < t.channels * t.subslot) p.is some in
     subst (λ (s : StreamFields). s.service * s.nominal.hi ≤ s.most) (sym p.is) ((le-div_iff_mul-le bytes).1 ran.fits)

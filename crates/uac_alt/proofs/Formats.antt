@@ -4,7 +4,7 @@ use Rattle.std.specs.List.{All, find}
 use Rattle.std.specs.Option.{option_map_or}
 use Rattle.std.proofs.lemmas.Bool.{and_parts}
 use Rattle.uac_descriptor.specs.declared.streaming.General.{General}
-use Rattle.uac_entities.specs.Streams.{channels_of, named}
+use Rattle.uac_entities.specs.EntityStreams.{channels_of, named}
 use Rattle.uac_entities.specs.declared.entity.Entity.{Entity}
 use Rattle.uac_entities.specs.declared.entity.EntityKind.{EntityKind}
 use Rattle.uac_entities.specs.declared.entity.EntityKind.TheVariants as kind
@@ -13,13 +13,13 @@ use Rattle.uac_entities.specs.declared.stream.StreamInterface.{StreamInterface}
 use Rattle.uac_pcm.specs.Frames.{IsFormat}
 use Rattle.uac_topology_rules.specs.Links.{is_clock, is_terminal}
 use Rattle.uac_topology.specs.Function.{FunctionFields}
-use Rattle.uac_topology.specs.Kept.{IsInRange, IsLink}
+use Rattle.uac_topology.specs.FunctionKept.{IsInRange, IsLink}
 use Rattle.uac_topology.specs.Topology.{IsSoundFunction}
-use Rattle.uac_topology.proofs.ChannelLemmas.{have_channels}
-use Rattle.uac_topology.proofs.LinkLemmas.{are_links}
-use Rattle.uac_topology.proofs.RangeLemmas.{in_range}
+use Rattle.uac_topology.proofs.Channels.{have_channels}
+use Rattle.uac_topology.proofs.SettingLinks.{are_links}
+use Rattle.uac_topology.proofs.Ranges.{in_range}
 use Rattle.uac_alt.specs.Formed.{HasFormat}
-use Rattle.uac_alt.specs.Streams.{StreamFields, linked_channels, stream_of}
+use Rattle.uac_alt.specs.AltStreams.{StreamFields, linked_channels, stream_of}
 use Rattle.uac_alt.proofs.Parts.{all_found, parts_of, ran_of}
 
 no_clock : (k : EntityKind) → is_terminal k ≡ true → is_clock k ≡ false
@@ -61,7 +61,7 @@ pub stream_format : (function : FunctionFields) (rate interface number : ℕ) (s
     → stream_of function rate interface number ≡ Some s → IsFormat s.channels s.subslot s.bits
 stream_format function rate interface number s sound is =
     let parts = parts_of function rate interface number s is in
-    let ran = ran_of function parts.carrier parts.setting parts.nominal parts.general parts.type_one parts.first parts.runs in
+    let ran = ran_of function parts.streaming_interface parts.setting parts.nominal parts.general parts.type_one parts.first parts.runs in
     subst (λ (t : StreamFields). IsFormat t.channels t.subslot t.bits) (sym parts.is)
-    (has_format function interface number parts.carrier parts.setting sound parts.carried parts.set parts.general parts.type_one
+    (has_format function interface number parts.streaming_interface parts.setting sound parts.carried parts.set parts.general parts.type_one
     parts.has_general parts.has_type_one ran.linked)

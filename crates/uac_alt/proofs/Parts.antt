@@ -12,7 +12,7 @@ use Rattle.uac_descriptor.specs.declared.streaming.TypeOne.{TypeOne}
 use Rattle.uac_entities.specs.declared.stream.Setting.{Setting}
 use Rattle.uac_entities.specs.declared.stream.StreamInterface.{StreamInterface}
 use Rattle.uac_topology.specs.Function.{FunctionFields}
-use Rattle.uac_alt.specs.Streams.{can_run, has_its_feedback, linked_channels, packet_room, period_of, stream_at, stream_of, stream_with, StreamFields}
+use Rattle.uac_alt.specs.AltStreams.{can_run, has_its_feedback, linked_channels, packet_room, period_of, stream_at, stream_of, stream_with, StreamFields}
 
 -- what holds of each element holds of one that was found
 pub all_found : {A : Type 0} (P : A → Type 0) (test : A → Bool) (xs : List A) (a : A) → All P xs → find test xs ≡ Some a → P a
@@ -23,10 +23,10 @@ all_found P test xs a each is =
 
 pub record Parts (function : FunctionFields) (rate interface number : ℕ) (stream : StreamFields) : Type 0 where
   pub above : (number == 0) ≡ false
-  pub carrier : StreamInterface
-  pub carried : find (λ s. s.number == interface) function.streams ≡ Some carrier
+  pub streaming_interface : StreamInterface
+  pub carried : find (λ s. s.number == interface) function.streams ≡ Some streaming_interface
   pub setting : Setting
-  pub set : find (λ t. t.number == number) carrier.settings ≡ Some setting
+  pub set : find (λ t. t.number == number) streaming_interface.settings ≡ Some setting
   pub nominal : Nominal
   pub rated : nominal_of rate ≡ Some nominal
   pub general : General
@@ -35,8 +35,8 @@ pub record Parts (function : FunctionFields) (rate interface number : ℕ) (stre
   pub has_type_one : setting.format ≡ Some type_one
   pub first : Endpoint
   pub has_first : setting.first ≡ Some first
-  pub runs : can_run function carrier setting nominal general type_one first ≡ true
-  pub is : stream ≡ stream_with carrier setting nominal general type_one first
+  pub runs : can_run function streaming_interface setting nominal general type_one first ≡ true
+  pub is : stream ≡ stream_with streaming_interface setting nominal general type_one first
 
 pub parts_of : (function : FunctionFields) (rate interface number : ℕ) (stream : StreamFields) → stream_of function rate interface number ≡ Some stream
     → Parts function rate interface number stream
@@ -54,7 +54,7 @@ parts_of function rate interface number stream e = elim (cases_Bool (number == 0
       (let both = cond_some _ _ _ ran in
       record {
         above = above;
-        carrier = s;
+        streaming_interface = s;
         carried = carried;
         setting = setting;
         set = set;

@@ -7,7 +7,7 @@ use Rattle.uac_entities.specs.declared.stream.Setting.{Setting}
 use Rattle.uac_entities.specs.declared.stream.StreamInterface.{StreamInterface}
 use Rattle.uac_pcm.specs.Frames.{IsFormat}
 use Rattle.uac_topology.specs.Function.{FunctionFields}
-use Rattle.uac_alt.specs.Streams.{linked_channels}
+use Rattle.uac_alt.specs.AltStreams.{linked_channels}
 
 abbrev pub HasFormat : FunctionFields → StreamInterface → Setting → Type 0
 HasFormat function s setting =

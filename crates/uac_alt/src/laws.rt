@@ -3,7 +3,7 @@ ghost use Rattle.std.specs.Prelude.{◌≡◌, ◌≤◌, ◌*◌, ℕ, Some};
 ghost use Rattle.uac_pcm.specs.Frames.{IsFormat};
 ghost use Rattle.uac_topology.specs.Function.{FunctionFields};
 ghost use Rattle.uac_topology.specs.Topology.{IsSoundFunction};
-ghost use Rattle.uac_alt.specs.Streams.{StreamFields, stream_of};
+ghost use Rattle.uac_alt.specs.AltStreams.{StreamFields, stream_of};
 
 /// A stream of a sound function has the numbers of a format: 1 to 32 channels, subslots of 1 to 4 bytes, and bits that a subslot holds.
 #[tactic(auto, using(crate::proofs::Formats::stream_format))]

@@ -1,7 +1,7 @@
 // The settings of all interfaces.
 ghost use Rattle.std.specs.Prelude.{◌≡◌, ◌==◌, ℕ, if◌then◌else◌, Some, IsSome};
-ghost use Rattle.uac_alt.specs.Settings as spec;
-ghost use Rattle.uac_alt.specs.Settings.{initial_settings, is_running, setting_of, with_setting};
+ghost use Rattle.uac_alt.specs.AltSettings as spec;
+ghost use Rattle.uac_alt.specs.AltSettings.{initial_settings, is_running, setting_of, with_setting};
 
 use arrayvec::ArrayVec;
 use std::marker::Model;
@@ -32,7 +32,7 @@ impl Model for Settings {
 
 impl Settings {
     /// Each interface of a function in its setting 0. It takes no memory.
-    #[tactic(auto, unfolding(crate::specs::Settings::initial_settings))]
+    #[tactic(auto, unfolding(crate::specs::AltSettings::initial_settings))]
     pub fn new(function: &Function) -> Settings
         ensures { result ≡ initial_settings function.now }
     {
@@ -47,7 +47,7 @@ impl Settings {
     }
 
     /// The setting of an interface; None exactly for numbers of no interface of the audio function.
-    #[tactic(auto, unfolding(crate::specs::Settings::setting_of))]
+    #[tactic(auto, unfolding(crate::specs::AltSettings::setting_of))]
     pub fn get(&self, interface: u8) -> Option<u8>
         ensures { result ≡ setting_of self.now interface }
     {
@@ -78,17 +78,17 @@ impl Settings {
 }
 
 // One interface's setting is this one.
-#[tactic(auto, unfolding(crate::specs::Settings::with_setting))]
+#[tactic(auto, unfolding(crate::specs::AltSettings::with_setting))]
 fn change(settings: &mut [InterfaceSetting], interface: u8, setting: u8)
     ensures { settings.new ≡ with_setting settings.old interface setting }
 {
     for held in settings.iter_mut() {
-        *held = changed(*held, interface, setting);
+        *held = interface_setting_after(*held, interface, setting);
     }
 }
 
-fn changed(held: InterfaceSetting, interface: u8, setting: u8) -> InterfaceSetting
-    ensures { result ≡ spec.changed interface setting held }
+fn interface_setting_after(held: InterfaceSetting, interface: u8, setting: u8) -> InterfaceSetting
+    ensures { result ≡ spec.interface_setting_after interface setting held }
 {
     if held.interface == interface {
         InterfaceSetting { setting, ..held }

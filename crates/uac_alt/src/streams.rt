@@ -5,8 +5,8 @@ ghost use Rattle.std.specs.List.{find};
 ghost use Rattle.std.specs.Option.{option_map};
 ghost use Rattle.uac_clock.specs.Nominal.{IsNominal};
 ghost use Rattle.uac_alt.specs.Formed.{HasFormat};
-ghost use Rattle.uac_alt.specs.Streams as spec;
-ghost use Rattle.uac_alt.specs.Streams.{stream_fields, stream_of};
+ghost use Rattle.uac_alt.specs.AltStreams as spec;
+ghost use Rattle.uac_alt.specs.AltStreams.{stream_fields, stream_of};
 
 use crate::values::Stream;
 use uac_clock::{Nominal, nominal};
@@ -21,7 +21,7 @@ use uac_topology::{Function, Setting, StreamInterface};
 /// None comes for setting 0, where there is no such interface or setting, where the rate is none of the twelve, and
 /// where the setting can't run at that rate: it is not Type I PCM, has not its terminal's channels, has other endpoints
 /// than such a stream needs, or the most frames of a packet, those of a service interval, are too large for its endpoint.
-#[tactic(auto, unfolding(crate::specs::Streams::stream_of))]
+#[tactic(auto, unfolding(crate::specs::AltStreams::stream_of))]
 pub fn stream(function: &Function, rate: u32, interface: u8, setting: u8) -> Option<Stream>
     ensures value { option_map stream_fields result ≡ stream_of function.now rate interface setting }
     ensures of_a_rate { IfSome result (λ s. IsNominal s.nominal) }
@@ -45,7 +45,7 @@ fn setting_at(settings: &[Setting], number: u8) -> Option<&Setting>
 
 /// The stream of a setting at these nominal values; None where a part is missing or it can't run. The setting is one of the function's, so
 /// its numbers are in range.
-#[tactic(auto, unfolding(crate::specs::Streams::stream_at))]
+#[tactic(auto, unfolding(crate::specs::AltStreams::stream_at))]
 fn stream_at(
     function: &Function,
     streaming: &StreamInterface,
@@ -80,7 +80,7 @@ fn stream_at(
 }
 
 /// Whether a setting with these parts can run at these nominal values.
-#[tactic(auto, unfolding(crate::specs::Streams::can_run, crate::specs::Streams::linked_channels))]
+#[tactic(auto, unfolding(crate::specs::AltStreams::can_run, crate::specs::AltStreams::linked_channels))]
 fn can_run(
     function: &Function,
     streaming: &StreamInterface,

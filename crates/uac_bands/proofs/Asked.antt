@@ -6,7 +6,7 @@ use Rattle.std.proofs.lemmas.Bool.{and_parts, leb-true, true≢false}
 use Rattle.std.proofs.lemmas.Option.{option_and_then_some}
 use Rattle.uac_clock.specs.Nominal.{nominal_of}
 use Rattle.uac_descriptor.specs.declared.standard.Endpoint.{Endpoint}
-use Rattle.uac_entities.specs.Streams.{named}
+use Rattle.uac_entities.specs.EntityStreams.{named}
 use Rattle.uac_entities.specs.declared.entity.Entity.{Entity}
 use Rattle.uac_entities.specs.declared.stream.StreamInterface.{StreamInterface}
 use Rattle.uac_topology.specs.Function.{FunctionFields}
@@ -14,13 +14,13 @@ use Rattle.uac_store.specs.declared.keys.Key.{Key}
 use Rattle.uac_store.specs.Rates.{rate_of}
 use Rattle.uac_rate.specs.Levels.{AreIntervals}
 use Rattle.uac_graph.specs.Meaning.{entity}
-use Rattle.uac_alt.specs.Streams.{StreamFields, has_its_feedback, period_of, report_period, stream_of, stream_with}
+use Rattle.uac_alt.specs.AltStreams.{StreamFields, has_its_feedback, period_of, report_period, stream_of, stream_with}
 use Rattle.uac_alt.proofs.Parts as alt
 use Rattle.uac_request.specs.Requests.{rate_at}
 use Rattle.uac_lanes.specs.declared.lane.Port.{Port}
 use Rattle.uac_device.specs.DeviceWorld.{stream_in_setting}
 use Rattle.uac_lanes.proofs.LanesLemmas.{port_named}
-use Rattle.uac_device.proofs.StreamsLemmas.{interval}
+use Rattle.uac_device.proofs.SettingStreams.{interval}
 
 -- ---- intervals
 
@@ -65,23 +65,23 @@ reports_later false first second least answers is = absurd (true≢false (sym is
 pub record StreamParts (function : FunctionFields) (rate interface number : ℕ) (stream : StreamFields) : Type 0 where
   pub setting : (number == 0) ≡ false
   pub nominal : nominal_of rate ≡ Some stream.nominal
-  pub carrier : StreamInterface
-  pub there : find (λ s. s.number == interface) function.streams ≡ Some carrier
-  pub out : stream.out ≡ carrier.out
+  pub streaming_interface : StreamInterface
+  pub there : find (λ s. s.number == interface) function.streams ≡ Some streaming_interface
+  pub out : stream.out ≡ streaming_interface.out
   pub intervals : stream.out ≡ true → AreIntervals stream.service stream.period
 
 pub parts_of : (function : FunctionFields) (rate interface number : ℕ) (stream : StreamFields)
     → stream_of function rate interface number ≡ Some stream → StreamParts function rate interface number stream
 parts_of function rate interface number stream is =
     let parts = alt.parts_of function rate interface number stream is in
-    let s = parts.carrier in
+    let s = parts.streaming_interface in
     let first = parts.first in
     let ran = alt.ran_of function s parts.setting parts.nominal parts.general parts.type_one first parts.runs in
     let here : StreamParts function rate interface number (stream_with s parts.setting parts.nominal parts.general parts.type_one first) =
     record {
       setting = parts.above;
       nominal = parts.rated;
-      carrier = s;
+      streaming_interface = s;
       there = parts.carried;
       out = refl;
       intervals = reports_later s.out first parts.setting.second ran.least ran.answers;
@@ -91,10 +91,10 @@ parts_of function rate interface number stream is =
 -- ---- a stream that is asked for
 
 pub record IsAsked (function : FunctionFields) (controls : List (Key × ℤ)) (interface number : ℕ) (stream : StreamFields) : Type 0 where
-  pub carrier : StreamInterface
-  pub there : find (λ s. s.number == interface) function.streams ≡ Some carrier
+  pub streaming_interface : StreamInterface
+  pub there : find (λ s. s.number == interface) function.streams ≡ Some streaming_interface
   pub rate : ℕ
-  pub at : rate_of function.entities controls (entity function.entities carrier.terminal).clock ≡ Some rate
+  pub at : rate_of function.entities controls (entity function.entities streaming_interface.terminal).clock ≡ Some rate
   pub of : stream_of function rate interface number ≡ Some stream
 
 rated_by : (function : FunctionFields) (controls : List (Key × ℤ)) (s : StreamInterface) (rate : ℕ) → rate_at function controls s ≡ Some rate
@@ -113,4 +113,4 @@ unfolding stream_in_setting
 asked_of function controls interface number stream asked =
     option_and_then_some _ (find (λ t. t.number == interface) function.streams) stream asked (λ t there at_rate.
     option_and_then_some _ (rate_at function controls t) stream at_rate (λ rate at of.
-    record { carrier = t; there = there; rate = rate; at = rated_by function controls t rate at; of = of }))
+    record { streaming_interface = t; there = there; rate = rate; at = rated_by function controls t rate at; of = of }))

@@ -9,12 +9,12 @@ use Rattle.uac_clock.proofs.Listed.{has_room}
 use Rattle.uac_rate.specs.Levels.{FallsDue, Fills, Interval, IsHeld, IsInterval, IsJustPrimed, IsPriming, Point, Within, came_of}
 use Rattle.uac_rate.specs.Steadiness.{latest_run}
 use Rattle.uac_rate.proofs.LevelsLemmas.{falls_due, filled, interval_robust, interval_size, primed_robust, rates_band, robust_near, whole_packets}
-use Rattle.uac_alt.specs.Streams.{StreamFields}
-use Rattle.uac_flow.specs.Streams.{OutStream, after_packet, after_ticks, arrival_of, frames_of, is_dry, is_due, out_level, priming_level, target_after, takes_all}
+use Rattle.uac_alt.specs.AltStreams.{StreamFields}
+use Rattle.uac_flow.specs.FlowStreams.{OutStream, after_packet, after_ticks, arrival_of, frames_of, is_dry, is_due, out_level, priming_level, target_after, takes_all}
 use Rattle.uac_flow.specs.declared.arrival.Arrival.TheVariants as arrival
-use Rattle.uac_host.specs.Calls.{next_size, sent}
+use Rattle.uac_host.specs.Calls.{next_size, pace_after_packet}
 use Rattle.uac_bands.specs.Life.{Life, life_after, ticks_taken, with_end, with_feedback, with_step}
-use Rattle.uac_bands.specs.Bands.{EndsNear, HasTicked, HoldsBetween, HoldsEnough, InBand, IsAt, IsBehind, IsFilling, IsSteadyMicroframe, NeverDry, NeverOver, StartsInBand, StaysInBand, passed, played, ticks_then}
+use Rattle.uac_bands.specs.Bands.{EndsNear, HasTicked, HoldsBetween, HoldsEnough, InBand, IsAt, IsFollowing, IsFilling, IsSteadyMicroframe, NeverDry, NeverOver, StartsInBand, StaysInBand, microframes_since_due, played, ticks_then}
 use Rattle.uac_bands.proofs.Numbers.{IsPlacedAt, clock_goes, no_report, packet_frames, placed_at, slight_goes}
 use Rattle.uac_bands.proofs.Played.{came_for, ended_out, fits_ring, got, got_is, got_stays, not_dry, not_zero, out_due, out_not_due, taken_by, ticks_played, waited_out}
 use Rattle.uac_bands.proofs.Steady.{HasEnded, HasEndedAt, enough, held_range, is_some_more, is_zero, no_feedback, primed_reported, priming_reported, reports_by, times_none}
@@ -81,7 +81,7 @@ module _ (l : Life) (packet : Option (List ℕ)) (step : ℕ) (band : InBand l) 
   n = ticks_then step l
 
   abbrev start : ℕ
-  start = l.out.microframes - passed l.out
+  start = l.out.microframes - microframes_since_due l.out
 
   room : HasRoom values
   room = has_room values band.nominal
@@ -101,8 +101,8 @@ module _ (l : Life) (packet : Option (List ℕ)) (step : ℕ) (band : InBand l) 
   phase_after clock t = (clock_goes l.steps step clock t.steps t.phase).1
 
   slight_after : (clock : ℕ) (t : HasTicked l clock)
-      → Within ((passed l.out + 1) * values.e) (t.steps + step) ((passed l.out + 1) * values.f)
-  slight_after clock t = slight_goes (passed l.out) values.e values.f t.steps step t.slight given.slight
+      → Within ((microframes_since_due l.out + 1) * values.e) (t.steps + step) ((microframes_since_due l.out + 1) * values.f)
+  slight_after clock t = slight_goes (microframes_since_due l.out) values.e values.f t.steps step t.slight given.slight
 
   -- ---- its host
 
@@ -111,7 +111,7 @@ module _ (l : Life) (packet : Option (List ℕ)) (step : ℕ) (band : InBand l) 
       (packet_frames l.pace.stream.service l.pace.value l.pace.used).0
       ∙ ap (λ (of : StreamFields). (sum l.pace.used % 65536 + of.service * l.pace.value) / 65536) band.same
 
-  host_after : sum (sent l.pace).used % 65536 ≡ (sum l.pace.used % 65536 + s * l.pace.value) % 65536
+  host_after : sum (pace_after_packet l.pace).used % 65536 ≡ (sum l.pace.used % 65536 + s * l.pace.value) % 65536
   host_after =
       (packet_frames l.pace.stream.service l.pace.value l.pace.used).1
       ∙ ap (λ (of : StreamFields). (sum l.pace.used % 65536 + of.service * l.pace.value) % 65536) band.same
@@ -125,7 +125,7 @@ module _ (l : Life) (packet : Option (List ℕ)) (step : ℕ) (band : InBand l) 
 
   -- ---- a primed ring
 
-  module _ (target : ℕ) (p : Point) (b : IsBehind l target p) where
+  module _ (target : ℕ) (p : Point) (b : IsFollowing l target p) where
     -- after so many of its ticks, and with so many frames of its packet
     plays : (came i : ℕ) → came ≤ (sum l.pace.used % 65536 + s * l.pace.value) / 65536 → i ≤ n
         → (l.out.taken + i ≤ length l.out.arrived + came) × IsHeld s (length l.out.arrived + came - (l.out.taken + i))
@@ -135,7 +135,7 @@ module _ (l : Life) (packet : Option (List ℕ)) (step : ℕ) (band : InBand l) 
         let frames : came ≤ (p.host + s * p.value) / 65536 =
         subst (λ (k : ℕ). came ≤ (k + s * p.value) / 65536) (sym b.host)
         (subst (λ (k : ℕ). came ≤ (sum l.pace.used % 65536 + s * k) / 65536) (sym b.value) some) in
-        let holds = enough values s period p (passed l.out + 1) (b.ticked.steps + step) came
+        let holds = enough values s period p (microframes_since_due l.out + 1) (b.ticked.steps + step) came
         (l.out.ticks + i) room band.intervals b.robust at.next
         (slight_after p.clock b.ticked) (omega arith) (inl frames) in
         let level = b.level in (
@@ -157,8 +157,8 @@ module _ (l : Life) (packet : Option (List ℕ)) (step : ℕ) (band : InBand l) 
       let most : s * values.hi ≤ 8 * 25 = mul-le s values.hi 8 25 size.1 room.most in
       let same : s * l.pace.value ≡ s * values.f = ap (λ (k : ℕ). s * k) filling.value in
       omega (arith, filling.level, few.1)
-  fits_at (Some target) is behind due =
-      let holds = plays target behind.0 behind.1 (frames_in packet l.out) 0 (frames_fit due) (omega arith) in
+  fits_at (Some target) is following due =
+      let holds = plays target following.0 following.1 (frames_in packet l.out) 0 (frames_fit due) (omega arith) in
       let whole = band.taken in
       let range = held_range s _ band.intervals.serves holds.1 in
       omega (arith, range.1)
@@ -174,7 +174,7 @@ module _ (l : Life) (packet : Option (List ℕ)) (step : ℕ) (band : InBand l) 
   holds_at : (o : Option ℕ) → IsAt o l → (came i : ℕ) → came ≤ (sum l.pace.used % 65536 + s * l.pace.value) / 65536 → i ≤ n
       → is_some o ≡ true → l.out.taken + i ≤ length l.out.arrived + came
   holds_at None filling came i some few primed = absurd (cc)
-  holds_at (Some target) behind came i some few primed = (plays target behind.0 behind.1 came i some few).0
+  holds_at (Some target) following came i some few primed = (plays target following.0 following.1 came i some few).0
 
   -- ---- the life after it
 
@@ -187,7 +187,7 @@ module _ (l : Life) (packet : Option (List ℕ)) (step : ℕ) (band : InBand l) 
   unfolding life_after
   lived_not_due o is place due lost =
       ap (λ (b : Bool). with_feedback lost (with_end
-      (with_step step (if b then record l { out = after_packet packet l.out; pace = sent l.pace } else l)))) due
+      (with_step step (if b then record l { out = after_packet packet l.out; pace = pace_after_packet l.pace } else l)))) due
       ∙ ap (λ (out : OutStream). with_feedback lost (record l { out = out; steps = l.steps ++ step ∷ [] }))
       (out_not_due n l.out o due is (λ primed. let holds = holds_at o place 0 n (omega arith) (omega arith) primed in omega (arith, holds)))
       ∙ no_feedback (waited_life (taken_by o n)) lost
@@ -197,15 +197,15 @@ module _ (l : Life) (packet : Option (List ℕ)) (step : ℕ) (band : InBand l) 
 
   -- where one was
   abbrev pub ended_life : ℕ → Life
-  ended_life taken = record l { out = ended_out packet taken n l.out; pace = sent l.pace; steps = l.steps ++ step ∷ [] }
+  ended_life taken = record l { out = ended_out packet taken n l.out; pace = pace_after_packet l.pace; steps = l.steps ++ step ∷ [] }
 
   pub lived_due : (o : Option ℕ) → l.out.target ≡ o → IsAt o l → is_due l.out.stream l.out.microframes ≡ true
       → (lost : Bool) → life_after packet step lost l ≡ with_feedback lost (ended_life (taken_by o n))
   unfolding life_after
   lived_due o is place due lost =
       ap (λ (b : Bool). with_feedback lost (with_end
-      (with_step step (if b then record l { out = after_packet packet l.out; pace = sent l.pace } else l)))) due
-      ∙ ap (λ (out : OutStream). with_feedback lost (record l { out = out; pace = sent l.pace; steps = l.steps ++ step ∷ [] }))
+      (with_step step (if b then record l { out = after_packet packet l.out; pace = pace_after_packet l.pace } else l)))) due
+      ∙ ap (λ (out : OutStream). with_feedback lost (record l { out = out; pace = pace_after_packet l.pace; steps = l.steps ++ step ∷ [] }))
       (out_due packet n l.out o due is (bytes_fit due) (λ primed.
       (let holds = holds_at o place (frames_in packet l.out) n (frames_fit due) (omega arith) primed in
       let size = got_size packet l.out in
@@ -216,7 +216,7 @@ module _ (l : Life) (packet : Option (List ℕ)) (step : ℕ) (band : InBand l) 
   taken_at : (o : Option ℕ) → IsAt o l → (came : ℕ) → came ≤ (sum l.pace.used % 65536 + s * l.pace.value) / 65536
       → l.out.taken + taken_by o n ≤ length l.out.arrived + came
   taken_at None filling came some = let whole = band.taken in omega arith
-  taken_at (Some target) behind came some = (plays target behind.0 behind.1 came n some (omega arith)).0
+  taken_at (Some target) following came some = (plays target following.0 following.1 came n some (omega arith)).0
 
   abbrev ticked_on : is_due l.out.stream l.out.microframes ≡ false → (clock : ℕ) → HasTicked l clock → (taken : ℕ)
       → HasTicked (waited_life taken) clock
@@ -229,8 +229,8 @@ module _ (l : Life) (packet : Option (List ℕ)) (step : ℕ) (band : InBand l) 
   }
 
   -- a primed stream is after the same point, with one step more
-  pub behind_not_due : is_due l.out.stream l.out.microframes ≡ false → (target : ℕ) (p : Point) (b : IsBehind l target p)
-      → (on : IsBehind (waited_life n) target p) × (on.ticked.steps ≡ b.ticked.steps + step)
+  pub behind_not_due : is_due l.out.stream l.out.microframes ≡ false → (target : ℕ) (p : Point) (b : IsFollowing l target p)
+      → (on : IsFollowing (waited_life n) target p) × (on.ticked.steps ≡ b.ticked.steps + step)
   behind_not_due due target p b =
       let holds = (plays target p b 0 n (omega arith) (omega arith)).0 in
       let whole = band.taken in (
@@ -255,8 +255,8 @@ module _ (l : Life) (packet : Option (List ℕ)) (step : ℕ) (band : InBand l) 
     below = filling.below;
     ticked = ticked_on due filling.clock filling.ticked 0;
   }
-  place_not_due (Some target) behind due =
-      (behind.0, (behind_not_due due target behind.0 behind.1).0)
+  place_not_due (Some target) following due =
+      (following.0, (behind_not_due due target following.0 following.1).0)
 
   stays_not_due : is_due l.out.stream l.out.microframes ≡ false → (lost : Bool) → InBand (life_after packet step lost l)
   stays_not_due due lost = subst InBand (sym (lived_not_due l.out.target refl band.at due lost)) (record {
@@ -331,7 +331,7 @@ module _ (l : Life) (packet : Option (List ℕ)) (step : ℕ) (band : InBand l) 
 
     -- ---- of a primed one
 
-    module _ (target : ℕ) (is : l.out.target ≡ Some target) (p : Point) (b : IsBehind l target p) where
+    module _ (target : ℕ) (is : l.out.target ≡ Some target) (p : Point) (b : IsFollowing l target p) where
       abbrev pub end_point : Point
       end_point = record {
         level = length (l.out.arrived ++ came_for packet all l.out) - (l.out.taken + n);
@@ -432,7 +432,7 @@ module _ (l : Life) (packet : Option (List ℕ)) (step : ℕ) (band : InBand l) 
       first_point = record {
         level = level_now;
         target = level_now;
-        host = sum (sent l.pace).used % 65536;
+        host = sum (pace_after_packet l.pace).used % 65536;
         clock = (filling.clock + (filling.ticked.steps + step)) % 65536;
         value = l.pace.value;
         waited = start % period + s;
@@ -477,10 +477,10 @@ module _ (l : Life) (packet : Option (List ℕ)) (step : ℕ) (band : InBand l) 
         by None is filling =
             let lived = lived_due None is filling due lost in
             subst InBand (sym lived) (stays_priming is filling lost (subst (λ (m : Life). latest_run m.reports ≤ 3) lived few))
-        by (Some target) is behind =
-            let lived = lived_due (Some target) is behind due lost in
+        by (Some target) is following =
+            let lived = lived_due (Some target) is following due lost in
             subst InBand (sym lived)
-            (primed_reported (ended_life n) lost target (end_point target is behind.0 behind.1) (ended_primed target is behind.0 behind.1)
+            (primed_reported (ended_life n) lost target (end_point target is following.0 following.1) (ended_primed target is following.0 following.1)
             (subst (λ (m : Life). latest_run m.reports ≤ 3) lived few))
 
   stays : (lost : Bool) → latest_run (life_after packet step lost l).reports ≤ 3 → InBand (life_after packet step lost l)
@@ -497,7 +497,7 @@ module _ (l : Life) (packet : Option (List ℕ)) (step : ℕ) (band : InBand l) 
       → played i packet step l ≡ record (after_ticks n (got packet l.out)) { taken = l.out.taken + taken_by o i }
   played_due o is place due i few =
       ap (λ (b : Bool). ticks_taken i (after_ticks n
-      (if b then record l { out = after_packet packet l.out; pace = sent l.pace } else l).out)) due
+      (if b then record l { out = after_packet packet l.out; pace = pace_after_packet l.pace } else l).out)) due
       ∙ ap (λ (x : OutStream). ticks_taken i (after_ticks n x)) (got_is packet l.out (bytes_fit due))
       ∙ got_stays packet l.out i o is (λ primed.
       (let holds = holds_at o place (frames_in packet l.out) i (frames_fit due) few primed in
@@ -508,24 +508,24 @@ module _ (l : Life) (packet : Option (List ℕ)) (step : ℕ) (band : InBand l) 
       → played i packet step l ≡ record (after_ticks n l.out) { taken = l.out.taken + taken_by o i }
   played_not_due o is place due i few =
       ap (λ (b : Bool). ticks_taken i (after_ticks n
-      (if b then record l { out = after_packet packet l.out; pace = sent l.pace } else l).out)) due
+      (if b then record l { out = after_packet packet l.out; pace = pace_after_packet l.pace } else l).out)) due
       ∙ ticks_played i (after_ticks n l.out) o is
       (λ primed. let holds = holds_at o place 0 i (omega arith) few primed in omega (arith, holds))
 
   holds : (target : ℕ) → l.out.target ≡ Some target → (i : ℕ) → i ≤ n → IsHeld s (out_level (played i packet step l))
   holds target is i few = by (is_due l.out.stream l.out.microframes) refl
     where
-      behind : IsAt (Some target) l
-      behind = subst (λ (o : Option ℕ). IsAt o l) is band.at
+      following : IsAt (Some target) l
+      following = subst (λ (o : Option ℕ). IsAt o l) is band.at
 
       by : (b : Bool) → is_due l.out.stream l.out.microframes ≡ b → IsHeld s (out_level (played i packet step l))
       by true due =
-          let there = plays target behind.0 behind.1 (frames_in packet l.out) i (frames_fit due) few in
-          subst (λ (x : OutStream). IsHeld s (out_level x)) (sym (played_due (Some target) is behind due i few))
+          let there = plays target following.0 following.1 (frames_in packet l.out) i (frames_fit due) few in
+          subst (λ (x : OutStream). IsHeld s (out_level x)) (sym (played_due (Some target) is following due i few))
           (subst (λ (k : ℕ). IsHeld s (k - (l.out.taken + i))) (sym (got_size packet l.out)) there.1)
       by false due =
-          let there = plays target behind.0 behind.1 0 i (omega arith) few in
-          subst (λ (x : OutStream). IsHeld s (out_level x)) (sym (played_not_due (Some target) is behind due i few))
+          let there = plays target following.0 following.1 0 i (omega arith) few in
+          subst (λ (x : OutStream). IsHeld s (out_level x)) (sym (played_not_due (Some target) is following due i few))
           (subst (λ (k : ℕ). IsHeld s (k - (l.out.taken + i)))
           (let same : length l.out.arrived + 0 ≡ length l.out.arrived = omega arith in same) there.1)
 
@@ -606,28 +606,28 @@ never_over_full l packet step band given due over = never_over l packet step ban
 -- ---- between two microframes
 
 -- where a primed stream is
-behind_of : (l : Life) (target : ℕ) → InBand l → l.out.target ≡ Some target → (p : Point) × IsBehind l target p
+behind_of : (l : Life) (target : ℕ) → InBand l → l.out.target ≡ Some target → (p : Point) × IsFollowing l target p
 behind_of l target band is = subst (λ (o : Option ℕ). IsAt o l) is band.at
 
 pub holds_between : HoldsBetween
 holds_between l target band is =
-    let behind = behind_of l target band is in
-    let p : Point = behind.0 in
-    let b = behind.1 in
+    let following = behind_of l target band is in
+    let p : Point = following.0 in
+    let b = following.1 in
     let at = placed_at l.out.stream.service l.out.microframes band.intervals.serves in
     let next = at.next in
-    let there = enough l.out.stream.nominal l.out.stream.service l.out.stream.period p (passed l.out) b.ticked.steps 0 l.out.ticks
+    let there = enough l.out.stream.nominal l.out.stream.service l.out.stream.period p (microframes_since_due l.out) b.ticked.steps 0 l.out.ticks
     (has_room l.out.stream.nominal band.nominal) band.intervals b.robust (omega arith) b.ticked.slight
     (omega (arith, b.ticked.ticks)) (inl (omega arith)) in
     subst (IsHeld l.out.stream.service) (let same : p.level + 0 - l.out.ticks ≡ out_level l.out = omega (arith, b.level) in same) there.held
 
 pub ends_near : EndsNear
 ends_near l target band is ended =
-    let behind = behind_of l target band is in
-    let p : Point = behind.0 in
-    let b = behind.1 in
-    let e = times_none (passed l.out) l.out.stream.nominal.e ended in
-    let f = times_none (passed l.out) l.out.stream.nominal.f ended in
+    let following = behind_of l target band is in
+    let p : Point = following.0 in
+    let b = following.1 in
+    let e = times_none (microframes_since_due l.out) l.out.stream.nominal.e ended in
+    let f = times_none (microframes_since_due l.out) l.out.stream.nominal.f ended in
     let slight = b.ticked.slight in
     let below = b.robust.counted.clock in
     let none : b.ticked.steps ≡ 0 = omega (arith, slight.0) in

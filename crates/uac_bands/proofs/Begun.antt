@@ -12,17 +12,17 @@ use Rattle.uac_pcm.specs.declared.tones.Tone.{Tone}
 use Rattle.uac_rate.specs.Steadiness.{is_slight}
 use Rattle.uac_topology.proofs.Small.{small}
 use Rattle.uac_store.specs.Rates.{rate_of}
-use Rattle.uac_flow.specs.Streams.{OutStream}
+use Rattle.uac_flow.specs.FlowStreams.{OutStream}
 use Rattle.uac_host.specs.HostWorld.{HostWorld, Pace, Track, fresh_host}
 use Rattle.uac_host.specs.Calls.{channels_at, in_frames, with_samples}
 use Rattle.uac_host.specs.Calls as calls
-use Rattle.uac_device.specs.DeviceWorld.{Domain, deviated, fresh}
+use Rattle.uac_device.specs.DeviceWorld.{Domain, after_deviation, fresh}
 use Rattle.uac_streaming.specs.StreamingWorld.{place_of}
 use Rattle.uac_running.specs.RunningWorld.{RunningWorld, at_start, with_detail, with_deviation, with_samples_on, with_tone, with_track}
-use Rattle.uac_running.specs.Transfers.{with_break}
+use Rattle.uac_running.specs.RunningTransfers.{with_break}
 use Rattle.uac_bands.specs.Life.{Life, clock_on, domain_on, life_of}
 use Rattle.uac_bands.specs.Beginnings.{CallsKeepBands, RunsStartInBand}
-use Rattle.uac_bands.specs.Run.{RunInBand, StreamInBand}
+use Rattle.uac_bands.specs.BandRun.{RunInBand, StreamInBand}
 use Rattle.uac_bands.proofs.Ordered.{deviations_keep_order, starts_are_ordered}
 
 pub runs_start_in_band : RunsStartInBand
@@ -145,28 +145,28 @@ track_keeps interface tone r = rehosted r (calls.with_tone interface tone r.host
 
 -- ---- deviations
 
-module _ (clock : ℕ) (millionths : ℤ) where
+module _ (clock : ℕ) (ppm : ℤ) where
   abbrev pub off : Domain → Domain
-  off d = if d.clock == clock then record d { deviation = millionths } else d
+  off d = if d.clock == clock then record d { deviation = ppm } else d
 
   pub off_clock : (d : Domain) → (off d).clock ≡ d.clock
   off_clock d = by (d.clock == clock)
     where
-      by : (b : Bool) → (if b then record d { deviation = millionths } else d).clock ≡ d.clock
+      by : (b : Bool) → (if b then record d { deviation = ppm } else d).clock ≡ d.clock
       by true = refl
       by false = refl
 
   off_steps : (d : Domain) → (off d).steps ≡ d.steps
   off_steps d = by (d.clock == clock)
     where
-      by : (b : Bool) → (if b then record d { deviation = millionths } else d).steps ≡ d.steps
+      by : (b : Bool) → (if b then record d { deviation = ppm } else d).steps ≡ d.steps
       by true = refl
       by false = refl
 
-  pub off_slight : (d : Domain) → is_slight millionths ≡ true → is_slight d.deviation ≡ true → is_slight (off d).deviation ≡ true
+  pub off_slight : (d : Domain) → is_slight ppm ≡ true → is_slight d.deviation ≡ true → is_slight (off d).deviation ≡ true
   off_slight d slight before = by (d.clock == clock)
     where
-      by : (b : Bool) → is_slight (if b then record d { deviation = millionths } else d).deviation ≡ true
+      by : (b : Bool) → is_slight (if b then record d { deviation = ppm } else d).deviation ≡ true
       by true = slight
       by false = before
 
@@ -183,10 +183,10 @@ module _ (clock : ℕ) (millionths : ℤ) where
 
   module _ (r : RunningWorld) (k : ℕ) where
     abbrev after : RunningWorld
-    after = with_deviation clock millionths r
+    after = with_deviation clock ppm r
 
     domain_off : domain_on after k ≡ option_map off (domain_on r k)
-    unfolding with_deviation deviated
+    unfolding with_deviation after_deviation
     domain_off = by (clock_on r k)
       where
         by : (o : Option ℕ)
@@ -200,7 +200,7 @@ module _ (clock : ℕ) (millionths : ℤ) where
         option_and_then (λ d. option_map (λ place. record { out = out; pace = pace; steps = d.steps; reports = r.given.feedback place }) (place_of r.device.function k)) o
 
     pub life_off : life_of after k ≡ life_of r k
-    unfolding life_of with_deviation deviated
+    unfolding life_of with_deviation after_deviation
     life_off = by (r.device.outs k) (r.host.paces k)
       where
         off_nothing : (out : OutStream) (pace : Pace) (o : Option Domain) → with_domain out pace (option_map off o) ≡ with_domain out pace o
@@ -209,14 +209,14 @@ module _ (clock : ℕ) (millionths : ℤ) where
             ap (λ (steps : List ℕ). option_map (λ place. record { out = out; pace = pace; steps = steps; reports = r.given.feedback place }) (place_of r.device.function k)) (off_steps d)
 
         by : (o : Option OutStream) (q : Option Pace)
-            → option_and_then (λ out. option_and_then (λ pace. with_domain out pace (domain_on (with_deviation clock millionths r) k)) q) o
+            → option_and_then (λ out. option_and_then (λ pace. with_domain out pace (domain_on (with_deviation clock ppm r) k)) q) o
             ≡ option_and_then (λ out. option_and_then (λ pace. with_domain out pace (domain_on r k)) q) o
         by None q = refl
         by (Some out) None = refl
         by (Some out) (Some pace) = ap (with_domain out pace) domain_off ∙ off_nothing out pace (domain_on r k)
 
-    stream_off : (l : Life) (d : Domain) → is_slight millionths ≡ true → StreamInBand r k l d → StreamInBand after k l (off d)
-    unfolding with_deviation deviated
+    stream_off : (l : Life) (d : Domain) → is_slight ppm ≡ true → StreamInBand r k l d → StreamInBand after k l (off d)
+    unfolding with_deviation after_deviation
     stream_off l d slight s = record {
       runs = record { out = s.runs.out; life = life_off ∙ s.runs.life; domain = domain_off ∙ ap (option_map off) s.runs.domain };
       fed = record { same = s.fed.same; streams = s.fed.streams; format = s.fed.format; whole = s.fed.whole };
@@ -225,10 +225,10 @@ module _ (clock : ℕ) (millionths : ℤ) where
       slight = off_slight d slight s.slight;
     }
 
-  deviation_keeps : (r : RunningWorld) → is_slight millionths ≡ true → RunInBand r → RunInBand (with_deviation clock millionths r)
-  unfolding with_deviation deviated
+  deviation_keeps : (r : RunningWorld) → is_slight ppm ≡ true → RunInBand r → RunInBand (with_deviation clock ppm r)
+  unfolding with_deviation after_deviation
   deviation_keeps r slight band = record {
-    ordered = deviations_keep_order clock millionths r.device band.ordered;
+    ordered = deviations_keep_order clock ppm r.device band.ordered;
     hosts = band.hosts;
     few = band.few;
     streams = λ k o there.
@@ -244,5 +244,5 @@ calls_keep_bands r band = record {
   breaks = λ after. carry r (with_break after r) band;
   samples = λ interface samples. samples_keep interface samples r band;
   track = λ interface tone. track_keeps interface tone r band;
-  deviation = λ clock millionths slight. deviation_keeps clock millionths r slight band;
+  deviation = λ clock ppm slight. deviation_keeps clock ppm r slight band;
 }

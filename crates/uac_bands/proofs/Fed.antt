@@ -13,13 +13,13 @@ use Rattle.uac_pcm.specs.Tones.{tone_sample}
 use Rattle.uac_pcm.specs.declared.tones.Tone.{Tone}
 use Rattle.uac_pcm.proofs.PacketsLemmas.{frame_bytes-pos, length-unpacked, whole_frames-packed}
 use Rattle.uac_topology.specs.Function.{FunctionFields}
-use Rattle.uac_alt.specs.Streams.{StreamFields}
+use Rattle.uac_alt.specs.AltStreams.{StreamFields}
 use Rattle.uac_rate.specs.Steadiness.{one_more}
-use Rattle.uac_flow.specs.Streams.{OutStream, after_packet, after_taking, after_ticks, feedback_of, frames_of, is_dry, is_due, settled_out, settled_when_due}
+use Rattle.uac_flow.specs.FlowStreams.{OutStream, after_packet, after_taking, after_ticks, feedback_of, frames_of, is_dry, is_due, settled_out, settled_when_due}
 use Rattle.uac_host.specs.HostWorld.{Pace, Track}
-use Rattle.uac_host.specs.Calls.{IsStreamOf, after_frames, channels_at, next_frames, next_size, packet_of, reported, sent, tone_frame}
-use Rattle.uac_host.proofs.KeptLemmas.{even_after}
-use Rattle.uac_host.proofs.StreamsLemmas.{channels_of}
+use Rattle.uac_host.specs.Calls.{IsStreamOf, after_frames, channels_at, next_frames, next_size, packet_of, pace_after_report, pace_after_packet, tone_frame}
+use Rattle.uac_host.proofs.HostKeptLemmas.{even_after}
+use Rattle.uac_host.proofs.SettingStreams.{channels_of}
 use Rattle.uac_device.specs.DeviceWorld.{step_in}
 use Rattle.uac_streaming.specs.StreamingWorld.{loses_out, loses_report, packet_to, place_of}
 use Rattle.uac_running.specs.RunningWorld.{streaming_of}
@@ -71,11 +71,11 @@ module _ (packet : Option (List ℕ)) (step : ℕ) (lost : Bool) (l : Life) wher
       ∙ by_packet (is_due l.out.stream l.out.microframes)
     where
       by_feedback : (m : Life) (o : Option ℕ)
-          → (option_map_or (λ value. record m { pace = if lost then m.pace else reported value m.pace; reports = one_more lost m.reports }) o m).out.stream ≡ m.out.stream
+          → (option_map_or (λ value. record m { pace = if lost then m.pace else pace_after_report value m.pace; reports = one_more lost m.reports }) o m).out.stream ≡ m.out.stream
       by_feedback m None = refl
       by_feedback m (Some value) = refl
 
-      by_packet : (b : Bool) → (if b then record l { out = after_packet packet l.out; pace = sent l.pace } else l).out.stream ≡ l.out.stream
+      by_packet : (b : Bool) → (if b then record l { out = after_packet packet l.out; pace = pace_after_packet l.pace } else l).out.stream ≡ l.out.stream
       by_packet true = took_streams packet l.out
       by_packet false = refl
 
@@ -84,32 +84,32 @@ module _ (packet : Option (List ℕ)) (step : ℕ) (lost : Bool) (l : Life) wher
   pace_stream_after = by_feedback lost at_end (feedback_of at_end.out) ∙ by_packet (is_due l.out.stream l.out.microframes)
     where
       by_feedback : (b : Bool) (m : Life) (o : Option ℕ)
-          → (option_map_or (λ value. record m { pace = if b then m.pace else reported value m.pace; reports = one_more b m.reports }) o m).pace.stream ≡ m.pace.stream
+          → (option_map_or (λ value. record m { pace = if b then m.pace else pace_after_report value m.pace; reports = one_more b m.reports }) o m).pace.stream ≡ m.pace.stream
       by_feedback b m None = refl
       by_feedback true m (Some value) = refl
       by_feedback false m (Some value) = refl
 
-      by_packet : (b : Bool) → (if b then record l { out = after_packet packet l.out; pace = sent l.pace } else l).pace.stream ≡ l.pace.stream
+      by_packet : (b : Bool) → (if b then record l { out = after_packet packet l.out; pace = pace_after_packet l.pace } else l).pace.stream ≡ l.pace.stream
       by_packet true = refl
       by_packet false = refl
 
 -- ---- a microframe keeps it fed
 
 pub microframes_keep_fed : MicroframesKeepFed
-microframes_keep_fed losses r interface l d ordered runs fed =
-    let packet = packet_to (loses_out losses interface) interface (streaming_of r) in
-    let lost = loses_report losses interface in
+microframes_keep_fed marks r interface l d ordered runs fed =
+    let packet = packet_to (loses_out marks interface) interface (streaming_of r) in
+    let lost = loses_report marks interface in
     let paced = pace_stream_after packet (step_in r.device d) lost l in
-    let stays = microframes_keep_the_rest losses r in
-    let after = (microframe losses r).world in
-    let streams : IsStreamOf r.host.function interface (next_life losses r interface l d).pace.stream =
+    let stays = microframes_keep_the_rest marks r in
+    let after = (microframe marks r).world in
+    let streams : IsStreamOf r.host.function interface (next_life marks r interface l d).pace.stream =
     subst (IsStreamOf r.host.function interface) (sym paced) fed.streams in
     let whole : All (λ frame. length frame ≡ channels_at r.host.function interface) (after.host.tracks interface).waiting =
     subst (λ (t : Track). All (λ frame. length frame ≡ channels_at r.host.function interface) t.waiting)
-    (sym (tracks_go_on losses r interface l d ordered runs)) (by (is_due l.out.stream l.out.microframes)) in
+    (sym (tracks_go_on marks r interface l d ordered runs)) (by (is_due l.out.stream l.out.microframes)) in
     record {
       same = paced ∙ fed.same ∙ sym (out_stream_after packet (step_in r.device d) lost l);
-      streams = subst (λ (f : FunctionFields). IsStreamOf f interface (next_life losses r interface l d).pace.stream) (sym stays.host) streams;
+      streams = subst (λ (f : FunctionFields). IsStreamOf f interface (next_life marks r interface l d).pace.stream) (sym stays.host) streams;
       format = subst (λ (s : StreamFields). IsFormat s.channels s.subslot s.bits) (sym paced) fed.format;
       whole = subst (λ (f : FunctionFields). All (λ frame. length frame ≡ channels_at f interface) (after.host.tracks interface).waiting) (sym stays.host) whole;
     }

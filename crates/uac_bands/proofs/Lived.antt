@@ -7,9 +7,9 @@ use Rattle.uac_units.specs.Hearing.{at_most_u64}
 use Rattle.uac_rate.specs.Steadiness.{one_more}
 use Rattle.uac_topology.specs.Function.{FunctionFields, interface_in}
 use Rattle.uac_graph.specs.Meaning.{entity}
-use Rattle.uac_flow.specs.Streams.{OutStream, after_packet, feedback_of, is_due}
+use Rattle.uac_flow.specs.FlowStreams.{OutStream, after_packet, feedback_of, is_due}
 use Rattle.uac_host.specs.HostWorld.{Pace, Track}
-use Rattle.uac_host.specs.Calls.{packet_of, reported, sent}
+use Rattle.uac_host.specs.Calls.{packet_of, pace_after_report, pace_after_packet}
 use Rattle.uac_device.specs.DeviceWorld.{Domain, step_in}
 use Rattle.uac_script.specs.Phrase.{SaidMark}
 use Rattle.uac_streaming.specs.StreamingWorld.{StreamingWorld, all_reported, all_settled, goes_out, in_packet_turn, in_packets, loses_out, loses_report, numbers, out_packets, out_turn, packet_to, place_of, goes_out, report_turn, settled_turn}
@@ -27,43 +27,43 @@ mapped f (Some x) y e = (x, refl, cc)
 
 -- ---- the parts of a microframe
 
-module _ (p : Place) (is : IsPlace p) (small : All (λ s. s.number < 256) p.function.streams) (losses : List SaidMark) where
+module _ (p : Place) (is : IsPlace p) (small : All (λ s. s.number < 256) p.function.streams) (marks : List SaidMark) where
   among : (w : StreamingWorld) (l : Life) (t : Track) → Shows p w l t → Among p.interface (numbers w.device.function)
   among w l t s =
       let found = mapped _ (interface_in p.function p.interface) p.clock is.on_clock in
       subst (λ (f : FunctionFields). Among p.interface (numbers f)) (sym s.function) (known_among p.function p.interface found.0 small found.1)
 
   abbrev pub packet : Life → Track → Option (List ℕ)
-  packet l t = if loses_out losses p.interface then None else Some (packet_at l.pace t)
+  packet l t = if loses_out marks p.interface then None else Some (packet_at l.pace t)
 
   pub packets_out : (detail : ℕ) (w : StreamingWorld) (l : Life) (t : Track) → Shows p w l t
-      → Shows p (out_packets detail losses w).world (with_packet (packet l t) l) (track_after l t)
+      → Shows p (out_packets detail marks w).world (with_packet (packet l t) l) (track_after l t)
   unfolding out_packets
   packets_out detail w l t s =
-      turns_once (out_turn detail losses) p.interface (λ v. Shows p v l t) (λ v. Shows p v (with_packet (packet l t) l) (track_after l t))
-      (λ n v other. out_other p detail losses n v l t other) (λ n v other. out_other p detail losses n v (with_packet (packet l t) l) (track_after l t) other)
-      (λ v. out_here p detail losses is v l t) (numbers w.device.function) w (numbers_differ w.device.function) (among w l t s) s
+      turns_once (out_turn detail marks) p.interface (λ v. Shows p v l t) (λ v. Shows p v (with_packet (packet l t) l) (track_after l t))
+      (λ n v other. out_other p detail marks n v l t other) (λ n v other. out_other p detail marks n v (with_packet (packet l t) l) (track_after l t) other)
+      (λ v. out_here p detail marks is v l t) (numbers w.device.function) w (numbers_differ w.device.function) (among w l t s) s
 
-  pub packets_in : (detail : ℕ) (w : StreamingWorld) (l : Life) (t : Track) → Shows p w l t → Shows p (in_packets detail losses w).world l t
+  pub packets_in : (detail : ℕ) (w : StreamingWorld) (l : Life) (t : Track) → Shows p w l t → Shows p (in_packets detail marks w).world l t
   unfolding in_packets
   packets_in detail w l t s =
-      turns_keep (λ v. Shows p v l t) (in_packet_turn detail losses) (λ n v. in_any p detail losses n v l t) (numbers w.device.function) w s
+      turns_keep (λ v. Shows p v l t) (in_packet_turn detail marks) (λ n v. in_any p detail marks n v l t) (numbers w.device.function) w s
 
   ends : (detail : ℕ) (w : StreamingWorld) (l : Life) (t : Track) → Shows p w l t → Shows p (all_settled detail w).world (with_end l) t
   unfolding all_settled
   ends detail w l t s =
       turns_once (settled_turn detail) p.interface (λ v. Shows p v l t) (λ v. Shows p v (with_end l) t)
-      (λ n v other. settled_other p detail losses n v l t other) (λ n v other. settled_other p detail losses n v (with_end l) t other)
-      (λ v. settled_here p detail losses v l t) (numbers w.device.function) w (numbers_differ w.device.function) (among w l t s) s
+      (λ n v other. settled_other p detail marks n v l t other) (λ n v other. settled_other p detail marks n v (with_end l) t other)
+      (λ v. settled_here p detail marks v l t) (numbers w.device.function) w (numbers_differ w.device.function) (among w l t s) s
 
   reports : (detail : ℕ) (w : StreamingWorld) (l : Life) (t : Track) → Shows p w l t
-      → Shows p (all_reported detail losses w).world (with_feedback (loses_report losses p.interface) l) t
+      → Shows p (all_reported detail marks w).world (with_feedback (loses_report marks p.interface) l) t
   unfolding all_reported
   reports detail w l t s =
-      turns_once (report_turn detail losses) p.interface (λ v. Shows p v l t) (λ v. Shows p v (with_feedback (loses_report losses p.interface) l) t)
-      (λ n v other. report_other p is detail losses n v l t other)
-      (λ n v other. report_other p is detail losses n v (with_feedback (loses_report losses p.interface) l) t other)
-      (λ v. report_here p is detail losses v l t) (numbers w.device.function) w (numbers_differ w.device.function) (among w l t s) s
+      turns_once (report_turn detail marks) p.interface (λ v. Shows p v l t) (λ v. Shows p v (with_feedback (loses_report marks p.interface) l) t)
+      (λ n v other. report_other p is detail marks n v l t other)
+      (λ n v other. report_other p is detail marks n v (with_feedback (loses_report marks p.interface) l) t other)
+      (λ v. report_here p is detail marks v l t) (numbers w.device.function) w (numbers_differ w.device.function) (among w l t s) s
 
   module _ (once : IsDistinct nat_eq p.function.domains) (clocked : Among p.clock p.function.domains) where
     ticks : (r : RunningWorld) (l : Life) (t : Track) → Shows p (streaming_of r) l t
@@ -73,25 +73,25 @@ module _ (p : Place) (is : IsPlace p) (small : All (λ s. s.number < 256) p.func
         (subst (λ (f : FunctionFields). Among p.clock f.domains) (sym s.function) clocked) s
 
     pub before_the_end : (r : RunningWorld) (l : Life) (t : Track) → Shows p (streaming_of r) l t
-        → Shows p (streaming_of (packets_and_ticks losses r).world) (with_step (step_at p) (with_packet (packet l t) l)) (track_after l t)
+        → Shows p (streaming_of (packets_and_ticks marks r).world) (with_step (step_at p) (with_packet (packet l t) l)) (track_after l t)
     unfolding packets_and_ticks
     before_the_end r l t s =
-        let sent = with_streaming r (out_packets r.detail losses (streaming_of r)).world in
-        let fetched = with_streaming sent (in_packets r.detail losses (streaming_of sent)).world in
+        let pace_after_packet = with_streaming r (out_packets r.detail marks (streaming_of r)).world in
+        let fetched = with_streaming pace_after_packet (in_packets r.detail marks (streaming_of pace_after_packet)).world in
         ticks fetched (with_packet (packet l t) l) (track_after l t)
-        (packets_in r.detail (streaming_of sent) (with_packet (packet l t) l) (track_after l t) (packets_out r.detail (streaming_of r) l t s))
+        (packets_in r.detail (streaming_of pace_after_packet) (with_packet (packet l t) l) (track_after l t) (packets_out r.detail (streaming_of r) l t s))
 
     the_end : (r : RunningWorld) (l : Life) (t : Track) → Shows p (streaming_of r) l t
-        → Shows p (streaming_of (ends_and_reports losses r).world) (with_feedback (loses_report losses p.interface) (with_end l)) t
+        → Shows p (streaming_of (ends_and_reports marks r).world) (with_feedback (loses_report marks p.interface) (with_end l)) t
     unfolding ends_and_reports
     the_end r l t s = reports r.detail (all_settled r.detail (streaming_of r)).world (with_end l) t (ends r.detail (streaming_of r) l t s)
 
     microframe_shown : (r : RunningWorld) (l : Life) (t : Track) → Shows p (streaming_of r) l t
-        → Shows p (streaming_of (microframe losses r).world) (life_after (packet l t) (step_at p) (loses_report losses p.interface) l) (track_after l t)
+        → Shows p (streaming_of (microframe marks r).world) (life_after (packet l t) (step_at p) (loses_report marks p.interface) l) (track_after l t)
     unfolding microframe life_after
     microframe_shown r l t s =
         let numbered : RunningWorld = record r { time = at_most_u64 (r.time + 1) } in
-        the_end (packets_and_ticks losses numbered).world (with_step (step_at p) (with_packet (packet l t) l)) (track_after l t) (before_the_end numbered l t s)
+        the_end (packets_and_ticks marks numbered).world (with_step (step_at p) (with_packet (packet l t) l)) (track_after l t) (before_the_end numbered l t s)
 
 -- ---- lives
 
@@ -163,11 +163,11 @@ steps_after packet step lost l =
     ∙ ap (λ (steps : List ℕ). steps ++ step ∷ []) (by_packet (is_due l.out.stream l.out.microframes))
   where
     by_feedback : (m : Life) (o : Option ℕ)
-        → (option_map_or (λ value. record m { pace = if lost then m.pace else reported value m.pace; reports = one_more lost m.reports }) o m).steps ≡ m.steps
+        → (option_map_or (λ value. record m { pace = if lost then m.pace else pace_after_report value m.pace; reports = one_more lost m.reports }) o m).steps ≡ m.steps
     by_feedback m None = refl
     by_feedback m (Some value) = refl
 
-    by_packet : (b : Bool) → (if b then record l { out = after_packet packet l.out; pace = sent l.pace } else l).steps ≡ l.steps
+    by_packet : (b : Bool) → (if b then record l { out = after_packet packet l.out; pace = pace_after_packet l.pace } else l).steps ≡ l.steps
     by_packet true = refl
     by_packet false = refl
 
@@ -176,28 +176,28 @@ unfolding step_in
 step_is r interface d clock place = refl
 
 -- what a microframe makes of a stream, and of its track
-lived_and_tracked : (losses : List SaidMark) (r : RunningWorld) (interface : ℕ) (l : Life) (d : Domain) → IsOrdered r.device → Runs r interface l d
-    → Runs (microframe losses r).world interface (next_life losses r interface l d) (next_domain r d)
-    × ((microframe losses r).world.host.tracks interface ≡ next_track l (r.host.tracks interface))
-lived_and_tracked losses r interface l d ordered runs = opened r interface l d runs (λ clock place steps is s.
+lived_and_tracked : (marks : List SaidMark) (r : RunningWorld) (interface : ℕ) (l : Life) (d : Domain) → IsOrdered r.device → Runs r interface l d
+    → Runs (microframe marks r).world interface (next_life marks r interface l d) (next_domain r d)
+    × ((microframe marks r).world.host.tracks interface ≡ next_track l (r.host.tracks interface))
+lived_and_tracked marks r interface l d ordered runs = opened r interface l d runs (λ clock place steps is s.
     (let p : Place = place_in r interface d clock place in
     let t : Track = r.host.tracks interface in
     let clocked : Among clock r.device.function.domains = subst (Among clock) ordered.clocks (clock_among clock r.device.domains (record d { steps = l.steps }) s.domain) in
-    let after = microframe_shown p is ordered.numbers losses ordered.apart clocked r l t s in
+    let after = microframe_shown p is ordered.numbers marks ordered.apart clocked r l t s in
     let packet : packet_at l.pace t ≡ packet_of r.host interface = sym (packet_shown p (streaming_of r) l t s) in
-    let same : life_after (if loses_out losses interface then None else Some (packet_at l.pace t)) (step_at p) (loses_report losses interface) l ≡ next_life losses r interface l d =
-    ap (λ (bytes : List ℕ). life_after (if loses_out losses interface then None else Some bytes) (step_at p) (loses_report losses interface) l) packet
-    ∙ ap (λ (n : ℕ). life_after (packet_to (loses_out losses interface) interface (streaming_of r)) n (loses_report losses interface) l) (step_is r interface d clock place) in
-    let lived : Runs (microframe losses r).world interface (next_life losses r interface l d) (record d { steps = (next_life losses r interface l d).steps }) =
-    subst (λ (m : Life). Runs (microframe losses r).world interface m (record d { steps = m.steps })) same
-    (closed (microframe losses r).world p (life_after (if loses_out losses interface then None else Some (packet_at l.pace t)) (step_at p) (loses_report losses interface) l) (next_track l t) is after) in
-    let stepped : (next_life losses r interface l d).steps ≡ d.steps ++ step_in r.device d ∷ [] =
-    steps_after (packet_to (loses_out losses interface) interface (streaming_of r)) (step_in r.device d) (loses_report losses interface) l
+    let same : life_after (if loses_out marks interface then None else Some (packet_at l.pace t)) (step_at p) (loses_report marks interface) l ≡ next_life marks r interface l d =
+    ap (λ (bytes : List ℕ). life_after (if loses_out marks interface then None else Some bytes) (step_at p) (loses_report marks interface) l) packet
+    ∙ ap (λ (n : ℕ). life_after (packet_to (loses_out marks interface) interface (streaming_of r)) n (loses_report marks interface) l) (step_is r interface d clock place) in
+    let lived : Runs (microframe marks r).world interface (next_life marks r interface l d) (record d { steps = (next_life marks r interface l d).steps }) =
+    subst (λ (m : Life). Runs (microframe marks r).world interface m (record d { steps = m.steps })) same
+    (closed (microframe marks r).world p (life_after (if loses_out marks interface then None else Some (packet_at l.pace t)) (step_at p) (loses_report marks interface) l) (next_track l t) is after) in
+    let stepped : (next_life marks r interface l d).steps ≡ d.steps ++ step_in r.device d ∷ [] =
+    steps_after (packet_to (loses_out marks interface) interface (streaming_of r)) (step_in r.device d) (loses_report marks interface) l
     ∙ ap (λ (ns : List ℕ). ns ++ step_in r.device d ∷ []) steps in
-    (subst (λ (ns : List ℕ). Runs (microframe losses r).world interface (next_life losses r interface l d) (record d { steps = ns })) stepped lived, after.track)))
+    (subst (λ (ns : List ℕ). Runs (microframe marks r).world interface (next_life marks r interface l d) (record d { steps = ns })) stepped lived, after.track)))
 
 pub microframes_are_lived : MicroframesAreLived
-microframes_are_lived losses r interface l d ordered runs = (lived_and_tracked losses r interface l d ordered runs).0
+microframes_are_lived marks r interface l d ordered runs = (lived_and_tracked marks r interface l d ordered runs).0
 
 pub tracks_go_on : TracksGoOn
-tracks_go_on losses r interface l d ordered runs = (lived_and_tracked losses r interface l d ordered runs).1
+tracks_go_on marks r interface l d ordered runs = (lived_and_tracked marks r interface l d ordered runs).1

@@ -3,17 +3,17 @@ use Rattle.std.proofs.Common.{◌≡◌, sym, refl, ℕ, zero, suc, ◌==◌, �
 use Rattle.std.specs.List.{list_all}
 use Rattle.std.proofs.lemmas.Bool.{and_from, and_parts, true≢false}
 use Rattle.std.proofs.lemmas.List.Elements.{All-append, All-nil}
-use Rattle.uac_rate.specs.Steadiness.{Given, eight_streams, has_four_lost, is_slight, is_steady, deviated, one_more, reported, restarted, run}
-use Rattle.uac_alt.specs.Streams.{StreamFields}
+use Rattle.uac_rate.specs.Steadiness.{Given, eight_streams, has_four_lost, is_slight, is_steady, with_deviation_given, one_more, with_report_given, with_restart_given, run}
+use Rattle.uac_alt.specs.AltStreams.{StreamFields}
 use Rattle.uac_request.specs.declared.setup.Setup.{Setup}
-use Rattle.uac_device.specs.DeviceWorld.{DeviceWorld, controlled, stream_in_setting}
+use Rattle.uac_device.specs.DeviceWorld.{DeviceWorld, after_control, stream_in_setting}
 use Rattle.uac_script.specs.Phrase.{SaidMark}
-use Rattle.uac_streaming.specs.StreamingWorld.{StreamingWorld, followed, given_at, packet_fetched, packet_sent, place_of, report_made}
+use Rattle.uac_streaming.specs.StreamingWorld.{StreamingWorld, after_following, given_at, packet_fetched, packet_sent, place_of, report_made}
 use Rattle.uac_running.specs.RunningWorld.{RunningWorld, streaming_of, with_deviation}
-use Rattle.uac_running.specs.Transfers.{acts, holds_setting, transferred}
+use Rattle.uac_running.specs.RunningTransfers.{acts, holds_setting, after_transfer}
 use Rattle.uac_running.specs.Events.{microframe, microframes}
-use Rattle.uac_bands.specs.Run.{IsNearLevel, IsNoUnder, SteadinessLooksBack, SteadyRunsStaySteady}
-use Rattle.uac_bands.specs.Transfers.{CallsLookBack}
+use Rattle.uac_bands.specs.BandRun.{IsNearLevel, IsNoUnder, SteadinessLooksBack, SteadyRunsStaySteady}
+use Rattle.uac_bands.specs.BandTransfers.{CallsLookBack}
 use Rattle.uac_bands.proofs.KeptSteps.{IsKeptByEach, microframe_keeps}
 use Rattle.uac_bands.proofs.SteadyRun.{keep_bands}
 use Rattle.uac_bands.proofs.NoneEmpty.{find_none_empty}
@@ -41,11 +41,11 @@ all_before P Q back (n ∷ ns) h =
     let parts = and_parts (Q n) (list_all Q ns) h in
     and_from (P n) (list_all P ns) (back n parts.0) (all_before P Q back ns parts.1)
 
-report_before : (place : ℕ) (lost : Bool) (given : Given) → is_steady (reported place lost given) ≡ true → is_steady given ≡ true
+report_before : (place : ℕ) (lost : Bool) (given : Given) → is_steady (with_report_given place lost given) ≡ true → is_steady given ≡ true
 report_before place lost given h =
     let parts = and_parts (list_all is_slight given.deviations) _ h in
     and_from (list_all is_slight given.deviations) (list_all (λ n. keeps (given.feedback n)) eight_streams) parts.0
-    (all_before (λ n. keeps (given.feedback n)) (λ n. keeps ((reported place lost given).feedback n)) (λ n. by n (n == place)) eight_streams parts.1)
+    (all_before (λ n. keeps (given.feedback n)) (λ n. keeps ((with_report_given place lost given).feedback n)) (λ n. by n (n == place)) eight_streams parts.1)
   where
     by : (n : ℕ) (b : Bool) → keeps (if b then one_more lost (given.feedback n) else given.feedback n) ≡ true → keeps (given.feedback n) ≡ true
     by n true kept = kept_before lost (given.feedback n) kept
@@ -59,7 +59,7 @@ module _ (g : Given) where
   Leads w = is_steady w.given ≡ true → is_steady g ≡ true
 
   placed : (lost : Bool) (given : Given) → (is_steady given ≡ true → is_steady g ≡ true) → (o : Option ℕ)
-      → is_steady (given_at o (λ place. reported place lost) given) ≡ true → is_steady g ≡ true
+      → is_steady (given_at o (λ place. with_report_given place lost) given) ≡ true → is_steady g ≡ true
   placed lost given leads None h = leads h
   placed lost given leads (Some place) h = leads (report_before place lost given h)
 
@@ -75,78 +75,78 @@ module _ (g : Given) where
     goes_on = λ c w leads. leads;
   }
 
-  microframe_leads : (losses : List SaidMark) (r : RunningWorld) → Leads (streaming_of r) → Leads (streaming_of (microframe losses r).world)
+  microframe_leads : (marks : List SaidMark) (r : RunningWorld) → Leads (streaming_of r) → Leads (streaming_of (microframe marks r).world)
   microframe_leads = microframe_keeps Leads leads_each
 
-  microframes_lead : (losses : List SaidMark) (count : ℕ) (r : RunningWorld) → Leads (streaming_of r)
-      → Leads (streaming_of (microframes losses count r).world)
+  microframes_lead : (marks : List SaidMark) (count : ℕ) (r : RunningWorld) → Leads (streaming_of r)
+      → Leads (streaming_of (microframes marks count r).world)
   unfolding microframes
-  microframes_lead losses zero r leads = leads
-  microframes_lead losses (suc count) r leads = microframes_lead losses count (microframe losses r).world (microframe_leads losses r leads)
+  microframes_lead marks zero r leads = leads
+  microframes_lead marks (suc count) r leads = microframes_lead marks count (microframe marks r).world (microframe_leads marks r leads)
 
 pub looks_back : SteadinessLooksBack
-looks_back losses r steady = microframe_leads r.given losses r (λ h. h) steady
+looks_back marks r steady = microframe_leads r.given marks r (λ h. h) steady
 
 -- ---- so many microframes
 
 pub stay_steady : SteadyRunsStaySteady
 unfolding microframes
-stay_steady losses zero r band steady = record { stays = band; no_under = All-nil IsNoUnder; near = All-nil IsNearLevel }
-stay_steady losses (suc count) r band steady =
-    let next : RunningWorld = (microframe losses r).world in
-    let now : is_steady next.given ≡ true = microframes_lead next.given losses count next (λ h. h) steady in
-    let rest = stay_steady losses count next (keep_bands losses r band now) steady in
+stay_steady marks zero r band steady = record { stays = band; no_under = All-nil IsNoUnder; near = All-nil IsNearLevel }
+stay_steady marks (suc count) r band steady =
+    let next : RunningWorld = (microframe marks r).world in
+    let now : is_steady next.given ≡ true = microframes_lead next.given marks count next (λ h. h) steady in
+    let rest = stay_steady marks count next (keep_bands marks r band now) steady in
     record {
       stays = rest.stays;
-      no_under = All-append IsNoUnder (microframe losses r).lines (microframes losses count next).lines (find_none_empty losses r band) rest.no_under;
-      near = All-append IsNearLevel (microframe losses r).lines (microframes losses count next).lines (tell_near losses r band now) rest.near;
+      no_under = All-append IsNoUnder (microframe marks r).lines (microframes marks count next).lines (find_none_empty marks r band) rest.no_under;
+      near = All-append IsNearLevel (microframe marks r).lines (microframes marks count next).lines (tell_near marks r band now) rest.near;
     }
 
 -- ---- between microframes
 
-deviation_before : (millionths : ℤ) (given : Given) → is_steady (deviated millionths given) ≡ true
-    → (is_slight millionths ≡ true) × (is_steady given ≡ true)
-deviation_before millionths given h =
-    let parts = and_parts (list_all is_slight (millionths ∷ given.deviations)) _ h in
-    let slight = and_parts (is_slight millionths) (list_all is_slight given.deviations) parts.0 in
+deviation_before : (ppm : ℤ) (given : Given) → is_steady (with_deviation_given ppm given) ≡ true
+    → (is_slight ppm ≡ true) × (is_steady given ≡ true)
+deviation_before ppm given h =
+    let parts = and_parts (list_all is_slight (ppm ∷ given.deviations)) _ h in
+    let slight = and_parts (is_slight ppm) (list_all is_slight given.deviations) parts.0 in
     (slight.0, and_from (list_all is_slight given.deviations) (list_all (λ n. keeps (given.feedback n)) eight_streams) slight.1 parts.1)
 
-start_before : (place : ℕ) (given : Given) → is_steady (restarted place given) ≡ true → is_steady given ≡ true
+start_before : (place : ℕ) (given : Given) → is_steady (with_restart_given place given) ≡ true → is_steady given ≡ true
 start_before place given h =
     let parts = and_parts (list_all is_slight given.deviations) _ h in
     and_from (list_all is_slight given.deviations) (list_all (λ n. keeps (given.feedback n)) eight_streams) parts.0
-    (all_before (λ n. keeps (given.feedback n)) (λ n. keeps ((restarted place given).feedback n)) (λ n. by n (n == place)) eight_streams parts.1)
+    (all_before (λ n. keeps (given.feedback n)) (λ n. keeps ((with_restart_given place given).feedback n)) (λ n. by n (n == place)) eight_streams parts.1)
   where
     by : (n : ℕ) (b : Bool) → keeps (if b then [] ∷ given.feedback n else given.feedback n) ≡ true → keeps (given.feedback n) ≡ true
     by n true kept = kept
     by n false kept = kept
 
-deviation_looks_back : (r : RunningWorld) (clock : ℕ) (millionths : ℤ) → is_steady (with_deviation clock millionths r).given ≡ true
-    → (is_slight millionths ≡ true) × (is_steady r.given ≡ true)
+deviation_looks_back : (r : RunningWorld) (clock : ℕ) (ppm : ℤ) → is_steady (with_deviation clock ppm r).given ≡ true
+    → (is_slight ppm ≡ true) × (is_steady r.given ≡ true)
 unfolding with_deviation
-deviation_looks_back r clock millionths h = deviation_before millionths r.given h
+deviation_looks_back r clock ppm h = deviation_before ppm r.given h
 
-transfer_looks_back : (r : RunningWorld) (p : Setup) (bytes : List ℕ) → is_steady (transferred p bytes r).given ≡ true → is_steady r.given ≡ true
-unfolding transferred followed
+transfer_looks_back : (r : RunningWorld) (p : Setup) (bytes : List ℕ) → is_steady (after_transfer p bytes r).given ≡ true → is_steady r.given ≡ true
+unfolding after_transfer after_following
 transfer_looks_back r p bytes h = by (holds_setting p bytes r) h
   where
     device : DeviceWorld
-    device = acts r.breaks r.device (controlled p bytes r.device)
+    device = acts r.breaks r.device (after_control p bytes r.device)
 
     begun : Option StreamFields
     begun = stream_in_setting r.device.function r.device.controls p.index p.value
 
-    at : (o : Option ℕ) → is_steady (given_at o restarted r.given) ≡ true → is_steady r.given ≡ true
+    at : (o : Option ℕ) → is_steady (given_at o with_restart_given r.given) ≡ true → is_steady r.given ≡ true
     at None steady = steady
     at (Some place) steady = start_before place r.given steady
 
-    begins : (b : Bool) → is_steady (if b then given_at (place_of device.function p.index) restarted r.given else r.given) ≡ true
+    begins : (b : Bool) → is_steady (if b then given_at (place_of device.function p.index) with_restart_given r.given else r.given) ≡ true
         → is_steady r.given ≡ true
     begins true steady = at (place_of device.function p.index) steady
     begins false steady = steady
 
     by : (b : Bool)
-        → is_steady (let s = record (streaming_of r) { device = device } in if b then followed p.index begun s else s).given ≡ true
+        → is_steady (let s = record (streaming_of r) { device = device } in if b then after_following p.index begun s else s).given ≡ true
         → is_steady r.given ≡ true
     by true steady = begins (is_some begun) steady
     by false steady = steady

@@ -7,21 +7,21 @@ use Rattle.std.proofs.lemmas.Bool.{and_parts, eqb-false}
 use Rattle.std.proofs.lemmas.List.Elements.{All-cons, All-nil}
 use Rattle.uac_rate.specs.Levels.{Within}
 use Rattle.uac_rate.specs.Steadiness.{one_more}
-use Rattle.uac_alt.specs.Streams.{StreamFields}
-use Rattle.uac_flow.specs.Streams.{OutStream, feedback_of, is_due, out_level, settled_out}
-use Rattle.uac_host.specs.Calls.{reported}
+use Rattle.uac_alt.specs.AltStreams.{StreamFields}
+use Rattle.uac_flow.specs.FlowStreams.{OutStream, feedback_of, is_due, out_level, settled_out}
+use Rattle.uac_host.specs.Calls.{pace_after_report}
 use Rattle.uac_host.specs.HostWorld.{Track}
 use Rattle.uac_lanes.specs.InterfaceStreams.{either_due, level_in}
-use Rattle.uac_device.specs.DeviceWorld.{DeviceWorld, Domain, advanced, is_due_in, level_of, next_ticks, settled, step_in, target_of}
+use Rattle.uac_device.specs.DeviceWorld.{DeviceWorld, Domain, after_advance, is_due_in, level_of, next_ticks, after_settling, step_in, target_of}
 use Rattle.uac_script.specs.Phrase.{SaidMark}
 use Rattle.uac_transcript.specs.Transcript.{Said, says_level, says_over, says_under}
 use Rattle.uac_streaming.specs.StreamingWorld.{StreamingWorld, all_settled, finds_empty, finds_full, goes_out, loses_out, loses_report, numbers, out_packets, settled_turn}
 use Rattle.uac_running.specs.RunningWorld.{RunningWorld, streaming_of}
 use Rattle.uac_running.specs.Events.{all_given, domain_microframe, domain_microframes, microframe, tick}
 use Rattle.uac_bands.specs.Life.{Life, life_after, with_end, with_feedback, with_packet, with_step}
-use Rattle.uac_bands.specs.Bands.{passed}
+use Rattle.uac_bands.specs.Bands.{microframes_since_due}
 use Rattle.uac_bands.specs.Projection.{next_life}
-use Rattle.uac_bands.specs.Run.{RunInBand, SteadyMicroframesTellNear, StreamInBand}
+use Rattle.uac_bands.specs.BandRun.{RunInBand, SteadyMicroframesTellNear, StreamInBand}
 use Rattle.uac_bands.proofs.Once.{Among, clock_among, numbers_differ}
 use Rattle.uac_bands.proofs.Shown.{Place, Shows, packet_at, packet_shown, settled_here, settled_other, track_after}
 use Rattle.uac_bands.proofs.Ticked.{step_at}
@@ -50,7 +50,7 @@ module _ (Q : ℕ → ℕ → Type 0) (k : ℕ) where
 
   -- ---- packets and ticks tell no level
 
-  outs_near : (detail : ℕ) (losses : List SaidMark) (w : StreamingWorld) → All IsNear (out_packets detail losses w).lines
+  outs_near : (detail : ℕ) (marks : List SaidMark) (w : StreamingWorld) → All IsNear (out_packets detail marks w).lines
   outs_near = outs_say IsNear quiet (λ interface level target same. absurd (cc))
 
   tick_near : (c : ℕ) (r : RunningWorld) → All IsNear (tick c r).lines
@@ -62,7 +62,7 @@ module _ (Q : ℕ → ℕ → Type 0) (k : ℕ) where
   domain_near : (c : ℕ) (r : RunningWorld) → ⊤ → All IsNear (domain_microframe c r).lines
   unfolding domain_microframe
   domain_near c r all =
-      ticks_say IsNear quiet (λ v. ⊤) c (λ v any. tick_near c v) (λ v any. tt) (next_ticks c r.device) (record r { device = advanced c r.device }) tt
+      ticks_say IsNear quiet (λ v. ⊤) c (λ v any. tick_near c v) (λ v any. tt) (next_ticks c r.device) (record r { device = after_advance c r.device }) tt
 
   ticks_near : (clocks : List ℕ) (r : RunningWorld) → All IsNear (domain_microframes clocks r).lines
   ticks_near clocks r = domains_say IsNear quiet (λ v. ⊤) domain_near (λ c v any. tt) clocks r tt
@@ -70,7 +70,7 @@ module _ (Q : ℕ → ℕ → Type 0) (k : ℕ) where
   -- ---- the ends
 
   abbrev level_line : ℕ → DeviceWorld → Said
-  level_line n w = says_level n (level_of (settled n w) n) (target_of (settled n w) n)
+  level_line n w = says_level n (level_of (after_settling n w) n) (target_of (after_settling n w) n)
 
   abbrev is_told : ℕ → ℕ → DeviceWorld → Bool
   is_told detail n w = nat_le 2 detail && (goes_out w.function n && is_due_in w n)
@@ -87,10 +87,10 @@ module _ (Q : ℕ → ℕ → Type 0) (k : ℕ) where
   end_none detail w none =
       maybe_one IsNear quiet (is_told detail k w.device) (level_line k w.device)
       (λ level target same. absurd (let nowhere = gone (settled_none k detail k w none) in
-      let there : target_of (settled k w.device) k ≡ Some target = cc in
+      let there : target_of (after_settling k w.device) k ≡ Some target = cc in
       let both : None ≡ Some target = sym nowhere ∙ there in cc))
     where
-      gone : RunsNone k (settled_turn detail k w).world → target_of (settled k w.device) k ≡ None
+      gone : RunsNone k (settled_turn detail k w).world → target_of (after_settling k w.device) k ≡ None
       gone nothing = ap (option_and_then (λ o. o.target)) nothing
 
   ends_near_none : (detail : ℕ) (w : StreamingWorld) → RunsNone k w → All IsNear (all_settled detail w).lines
@@ -99,11 +99,11 @@ module _ (Q : ℕ → ℕ → Type 0) (k : ℕ) where
       turns_once_say IsNear (settled_turn detail) k (end_other detail) (RunsNone k) (λ n v other nothing. settled_none k detail n v nothing)
       (end_none detail) (numbers w.device.function) w (numbers_differ w.device.function) none
 
-  pub none_near : (losses : List SaidMark) (r : RunningWorld) → RestsNow k r → All IsNear (microframe losses r).lines
-  none_near losses r none =
-      microframe_says IsNear quiet losses r (outs_near r.detail losses (streaming_of (numbered r)))
-      (ticks_near (fetched losses r).device.function.domains (fetched losses r))
-      (ends_near_none (ticked_on losses r).detail (streaming_of (ticked_on losses r)) (before_the_end_none k losses (numbered r) none))
+  pub none_near : (marks : List SaidMark) (r : RunningWorld) → RestsNow k r → All IsNear (microframe marks r).lines
+  none_near marks r none =
+      microframe_says IsNear quiet marks r (outs_near r.detail marks (streaming_of (numbered r)))
+      (ticks_near (fetched marks r).device.function.domains (fetched marks r))
+      (ends_near_none (ticked_on marks r).detail (streaming_of (ticked_on marks r)) (before_the_end_none k marks (numbered r) none))
 
 -- ---- where it runs one
 
@@ -116,19 +116,19 @@ module _ (Q : ℕ → ℕ → Type 0) (p : Place) (detail : ℕ) where
   end_here : (w : StreamingWorld) (l : Life) (t : Track) → Shows p w l t → IsNearThen Q l.out
       → All (IsNear Q p.interface) (settled_turn detail p.interface w).lines
   unfolding settled_turn is_due_in level_of target_of
-  end_here w l t s near = by (is_told Q p.interface detail p.interface w.device) refl (behind (settled_here p detail [] w l t s).out)
+  end_here w l t s near = by (is_told Q p.interface detail p.interface w.device) refl (following (settled_here p detail [] w l t s).out)
     where
-      behind : (settled_turn detail p.interface w).world.device.outs p.interface ≡ Some (settled_out l.out)
-          → (level_of (settled p.interface w.device) p.interface ≡ out_level (settled_out l.out))
-          × (target_of (settled p.interface w.device) p.interface ≡ (settled_out l.out).target)
-      behind out = (
-        ap (λ (o : Option OutStream). level_in o ((settled p.interface w.device).ins p.interface)) out,
+      following : (settled_turn detail p.interface w).world.device.outs p.interface ≡ Some (settled_out l.out)
+          → (level_of (after_settling p.interface w.device) p.interface ≡ out_level (settled_out l.out))
+          × (target_of (after_settling p.interface w.device) p.interface ≡ (settled_out l.out).target)
+      following out = (
+        ap (λ (o : Option OutStream). level_in o ((after_settling p.interface w.device).ins p.interface)) out,
         ap (λ (o : Option OutStream). option_and_then (λ x. x.target) o) out,
       )
 
       by : (b : Bool) → is_told Q p.interface detail p.interface w.device ≡ b
-          → (level_of (settled p.interface w.device) p.interface ≡ out_level (settled_out l.out))
-          × (target_of (settled p.interface w.device) p.interface ≡ (settled_out l.out).target)
+          → (level_of (after_settling p.interface w.device) p.interface ≡ out_level (settled_out l.out))
+          × (target_of (after_settling p.interface w.device) p.interface ≡ (settled_out l.out).target)
           → All (IsNear Q p.interface) (if b then level_line Q p.interface p.interface w.device ∷ [] else [])
       by false told after = All-nil (IsNear Q p.interface)
       by true told after =
@@ -137,8 +137,8 @@ module _ (Q : ℕ → ℕ → Type 0) (p : Place) (detail : ℕ) where
           let out = and_parts (goes_out w.device.function p.interface) _ detailed.1 in
           let due : is_due l.out.stream l.out.microframes ≡ true =
           sym (ap (λ (o : Option OutStream). either_due o (w.device.ins p.interface)) s.out) ∙ out.1 in
-          let level_is : level_of (settled p.interface w.device) p.interface ≡ level = cc in
-          let target_is : target_of (settled p.interface w.device) p.interface ≡ Some target = cc in
+          let level_is : level_of (after_settling p.interface w.device) p.interface ≡ level = cc in
+          let target_is : target_of (after_settling p.interface w.device) p.interface ≡ Some target = cc in
           subst (λ (n : ℕ). Q n target) (sym after.0 ∙ level_is) (near due target (sym after.1 ∙ target_is))))
           (All-nil (IsNear Q p.interface))
 
@@ -156,7 +156,7 @@ pub feedback_out : (lost : Bool) (m : Life) → (with_feedback lost m).out ≡ m
 feedback_out lost m = by (feedback_of m.out)
   where
     by : (o : Option ℕ)
-        → (option_map_or (λ value. record m { pace = if lost then m.pace else reported value m.pace; reports = one_more lost m.reports }) o m).out ≡ m.out
+        → (option_map_or (λ value. record m { pace = if lost then m.pace else pace_after_report value m.pace; reports = one_more lost m.reports }) o m).out ≡ m.out
     by None = refl
     by (Some value) = refl
 
@@ -166,7 +166,7 @@ settled_count x = refl
 
 -- so is the level of a primed stream where a service interval has ended
 abbrev pub EndsSo : (ℕ → ℕ → Type 0) → Life → Type 0
-EndsSo Q l = (target : ℕ) → passed l.out ≡ 0 → l.out.target ≡ Some target → Q (out_level l.out) target
+EndsSo Q l = (target : ℕ) → microframes_since_due l.out ≡ 0 → l.out.target ≡ Some target → Q (out_level l.out) target
 
 near_then : (Q : ℕ → ℕ → Type 0) (packet : Option (List ℕ)) (step : ℕ) (lost : Bool) (l : Life) → EndsSo Q (life_after packet step lost l)
     → IsNearThen Q (with_step step (with_packet packet l)).out
@@ -174,38 +174,38 @@ unfolding life_after
 near_then Q packet step lost l so due target is =
     let x : OutStream = (with_step step (with_packet packet l)).out in
     let out : (life_after packet step lost l).out ≡ settled_out x = feedback_out lost (with_end (with_step step (with_packet packet l))) in
-    let ends : passed (life_after packet step lost l).out ≡ 0 =
+    let ends : microframes_since_due (life_after packet step lost l).out ≡ 0 =
     ap (λ (o : OutStream). o.microframes % o.stream.service) out
     ∙ ap (λ (n : ℕ). n % (settled_out x).stream.service) (settled_count x)
     ∙ ap (λ (of : StreamFields). (x.microframes + 1) % of.service) (ended_streams x)
     ∙ is_zero ((x.microframes + 1) % x.stream.service) due in
     subst (λ (o : OutStream). Q (out_level o) target) out (so target ends (ap (λ (o : OutStream). o.target) out ∙ is))
 
-pub some_near : (Q : ℕ → ℕ → Type 0) (losses : List SaidMark) (r : RunningWorld) (k : ℕ) (l : Life) (d : Domain) → RunInBand r → StreamInBand r k l d
-    → EndsSo Q (next_life losses r k l d) → All (IsNear Q k) (microframe losses r).lines
-some_near Q losses r k l d band stream so = opened r k l d stream.runs (λ clock place steps is s.
+pub some_near : (Q : ℕ → ℕ → Type 0) (marks : List SaidMark) (r : RunningWorld) (k : ℕ) (l : Life) (d : Domain) → RunInBand r → StreamInBand r k l d
+    → EndsSo Q (next_life marks r k l d) → All (IsNear Q k) (microframe marks r).lines
+some_near Q marks r k l d band stream so = opened r k l d stream.runs (λ clock place steps is s.
     (let p : Place = place_in r k d clock place in
     let t : Track = r.host.tracks k in
-    let packet : Option (List ℕ) = if loses_out losses k then None else Some (packet_at l.pace t) in
+    let packet : Option (List ℕ) = if loses_out marks k then None else Some (packet_at l.pace t) in
     let clocked : Among clock r.device.function.domains = subst (Among clock) band.ordered.clocks (clock_among clock r.device.domains (record d { steps = l.steps }) s.domain) in
-    let ticked = before_the_end p is band.ordered.numbers losses band.ordered.apart clocked (numbered r) l t s in
-    let next : EndsSo Q (life_after packet (step_at p) (loses_report losses k) l) =
-    subst (λ (n : ℕ). EndsSo Q (life_after packet n (loses_report losses k) l)) (sym (step_is r k d clock place))
-    (subst (λ (b : List ℕ). EndsSo Q (life_after (if loses_out losses k then None else Some b) (step_in r.device d) (loses_report losses k) l))
+    let ticked = before_the_end p is band.ordered.numbers marks band.ordered.apart clocked (numbered r) l t s in
+    let next : EndsSo Q (life_after packet (step_at p) (loses_report marks k) l) =
+    subst (λ (n : ℕ). EndsSo Q (life_after packet n (loses_report marks k) l)) (sym (step_is r k d clock place))
+    (subst (λ (b : List ℕ). EndsSo Q (life_after (if loses_out marks k then None else Some b) (step_in r.device d) (loses_report marks k) l))
     (packet_shown p (streaming_of r) l t s) so) in
-    microframe_says (IsNear Q k) (quiet Q k) losses r (outs_near Q k r.detail losses (streaming_of (numbered r)))
-    (ticks_near Q k (fetched losses r).device.function.domains (fetched losses r))
-    (ends_near_here Q p (ticked_on losses r).detail (streaming_of (ticked_on losses r)) (with_step (step_at p) (with_packet packet l)) (track_after l t) ticked
-    (near_then Q packet (step_at p) (loses_report losses k) l next))))
+    microframe_says (IsNear Q k) (quiet Q k) marks r (outs_near Q k r.detail marks (streaming_of (numbered r)))
+    (ticks_near Q k (fetched marks r).device.function.domains (fetched marks r))
+    (ends_near_here Q p (ticked_on marks r).detail (streaming_of (ticked_on marks r)) (with_step (step_at p) (with_packet packet l)) (track_after l t) ticked
+    (near_then Q packet (step_at p) (loses_report marks k) l next))))
 
 pub tell_near : SteadyMicroframesTellNear
-tell_near losses r band steady j said below k level target = by (r.device.outs k) refl j said below level target
+tell_near marks r band steady j said below k level target = by (r.device.outs k) refl j said below level target
   where
-    by : (o : Option OutStream) → r.device.outs k ≡ o → All (IsNear (Within 130) k) (microframe losses r).lines
-    by None none = none_near (Within 130) k losses r none
+    by : (o : Option OutStream) → r.device.outs k ≡ o → All (IsNear (Within 130) k) (microframe marks r).lines
+    by None none = none_near (Within 130) k marks r none
     by (Some o) there =
         let stream = band.streams k o there in
         let l : Life = stream.0 in
         let d : Domain = stream.1 in
-        let next = next_in_band losses r k l d stream.3 (few_behind losses r band steady k l d stream.3.runs) in
-        some_near (Within 130) losses r k l d band stream.3 (λ target ends is. ends_near (next_life losses r k l d) target next is ends)
+        let next = next_in_band marks r k l d stream.3 (few_behind marks r band steady k l d stream.3.runs) in
+        some_near (Within 130) marks r k l d band stream.3 (λ target ends is. ends_near (next_life marks r k l d) target next is ends)

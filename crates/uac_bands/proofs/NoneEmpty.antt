@@ -8,10 +8,10 @@ use Rattle.std.proofs.lemmas.List.Elements.{All-append, All-nil}
 use Rattle.std.proofs.lemmas.Map.Keys.{IsDistinct-head, IsDistinct-tail}
 use Rattle.uac_clock.specs.Ticks.{ticks_in}
 use Rattle.uac_topology.specs.Function.{FunctionFields}
-use Rattle.uac_flow.specs.Streams.{OutStream, after_packet, after_taking, after_ticks, is_dry, is_due}
-use Rattle.uac_host.specs.Calls.{sent}
+use Rattle.uac_flow.specs.FlowStreams.{OutStream, after_packet, after_taking, after_ticks, is_dry, is_due}
+use Rattle.uac_host.specs.Calls.{pace_after_packet}
 use Rattle.uac_host.specs.HostWorld.{Track}
-use Rattle.uac_device.specs.DeviceWorld.{DeviceWorld, Domain, advanced, is_on, next_ticks, step_in}
+use Rattle.uac_device.specs.DeviceWorld.{DeviceWorld, Domain, after_advance, is_on, next_ticks, step_in}
 use Rattle.uac_script.specs.Phrase.{SaidMark}
 use Rattle.uac_transcript.specs.Transcript.{Said, says_over, says_under}
 use Rattle.uac_streaming.specs.StreamingWorld.{StreamingWorld, all_settled, finds_empty, finds_full, loses_out, out_packets}
@@ -20,7 +20,7 @@ use Rattle.uac_running.specs.RunningWorld.{RunningWorld, streaming_of}
 use Rattle.uac_running.specs.Events.{all_given, domain_microframe, domain_microframes, microframe, tick, tick_times}
 use Rattle.uac_bands.specs.Life.{Life, ticks_taken, with_packet, with_step}
 use Rattle.uac_bands.specs.Bands.{IsSteadyMicroframe}
-use Rattle.uac_bands.specs.Run.{MicroframesFindNoneEmpty, RunInBand, StreamInBand}
+use Rattle.uac_bands.specs.BandRun.{MicroframesFindNoneEmpty, RunInBand, StreamInBand}
 use Rattle.uac_bands.proofs.Once.{Among, apart_from, clock_among, first_or_later, other_number}
 use Rattle.uac_bands.proofs.Shown.{IsPlace, Place, Shows, packet_at, packet_shown, track_after}
 use Rattle.uac_bands.proofs.Ticked.{advanced_elsewhere, advanced_own, domain_elsewhere, domain_own, jacks_show, on_clock_only, so_many, step_at, tick_other, tick_own}
@@ -45,7 +45,7 @@ module _ (k : ℕ) where
     feedback = λ interface value lost same. cc;
   }
 
-  outs_not : (detail : ℕ) (losses : List SaidMark) (w : StreamingWorld) → All NotUnder (out_packets detail losses w).lines
+  outs_not : (detail : ℕ) (marks : List SaidMark) (w : StreamingWorld) → All NotUnder (out_packets detail marks w).lines
   outs_not = outs_say NotUnder quiet (λ interface same. cc)
 
   ends_not : (detail : ℕ) (w : StreamingWorld) → All NotUnder (all_settled detail w).lines
@@ -70,15 +70,15 @@ module _ (k : ℕ) where
   none_domain : (c : ℕ) (r : RunningWorld) → RestsNow k r → All NotUnder (domain_microframe c r).lines
   unfolding domain_microframe
   none_domain c r none =
-      ticks_say NotUnder quiet (RestsNow k) c (none_tick c) (tick_none k c) (next_ticks c r.device) (record r { device = advanced c r.device })
+      ticks_say NotUnder quiet (RestsNow k) c (none_tick c) (tick_none k c) (next_ticks c r.device) (record r { device = after_advance c r.device })
       (advanced_none k c r none)
 
-  none_says : (losses : List SaidMark) (r : RunningWorld) → RestsNow k r → All NotUnder (microframe losses r).lines
-  none_says losses r none =
-      microframe_says NotUnder quiet losses r (outs_not r.detail losses (streaming_of (numbered r)))
-      (domains_say NotUnder quiet (RestsNow k) none_domain (domain_none k) (fetched losses r).device.function.domains (fetched losses r)
-      (before_ticks_none k losses (numbered r) none))
-      (ends_not (ticked_on losses r).detail (streaming_of (ticked_on losses r)))
+  none_says : (marks : List SaidMark) (r : RunningWorld) → RestsNow k r → All NotUnder (microframe marks r).lines
+  none_says marks r none =
+      microframe_says NotUnder quiet marks r (outs_not r.detail marks (streaming_of (numbered r)))
+      (domains_say NotUnder quiet (RestsNow k) none_domain (domain_none k) (fetched marks r).device.function.domains (fetched marks r)
+      (before_ticks_none k marks (numbered r) none))
+      (ends_not (ticked_on marks r).detail (streaming_of (ticked_on marks r)))
 
 -- ---- where it runs one
 
@@ -123,7 +123,7 @@ module _ (p : Place) (is : IsPlace p) where
   unfolding domain_microframe
   other_domain c r l t other s =
       ticks_say Not (quiet p.interface) (λ v. Shows p (streaming_of v) l t) c (λ v there. other_tick c v l t other there)
-      (λ v there. tick_other p is c v l t other there) (next_ticks c r.device) (record r { device = advanced c r.device })
+      (λ v there. tick_other p is c v l t other there) (next_ticks c r.device) (record r { device = after_advance c r.device })
       (advanced_elsewhere p is c r l t other s)
 
   -- what its ring is before each tick of its domain
@@ -136,7 +136,7 @@ module _ (p : Place) (is : IsPlace p) where
       → All Not (domain_microframe p.clock r).lines
   unfolding domain_microframe
   own_domain r l t s holds =
-      own_ticks (next_ticks p.clock r.device) (record r { device = advanced p.clock r.device })
+      own_ticks (next_ticks p.clock r.device) (record r { device = after_advance p.clock r.device })
       (record l { out = after_ticks (next_ticks p.clock r.device) l.out; steps = l.steps ++ step_at p ∷ [] }) t (advanced_own p is r l t s)
       (subst (λ (n : ℕ). (i : ℕ) → i < n → is_dry (ticks_taken i (after_ticks n l.out)) ≡ false) (sym (so_many p r l t s)) holds)
 
@@ -172,40 +172,40 @@ module _ (p : Place) (is : IsPlace p) where
 steps_with_packet : (packet : Option (List ℕ)) (l : Life) → (with_packet packet l).steps ≡ l.steps
 steps_with_packet packet l = by (is_due l.out.stream l.out.microframes)
   where
-    by : (b : Bool) → (if b then record l { out = after_packet packet l.out; pace = sent l.pace } else l).steps ≡ l.steps
+    by : (b : Bool) → (if b then record l { out = after_packet packet l.out; pace = pace_after_packet l.pace } else l).steps ≡ l.steps
     by true = refl
     by false = refl
 
-some_says : (losses : List SaidMark) (r : RunningWorld) (k : ℕ) (l : Life) (d : Domain) → RunInBand r → StreamInBand r k l d
-    → All (NotUnder k) (microframe losses r).lines
-some_says losses r k l d band stream = opened r k l d stream.runs (λ clock place steps is s.
+some_says : (marks : List SaidMark) (r : RunningWorld) (k : ℕ) (l : Life) (d : Domain) → RunInBand r → StreamInBand r k l d
+    → All (NotUnder k) (microframe marks r).lines
+some_says marks r k l d band stream = opened r k l d stream.runs (λ clock place steps is s.
     (let p : Place = place_in r k d clock place in
     let t : Track = r.host.tracks k in
     let v : RunningWorld = numbered r in
     let bytes : List ℕ = packet_at l.pace t in
-    let packet : Option (List ℕ) = if loses_out losses k then None else Some bytes in
+    let packet : Option (List ℕ) = if loses_out marks k then None else Some bytes in
     let clocked : Among clock r.device.function.domains = subst (Among clock) band.ordered.clocks (clock_among clock r.device.domains (record d { steps = l.steps }) s.domain) in
-    let sent_shows = packets_out p is band.ordered.numbers losses r.detail (streaming_of v) l t s in
-    let came_shows = packets_in p is band.ordered.numbers losses r.detail (out_packets r.detail losses (streaming_of v)).world (with_packet packet l) (track_after l t) sent_shows in
+    let sent_shows = packets_out p is band.ordered.numbers marks r.detail (streaming_of v) l t s in
+    let came_shows = packets_in p is band.ordered.numbers marks r.detail (out_packets r.detail marks (streaming_of v)).world (with_packet packet l) (track_after l t) sent_shows in
     let given : IsSteadyMicroframe packet (step_at p) l =
     subst (λ (n : ℕ). IsSteadyMicroframe packet n l) (sym (step_is r k d clock place))
-    (subst (λ (b : List ℕ). IsSteadyMicroframe (if loses_out losses k then None else Some b) (step_in r.device d) l) (packet_shown p (streaming_of r) l t s)
-    (steadily losses r k l d stream)) in
+    (subst (λ (b : List ℕ). IsSteadyMicroframe (if loses_out marks k then None else Some b) (step_in r.device d) l) (packet_shown p (streaming_of r) l t s)
+    (steadily marks r k l d stream)) in
     let holds : Holds p is (with_packet packet l) =
     subst (λ (ns : List ℕ). (i : ℕ) → i < ticks_in (ns ++ step_at p ∷ [])
     → is_dry (ticks_taken i (after_ticks (ticks_in (ns ++ step_at p ∷ [])) (with_packet packet l).out)) ≡ false)
     (sym (steps_with_packet packet l)) (never_dry l packet (step_at p) stream.band given) in
-    let ticks = all_domains_say p is (fetched losses r).device.function.domains (fetched losses r) (with_packet packet l) (track_after l t)
+    let ticks = all_domains_say p is (fetched marks r).device.function.domains (fetched marks r) (with_packet packet l) (track_after l t)
     (subst (λ (f : FunctionFields). IsDistinct nat_eq f.domains) (sym came_shows.function) band.ordered.apart)
     (subst (λ (f : FunctionFields). Among clock f.domains) (sym came_shows.function) clocked) came_shows holds in
-    microframe_says (NotUnder k) (quiet k) losses r (outs_not k r.detail losses (streaming_of (numbered r))) ticks
-    (ends_not k (ticked_on losses r).detail (streaming_of (ticked_on losses r)))))
+    microframe_says (NotUnder k) (quiet k) marks r (outs_not k r.detail marks (streaming_of (numbered r))) ticks
+    (ends_not k (ticked_on marks r).detail (streaming_of (ticked_on marks r)))))
 
 pub find_none_empty : MicroframesFindNoneEmpty
-find_none_empty losses r band j said below k = by (r.device.outs k) refl j said below
+find_none_empty marks r band j said below k = by (r.device.outs k) refl j said below
   where
-    by : (o : Option OutStream) → r.device.outs k ≡ o → All (NotUnder k) (microframe losses r).lines
-    by None none = none_says k losses r none
+    by : (o : Option OutStream) → r.device.outs k ≡ o → All (NotUnder k) (microframe marks r).lines
+    by None none = none_says k marks r none
     by (Some o) there =
         let stream = band.streams k o there in
-        some_says losses r k stream.0 stream.1 band stream.3
+        some_says marks r k stream.0 stream.1 band stream.3

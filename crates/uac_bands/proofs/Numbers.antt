@@ -4,9 +4,9 @@ use Rattle.std.proofs.lemmas.List.{length-replicate}
 use Rattle.std.proofs.lemmas.List.Folds.{sum_by-replicate}
 use Rattle.uac_clock.specs.Ticks.{ticks_in}
 use Rattle.uac_rate.specs.Levels.{AreIntervals, IsInterval, Within}
-use Rattle.uac_rate.specs.Packets.{frames_in_packet}
+use Rattle.uac_rate.specs.PacketSizes.{frames_in_packet}
 use Rattle.uac_rate.proofs.LevelsLemmas.{falls_due}
-use Rattle.uac_rate.proofs.PacketsLemmas.{by_remainder}
+use Rattle.uac_rate.proofs.PacketSizesLemmas.{by_remainder}
 
 -- a clock goes on by a step
 clock_on : (before step clock steps : ℕ) → before % 65536 ≡ (clock + steps) % 65536

@@ -47,13 +47,13 @@ module _ {W : Type 0} (step : ℕ → W → W) (k : ℕ) where
       → ((n : ℕ) (w : W) → (k == n) ≡ false → Q w → Q (step n w)) → ((w : W) → P w → Q (step k w)) → (ns : List ℕ) (w : W)
       → IsDistinct nat_eq ns → Among k ns → P w → Q (fold (λ v n. step n v) w ns)
   unfolding Among
-  row_once P Q before behind here [] w once there is = absurd there
-  row_once P Q before behind here (n ∷ ns) w once there is = elim there [
+  row_once P Q before following here [] w once there is = absurd there
+  row_once P Q before following here (n ∷ ns) w once there is = elim there [
     | inl same ↦
-        row_apart Q behind ns (step n w) (subst (λ (m : ℕ). AllByRecursion (λ y. nat_eq m y ≡ false) ns) same (IsDistinct-head nat_eq n ns once))
+        row_apart Q following ns (step n w) (subst (λ (m : ℕ). AllByRecursion (λ y. nat_eq m y ≡ false) ns) same (IsDistinct-head nat_eq n ns once))
         (subst (λ (m : ℕ). Q (step m w)) (sym same) (here w is))
     | inr later ↦
-        row_once P Q before behind here ns (step n w) (IsDistinct-tail nat_eq n ns once) later
+        row_once P Q before following here ns (step n w) (IsDistinct-tail nat_eq n ns once) later
         (before n w (other_number n k (apart_from n k ns (IsDistinct-head nat_eq n ns once) later)) is)
   ]
 
@@ -74,8 +74,8 @@ pub turns_once : {W : Type 0} (event : ℕ → W → Telling W) (k : ℕ) (P Q :
     → ((n : ℕ) (w : W) → (k == n) ≡ false → P w → P (event n w).world)
     → ((n : ℕ) (w : W) → (k == n) ≡ false → Q w → Q (event n w).world) → ((w : W) → P w → Q (event k w).world) → (ns : List ℕ) (w : W)
     → IsDistinct nat_eq ns → Among k ns → P w → Q (in_turn event ns w).world
-turns_once event k P Q before behind here ns w once there is =
-    subst Q (sym (turns_are_a_row event ns w)) (row_once (λ n v. (event n v).world) k P Q before behind here ns w once there is)
+turns_once event k P Q before following here ns w once there is =
+    subst Q (sym (turns_are_a_row event ns w)) (row_once (λ n v. (event n v).world) k P Q before following here ns w once there is)
 
 -- ---- streams by interface
 

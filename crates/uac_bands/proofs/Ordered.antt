@@ -1,14 +1,14 @@
 -- Devices are ordered at the start, and stay so.
 use Rattle.std.proofs.Common.{◌≡◌, ◌∙◌, refl, ap, ℕ, ◌==◌, ◌&&◌, Bool, true, false, if◌then◌else◌, ℤ, List, [], ◌∷◌, map, Option, Some, None}
-use Rattle.uac_alt.specs.Streams.{StreamFields}
+use Rattle.uac_alt.specs.AltStreams.{StreamFields}
 use Rattle.uac_request.specs.Requests.{after_request, held_by, reply_of}
-use Rattle.uac_device.specs.DeviceWorld.{DeviceWorld, Domain, at_rest, controlled, deviated, fresh, restarted, sets_interface, stream_in_setting, tells_done}
+use Rattle.uac_device.specs.DeviceWorld.{DeviceWorld, Domain, at_rest, after_control, after_deviation, fresh, after_restart, sets_interface, stream_in_setting, tells_done}
 use Rattle.uac_mixer.specs.declared.link.When.{When}
 use Rattle.uac_mixer.specs.declared.link.When.TheVariants as when
-use Rattle.uac_streaming.specs.StreamingWorld.{followed}
+use Rattle.uac_streaming.specs.StreamingWorld.{after_following}
 use Rattle.uac_streaming.proofs.RoomKept.{domains_apart}
 use Rattle.uac_running.specs.RunningWorld.{streaming_of}
-use Rattle.uac_running.specs.Transfers.{acts, holds_setting, transferred}
+use Rattle.uac_running.specs.RunningTransfers.{acts, holds_setting, after_transfer}
 use Rattle.uac_bands.specs.Projection.{DeviationsKeepOrder, IsOrdered, RequestsKeepOrder, StartsAreOrdered, TransfersKeepOrder}
 
 pub resting_clocks : (clocks : List ℕ) → map (λ d. d.clock) (map at_rest clocks) ≡ clocks
@@ -26,29 +26,29 @@ starts_are_ordered function sound numbers = record {
 abbrev pub clocks_of : List Domain → List ℕ
 clocks_of ds = map (λ d. d.clock) ds
 
-off_clocks : (clock : ℕ) (millionths : ℤ) (ds : List Domain)
-    → clocks_of (map {A = Domain} (λ d. if d.clock == clock then record d { deviation = millionths } else d) ds) ≡ map (λ d. d.clock) ds
-off_clocks clock millionths [] = refl
-off_clocks clock millionths (d ∷ ds) = by (d.clock == clock) (off_clocks clock millionths ds)
+off_clocks : (clock : ℕ) (ppm : ℤ) (ds : List Domain)
+    → clocks_of (map {A = Domain} (λ d. if d.clock == clock then record d { deviation = ppm } else d) ds) ≡ map (λ d. d.clock) ds
+off_clocks clock ppm [] = refl
+off_clocks clock ppm (d ∷ ds) = by (d.clock == clock) (off_clocks clock ppm ds)
   where
     rest : List ℕ
-    rest = clocks_of (map {A = Domain} (λ d. if d.clock == clock then record d { deviation = millionths } else d) ds)
+    rest = clocks_of (map {A = Domain} (λ d. if d.clock == clock then record d { deviation = ppm } else d) ds)
 
     by : (b : Bool) → rest ≡ map (λ d. d.clock) ds
-        → (let d' : Domain = if b then record d { deviation = millionths } else d in d'.clock ∷ rest) ≡ d.clock ∷ map (λ d. d.clock) ds
+        → (let d' : Domain = if b then record d { deviation = ppm } else d in d'.clock ∷ rest) ≡ d.clock ∷ map (λ d. d.clock) ds
     by true same = ap (λ (ns : List ℕ). d.clock ∷ ns) same
     by false same = ap (λ (ns : List ℕ). d.clock ∷ ns) same
 
 pub deviations_keep_order : DeviationsKeepOrder
-unfolding deviated
-deviations_keep_order clock millionths w ordered = record {
+unfolding after_deviation
+deviations_keep_order clock ppm w ordered = record {
   apart = ordered.apart;
-  clocks = off_clocks clock millionths w.domains ∙ ordered.clocks;
+  clocks = off_clocks clock ppm w.domains ∙ ordered.clocks;
   numbers = ordered.numbers;
 }
 
 pub requests_keep_order : RequestsKeepOrder
-unfolding controlled restarted
+unfolding after_control after_restart
 requests_keep_order p bytes w ordered = by (sets_interface p && tells_done (reply_of w.function (held_by w.controls w.settings) p bytes))
   where
     begun : Option StreamFields
@@ -57,17 +57,17 @@ requests_keep_order p bytes w ordered = by (sets_interface p && tells_done (repl
     by : (b : Bool)
         → (let after = after_request w.function (held_by w.controls w.settings) p bytes in
         let asked : DeviceWorld = record w { controls = after.controls; settings = after.settings } in
-        IsOrdered (if b then restarted p.index begun asked else asked))
+        IsOrdered (if b then after_restart p.index begun asked else asked))
     by true = record { apart = ordered.apart; clocks = ordered.clocks; numbers = ordered.numbers }
     by false = record { apart = ordered.apart; clocks = ordered.clocks; numbers = ordered.numbers }
 
 pub transfers_keep_order : TransfersKeepOrder
-unfolding transferred followed
+unfolding after_transfer after_following
 transfers_keep_order p bytes r ordered = by (holds_setting p bytes r) r.breaks
   where
     by : (b : Bool) (breaks : Option When)
-        → IsOrdered (let s = record (streaming_of r) { device = acts breaks r.device (controlled p bytes r.device) } in
-        if b then followed p.index (stream_in_setting r.device.function r.device.controls p.index p.value) s else s).device
+        → IsOrdered (let s = record (streaming_of r) { device = acts breaks r.device (after_control p bytes r.device) } in
+        if b then after_following p.index (stream_in_setting r.device.function r.device.controls p.index p.value) s else s).device
     by true None = requests_keep_order p bytes r.device ordered
     by true (Some when.Before) = ordered
     by true (Some when.After) = requests_keep_order p bytes r.device ordered

@@ -1,6 +1,6 @@
 -- A stream to the device through a packet, ticks and the end of a microframe, where it isn't found empty.
 use Rattle.std.proofs.Common.{arith, ◌≡◌, ◌∙◌, refl, ap, ℕ, zero, suc, ◌+◌, ◌-◌, ◌<◌, ◌≤◌, ◌==◌, ◌&&◌, append-nil, Bool, true, false, if◌then◌else◌, ℤ, pos, List, [], ◌++◌, length, replicate, Option, Some, None, is_some}
-use Rattle.uac_flow.specs.Streams.{OutStream, after_packet, after_taking, after_ticks, frames_of, is_dry, is_due, out_level, settled_out, settled_when_due, takes_all, target_after}
+use Rattle.uac_flow.specs.FlowStreams.{OutStream, after_packet, after_taking, after_ticks, frames_of, is_dry, is_due, out_level, settled_out, settled_when_due, takes_all, target_after}
 use Rattle.uac_bands.specs.Life.{ticks_taken}
 
 pub not_zero : (n : ℕ) → 0 < n → (n == 0) ≡ false

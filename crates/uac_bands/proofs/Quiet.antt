@@ -9,7 +9,7 @@ use Rattle.uac_entities.specs.declared.entity.Entity.{Entity}
 use Rattle.uac_entities.specs.declared.stream.StreamInterface.{StreamInterface}
 use Rattle.uac_flow.specs.declared.arrival.Arrival.{Arrival}
 use Rattle.uac_flow.specs.declared.arrival.Arrival.TheVariants as arrivals
-use Rattle.uac_device.specs.DeviceWorld.{DeviceWorld, arrival_in, feedback_in, frames_in, is_due_in, level_of, packet_in, settled, target_of, ticked}
+use Rattle.uac_device.specs.DeviceWorld.{DeviceWorld, arrival_in, feedback_in, frames_in, is_due_in, level_of, packet_in, after_settling, target_of, after_tick}
 use Rattle.uac_host.specs.Calls.{heard_in, size_of}
 use Rattle.uac_script.specs.Phrase.{SaidMark}
 use Rattle.uac_transcript.specs.declared.packets.Arrival as printed
@@ -19,7 +19,7 @@ use Rattle.uac_streaming.specs.StreamingWorld.{StreamingWorld, all_reported, all
 use Rattle.uac_units.specs.Hearing.{at_most_u64}
 use Rattle.uac_running.specs.RunningWorld.{RunningWorld, streaming_of, with_streaming}
 use Rattle.uac_running.specs.Events.{all_domains, all_given, domain_microframe, domain_microframes, ends_and_reports, followed_by, microframe, number_said, of_streams, packets_and_ticks, tick, tick_times}
-use Rattle.uac_running.specs.Lines.{output_jacks, played_line, played_lines}
+use Rattle.uac_running.specs.RunningLines.{output_jacks, played_line, played_lines}
 
 -- it holds of every line that a microframe says but those of rings found empty or full, and of levels
 pub record IsQuiet (N : Said → Type 0) : Type 0 where
@@ -37,13 +37,13 @@ numbered r = record r { time = at_most_u64 (r.time + 1) }
 
 -- after its packets
 abbrev pub fetched : List SaidMark → RunningWorld → RunningWorld
-fetched losses r =
-    let sent = with_streaming (numbered r) (out_packets r.detail losses (streaming_of (numbered r))).world in
-    with_streaming sent (in_packets r.detail losses (streaming_of sent)).world
+fetched marks r =
+    let sent = with_streaming (numbered r) (out_packets r.detail marks (streaming_of (numbered r))).world in
+    with_streaming sent (in_packets r.detail marks (streaming_of sent)).world
 
 -- and after its ticks
 abbrev pub ticked_on : List SaidMark → RunningWorld → RunningWorld
-ticked_on losses r = (packets_and_ticks losses (numbered r)).world
+ticked_on marks r = (packets_and_ticks marks (numbered r)).world
 
 -- ---- rows
 
@@ -122,28 +122,28 @@ module _ (N : Said → Type 0) (quiet : IsQuiet N) where
       All-append N (if nat_le 2 detail then says_out interface frames (arrived_as arrival) ∷ [] else []) (over_lines interface arrival)
       (maybe_one (nat_le 2 detail) (says_out interface frames (arrived_as arrival)) (quiet.out interface frames (arrived_as arrival))) overs
 
-  pub out_turn_says : (detail : ℕ) (losses : List SaidMark) (n : ℕ) (w : StreamingWorld)
-      → (is_out_due w n ≡ true → All N (over_lines n (arrival_in w.device n (packet_to (loses_out losses n) n w))))
-      → All N (out_turn detail losses n w).lines
+  pub out_turn_says : (detail : ℕ) (marks : List SaidMark) (n : ℕ) (w : StreamingWorld)
+      → (is_out_due w n ≡ true → All N (over_lines n (arrival_in w.device n (packet_to (loses_out marks n) n w))))
+      → All N (out_turn detail marks n w).lines
   unfolding out_turn
-  out_turn_says detail losses n w overs = by (is_out_due w n) overs
+  out_turn_says detail marks n w overs = by (is_out_due w n) overs
     where
       arrival : Arrival
-      arrival = arrival_in w.device n (packet_to (loses_out losses n) n w)
+      arrival = arrival_in w.device n (packet_to (loses_out marks n) n w)
 
       by : (b : Bool) → (b ≡ true → All N (over_lines n arrival))
-          → All N (if b then record { lines = sent_lines detail (loses_out losses n) n w; world = packet_sent (loses_out losses n) n w }
+          → All N (if b then record { lines = sent_lines detail (loses_out marks n) n w; world = packet_sent (loses_out marks n) n w }
           else at_rest w).lines
       by true here = out_quiet detail n (size_of w.host n) arrival (here refl)
       by false here = All-nil N
 
   -- where it holds of those of rings that are full, too
-  pub outs_say : ((interface : ℕ) → N (says_over interface)) → (detail : ℕ) (losses : List SaidMark) (w : StreamingWorld)
-      → All N (out_packets detail losses w).lines
+  pub outs_say : ((interface : ℕ) → N (says_over interface)) → (detail : ℕ) (marks : List SaidMark) (w : StreamingWorld)
+      → All N (out_packets detail marks w).lines
   unfolding out_packets
-  outs_say over detail losses w =
-      turns_say N (out_turn detail losses) (λ n v.
-      out_turn_says detail losses n v (λ due. overs n (arrival_in v.device n (packet_to (loses_out losses n) n v))))
+  outs_say over detail marks w =
+      turns_say N (out_turn detail marks) (λ n v.
+      out_turn_says detail marks n v (λ due. overs n (arrival_in v.device n (packet_to (loses_out marks n) n v))))
       (numbers w.device.function) w
     where
       overs : (interface : ℕ) (arrival : Arrival) → All N (over_lines interface arrival)
@@ -167,14 +167,14 @@ module _ (N : Said → Type 0) (quiet : IsQuiet N) where
       by true = frames_quiet interface heard
       by false = All-nil N
 
-  in_turn_quiet : (detail : ℕ) (losses : List SaidMark) (n : ℕ) (w : StreamingWorld) → All N (in_packet_turn detail losses n w).lines
+  in_turn_quiet : (detail : ℕ) (marks : List SaidMark) (n : ℕ) (w : StreamingWorld) → All N (in_packet_turn detail marks n w).lines
   unfolding in_packet_turn
-  in_turn_quiet detail losses n w = by (is_in_due w n)
+  in_turn_quiet detail marks n w = by (is_in_due w n)
     where
       by : (b : Bool)
-          → All N (if b then record { lines = fetched_lines detail (loses_in losses n) n w; world = packet_fetched (loses_in losses n) n w }
+          → All N (if b then record { lines = fetched_lines detail (loses_in marks n) n w; world = packet_fetched (loses_in marks n) n w }
           else at_rest w).lines
-      by true = in_quiet detail (loses_in losses n) n (frames_in w.device n) (heard_in w.host n (packet_in w.device n))
+      by true = in_quiet detail (loses_in marks n) n (frames_in w.device n) (heard_in w.host n (packet_in w.device n))
       by false = All-nil N
 
   -- ---- ends and reports
@@ -185,26 +185,26 @@ module _ (N : Said → Type 0) (quiet : IsQuiet N) where
   unfolding all_settled settled_turn
   ends_say level detail w = turns_say N (settled_turn detail) (λ n v.
       maybe_one (nat_le 2 detail && (goes_out v.device.function n && is_due_in v.device n))
-      (says_level n (level_of (settled n v.device) n) (target_of (settled n v.device) n))
-      (level n (level_of (settled n v.device) n) (target_of (settled n v.device) n))) (numbers w.device.function) w
+      (says_level n (level_of (after_settling n v.device) n) (target_of (after_settling n v.device) n))
+      (level n (level_of (after_settling n v.device) n) (target_of (after_settling n v.device) n))) (numbers w.device.function) w
 
-  report_turn_quiet : (detail : ℕ) (losses : List SaidMark) (n : ℕ) (w : StreamingWorld) → All N (report_turn detail losses n w).lines
+  report_turn_quiet : (detail : ℕ) (marks : List SaidMark) (n : ℕ) (w : StreamingWorld) → All N (report_turn detail marks n w).lines
   unfolding report_turn
-  report_turn_quiet detail losses n w = by (feedback_in w.device n)
+  report_turn_quiet detail marks n w = by (feedback_in w.device n)
     where
       by : (o : Option ℕ)
-          → All N (option_map_or (λ value. record { lines = report_lines detail (loses_report losses n) value n; world = report_made (loses_report losses n) value n w })
+          → All N (option_map_or (λ value. record { lines = report_lines detail (loses_report marks n) value n; world = report_made (loses_report marks n) value n w })
           o (at_rest w)).lines
       by None = All-nil N
-      by (Some value) = maybe_one (nat_le 2 detail) (says_feedback n value (loses_report losses n)) (quiet.feedback n value (loses_report losses n))
+      by (Some value) = maybe_one (nat_le 2 detail) (says_feedback n value (loses_report marks n)) (quiet.feedback n value (loses_report marks n))
 
-  all_in_quiet : (detail : ℕ) (losses : List SaidMark) (w : StreamingWorld) → All N (in_packets detail losses w).lines
+  all_in_quiet : (detail : ℕ) (marks : List SaidMark) (w : StreamingWorld) → All N (in_packets detail marks w).lines
   unfolding in_packets
-  all_in_quiet detail losses w = turns_say N (in_packet_turn detail losses) (in_turn_quiet detail losses) (numbers w.device.function) w
+  all_in_quiet detail marks w = turns_say N (in_packet_turn detail marks) (in_turn_quiet detail marks) (numbers w.device.function) w
 
-  all_reported_quiet : (detail : ℕ) (losses : List SaidMark) (w : StreamingWorld) → All N (all_reported detail losses w).lines
+  all_reported_quiet : (detail : ℕ) (marks : List SaidMark) (w : StreamingWorld) → All N (all_reported detail marks w).lines
   unfolding all_reported
-  all_reported_quiet detail losses w = turns_say N (report_turn detail losses) (report_turn_quiet detail losses) (numbers w.device.function) w
+  all_reported_quiet detail marks w = turns_say N (report_turn detail marks) (report_turn_quiet detail marks) (numbers w.device.function) w
 
   -- ---- a tick
 
@@ -219,7 +219,7 @@ module _ (N : Said → Type 0) (quiet : IsQuiet N) where
   unfolding tick found_lines played_lines
   tick_says c r unders overs =
       let w : DeviceWorld = all_given c r in
-      let device : DeviceWorld = ticked c w in
+      let device : DeviceWorld = after_tick c w in
       All-append N (found_lines c w) (if nat_le 1 r.detail then played_lines c device else [])
       (All-append N (map (λ s. says_under s.number) (filter (λ s. finds_empty c w s.number) w.function.streams))
       (map (λ s. says_over s.number) (filter (λ s. finds_full c w s.number) w.function.streams)) (unders w.function.streams)
@@ -253,22 +253,22 @@ module _ (N : Said → Type 0) (quiet : IsQuiet N) where
   -- ---- a microframe
 
   -- all its lines, by those of its packets to the device, of its ticks and of its end
-  pub microframe_says : (losses : List SaidMark) (r : RunningWorld) → All N (out_packets r.detail losses (streaming_of (numbered r))).lines
-      → All N (domain_microframes (fetched losses r).device.function.domains (fetched losses r)).lines
-      → All N (all_settled (ticked_on losses r).detail (streaming_of (ticked_on losses r))).lines → All N (microframe losses r).lines
+  pub microframe_says : (marks : List SaidMark) (r : RunningWorld) → All N (out_packets r.detail marks (streaming_of (numbered r))).lines
+      → All N (domain_microframes (fetched marks r).device.function.domains (fetched marks r)).lines
+      → All N (all_settled (ticked_on marks r).detail (streaming_of (ticked_on marks r))).lines → All N (microframe marks r).lines
   unfolding microframe packets_and_ticks ends_and_reports
-  microframe_says losses r outs ticks ends =
+  microframe_says marks r outs ticks ends =
       let v : RunningWorld = numbered r in
-      let sent = with_streaming v (out_packets v.detail losses (streaming_of v)).world in
-      let u : RunningWorld = ticked_on losses r in
+      let sent = with_streaming v (out_packets v.detail marks (streaming_of v)).world in
+      let u : RunningWorld = ticked_on marks r in
       let ended = (all_settled u.detail (streaming_of u)).world in
-      All-append N (number_said r.detail (at_most_u64 (r.time + 1))) (followed_by (packets_and_ticks losses) (ends_and_reports losses) v).lines
+      All-append N (number_said r.detail (at_most_u64 (r.time + 1))) (followed_by (packets_and_ticks marks) (ends_and_reports marks) v).lines
       (number_quiet r.detail (at_most_u64 (r.time + 1)))
-      (All-append N (packets_and_ticks losses v).lines (ends_and_reports losses u).lines
-      (All-append N (out_packets v.detail losses (streaming_of v)).lines
-      (followed_by (of_streams (in_packets v.detail losses)) all_domains sent).lines outs
-      (All-append N (in_packets v.detail losses (streaming_of sent)).lines
-      (domain_microframes (fetched losses r).device.function.domains (fetched losses r)).lines
-      (all_in_quiet v.detail losses (streaming_of sent)) ticks))
-      (All-append N (all_settled u.detail (streaming_of u)).lines (all_reported u.detail losses ended).lines ends
-      (all_reported_quiet u.detail losses ended)))
+      (All-append N (packets_and_ticks marks v).lines (ends_and_reports marks u).lines
+      (All-append N (out_packets v.detail marks (streaming_of v)).lines
+      (followed_by (of_streams (in_packets v.detail marks)) all_domains sent).lines outs
+      (All-append N (in_packets v.detail marks (streaming_of sent)).lines
+      (domain_microframes (fetched marks r).device.function.domains (fetched marks r)).lines
+      (all_in_quiet v.detail marks (streaming_of sent)) ticks))
+      (All-append N (all_settled u.detail (streaming_of u)).lines (all_reported u.detail marks ended).lines ends
+      (all_reported_quiet u.detail marks ended)))

@@ -2,18 +2,18 @@
 use Rattle.std.proofs.Common.{◌≡◌, refl, ℕ, ◌&&◌, not, Bool, true, false, if◌then◌else◌, List, Option, Some, None, is_some}
 use Rattle.uac_rate.specs.Steadiness.{Given}
 use Rattle.uac_rate.specs.Steadiness as steadiness
-use Rattle.uac_alt.specs.Streams.{StreamFields}
+use Rattle.uac_alt.specs.AltStreams.{StreamFields}
 use Rattle.uac_request.specs.Requests.{Held, after_request, held_by, reply_of}
 use Rattle.uac_request.specs.declared.setup.Setup.{Setup}
 use Rattle.uac_host.specs.Calls.{with_stream}
-use Rattle.uac_device.specs.DeviceWorld.{DeviceWorld, controlled, restarted, sets_interface, stream_in_setting, tells_done}
+use Rattle.uac_device.specs.DeviceWorld.{DeviceWorld, after_control, after_restart, sets_interface, stream_in_setting, tells_done}
 use Rattle.uac_mixer.specs.declared.link.When.{When}
 use Rattle.uac_mixer.specs.declared.link.When.TheVariants as when
-use Rattle.uac_mixer.specs.Transfers.{view_after}
+use Rattle.uac_mixer.specs.ViewTransfers.{view_after}
 use Rattle.uac_mixer.specs.ViewWorld.{ViewWorld}
-use Rattle.uac_streaming.specs.StreamingWorld.{followed, given_at, place_of}
+use Rattle.uac_streaming.specs.StreamingWorld.{after_following, given_at, place_of}
 use Rattle.uac_running.specs.RunningWorld.{RunningWorld, streaming_of, with_streaming}
-use Rattle.uac_running.specs.Transfers.{acts, breaks_before, comes_back, transferred}
+use Rattle.uac_running.specs.RunningTransfers.{acts, breaks_before, comes_back, after_transfer}
 
 module _ (p : Setup) (bytes : List ℕ) (r : RunningWorld) where
   abbrev pub held : Held
@@ -35,7 +35,7 @@ module _ (p : Setup) (bytes : List ℕ) (r : RunningWorld) where
   begun = stream_in_setting r.device.function r.device.controls p.index p.value
 
   abbrev pub given_then : Given
-  given_then = if is_some begun then given_at (place_of r.device.function p.index) steadiness.restarted r.given else r.given
+  given_then = if is_some begun then given_at (place_of r.device.function p.index) steadiness.with_restart_given r.given else r.given
 
   abbrev pub view_then : ViewWorld
   view_then = view_after r.device.function.control_interface p bytes (comes_back p bytes r) r.view
@@ -47,17 +47,17 @@ module _ (p : Setup) (bytes : List ℕ) (r : RunningWorld) where
   -- what holds in each case holds after the transfer
   pub transferred_so : (P : RunningWorld → Type 0)
       → ((sets_interface p && done) ≡ true
-      → P (record seen { device = restarted p.index begun asked_device; host = with_stream p.index begun r.host; given = given_then }))
-      → ((sets_interface p && done) ≡ false → P (record seen { device = asked_device })) → P seen → P (transferred p bytes r)
-  unfolding transferred followed controlled restarted
+      → P (record seen { device = after_restart p.index begun asked_device; host = with_stream p.index begun r.host; given = given_then }))
+      → ((sets_interface p && done) ≡ false → P (record seen { device = asked_device })) → P seen → P (after_transfer p bytes r)
+  unfolding after_transfer after_following after_control after_restart
   transferred_so P restarts alone rests = by r.breaks
     where
       world : Bool → DeviceWorld → RunningWorld
       world b device =
           let s = record (streaming_of r) { device = device } in
-          record (with_streaming r (if b then followed p.index begun s else s)) { view = view_then; breaks = None }
+          record (with_streaming r (if b then after_following p.index begun s else s)) { view = view_then; breaks = None }
 
-      acted : (b : Bool) → (sets_interface p && done) ≡ b → P (world b (if b then restarted p.index begun asked_device else asked_device))
+      acted : (b : Bool) → (sets_interface p && done) ≡ b → P (world b (if b then after_restart p.index begun asked_device else asked_device))
       acted true is = restarts is
       acted false is = alone is
 
@@ -65,7 +65,7 @@ module _ (p : Setup) (bytes : List ℕ) (r : RunningWorld) where
       stays true = rests
       stays false = rests
 
-      by : (o : Option When) → P (world (sets_interface p && (not (breaks_before o) && done)) (acts o r.device (controlled p bytes r.device)))
+      by : (o : Option When) → P (world (sets_interface p && (not (breaks_before o) && done)) (acts o r.device (after_control p bytes r.device)))
       by None = acted (sets_interface p && done) refl
       by (Some when.Before) = stays (sets_interface p)
       by (Some when.After) = acted (sets_interface p && done) refl

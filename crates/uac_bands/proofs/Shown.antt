@@ -11,13 +11,13 @@ use Rattle.uac_store.specs.declared.keys.Key.{Key}
 use Rattle.uac_rate.specs.Steadiness.{Given}
 use Rattle.uac_rate.specs.Steadiness as steadiness
 use Rattle.uac_graph.specs.Meaning.{entity}
-use Rattle.uac_flow.specs.Streams.{OutStream, after_packet, feedback_of, is_due, settled_out}
+use Rattle.uac_flow.specs.FlowStreams.{OutStream, after_packet, feedback_of, is_due, settled_out}
 use Rattle.uac_host.specs.HostWorld.{Pace, Track}
-use Rattle.uac_host.specs.Calls.{after_frames, next_frames, next_size, packet_of, reported, sent, size_of, with_report}
+use Rattle.uac_host.specs.Calls.{after_frames, next_frames, next_size, packet_of, pace_after_report, pace_after_packet, size_of, with_report}
 use Rattle.uac_host.specs.Calls.{after_packet as host_sends}
 use Rattle.uac_lanes.specs.InterfaceStreams.{either_due}
-use Rattle.uac_device.specs.DeviceWorld.{Domain, feedback_in, is_due_in, received, settled}
-use Rattle.uac_device.specs.DeviceWorld.{sent as device_sends}
+use Rattle.uac_device.specs.DeviceWorld.{Domain, feedback_in, is_due_in, after_receiving, after_settling}
+use Rattle.uac_device.specs.DeviceWorld.{after_sending_packet as device_sends}
 use Rattle.uac_script.specs.Phrase.{SaidMark}
 use Rattle.uac_streaming.specs.Telling.{at_rest}
 use Rattle.uac_streaming.specs.StreamingWorld.{StreamingWorld, fetched_lines, given_at, goes_out, in_packet_turn, is_in_due, is_out_due, loses_in, loses_out, loses_report, out_turn, packet_fetched, packet_sent, place_of, report_lines, report_made, report_turn, sent_lines, settled_turn}
@@ -74,14 +74,14 @@ unfolding packet_of
 packet_shown p w l t s =
     ap (λ (o : Option Pace). option_map_or (λ q. packet_at q (w.host.tracks p.interface)) o []) s.pace ∙ ap (packet_at l.pace) s.track
 
-module _ (p : Place) (detail : ℕ) (losses : List SaidMark) where
+module _ (p : Place) (detail : ℕ) (marks : List SaidMark) where
   pub out_other : (n : ℕ) (w : StreamingWorld) (l : Life) (t : Track) → (p.interface == n) ≡ false → Shows p w l t
-      → Shows p (out_turn detail losses n w).world l t
-  unfolding out_turn packet_sent received host_sends
+      → Shows p (out_turn detail marks n w).world l t
+  unfolding out_turn packet_sent after_receiving host_sends
   out_other n w l t other s = by (is_out_due w n)
     where
       by : (b : Bool)
-          → Shows p (if b then record { lines = sent_lines detail (loses_out losses n) n w; world = packet_sent (loses_out losses n) n w }
+          → Shows p (if b then record { lines = sent_lines detail (loses_out marks n) n w; world = packet_sent (loses_out marks n) n w }
           else at_rest w).world l t
       by true = record {
         function = s.function;
@@ -95,15 +95,15 @@ module _ (p : Place) (detail : ℕ) (losses : List SaidMark) where
       by false = s
 
   pub out_here : IsPlace p → (w : StreamingWorld) (l : Life) (t : Track) → Shows p w l t
-      → Shows p (out_turn detail losses p.interface w).world
-      (with_packet (if loses_out losses p.interface then None else Some (packet_at l.pace t)) l) (track_after l t)
-  unfolding out_turn packet_sent received host_sends is_due_in size_of
+      → Shows p (out_turn detail marks p.interface w).world
+      (with_packet (if loses_out marks p.interface then None else Some (packet_at l.pace t)) l) (track_after l t)
+  unfolding out_turn packet_sent after_receiving host_sends is_due_in size_of
   out_here is w l t s =
-      subst (λ (b : Bool). Shows p (if b then record { lines = sent_lines detail (loses_out losses p.interface) p.interface w; world = packet_sent (loses_out losses p.interface) p.interface w } else at_rest w).world (with_packet packet l) (track_after l t))
+      subst (λ (b : Bool). Shows p (if b then record { lines = sent_lines detail (loses_out marks p.interface) p.interface w; world = packet_sent (loses_out marks p.interface) p.interface w } else at_rest w).world (with_packet packet l) (track_after l t))
       (sym due) (by (is_due l.out.stream l.out.microframes))
     where
       packet : Option (List ℕ)
-      packet = if loses_out losses p.interface then None else Some (packet_at l.pace t)
+      packet = if loses_out marks p.interface then None else Some (packet_at l.pace t)
 
       due : is_out_due w p.interface ≡ is_due l.out.stream l.out.microframes
       due =
@@ -112,17 +112,17 @@ module _ (p : Place) (detail : ℕ) (losses : List SaidMark) where
           ∙ ap (λ (o : Option OutStream). either_due o (w.device.ins p.interface)) s.out
 
       by : (b : Bool)
-          → Shows p (if b then record { lines = sent_lines detail (loses_out losses p.interface) p.interface w; world = packet_sent (loses_out losses p.interface) p.interface w } else at_rest w).world
-          (if b then record l { out = after_packet packet l.out; pace = sent l.pace } else l)
+          → Shows p (if b then record { lines = sent_lines detail (loses_out marks p.interface) p.interface w; world = packet_sent (loses_out marks p.interface) p.interface w } else at_rest w).world
+          (if b then record l { out = after_packet packet l.out; pace = pace_after_packet l.pace } else l)
           (if b then after_frames (next_size l.pace) t else t)
       by true = record {
         function = s.function;
         controls = s.controls;
         out =
             if_true (p.interface == p.interface) _ (w.device.outs p.interface) (own_number p.interface)
-            ∙ ap (option_map (after_packet (if loses_out losses p.interface then None else Some (packet_of w.host p.interface)))) s.out
-            ∙ ap (λ (bytes : List ℕ). Some (after_packet (if loses_out losses p.interface then None else Some bytes) l.out)) (packet_shown p w l t s);
-        pace = if_true (p.interface == p.interface) _ (w.host.paces p.interface) (own_number p.interface) ∙ ap (option_map sent) s.pace;
+            ∙ ap (option_map (after_packet (if loses_out marks p.interface then None else Some (packet_of w.host p.interface)))) s.out
+            ∙ ap (λ (bytes : List ℕ). Some (after_packet (if loses_out marks p.interface then None else Some bytes) l.out)) (packet_shown p w l t s);
+        pace = if_true (p.interface == p.interface) _ (w.host.paces p.interface) (own_number p.interface) ∙ ap (option_map pace_after_packet) s.pace;
         track =
             if_true (p.interface == p.interface) _ (w.host.tracks p.interface) (own_number p.interface)
             ∙ ap (λ (o : Option Pace). after_frames (option_map_or next_size o 0) (w.host.tracks p.interface)) s.pace
@@ -134,12 +134,12 @@ module _ (p : Place) (detail : ℕ) (losses : List SaidMark) where
 
   -- ---- packets from it
 
-  pub in_any : (n : ℕ) (w : StreamingWorld) (l : Life) (t : Track) → Shows p w l t → Shows p (in_packet_turn detail losses n w).world l t
+  pub in_any : (n : ℕ) (w : StreamingWorld) (l : Life) (t : Track) → Shows p w l t → Shows p (in_packet_turn detail marks n w).world l t
   unfolding in_packet_turn packet_fetched device_sends
   in_any n w l t s = by (is_in_due w n)
     where
       by : (b : Bool)
-          → Shows p (if b then record { lines = fetched_lines detail (loses_in losses n) n w; world = packet_fetched (loses_in losses n) n w }
+          → Shows p (if b then record { lines = fetched_lines detail (loses_in marks n) n w; world = packet_fetched (loses_in marks n) n w }
           else at_rest w).world l t
       by true = record {
         function = s.function;
@@ -156,7 +156,7 @@ module _ (p : Place) (detail : ℕ) (losses : List SaidMark) where
 
   pub settled_other : (n : ℕ) (w : StreamingWorld) (l : Life) (t : Track) → (p.interface == n) ≡ false → Shows p w l t
       → Shows p (settled_turn detail n w).world l t
-  unfolding settled_turn settled
+  unfolding settled_turn after_settling
   settled_other n w l t other s = record {
     function = s.function;
     controls = s.controls;
@@ -168,7 +168,7 @@ module _ (p : Place) (detail : ℕ) (losses : List SaidMark) where
   }
 
   pub settled_here : (w : StreamingWorld) (l : Life) (t : Track) → Shows p w l t → Shows p (settled_turn detail p.interface w).world (with_end l) t
-  unfolding settled_turn settled
+  unfolding settled_turn after_settling
   settled_here w l t s = record {
     function = s.function;
     controls = s.controls;
@@ -195,17 +195,17 @@ place_other k n i j ss other first second = elim (cases_Bool (i == j)) [
   | inr differ ↦ differ
 ]
 
-module _ (p : Place) (is : IsPlace p) (detail : ℕ) (losses : List SaidMark) where
+module _ (p : Place) (is : IsPlace p) (detail : ℕ) (marks : List SaidMark) where
   given_other : (lost : Bool) (n : ℕ) (given : Given) → (p.interface == n) ≡ false
-      → (given_at (place_of p.function n) (λ place. steadiness.reported place lost) given).feedback p.place ≡ given.feedback p.place
+      → (given_at (place_of p.function n) (λ place. steadiness.with_report_given place lost) given).feedback p.place ≡ given.feedback p.place
   given_other lost n given other = by (place_of p.function n) refl
     where
-      by : (o : Option ℕ) → place_of p.function n ≡ o → (given_at o (λ place. steadiness.reported place lost) given).feedback p.place ≡ given.feedback p.place
+      by : (o : Option ℕ) → place_of p.function n ≡ o → (given_at o (λ place. steadiness.with_report_given place lost) given).feedback p.place ≡ given.feedback p.place
       by None e = refl
       by (Some j) e = if_false (p.place == j) _ (given.feedback p.place) (place_other p.interface n p.place j p.function.streams other is.placed e)
 
   pub report_other : (n : ℕ) (w : StreamingWorld) (l : Life) (t : Track) → (p.interface == n) ≡ false → Shows p w l t
-      → Shows p (report_turn detail losses n w).world l t
+      → Shows p (report_turn detail marks n w).world l t
   unfolding report_turn report_made with_report
   report_other n w l t other s = by (feedback_in w.device n)
     where
@@ -218,38 +218,38 @@ module _ (p : Place) (is : IsPlace p) (detail : ℕ) (losses : List SaidMark) wh
       tracked false value = s.track
 
       by : (o : Option ℕ)
-          → Shows p (option_map_or (λ value. record { lines = report_lines detail (loses_report losses n) value n; world = report_made (loses_report losses n) value n w })
+          → Shows p (option_map_or (λ value. record { lines = report_lines detail (loses_report marks n) value n; world = report_made (loses_report marks n) value n w })
           o (at_rest w)).world l t
       by None = s
       by (Some value) = record {
         function = s.function;
         controls = s.controls;
         out = s.out;
-        pace = paced (loses_report losses n) value;
-        track = tracked (loses_report losses n) value;
+        pace = paced (loses_report marks n) value;
+        track = tracked (loses_report marks n) value;
         domain = s.domain;
         reports =
-            ap (λ (f : FunctionFields). (given_at (place_of f n) (λ place. steadiness.reported place (loses_report losses n)) w.given).feedback p.place) s.function
-            ∙ given_other (loses_report losses n) n w.given other ∙ s.reports;
+            ap (λ (f : FunctionFields). (given_at (place_of f n) (λ place. steadiness.with_report_given place (loses_report marks n)) w.given).feedback p.place) s.function
+            ∙ given_other (loses_report marks n) n w.given other ∙ s.reports;
       }
 
   pub report_here : (w : StreamingWorld) (l : Life) (t : Track) → Shows p w l t
-      → Shows p (report_turn detail losses p.interface w).world (with_feedback (loses_report losses p.interface) l) t
+      → Shows p (report_turn detail marks p.interface w).world (with_feedback (loses_report marks p.interface) l) t
   unfolding report_turn report_made with_report feedback_in
   report_here w l t s =
       subst (λ (o : Option ℕ). Shows p (option_map_or (λ value. record { lines = report_lines detail lost value p.interface; world = report_made lost value p.interface w }) o (at_rest w)).world (with_feedback lost l) t)
       (sym due) (by (feedback_of l.out))
     where
       lost : Bool
-      lost = loses_report losses p.interface
+      lost = loses_report marks p.interface
 
       due : feedback_in w.device p.interface ≡ feedback_of l.out
       due = ap (λ (o : Option OutStream). option_and_then feedback_of o) s.out
 
       paced : (lost : Bool) (value : ℕ)
-          → (if lost then w.host else with_report p.interface value w.host).paces p.interface ≡ Some (if lost then l.pace else reported value l.pace)
+          → (if lost then w.host else with_report p.interface value w.host).paces p.interface ≡ Some (if lost then l.pace else pace_after_report value l.pace)
       paced true value = s.pace
-      paced false value = if_true (p.interface == p.interface) _ (w.host.paces p.interface) (own_number p.interface) ∙ ap (option_map (reported value)) s.pace
+      paced false value = if_true (p.interface == p.interface) _ (w.host.paces p.interface) (own_number p.interface) ∙ ap (option_map (pace_after_report value)) s.pace
 
       tracked : (lost : Bool) (value : ℕ) → (if lost then w.host else with_report p.interface value w.host).tracks p.interface ≡ t
       tracked true value = s.track
@@ -257,7 +257,7 @@ module _ (p : Place) (is : IsPlace p) (detail : ℕ) (losses : List SaidMark) wh
 
       by : (o : Option ℕ)
           → Shows p (option_map_or (λ value. record { lines = report_lines detail lost value p.interface; world = report_made lost value p.interface w }) o (at_rest w)).world
-          (option_map_or (λ value. record l { pace = if lost then l.pace else reported value l.pace; reports = steadiness.one_more lost l.reports }) o l) t
+          (option_map_or (λ value. record l { pace = if lost then l.pace else pace_after_report value l.pace; reports = steadiness.one_more lost l.reports }) o l) t
       by None = s
       by (Some value) = record {
         function = s.function;
@@ -267,8 +267,8 @@ module _ (p : Place) (is : IsPlace p) (detail : ℕ) (losses : List SaidMark) wh
         track = tracked lost value;
         domain = s.domain;
         reports =
-            ap (λ (f : FunctionFields). (given_at (place_of f p.interface) (λ place. steadiness.reported place lost) w.given).feedback p.place) s.function
-            ∙ ap (λ (o : Option ℕ). (given_at o (λ place. steadiness.reported place lost) w.given).feedback p.place) is.placed
+            ap (λ (f : FunctionFields). (given_at (place_of f p.interface) (λ place. steadiness.with_report_given place lost) w.given).feedback p.place) s.function
+            ∙ ap (λ (o : Option ℕ). (given_at o (λ place. steadiness.with_report_given place lost) w.given).feedback p.place) is.placed
             ∙ if_true (p.place == p.place) _ (w.given.feedback p.place) (own_number p.place)
             ∙ ap (steadiness.one_more lost) s.reports;
       }

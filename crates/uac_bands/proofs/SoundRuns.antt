@@ -8,25 +8,25 @@ use Rattle.uac_pcm.specs.declared.tones.Tone.{Tone}
 use Rattle.uac_rate.specs.Steadiness.{is_slight}
 use Rattle.uac_topology.specs.Function.{FunctionFields, interface_in}
 use Rattle.uac_topology.specs.Topology.{IsSoundFunction}
-use Rattle.uac_store.specs.Controls.{IsStoreOf}
+use Rattle.uac_store.specs.StoreControls.{IsStoreOf}
 use Rattle.uac_store.specs.declared.keys.Key.{Key}
-use Rattle.uac_alt.specs.Settings.{setting_of}
+use Rattle.uac_alt.specs.AltSettings.{setting_of}
 use Rattle.uac_alt.specs.declared.settings.InterfaceSetting.{InterfaceSetting}
 use Rattle.uac_request.specs.Requests.{AreSettingsOf}
-use Rattle.uac_flow.specs.Streams.{OutStream}
+use Rattle.uac_flow.specs.FlowStreams.{OutStream}
 use Rattle.uac_host.specs.HostWorld.{HostWorld, Track}
 use Rattle.uac_graph.specs.Meaning.{entity}
 use Rattle.uac_host.specs.Calls.{after_frames, channels_at, size_of, with_report, with_samples}
 use Rattle.uac_host.specs.Calls as calls
 use Rattle.uac_host.specs.Calls.{after_packet as host_sends}
-use Rattle.uac_host.proofs.KeptLemmas.{even_after}
-use Rattle.uac_device.specs.DeviceWorld.{Domain, advanced, deviated, received, set_jack, settled, steps_with_next, ticked}
-use Rattle.uac_device.specs.DeviceWorld.{sent as device_sends}
+use Rattle.uac_host.proofs.HostKeptLemmas.{even_after}
+use Rattle.uac_device.specs.DeviceWorld.{Domain, after_advance, after_deviation, after_receiving, set_jack, after_settling, steps_with_next, after_tick}
+use Rattle.uac_device.specs.DeviceWorld.{after_sending_packet as device_sends}
 use Rattle.uac_streaming.specs.StreamingWorld.{StreamingWorld, goes_out, packet_fetched, packet_sent, report_made}
 use Rattle.uac_running.specs.RunningWorld.{RunningWorld, with_detail, with_deviation, with_samples_on, with_tone, with_track}
-use Rattle.uac_running.specs.Transfers.{with_break}
+use Rattle.uac_running.specs.RunningTransfers.{with_break}
 use Rattle.uac_running.specs.Events.{microframe}
-use Rattle.uac_bands.specs.Transfers.{CallsKeepSound, IsInSetting, IsSoundRun, MicroframesKeepSound}
+use Rattle.uac_bands.specs.BandTransfers.{CallsKeepSound, IsInSetting, IsSoundRun, MicroframesKeepSound}
 use Rattle.uac_bands.proofs.Once.{stepped}
 use Rattle.uac_bands.proofs.KeptSteps.{IsKeptByEach, microframe_keeps}
 use Rattle.uac_bands.proofs.Stayed.{microframes_keep_the_rest}
@@ -68,7 +68,7 @@ sent_whole r n k w whole = by (k == n) refl
     by false other = whole k
 
 keeps_each : (r : RunningWorld) → IsKeptByEach (Keeps r)
-unfolding packet_sent received host_sends packet_fetched device_sends settled report_made with_report set_jack ticked advanced
+unfolding packet_sent after_receiving host_sends packet_fetched device_sends after_settling report_made with_report set_jack after_tick after_advance
 keeps_each r = record {
   sends = λ lost n w keeps.
       record { settings = keeps.settings; deviations = keeps.deviations; whole = λ k. sent_whole r n k w.host keeps.whole };
@@ -109,10 +109,10 @@ known_clock c (d ∷ ds) = by (d.clock == c) (known_clock c ds)
     by false rest = rest
 
 pub microframes_keep_sound : MicroframesKeepSound
-microframes_keep_sound losses r sound =
-    let stays = microframes_keep_the_rest losses r in
-    let after : RunningWorld = (microframe losses r).world in
-    let keeps = microframe_keeps (Keeps r) (keeps_each r) losses r (record { settings = refl; deviations = refl; whole = sound.whole }) in
+microframes_keep_sound marks r sound =
+    let stays = microframes_keep_the_rest marks r in
+    let after : RunningWorld = (microframe marks r).world in
+    let keeps = microframe_keeps (Keeps r) (keeps_each r) marks r (record { settings = refl; deviations = refl; whole = sound.whole }) in
     record {
       sound = subst IsSoundFunction (sym stays.function) sound.sound;
       store = subst (λ (f : FunctionFields). IsStoreOf f.entities after.device.controls) (sym stays.function)
@@ -131,9 +131,9 @@ microframes_keep_sound losses r sound =
           (subst (λ (f : FunctionFields). option_map (λ s. (entity f.entities s.terminal).clock) (interface_in f k) ≡ Some clock) stays.function on);
     }
   where
-    runs : (k : ℕ) (o : OutStream) → (microframe losses r).world.device.outs k ≡ Some o → (was : Option OutStream) → r.device.outs k ≡ was
-        → (microframe losses r).world.device.settings ≡ r.device.settings → IsInSetting (microframe losses r).world k
-    runs k o there None none same = absurd (let nowhere = microframe_none k losses r none in cc)
+    runs : (k : ℕ) (o : OutStream) → (microframe marks r).world.device.outs k ≡ Some o → (was : Option OutStream) → r.device.outs k ≡ was
+        → (microframe marks r).world.device.settings ≡ r.device.settings → IsInSetting (microframe marks r).world k
+    runs k o there None none same = absurd (let nowhere = microframe_none k marks r none in cc)
     runs k o there (Some out) was same =
         let set = sound.running k out was in
         (set.0, ap (λ (ss : List InterfaceSetting). setting_of ss k) same ∙ set.1, set.2)
@@ -175,31 +175,31 @@ unfolding with_track calls.with_tone
 track_keeps interface tone r sound =
     rehosted r (calls.with_tone interface tone r.host).tracks (λ k. track_whole interface tone r.host k (sound.whole k)) sound
 
-all_off : (clock : ℕ) (millionths : ℤ) (ds : List Domain) → is_slight millionths ≡ true → All (λ d. is_slight d.deviation ≡ true) ds
-    → All (λ d. is_slight d.deviation ≡ true) (map (off clock millionths) ds)
-all_off clock millionths ds slight all =
-    All-map (λ d. is_slight d.deviation ≡ true) (off clock millionths) ds (λ k d below. each (get_or ds k d) (all k d below))
+all_off : (clock : ℕ) (ppm : ℤ) (ds : List Domain) → is_slight ppm ≡ true → All (λ d. is_slight d.deviation ≡ true) ds
+    → All (λ d. is_slight d.deviation ≡ true) (map (off clock ppm) ds)
+all_off clock ppm ds slight all =
+    All-map (λ d. is_slight d.deviation ≡ true) (off clock ppm) ds (λ k d below. each (get_or ds k d) (all k d below))
   where
-    each : (d : Domain) → is_slight d.deviation ≡ true → is_slight (off clock millionths d).deviation ≡ true
-    each d before = off_slight clock millionths d slight before
+    each : (d : Domain) → is_slight d.deviation ≡ true → is_slight (off clock ppm d).deviation ≡ true
+    each d before = off_slight clock ppm d slight before
 
 mapped_some : (f : Domain → Domain) (o : Option Domain) → is_some (option_map f o) ≡ is_some o
 mapped_some f None = refl
 mapped_some f (Some d) = refl
 
-deviation_keeps : (clock : ℕ) (millionths : ℤ) (r : RunningWorld) → is_slight millionths ≡ true → IsSoundRun r
-    → IsSoundRun (with_deviation clock millionths r)
-unfolding with_deviation deviated
-deviation_keeps clock millionths r slight sound = record {
+deviation_keeps : (clock : ℕ) (ppm : ℤ) (r : RunningWorld) → is_slight ppm ≡ true → IsSoundRun r
+    → IsSoundRun (with_deviation clock ppm r)
+unfolding with_deviation after_deviation
+deviation_keeps clock ppm r slight sound = record {
   sound = sound.sound;
   store = sound.store;
   settings = sound.settings;
   running = sound.running;
   whole = sound.whole;
-  slight = all_off clock millionths r.device.domains slight sound.slight;
+  slight = all_off clock ppm r.device.domains slight sound.slight;
   clocked = λ k c goes on.
-      ap is_some (found_off clock millionths c r.device.domains)
-      ∙ mapped_some (off clock millionths) (find (λ (d : Domain). d.clock == c) r.device.domains) ∙ sound.clocked k c goes on;
+      ap is_some (found_off clock ppm c r.device.domains)
+      ∙ mapped_some (off clock ppm) (find (λ (d : Domain). d.clock == c) r.device.domains) ∙ sound.clocked k c goes on;
 }
 
 pub calls_keep_sound : CallsKeepSound
@@ -210,5 +210,5 @@ calls_keep_sound r sound = record {
   breaks = λ after. carried r (with_break after r) sound;
   samples = λ interface samples. samples_keep interface samples r sound;
   track = λ interface tone. track_keeps interface tone r sound;
-  deviation = λ clock millionths slight. deviation_keeps clock millionths r slight sound;
+  deviation = λ clock ppm slight. deviation_keeps clock ppm r slight sound;
 }

@@ -17,7 +17,7 @@ use Rattle.uac_topology_rules.specs.Table.{at, nothing, place_of, with_cluster}
 use Rattle.uac_topology.specs.Function.{FunctionFields, interface_in}
 use Rattle.uac_topology.specs.Topology.{IsSoundFunction}
 use Rattle.uac_topology.proofs.Clustered.{clustered-at, length-clustered}
-use Rattle.uac_topology.proofs.PinLemmas.{have_pins}
+use Rattle.uac_topology.proofs.Pins.{have_pins}
 use Rattle.uac_rate.specs.Steadiness.{is_slight}
 use Rattle.uac_graph.specs.Meaning.{entity}
 use Rattle.uac_store.proofs.Initial.{initial_is_store}
@@ -29,7 +29,7 @@ use Rattle.uac_device.specs.DeviceWorld.{at_rest, fresh}
 use Rattle.uac_device.specs.Linked.{IsBusInput}
 use Rattle.uac_device.proofs.LinkedLemmas.{linked}
 use Rattle.uac_running.specs.RunningWorld.{at_start}
-use Rattle.uac_bands.specs.Transfers.{RunsStartSound}
+use Rattle.uac_bands.specs.BandTransfers.{RunsStartSound}
 use Rattle.uac_bands.proofs.Once.{Among, among_kept, own_number}
 use Rattle.uac_bands.proofs.Ordered.{resting_clocks}
 use Rattle.uac_bands.proofs.SoundRuns.{known_clock}

@@ -6,19 +6,19 @@ use Rattle.std.proofs.Math.Bool.{or-true}
 use Rattle.std.proofs.lemmas.Bool.{and_parts, eqb-true, true≢false}
 use Rattle.uac_entities.specs.declared.stream.StreamInterface.{StreamInterface}
 use Rattle.uac_topology.specs.Function.{FunctionFields, interface_in}
-use Rattle.uac_alt.specs.Streams.{StreamFields}
-use Rattle.uac_alt.specs.Settings.{setting_of, with_setting}
+use Rattle.uac_alt.specs.AltStreams.{StreamFields}
+use Rattle.uac_alt.specs.AltSettings.{setting_of, with_setting}
 use Rattle.uac_alt.specs.declared.settings.InterfaceSetting.{InterfaceSetting}
 use Rattle.uac_alt.proofs.Changed.{setting_of_changed}
 use Rattle.uac_request.specs.Requests.{AreSettingsOf, Held, AnswerFields, after_request, answered, controls_set, cur_named, first_broken, gets_cur, gets_descriptor, gets_interface, gets_range, is_done, is_stalled, left_by, ranges_named, reply_of, sets_cur, with_bytes, with_descriptor}
 use Rattle.uac_request.specs.declared.setup.Setup.{Setup}
 use Rattle.uac_request.proofs.Lasting.{settings_stay, store_stays}
-use Rattle.uac_flow.specs.Streams.{OutStream}
+use Rattle.uac_flow.specs.FlowStreams.{OutStream}
 use Rattle.uac_host.specs.Calls.{with_stream}
 use Rattle.uac_lanes.specs.InterfaceStreams.{out_from}
-use Rattle.uac_device.specs.DeviceWorld.{restarted, sets_interface, tells_done}
+use Rattle.uac_device.specs.DeviceWorld.{after_restart, sets_interface, tells_done}
 use Rattle.uac_running.specs.RunningWorld.{RunningWorld}
-use Rattle.uac_bands.specs.Transfers.{IsSoundRun, TransfersKeepSound}
+use Rattle.uac_bands.specs.BandTransfers.{IsSoundRun, TransfersKeepSound}
 use Rattle.uac_bands.proofs.Once.{not_this, own_number}
 use Rattle.uac_bands.proofs.Shown.{if_true}
 use Rattle.uac_bands.proofs.Asked.{asked_of, parts_of}
@@ -146,9 +146,9 @@ module _ (p : Setup) (bytes : List ℕ) (r : RunningWorld) (set : (sets_interfac
       set_settings r.device.function (held p bytes r) p bytes both.0 (none_broken r.device.function (held p bytes r) p bytes both.1)
 
   -- the setting of an interface whose stream begins
-  pub setting_is : AreSettingsOf r.device.function r.device.settings → (carrier : StreamInterface)
-      → interface_in r.device.function p.index ≡ Some carrier → setting_of (after p bytes r).settings p.index ≡ Some p.value
-  setting_is settings carrier there =
+  pub setting_is : AreSettingsOf r.device.function r.device.settings → (streaming_interface : StreamInterface)
+      → interface_in r.device.function p.index ≡ Some streaming_interface → setting_of (after p bytes r).settings p.index ≡ Some p.value
+  setting_is settings streaming_interface there =
       let known : is_some (setting_of r.device.settings p.index) ≡ true =
       settings p.index
       ∙ ap (λ (o : Option StreamInterface). p.index == r.device.function.control_interface || is_some o) there
@@ -173,8 +173,8 @@ module _ (p : Setup) (bytes : List ℕ) (r : RunningWorld) (sound : IsSoundRun r
   }
 
   restarts : (other : RunningWorld) → (sets_interface p && done p bytes r) ≡ true
-      → IsSoundRun (record other { device = restarted p.index (begun p bytes r) (asked_device p bytes r); host = with_stream p.index (begun p bytes r) r.host })
-  unfolding restarted with_stream
+      → IsSoundRun (record other { device = after_restart p.index (begun p bytes r) (asked_device p bytes r); host = with_stream p.index (begun p bytes r) r.host })
+  unfolding after_restart with_stream
   restarts other set = record {
     sound = sound.sound;
     store = store_stays r.device.function (held p bytes r) p bytes sound.store;
@@ -191,7 +191,7 @@ module _ (p : Setup) (bytes : List ℕ) (r : RunningWorld) (sound : IsSoundRun r
       begins o (Some s) is there =
           let asked = asked_of r.device.function r.device.controls p.index p.value s is in
           let parts = parts_of r.device.function asked.rate p.index p.value s asked.of in
-          (p.value, setting_is p bytes r set sound.settings parts.carrier parts.there, parts.setting)
+          (p.value, setting_is p bytes r set sound.settings parts.streaming_interface parts.there, parts.setting)
 
       by : (k : ℕ) (o : OutStream) (b : Bool) → (k == p.index) ≡ b → (if b then option_and_then out_from (begun p bytes r) else r.device.outs k) ≡ Some o
           → (n : ℕ) × (setting_of (after p bytes r).settings k ≡ Some n) × ((n == 0) ≡ false)

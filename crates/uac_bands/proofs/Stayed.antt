@@ -4,8 +4,8 @@ use Rattle.std.specs.List.{All, IsDistinct}
 use Rattle.uac_topology.specs.Function.{FunctionFields}
 use Rattle.uac_host.specs.Calls.{with_report}
 use Rattle.uac_host.specs.Calls.{after_packet as host_sends}
-use Rattle.uac_device.specs.DeviceWorld.{Domain, advanced, received, set_jack, settled, steps_with_next, ticked}
-use Rattle.uac_device.specs.DeviceWorld.{sent as device_sends}
+use Rattle.uac_device.specs.DeviceWorld.{Domain, after_advance, after_receiving, set_jack, after_settling, steps_with_next, after_tick}
+use Rattle.uac_device.specs.DeviceWorld.{after_sending_packet as device_sends}
 use Rattle.uac_streaming.specs.StreamingWorld.{StreamingWorld, packet_fetched, packet_sent, report_made}
 use Rattle.uac_running.specs.RunningWorld.{RunningWorld, with_streaming}
 use Rattle.uac_bands.specs.Projection.{MicroframesKeepOrder, MicroframesKeepTheRest, Stays}
@@ -31,7 +31,7 @@ stepped_clocks more c (d ∷ ds) = by (d.clock == c) (stepped_clocks more c ds)
 -- ---- a microframe
 
 stays : (r : RunningWorld) → IsKeptByEach (Stay r)
-unfolding packet_sent received host_sends packet_fetched device_sends settled report_made with_report set_jack ticked advanced
+unfolding packet_sent after_receiving host_sends packet_fetched device_sends after_settling report_made with_report set_jack after_tick after_advance
 stays r = record {
   sends = λ lost n w s. record { function = s.function; controls = s.controls; clocks = s.clocks; host = s.host };
   fetches = λ lost n w s. record { function = s.function; controls = s.controls; clocks = s.clocks; host = s.host };
@@ -54,13 +54,13 @@ stays r = record {
     hosted w false value n s = s.host
 
 pub microframes_keep_the_rest : MicroframesKeepTheRest
-microframes_keep_the_rest losses r =
-    let s = microframe_keeps (Stay r) (stays r) losses r (record { function = refl; controls = refl; clocks = refl; host = refl }) in
+microframes_keep_the_rest marks r =
+    let s = microframe_keeps (Stay r) (stays r) marks r (record { function = refl; controls = refl; clocks = refl; host = refl }) in
     record { function = s.function; controls = s.controls; clocks = s.clocks; host = s.host }
 
 pub microframes_keep_order : MicroframesKeepOrder
-microframes_keep_order losses r ordered =
-    let stays = microframes_keep_the_rest losses r in
+microframes_keep_order marks r ordered =
+    let stays = microframes_keep_the_rest marks r in
     record {
       apart = subst (λ (f : FunctionFields). IsDistinct nat_eq f.domains) (sym stays.function) ordered.apart;
       clocks = stays.clocks ∙ ordered.clocks ∙ ap (λ (f : FunctionFields). f.domains) (sym stays.function);

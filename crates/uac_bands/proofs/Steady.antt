@@ -9,11 +9,11 @@ use Rattle.uac_rate.specs.Levels.{AreIntervals, IsHeld, IsInterval, IsRobust, Po
 use Rattle.uac_rate.specs.Reports.{report_of}
 use Rattle.uac_rate.specs.Steadiness.{latest_run, one_more}
 use Rattle.uac_rate.proofs.LevelsLemmas.{interval_size, moment_held, rates_band, report_held, report_robust}
-use Rattle.uac_alt.specs.Streams.{StreamFields}
-use Rattle.uac_flow.specs.Streams.{feedback_of, out_level, priming_level, reports_now}
-use Rattle.uac_host.specs.Calls.{within_nominal, reported}
+use Rattle.uac_alt.specs.AltStreams.{StreamFields}
+use Rattle.uac_flow.specs.FlowStreams.{feedback_of, out_level, priming_level, reports_now}
+use Rattle.uac_host.specs.Calls.{within_nominal, pace_after_report}
 use Rattle.uac_bands.specs.Life.{Life, with_feedback}
-use Rattle.uac_bands.specs.Bands.{HasTicked, InBand, IsAt, IsBehind, passed}
+use Rattle.uac_bands.specs.Bands.{HasTicked, InBand, IsAt, IsFollowing, microframes_since_due}
 
 -- ---- what a primed ring holds
 
@@ -67,7 +67,7 @@ pub record HasEnded (m : Life) (waited clock : ℕ) : Type 0 where
   pub waits : m.out.lost ≡ false
   pub few : latest_run m.reports ≤ 3
   pub begun : 0 < m.out.microframes
-  pub passed_is : passed m.out ≡ 0
+  pub passed_is : microframes_since_due m.out ≡ 0
   pub ticks : m.out.ticks ≡ 0
   pub below : clock < 65536
   pub phase : clock ≡ sum m.steps % 65536
@@ -92,8 +92,8 @@ times_none n x none = ap (λ (k : ℕ). k * x) none ∙ (let zero_times : 0 * x 
 
 ticked_at_end : (m : Life) (waited clock : ℕ) → HasEnded m waited clock → HasTicked m clock
 ticked_at_end m waited clock ended =
-    let e = times_none (passed m.out) m.out.stream.nominal.e ended.passed_is in
-    let f = times_none (passed m.out) m.out.stream.nominal.f ended.passed_is in
+    let e = times_none (microframes_since_due m.out) m.out.stream.nominal.e ended.passed_is in
+    let f = times_none (microframes_since_due m.out) m.out.stream.nominal.f ended.passed_is in
     record {
       steps = 0;
       slight = (omega arith, omega arith);
@@ -113,7 +113,7 @@ held_stays stream value least most = omega arith
 
 -- with its report
 abbrev with_report : Bool → ℕ → Life → Life
-with_report lost value m = record m { pace = if lost then m.pace else reported value m.pace; reports = one_more lost m.reports }
+with_report lost value m = record m { pace = if lost then m.pace else pace_after_report value m.pace; reports = one_more lost m.reports }
 
 pub no_feedback : (m : Life) (lost : Bool) → reports_now m.out ≡ false → with_feedback lost m ≡ m
 unfolding feedback_of
@@ -145,20 +145,20 @@ point_after lost values q = record q { waited = 0; lost = lost_after lost q.lost
 
 -- when its report falls due, and when not
 not_yet : (m : Life) (waited clock : ℕ) → HasEnded m waited clock → (m.out.microframes % m.out.stream.period == 0) ≡ false
-    → (waited < m.out.stream.period) × (waited ≡ (m.out.microframes - passed m.out) % m.out.stream.period)
+    → (waited < m.out.stream.period) × (waited ≡ (m.out.microframes - microframes_since_due m.out) % m.out.stream.period)
 not_yet m waited clock ended none =
     let some = is_some_more (m.out.microframes % m.out.stream.period) none in
-    let all : m.out.microframes - passed m.out ≡ m.out.microframes = omega (arith, ended.passed_is) in
+    let all : m.out.microframes - microframes_since_due m.out ≡ m.out.microframes = omega (arith, ended.passed_is) in
     elim (cases_lt waited m.out.stream.period) [
       | inl less ↦ (less, sym (ended.before less) ∙ sym (ap (λ (k : ℕ). k % m.out.stream.period) all))
       | inr more ↦ absurd (let now = ended.due (omega (arith, ended.in_time)) in omega arith)
     ]
 
 now_due : (m : Life) (waited clock : ℕ) → HasEnded m waited clock → (m.out.microframes % m.out.stream.period == 0) ≡ true
-    → (waited ≡ m.out.stream.period) × (0 ≡ (m.out.microframes - passed m.out) % m.out.stream.period)
+    → (waited ≡ m.out.stream.period) × (0 ≡ (m.out.microframes - microframes_since_due m.out) % m.out.stream.period)
 now_due m waited clock ended now =
     let none = is_zero (m.out.microframes % m.out.stream.period) now in
-    let all : m.out.microframes - passed m.out ≡ m.out.microframes = omega (arith, ended.passed_is) in (
+    let all : m.out.microframes - microframes_since_due m.out ≡ m.out.microframes = omega (arith, ended.passed_is) in (
       elim (cases_lt waited m.out.stream.period) [
         | inl less ↦ absurd (let at = ended.before less in omega (arith, ended.later))
         | inr more ↦ omega (arith, ended.in_time)
@@ -254,7 +254,7 @@ value_there m false target q at =
 pub record Goes (m : Life) (lost : Bool) (target : ℕ) (q : Point) (behind_it : Life) : Type 0 where
   pub band : InBand behind_it
   pub point : Point
-  pub behind : IsBehind behind_it target point
+  pub following : IsFollowing behind_it target point
   pub ends : ((q.waited < m.out.stream.period) × (point ≡ q)) ⊎ Reported m.out.stream.nominal m.out.stream.period lost q point
 
 -- a primed one goes on by the report of its level
@@ -277,7 +277,7 @@ primed_goes m lost target q at few = by (m.out.microframes % m.out.stream.period
     by : (b : Bool) → (m.out.microframes % m.out.stream.period == 0) ≡ b → Goes m lost target q (with_feedback lost m)
     by false none =
         let yet = not_yet m q.waited q.clock at.ended none in
-        let behind : IsBehind m target q = record {
+        let following : IsFollowing m target q = record {
           robust = at.robust;
           target_is = at.target_is;
           level = omega (arith, at.level, at.ended.ticks);
@@ -288,9 +288,9 @@ primed_goes m lost target q at few = by (m.out.microframes % m.out.stream.period
           ticked = ticked;
         } in
         subst (Goes m lost target q) (sym (no_feedback m lost (reports_by m false at.ended.begun none))) (record {
-          band = in_band_still m q.waited q.clock at.ended (subst (λ (t : Option ℕ). IsAt t m) (sym at.primed) (q, behind));
+          band = in_band_still m q.waited q.clock at.ended (subst (λ (t : Option ℕ). IsAt t m) (sym at.primed) (q, following));
           point = q;
-          behind = behind;
+          following = following;
           ends = inl (yet.0, refl);
         })
     by true now =
@@ -312,7 +312,7 @@ primed_goes m lost target q at few = by (m.out.microframes % m.out.stream.period
           host_is = refl;
           clock_is = refl;
         } in
-        let behind : IsBehind (with_report lost value m) target after = record {
+        let following : IsFollowing (with_report lost value m) target after = record {
           robust = report_robust values 65 m.out.stream.service m.out.stream.period lost q after (rates_band values at.ended.nominal room)
               at.ended.intervals report at.robust;
           target_is = at.target_is;
@@ -325,9 +325,9 @@ primed_goes m lost target q at few = by (m.out.microframes % m.out.stream.period
         } in
         subst (Goes m lost target q) (sym is) (record {
           band = in_band lost value m q.waited q.clock at.ended few_now
-              (subst (λ (t : Option ℕ). IsAt t (with_report lost value m)) (sym at.primed) (after, behind));
+              (subst (λ (t : Option ℕ). IsAt t (with_report lost value m)) (sym at.primed) (after, following));
           point = after;
-          behind = behind;
+          following = following;
           ends = inr report;
         })
       where

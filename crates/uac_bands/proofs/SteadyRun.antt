@@ -14,8 +14,8 @@ use Rattle.uac_entities.specs.declared.stream.StreamInterface.{StreamInterface}
 use Rattle.uac_topology.specs.Function.{FunctionFields}
 use Rattle.uac_store.specs.declared.keys.Key.{Key}
 use Rattle.uac_store.specs.Rates.{rate_of}
-use Rattle.uac_alt.specs.Streams.{StreamFields}
-use Rattle.uac_flow.specs.Streams.{OutStream, frames_of}
+use Rattle.uac_alt.specs.AltStreams.{StreamFields}
+use Rattle.uac_flow.specs.FlowStreams.{OutStream, frames_of}
 use Rattle.uac_host.specs.Calls.{next_size, packet_of}
 use Rattle.uac_device.specs.DeviceWorld.{Domain, step_in}
 use Rattle.uac_script.specs.Phrase.{SaidMark}
@@ -25,7 +25,7 @@ use Rattle.uac_running.specs.Events.{microframe}
 use Rattle.uac_bands.specs.Life.{Life, domain_on, life_of}
 use Rattle.uac_bands.specs.Bands.{InBand, IsSlightStep, IsSteadyMicroframe}
 use Rattle.uac_bands.specs.Projection.{IsOrdered, Runs, next_domain, next_life}
-use Rattle.uac_bands.specs.Run.{RunInBand, SteadyMicroframesKeepBands, StreamInBand}
+use Rattle.uac_bands.specs.BandRun.{RunInBand, SteadyMicroframesKeepBands, StreamInBand}
 use Rattle.uac_bands.proofs.Once.{all_among, among_range}
 use Rattle.uac_bands.proofs.Lived.{mapped, microframes_are_lived}
 use Rattle.uac_bands.proofs.Stayed.{microframes_keep_order, microframes_keep_the_rest}
@@ -94,9 +94,9 @@ life_few r interface l s life few steady =
 
 -- ---- one stream
 
-module _ (losses : List SaidMark) (r : RunningWorld) (k : ℕ) (l : Life) (d : Domain) (s : StreamInBand r k l d) where
+module _ (marks : List SaidMark) (r : RunningWorld) (k : ℕ) (l : Life) (d : Domain) (s : StreamInBand r k l d) where
   abbrev packet : Option (List ℕ)
-  packet = packet_to (loses_out losses k) k (streaming_of r)
+  packet = packet_to (loses_out marks k) k (streaming_of r)
 
   step_slight : IsSlightStep l.out.stream.nominal (step_in r.device d)
   unfolding step_in
@@ -105,7 +105,7 @@ module _ (losses : List SaidMark) (r : RunningWorld) (k : ℕ) (l : Life) (d : D
       (slight_step l.out.stream.nominal d.deviation s.band.nominal s.slight)
 
   pub steadily : IsSteadyMicroframe packet (step_in r.device d) l
-  steadily = record { slight = step_slight; frames = λ bytes is due. by (loses_out losses k) bytes is }
+  steadily = record { slight = step_slight; frames = λ bytes is due. by (loses_out marks k) bytes is }
     where
       by : (b : Bool) (bytes : List ℕ) → (if b then None else Some (packet_of r.host k)) ≡ Some bytes
           → length (frames_of l.out.stream bytes) ≡ next_size l.pace
@@ -114,18 +114,18 @@ module _ (losses : List SaidMark) (r : RunningWorld) (k : ℕ) (l : Life) (d : D
           let same : packet_of r.host k ≡ bytes = cc in
           subst (λ (bs : List ℕ). length (frames_of l.out.stream bs) ≡ next_size l.pace) same (packets_have_their_frames r k l s.runs.life s.fed)
 
-  pub next_in_band : latest_run (next_life losses r k l d).reports ≤ 3 → InBand (next_life losses r k l d)
-  next_in_band few = stays_in_band l packet (step_in r.device d) (loses_report losses k) s.band steadily few
+  pub next_in_band : latest_run (next_life marks r k l d).reports ≤ 3 → InBand (next_life marks r k l d)
+  next_in_band few = stays_in_band l packet (step_in r.device d) (loses_report marks k) s.band steadily few
 
-  next_stream : IsOrdered r.device → latest_run (next_life losses r k l d).reports ≤ 3
-      → StreamInBand (microframe losses r).world k (next_life losses r k l d) (next_domain r d)
+  next_stream : IsOrdered r.device → latest_run (next_life marks r k l d).reports ≤ 3
+      → StreamInBand (microframe marks r).world k (next_life marks r k l d) (next_domain r d)
   next_stream ordered few =
-      let stays = microframes_keep_the_rest losses r in
-      let after : RunningWorld = (microframe losses r).world in
-      let same = out_stream_after packet (step_in r.device d) (loses_report losses k) l in
+      let stays = microframes_keep_the_rest marks r in
+      let after : RunningWorld = (microframe marks r).world in
+      let same = out_stream_after packet (step_in r.device d) (loses_report marks k) l in
       record {
-        runs = microframes_are_lived losses r k l d ordered s.runs;
-        fed = microframes_keep_fed losses r k l d ordered s.runs s.fed;
+        runs = microframes_are_lived marks r k l d ordered s.runs;
+        fed = microframes_keep_fed marks r k l d ordered s.runs s.fed;
         band = next_in_band few;
         rate =
             ap (λ (f : FunctionFields). option_and_then nominal_of (rate_of f.entities after.device.controls d.clock)) stays.function
@@ -144,37 +144,37 @@ interface_of r k l d runs = by (find (λ s. s.number == k) r.device.function.str
 
 -- ---- all
 
-pub few_behind : (losses : List SaidMark) (r : RunningWorld) → RunInBand r → steadiness.is_steady (microframe losses r).world.given ≡ true
-    → (k : ℕ) (l : Life) (d : Domain) → Runs r k l d → latest_run (next_life losses r k l d).reports ≤ 3
-few_behind losses r band steady k l d runs =
-    let stays = microframes_keep_the_rest losses r in
-    let after : RunningWorld = (microframe losses r).world in
-    life_few after k (next_life losses r k l d) (interface_of r k l d runs) (microframes_are_lived losses r k l d band.ordered runs).life
+pub few_behind : (marks : List SaidMark) (r : RunningWorld) → RunInBand r → steadiness.is_steady (microframe marks r).world.given ≡ true
+    → (k : ℕ) (l : Life) (d : Domain) → Runs r k l d → latest_run (next_life marks r k l d).reports ≤ 3
+few_behind marks r band steady k l d runs =
+    let stays = microframes_keep_the_rest marks r in
+    let after : RunningWorld = (microframe marks r).world in
+    life_few after k (next_life marks r k l d) (interface_of r k l d runs) (microframes_are_lived marks r k l d band.ordered runs).life
     (subst (λ (f : FunctionFields). length f.streams ≤ 8) (sym stays.function) band.few) steady
 
 pub keep_bands : SteadyMicroframesKeepBands
-keep_bands losses r band steady =
-    let stays = microframes_keep_the_rest losses r in
+keep_bands marks r band steady =
+    let stays = microframes_keep_the_rest marks r in
     record {
-      ordered = microframes_keep_order losses r band.ordered;
+      ordered = microframes_keep_order marks r band.ordered;
       hosts = stays.host ∙ band.hosts ∙ sym stays.function;
       few = subst (λ (f : FunctionFields). length f.streams ≤ 8) (sym stays.function) band.few;
       streams = λ k o there. by k o there (r.device.outs k) refl;
     }
   where
     after : RunningWorld
-    after = (microframe losses r).world
+    after = (microframe marks r).world
 
     by : (k : ℕ) (o : OutStream) → after.device.outs k ≡ Some o → (was : Option OutStream) → r.device.outs k ≡ was
         → (l : Life) × (d : Domain) × (l.out ≡ o) × StreamInBand after k l d
-    by k o there None none = absurd (let nowhere = microframe_none k losses r none in cc)
+    by k o there None none = absurd (let nowhere = microframe_none k marks r none in cc)
     by k o there (Some out) was =
         let stream = band.streams k out was in
         let l : Life = stream.0 in
         let d : Domain = stream.1 in
-        let few = few_behind losses r band steady k l d stream.3.runs in
-        let next = next_stream losses r k l d stream.3 band.ordered few in
-        let here : Some (next_life losses r k l d).out ≡ Some o =
-        sym (lived after k (next_life losses r k l d) next.runs.life).out ∙ there in
-        let same : (next_life losses r k l d).out ≡ o = cc in
-        (next_life losses r k l d, next_domain r d, same, next)
+        let few = few_behind marks r band steady k l d stream.3.runs in
+        let next = next_stream marks r k l d stream.3 band.ordered few in
+        let here : Some (next_life marks r k l d).out ≡ Some o =
+        sym (lived after k (next_life marks r k l d) next.runs.life).out ∙ there in
+        let same : (next_life marks r k l d).out ≡ o = cc in
+        (next_life marks r k l d, next_domain r d, same, next)

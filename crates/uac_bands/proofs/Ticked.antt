@@ -9,9 +9,9 @@ use Rattle.uac_topology.specs.Function.{FunctionFields, interface_in}
 use Rattle.uac_store.specs.declared.keys.Key.{Key}
 use Rattle.uac_store.specs.Rates.{rate_of}
 use Rattle.uac_graph.specs.Meaning.{entity}
-use Rattle.uac_flow.specs.Streams.{after_taking, after_ticks}
+use Rattle.uac_flow.specs.FlowStreams.{after_taking, after_ticks}
 use Rattle.uac_host.specs.HostWorld.{Track}
-use Rattle.uac_device.specs.DeviceWorld.{DeviceWorld, Domain, advanced, is_on, next_ticks, set_jack, step_in, steps_with_next, ticked}
+use Rattle.uac_device.specs.DeviceWorld.{DeviceWorld, Domain, after_advance, is_on, next_ticks, set_jack, step_in, steps_with_next, after_tick}
 use Rattle.uac_streaming.specs.StreamingWorld.{StreamingWorld}
 use Rattle.uac_running.specs.declared.jacks.Jack.{Jack}
 use Rattle.uac_running.specs.RunningWorld.{RunningWorld, streaming_of}
@@ -69,7 +69,7 @@ module _ (p : Place) where
 
   pub tick_other : IsPlace p → (c : ℕ) (r : RunningWorld) (l : Life) (t : Track) → (p.clock == c) ≡ false → Shows p (streaming_of r) l t
       → Shows p (streaming_of (tick c r).world) l t
-  unfolding tick all_given ticked
+  unfolding tick all_given after_tick
   tick_other is c r l t other before =
       let w : DeviceWorld = given c r.jacks r.device in
       let s = jacks_show (filter (λ (j : Jack). j.clock == c) r.jacks) r.device r l t before in
@@ -85,7 +85,7 @@ module _ (p : Place) where
 
   pub tick_own : IsPlace p → (r : RunningWorld) (l : Life) (t : Track) → Shows p (streaming_of r) l t
       → Shows p (streaming_of (tick p.clock r).world) (record l { out = after_taking l.out }) t
-  unfolding tick all_given ticked
+  unfolding tick all_given after_tick
   tick_own is r l t before =
       let w : DeviceWorld = given p.clock r.jacks r.device in
       let s = jacks_show (filter (λ (j : Jack). j.clock == p.clock) r.jacks) r.device r l t before in
@@ -121,8 +121,8 @@ module _ (p : Place) where
       ∙ ap (λ (cs : List (Key × ℤ)). option_map_or (λ values. step_of values p.domain.deviation) (option_and_then nominal_of (rate_of p.function.entities cs p.domain.clock)) 0) s.controls
 
   pub advanced_elsewhere : IsPlace p → (c : ℕ) (r : RunningWorld) (l : Life) (t : Track) → (p.clock == c) ≡ false → Shows p (streaming_of r) l t
-      → Shows p (streaming_of (record r { device = advanced c r.device })) l t
-  unfolding advanced
+      → Shows p (streaming_of (record r { device = after_advance c r.device })) l t
+  unfolding after_advance
   advanced_elsewhere is c r l t other s = record {
     function = s.function;
     controls = s.controls;
@@ -137,7 +137,7 @@ module _ (p : Place) where
       → Shows p (streaming_of (domain_microframe c r).world) l t
   unfolding domain_microframe
   domain_elsewhere is c r l t other s =
-      ticks_other is (next_ticks c r.device) c (record r { device = advanced c r.device }) l t other (advanced_elsewhere is c r l t other s)
+      ticks_other is (next_ticks c r.device) c (record r { device = after_advance c r.device }) l t other (advanced_elsewhere is c r l t other s)
 
   -- what its own clock gives
   pub so_many : (r : RunningWorld) (l : Life) (t : Track) → Shows p (streaming_of r) l t
@@ -148,9 +148,9 @@ module _ (p : Place) where
       ∙ ap (λ (n : ℕ). ticks_in (l.steps ++ n ∷ [])) (step_shown (streaming_of r) l t s)
 
   pub advanced_own : IsPlace p → (r : RunningWorld) (l : Life) (t : Track) → Shows p (streaming_of r) l t
-      → Shows p (streaming_of (record r { device = advanced p.clock r.device }))
+      → Shows p (streaming_of (record r { device = after_advance p.clock r.device }))
       (record l { out = after_ticks (next_ticks p.clock r.device) l.out; steps = l.steps ++ step_at p ∷ [] }) t
-  unfolding advanced
+  unfolding after_advance
   advanced_own is r l t s = record {
     function = s.function;
     controls = s.controls;
@@ -169,7 +169,7 @@ module _ (p : Place) where
       let steps : List ℕ = l.steps ++ step_at p ∷ [] in
       subst (λ (n : ℕ). Shows p (streaming_of (domain_microframe p.clock r).world) (record l { out = ticks_taken n (after_ticks n l.out); steps = steps }) t)
       (so_many r l t s)
-      (ticks_own is (next_ticks p.clock r.device) (record r { device = advanced p.clock r.device })
+      (ticks_own is (next_ticks p.clock r.device) (record r { device = after_advance p.clock r.device })
       (record l { out = after_ticks (next_ticks p.clock r.device) l.out; steps = steps }) t (advanced_own is r l t s))
 
   -- all domains, of which one is its own

@@ -15,25 +15,25 @@ use Rattle.uac_topology.specs.Function.{FunctionFields}
 use Rattle.uac_store.specs.declared.keys.Key.{Key}
 use Rattle.uac_store.specs.Rates.{rate_of}
 use Rattle.uac_graph.specs.Meaning.{entity}
-use Rattle.uac_alt.specs.Streams.{StreamFields, stream_of}
-use Rattle.uac_alt.specs.Settings.{is_running, setting_of, with_setting}
+use Rattle.uac_alt.specs.AltStreams.{StreamFields, stream_of}
+use Rattle.uac_alt.specs.AltSettings.{is_running, setting_of, with_setting}
 use Rattle.uac_alt.proofs.Formats.{stream_format}
 use Rattle.uac_alt.specs.declared.settings.InterfaceSetting.{InterfaceSetting}
 use Rattle.uac_request.specs.Requests.{Held, after_request, controls_set, first_broken, left_by, sets_cur}
 use Rattle.uac_request.specs.declared.setup.Setup.{Setup}
 use Rattle.uac_request.proofs.Lasting.{rates_stay}
-use Rattle.uac_flow.specs.Streams.{InStream, OutStream, started_out}
+use Rattle.uac_flow.specs.FlowStreams.{InStream, OutStream, started_out}
 use Rattle.uac_host.specs.HostWorld.{Pace}
-use Rattle.uac_host.specs.Calls.{at_interface, started, with_stream}
+use Rattle.uac_host.specs.Calls.{at_interface, fresh_pace, with_stream}
 use Rattle.uac_lanes.specs.InterfaceStreams.{in_from, out_from, replaced_at}
-use Rattle.uac_device.specs.DeviceWorld.{Domain, restarted, sets_interface}
+use Rattle.uac_device.specs.DeviceWorld.{Domain, after_restart, sets_interface}
 use Rattle.uac_streaming.specs.StreamingWorld.{given_at, goes_out, place_of}
 use Rattle.uac_running.specs.RunningWorld.{RunningWorld}
 use Rattle.uac_bands.specs.Life.{Life, clock_on, domain_on, life_of}
 use Rattle.uac_bands.specs.Bands.{started_life}
 use Rattle.uac_bands.specs.Projection.{Runs}
-use Rattle.uac_bands.specs.Run.{RunInBand, StreamInBand}
-use Rattle.uac_bands.specs.Transfers.{IsSoundRun, TransfersKeepBands}
+use Rattle.uac_bands.specs.BandRun.{RunInBand, StreamInBand}
+use Rattle.uac_bands.specs.BandTransfers.{IsSoundRun, TransfersKeepBands}
 use Rattle.uac_bands.proofs.Once.{own_number}
 use Rattle.uac_bands.proofs.Lived.{mapped}
 use Rattle.uac_bands.proofs.Shown.{if_false, if_true, place_other}
@@ -212,13 +212,13 @@ module _ (r other : RunningWorld) (cs : List (Key × ℤ)) (ss : List InterfaceS
       }
 
   starts_there : (k number : ℕ) (s : StreamFields) → RunInBand r → IsSoundRun r → IsAsked r.device.function r.device.controls k number s
-      → s.out ≡ true → outs k ≡ Some (started_out s) → paces k ≡ Some (started s)
+      → s.out ≡ true → outs k ≡ Some (started_out s) → paces k ≡ Some (fresh_pace s)
       → ((place : ℕ) → place_of r.device.function k ≡ Some place → given.feedback place ≡ [] ∷ r.given.feedback place)
       → ((id : ℕ) → rate_of entities cs id ≡ rate_of entities r.device.controls id) → IsThere k (started_out s)
   starts_there k number s band sound asked goes out pace reports rates =
       let function : FunctionFields = r.device.function in
-      let place = found_place k function.streams asked.carrier asked.there in
-      let clock : ℕ = (entity entities asked.carrier.terminal).clock in
+      let place = found_place k function.streams asked.streaming_interface asked.there in
+      let clock : ℕ = (entity entities asked.streaming_interface.terminal).clock in
       let on_clock : clock_on r k ≡ Some clock = ap (option_map (λ (c : StreamInterface). (entity entities c.terminal).clock)) asked.there in
       let parts = parts_of function asked.rate k number s asked.of in
       let to_device : goes_out function k ≡ true = ap (λ (o : Option StreamInterface). option_map_or (λ c. c.out) o false) parts.there ∙ sym parts.out ∙ goes in
@@ -287,21 +287,21 @@ module _ (p : Setup) (bytes : List ℕ) (r : RunningWorld) (band : RunInBand r) 
   reports_elsewhere k place other placed = by (is_some (begun p bytes r))
     where
       at : (o : Option ℕ) → place_of r.device.function p.index ≡ o
-          → (given_at o steadiness.restarted r.given).feedback place ≡ r.given.feedback place
+          → (given_at o steadiness.with_restart_given r.given).feedback place ≡ r.given.feedback place
       at None there = refl
       at (Some j) there =
           if_false (place == j) _ (r.given.feedback place) (place_other k p.index place j r.device.function.streams other placed there)
 
       by : (b : Bool)
-          → (if b then given_at (place_of r.device.function p.index) steadiness.restarted r.given else r.given).feedback place ≡ r.given.feedback place
+          → (if b then given_at (place_of r.device.function p.index) steadiness.with_restart_given r.given else r.given).feedback place ≡ r.given.feedback place
       by true = at (place_of r.device.function p.index) refl
       by false = refl
 
   reports_here : (s : StreamFields) (place : ℕ) → begun p bytes r ≡ Some s → place_of r.device.function p.index ≡ Some place
       → (given_then p bytes r).feedback place ≡ [] ∷ r.given.feedback place
   reports_here s place is placed =
-      ap (λ (o : Option StreamFields). (if is_some o then given_at (place_of r.device.function p.index) steadiness.restarted r.given else r.given).feedback place) is
-      ∙ ap (λ (o : Option ℕ). (given_at o steadiness.restarted r.given).feedback place) placed
+      ap (λ (o : Option StreamFields). (if is_some o then given_at (place_of r.device.function p.index) steadiness.with_restart_given r.given else r.given).feedback place) is
+      ∙ ap (λ (o : Option ℕ). (given_at o steadiness.with_restart_given r.given).feedback place) placed
       ∙ if_true (place == place) _ (r.given.feedback place) (own_number place)
 
   module _ (other : RunningWorld) (sets : sets_interface p ≡ true) where
@@ -312,7 +312,7 @@ module _ (p : Setup) (bytes : List ℕ) (r : RunningWorld) (band : RunInBand r) 
     ins_then = replaced_at p.index (option_and_then in_from (begun p bytes r)) r.device.ins
 
     abbrev paces_then : ℕ → Option Pace
-    paces_then = at_interface p.index (option_map started (begun p bytes r)) r.host.paces
+    paces_then = at_interface p.index (option_map fresh_pace (begun p bytes r)) r.host.paces
 
     abbrev Then : ℕ → OutStream → Type 0
     Then k o = IsThere r other (after p bytes r).controls (after p bytes r).settings outs_then ins_then paces_then (given_then p bytes r) k o
@@ -338,12 +338,12 @@ module _ (p : Setup) (bytes : List ℕ) (r : RunningWorld) (band : RunInBand r) 
         (starts_there r other (after p bytes r).controls (after p bytes r).settings outs_then ins_then paces_then (given_then p bytes r) p.index p.value s band sound asked both.0
         (if_true (p.index == p.index) _ (r.device.outs p.index) (own_number p.index)
         ∙ ap (option_and_then out_from) is ∙ ap (λ (c : Bool). if c then Some (started_out s) else None) both.0)
-        (if_true (p.index == p.index) _ (r.host.paces p.index) (own_number p.index) ∙ ap (option_map started) is)
+        (if_true (p.index == p.index) _ (r.host.paces p.index) (own_number p.index) ∙ ap (option_map fresh_pace) is)
         (λ place placed. reports_here s place is placed)
         (λ id. ap (λ (cs : List (Key × ℤ)). rate_of r.device.function.entities cs id) same))
 
-    restarts : RunInBand (record other { device = restarted p.index (begun p bytes r) (asked_device p bytes r); host = with_stream p.index (begun p bytes r) r.host; given = given_then p bytes r })
-    unfolding restarted with_stream
+    restarts : RunInBand (record other { device = after_restart p.index (begun p bytes r) (asked_device p bytes r); host = with_stream p.index (begun p bytes r) r.host; given = given_then p bytes r })
+    unfolding after_restart with_stream
     restarts =
         changed_in_band r other (after p bytes r).controls (after p bytes r).settings outs_then ins_then paces_then (given_then p bytes r) band
         (λ k o there. by k o (k == p.index) refl there)

@@ -1,8 +1,8 @@
 -- A microframe starts no stream: an interface that runs none to the device runs none after it.
 use Rattle.std.proofs.Common.{◌≡◌, ℕ, List, None}
-use Rattle.uac_flow.specs.Streams.{after_packet, after_taking, after_ticks, settled_out}
-use Rattle.uac_device.specs.DeviceWorld.{advanced, is_on, next_ticks, received, set_jack, settled, ticked}
-use Rattle.uac_device.specs.DeviceWorld.{sent as device_sends}
+use Rattle.uac_flow.specs.FlowStreams.{after_packet, after_taking, after_ticks, settled_out}
+use Rattle.uac_device.specs.DeviceWorld.{after_advance, is_on, next_ticks, after_receiving, set_jack, after_settling, after_tick}
+use Rattle.uac_device.specs.DeviceWorld.{after_sending_packet as device_sends}
 use Rattle.uac_script.specs.Phrase.{SaidMark}
 use Rattle.uac_streaming.specs.StreamingWorld.{StreamingWorld, in_packets, out_packets, packet_fetched, packet_sent, packet_to, report_made, settled_turn}
 use Rattle.uac_running.specs.RunningWorld.{RunningWorld, streaming_of, with_streaming}
@@ -19,7 +19,7 @@ module _ (k : ℕ) where
   RestsNow r = r.device.outs k ≡ None
 
   starts_none : IsKeptByEach RunsNone
-  unfolding packet_sent received packet_fetched device_sends settled report_made set_jack ticked advanced
+  unfolding packet_sent after_receiving packet_fetched device_sends after_settling report_made set_jack after_tick after_advance
   starts_none = record {
     sends = λ lost n w none. none_at n k (after_packet (packet_to lost n w)) w.device.outs none;
     fetches = λ lost n w none. none;
@@ -42,19 +42,19 @@ module _ (k : ℕ) where
   pub tick_none : (c : ℕ) (r : RunningWorld) → RestsNow r → RestsNow (tick c r).world
   tick_none = tick_keeps RunsNone starts_none
 
-  pub advanced_none : (c : ℕ) (r : RunningWorld) → RestsNow r → RestsNow (record r { device = advanced c r.device })
+  pub advanced_none : (c : ℕ) (r : RunningWorld) → RestsNow r → RestsNow (record r { device = after_advance c r.device })
   advanced_none = advanced_keeps RunsNone starts_none
 
   pub domain_none : (c : ℕ) (r : RunningWorld) → RestsNow r → RestsNow (domain_microframe c r).world
   domain_none = domain_keeps RunsNone starts_none
 
-  pub before_ticks_none : (losses : List SaidMark) (r : RunningWorld) → RestsNow r
-      → (let sent = with_streaming r (out_packets r.detail losses (streaming_of r)).world in
-      RestsNow (with_streaming sent (in_packets sent.detail losses (streaming_of sent)).world))
+  pub before_ticks_none : (marks : List SaidMark) (r : RunningWorld) → RestsNow r
+      → (let sent = with_streaming r (out_packets r.detail marks (streaming_of r)).world in
+      RestsNow (with_streaming sent (in_packets sent.detail marks (streaming_of sent)).world))
   before_ticks_none = before_ticks_keep RunsNone starts_none
 
-  pub before_the_end_none : (losses : List SaidMark) (r : RunningWorld) → RestsNow r → RestsNow (packets_and_ticks losses r).world
+  pub before_the_end_none : (marks : List SaidMark) (r : RunningWorld) → RestsNow r → RestsNow (packets_and_ticks marks r).world
   before_the_end_none = before_the_end_keep RunsNone starts_none
 
-  pub microframe_none : (losses : List SaidMark) (r : RunningWorld) → RestsNow r → RestsNow (microframe losses r).world
+  pub microframe_none : (marks : List SaidMark) (r : RunningWorld) → RestsNow r → RestsNow (microframe marks r).world
   microframe_none = microframe_keeps RunsNone starts_none

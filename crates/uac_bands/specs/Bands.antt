@@ -7,10 +7,10 @@ use Rattle.uac_clock.specs.Ticks.{ticks_in}
 use Rattle.uac_clock.specs.declared.values.Nominal.{Nominal}
 use Rattle.uac_rate.specs.Levels.{AreIntervals, IsHeld, IsRobust, Point, Within}
 use Rattle.uac_rate.specs.Steadiness.{latest_run}
-use Rattle.uac_alt.specs.Streams.{StreamFields}
-use Rattle.uac_flow.specs.Streams.{OutStream, after_ticks, arrival_of, frames_of, is_dry, is_due, out_level, priming_level, started_out}
+use Rattle.uac_alt.specs.AltStreams.{StreamFields}
+use Rattle.uac_flow.specs.FlowStreams.{OutStream, after_ticks, arrival_of, frames_of, is_dry, is_due, out_level, priming_level, started_out}
 use Rattle.uac_flow.specs.declared.arrival.Arrival.TheVariants as arrival
-use Rattle.uac_host.specs.Calls.{next_size, started}
+use Rattle.uac_host.specs.Calls.{next_size, fresh_pace}
 use Rattle.uac_bands.specs.Life.{Life, life_after, ticks_taken, with_packet}
 
 -- a step of a clock that is off by at most a thousandth
@@ -18,27 +18,27 @@ abbrev pub IsSlightStep : Nominal → ℕ → Type 0
 IsSlightStep values step = Within values.e step values.f
 
 -- how many microframes of the service interval that runs have passed
-abbrev pub passed : OutStream → ℕ
-passed o = o.microframes % o.stream.service
+abbrev pub microframes_since_due : OutStream → ℕ
+microframes_since_due o = o.microframes % o.stream.service
 
 -- since its last service interval ended, with this remainder of its clock, the clock went on by steps that are slight, and its ticks were
 -- counted
 pub record HasTicked (l : Life) (clock : ℕ) : Type 0 where
   pub steps : ℕ
-  pub slight : Within (passed l.out * l.out.stream.nominal.e) steps (passed l.out * l.out.stream.nominal.f)
+  pub slight : Within (microframes_since_due l.out * l.out.stream.nominal.e) steps (microframes_since_due l.out * l.out.stream.nominal.f)
   pub ticks : l.out.ticks ≡ (clock + steps) / 65536
   pub phase : sum l.steps % 65536 ≡ (clock + steps) % 65536
 
 -- a primed stream between two microframes, by the point at which its last service interval ended: since then no packet came, and the level
 -- fell by its domain's ticks
-pub record IsBehind (l : Life) (target : ℕ) (p : Point) : Type 0 where
+pub record IsFollowing (l : Life) (target : ℕ) (p : Point) : Type 0 where
   pub robust : IsRobust l.out.stream.nominal 65 l.out.stream.service l.out.stream.period p
   pub target_is : p.target ≡ target
   pub level : p.level ≡ out_level l.out + l.out.ticks
   pub host : p.host ≡ sum l.pace.used % 65536
   pub value : p.value ≡ l.pace.value
   pub lost : p.lost ≡ latest_run l.reports
-  pub waited : p.waited ≡ (l.out.microframes - passed l.out) % l.out.stream.period
+  pub waited : p.waited ≡ (l.out.microframes - microframes_since_due l.out) % l.out.stream.period
   pub ticked : HasTicked l p.clock
 
 -- a priming stream: its ring has fewer frames than prime it, and the nominal value is in force
@@ -51,7 +51,7 @@ pub record IsFilling (l : Life) : Type 0 where
 
 abbrev pub IsAt : Option ℕ → Life → Type 0
 IsAt None l = IsFilling l
-IsAt (Some target) l = (p : Point) × IsBehind l target p
+IsAt (Some target) l = (p : Point) × IsFollowing l target p
 
 -- between two microframes
 pub record InBand (l : Life) : Type 0 where
@@ -65,7 +65,7 @@ pub record InBand (l : Life) : Type 0 where
 
 -- a stream that starts, whatever its domain's clock did before
 abbrev pub started_life : StreamFields → List ℕ → List (List Bool) → Life
-started_life stream steps reports = record { out = started_out stream; pace = started stream; steps = steps; reports = [] ∷ reports }
+started_life stream steps reports = record { out = started_out stream; pace = fresh_pace stream; steps = steps; reports = [] ∷ reports }
 
 -- a stream that was just primed is in its band
 abbrev pub StartsInBand : Type 0
@@ -114,7 +114,7 @@ NeverOver =
 -- where a service interval has ended, the level of a primed ring is within 130 frames of its target
 abbrev pub EndsNear : Type 0
 EndsNear =
-    (l : Life) (target : ℕ) → InBand l → l.out.target ≡ Some target → passed l.out ≡ 0 → Within 130 (out_level l.out) target
+    (l : Life) (target : ℕ) → InBand l → l.out.target ≡ Some target → microframes_since_due l.out ≡ 0 → Within 130 (out_level l.out) target
 
 -- between two microframes a primed ring holds enough
 abbrev pub HoldsBetween : Type 0

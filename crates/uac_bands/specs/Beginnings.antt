@@ -7,8 +7,8 @@ use Rattle.uac_rate.specs.Steadiness.{is_slight}
 use Rattle.uac_topology.specs.Function.{FunctionFields}
 use Rattle.uac_topology.specs.Topology.{IsSoundFunction}
 use Rattle.uac_running.specs.RunningWorld.{RunningWorld, at_start, with_detail, with_deviation, with_samples_on, with_tone, with_track}
-use Rattle.uac_running.specs.Transfers.{with_break}
-use Rattle.uac_bands.specs.Run.{RunInBand}
+use Rattle.uac_running.specs.RunningTransfers.{with_break}
+use Rattle.uac_bands.specs.BandRun.{RunInBand}
 
 -- a run starts in its bands
 abbrev pub RunsStartInBand : Type 0
@@ -23,7 +23,7 @@ pub record StaysInBands (r : RunningWorld) : Type 0 where
   pub breaks : (after : Bool) → RunInBand (with_break after r)
   pub samples : (interface : ℕ) (samples : List ℤ) → RunInBand (with_samples_on interface samples r)
   pub track : (interface : ℕ) (tone : Tone) → RunInBand (with_track interface tone r)
-  pub deviation : (clock : ℕ) (millionths : ℤ) → is_slight millionths ≡ true → RunInBand (with_deviation clock millionths r)
+  pub deviation : (clock : ℕ) (ppm : ℤ) → is_slight ppm ≡ true → RunInBand (with_deviation clock ppm r)
 
 abbrev pub CallsKeepBands : Type 0
 CallsKeepBands = (r : RunningWorld) → RunInBand r → StaysInBands r

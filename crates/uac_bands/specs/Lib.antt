@@ -2,8 +2,8 @@
 -- What the program's theorem says: to be read and believed.
 pub mod Life
 pub mod Bands
-pub mod Run
+pub mod BandRun
 pub mod Projection
-pub mod Transfers
+pub mod BandTransfers
 -- What the laws say besides.
 pub mod Beginnings

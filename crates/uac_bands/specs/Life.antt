@@ -5,10 +5,10 @@ use Rattle.std.specs.List.{find}
 use Rattle.std.specs.Option.{option_and_then, option_map, option_map_or}
 use Rattle.uac_clock.specs.Ticks.{ticks_in}
 use Rattle.uac_rate.specs.Steadiness.{one_more}
-use Rattle.uac_flow.specs.Streams.{OutStream, after_packet, after_taking, after_ticks, feedback_of, is_due, settled_out}
+use Rattle.uac_flow.specs.FlowStreams.{OutStream, after_packet, after_taking, after_ticks, feedback_of, is_due, settled_out}
 use Rattle.uac_host.specs.HostWorld.{Pace}
 use Rattle.uac_topology.specs.Function.{interface_in}
-use Rattle.uac_host.specs.Calls.{reported, sent}
+use Rattle.uac_host.specs.Calls.{pace_after_report, pace_after_packet}
 use Rattle.uac_device.specs.DeviceWorld.{Domain, entity_in}
 use Rattle.uac_streaming.specs.StreamingWorld.{place_of}
 use Rattle.uac_running.specs.RunningWorld.{RunningWorld}
@@ -49,7 +49,7 @@ ticks_taken (suc n) o = ticks_taken n (after_taking o)
 -- where it is due, a packet comes, or is lost
 abbrev pub with_packet : Option (List ℕ) → Life → Life
 with_packet packet l =
-    if is_due l.out.stream l.out.microframes then record l { out = after_packet packet l.out; pace = sent l.pace } else l
+    if is_due l.out.stream l.out.microframes then record l { out = after_packet packet l.out; pace = pace_after_packet l.pace } else l
 
 -- a stream's domain ticks as often as its clock gives by one step more
 abbrev pub with_step : ℕ → Life → Life
@@ -64,7 +64,7 @@ with_end l = record l { out = settled_out l.out }
 -- where a report is due, it comes to the host, or is lost
 abbrev pub with_feedback : Bool → Life → Life
 with_feedback lost l =
-    option_map_or (λ value. record l { pace = if lost then l.pace else reported value l.pace; reports = one_more lost l.reports })
+    option_map_or (λ value. record l { pace = if lost then l.pace else pace_after_report value l.pace; reports = one_more lost l.reports })
     (feedback_of l.out) l
 
 -- a microframe: its packet if it is due, none where that is lost; a step of its clock; its end; and its report if one is due

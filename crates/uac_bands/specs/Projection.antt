@@ -5,15 +5,15 @@ use Rattle.uac_pcm.specs.Frames.{IsFormat}
 use Rattle.uac_topology.specs.Function.{FunctionFields}
 use Rattle.uac_topology.specs.Topology.{IsSoundFunction}
 use Rattle.uac_request.specs.declared.setup.Setup.{Setup}
-use Rattle.uac_flow.specs.Streams.{frames_of, is_due}
+use Rattle.uac_flow.specs.FlowStreams.{frames_of, is_due}
 use Rattle.uac_host.specs.HostWorld.{Track}
 use Rattle.uac_host.specs.Calls.{IsStreamOf, after_frames, channels_at, next_size, packet_of}
-use Rattle.uac_device.specs.DeviceWorld.{DeviceWorld, Domain, controlled, deviated, fresh, step_in}
+use Rattle.uac_device.specs.DeviceWorld.{DeviceWorld, Domain, after_control, after_deviation, fresh, step_in}
 use Rattle.uac_script.specs.Phrase.{SaidMark}
 use Rattle.uac_streaming.specs.StreamingWorld.{goes_out, loses_out, loses_report, packet_to}
 use Rattle.uac_running.specs.RunningWorld.{RunningWorld, streaming_of}
 use Rattle.uac_running.specs.Events.{microframe}
-use Rattle.uac_running.specs.Transfers.{transferred}
+use Rattle.uac_running.specs.RunningTransfers.{after_transfer}
 use Rattle.uac_bands.specs.Life.{Life, domain_on, life_after, life_of}
 
 -- each clock domain of a device's function is one, the device keeps a clock for each, in order, and the numbers of interfaces are bytes
@@ -39,8 +39,8 @@ pub record IsFed (r : RunningWorld) (interface : ℕ) (l : Life) : Type 0 where
 
 -- the stream's life after a microframe
 abbrev pub next_life : List SaidMark → RunningWorld → ℕ → Life → Domain → Life
-next_life losses r interface l d =
-    life_after (packet_to (loses_out losses interface) interface (streaming_of r)) (step_in r.device d) (loses_report losses interface) l
+next_life marks r interface l d =
+    life_after (packet_to (loses_out marks interface) interface (streaming_of r)) (step_in r.device d) (loses_report marks interface) l
 
 -- a stream's domain after a microframe
 abbrev pub next_domain : RunningWorld → Domain → Domain
@@ -54,13 +54,13 @@ next_track l t = if is_due l.out.stream l.out.microframes then after_frames (nex
 -- whether its packet and its report were lost
 abbrev pub MicroframesAreLived : Type 0
 MicroframesAreLived =
-    (losses : List SaidMark) (r : RunningWorld) (interface : ℕ) (l : Life) (d : Domain) → IsOrdered r.device → Runs r interface l d
-    → Runs (microframe losses r).world interface (next_life losses r interface l d) (next_domain r d)
+    (marks : List SaidMark) (r : RunningWorld) (interface : ℕ) (l : Life) (d : Domain) → IsOrdered r.device → Runs r interface l d
+    → Runs (microframe marks r).world interface (next_life marks r interface l d) (next_domain r d)
 
 abbrev pub TracksGoOn : Type 0
 TracksGoOn =
-    (losses : List SaidMark) (r : RunningWorld) (interface : ℕ) (l : Life) (d : Domain) → IsOrdered r.device → Runs r interface l d
-    → (microframe losses r).world.host.tracks interface ≡ next_track l (r.host.tracks interface)
+    (marks : List SaidMark) (r : RunningWorld) (interface : ℕ) (l : Life) (d : Domain) → IsOrdered r.device → Runs r interface l d
+    → (microframe marks r).world.host.tracks interface ≡ next_track l (r.host.tracks interface)
 
 -- what stays so
 pub record Stays (before after : RunningWorld) : Type 0 where
@@ -70,10 +70,10 @@ pub record Stays (before after : RunningWorld) : Type 0 where
   pub host : after.host.function ≡ before.host.function
 
 abbrev pub MicroframesKeepTheRest : Type 0
-MicroframesKeepTheRest = (losses : List SaidMark) (r : RunningWorld) → Stays r (microframe losses r).world
+MicroframesKeepTheRest = (marks : List SaidMark) (r : RunningWorld) → Stays r (microframe marks r).world
 
 abbrev pub MicroframesKeepOrder : Type 0
-MicroframesKeepOrder = (losses : List SaidMark) (r : RunningWorld) → IsOrdered r.device → IsOrdered (microframe losses r).world.device
+MicroframesKeepOrder = (marks : List SaidMark) (r : RunningWorld) → IsOrdered r.device → IsOrdered (microframe marks r).world.device
 
 -- so it is at the start, and deviations, control requests and transfers leave it so
 abbrev pub StartsAreOrdered : Type 0
@@ -81,19 +81,19 @@ StartsAreOrdered =
     (function : FunctionFields) → IsSoundFunction function → All (λ s. s.number < 256) function.streams → IsOrdered (fresh function)
 
 abbrev pub DeviationsKeepOrder : Type 0
-DeviationsKeepOrder = (clock : ℕ) (millionths : ℤ) (w : DeviceWorld) → IsOrdered w → IsOrdered (deviated clock millionths w)
+DeviationsKeepOrder = (clock : ℕ) (ppm : ℤ) (w : DeviceWorld) → IsOrdered w → IsOrdered (after_deviation clock ppm w)
 
 abbrev pub RequestsKeepOrder : Type 0
-RequestsKeepOrder = (p : Setup) (bytes : List ℕ) (w : DeviceWorld) → IsOrdered w → IsOrdered (controlled p bytes w)
+RequestsKeepOrder = (p : Setup) (bytes : List ℕ) (w : DeviceWorld) → IsOrdered w → IsOrdered (after_control p bytes w)
 
 abbrev pub TransfersKeepOrder : Type 0
-TransfersKeepOrder = (p : Setup) (bytes : List ℕ) (r : RunningWorld) → IsOrdered r.device → IsOrdered (transferred p bytes r).device
+TransfersKeepOrder = (p : Setup) (bytes : List ℕ) (r : RunningWorld) → IsOrdered r.device → IsOrdered (after_transfer p bytes r).device
 
 -- a stream that is fed is so after a microframe
 abbrev pub MicroframesKeepFed : Type 0
 MicroframesKeepFed =
-    (losses : List SaidMark) (r : RunningWorld) (interface : ℕ) (l : Life) (d : Domain) → IsOrdered r.device → Runs r interface l d
-    → IsFed r interface l → IsFed (microframe losses r).world interface (next_life losses r interface l d)
+    (marks : List SaidMark) (r : RunningWorld) (interface : ℕ) (l : Life) (d : Domain) → IsOrdered r.device → Runs r interface l d
+    → IsFed r interface l → IsFed (microframe marks r).world interface (next_life marks r interface l d)
 
 -- a stream's packet has as many frames as its rate values say
 abbrev pub PacketsHaveTheirFrames : Type 0

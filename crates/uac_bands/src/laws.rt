@@ -3,11 +3,12 @@ ghost use Rattle.uac_bands.specs.Projection.{MicroframesAreLived, TracksGoOn, Mi
 ghost use Rattle.uac_bands.specs.Projection.{StartsAreOrdered, DeviationsKeepOrder, RequestsKeepOrder, TransfersKeepOrder};
 ghost use Rattle.uac_bands.specs.Projection.{MicroframesKeepFed, PacketsHaveTheirFrames};
 ghost use Rattle.uac_bands.specs.Bands.{StartsInBand, StaysInBand, HoldsEnough, NeverDry, NeverOver, EndsNear, HoldsBetween};
-ghost use Rattle.uac_bands.specs.Run.{SteadyMicroframesKeepBands, MicroframesFindNoneEmpty, SteadyMicroframesTellNear};
-ghost use Rattle.uac_bands.specs.Run.{SteadinessLooksBack, SteadyRunsStaySteady};
+ghost use Rattle.uac_bands.specs.BandRun.{SteadyMicroframesKeepBands, MicroframesFindNoneEmpty, SteadyMicroframesTellNear};
+ghost use Rattle.uac_bands.specs.BandRun.{SteadinessLooksBack, SteadyRunsStaySteady};
 ghost use Rattle.uac_bands.specs.Beginnings.{RunsStartInBand, CallsKeepBands};
-ghost use Rattle.uac_bands.specs.Transfers.{TransfersKeepBands, MicroframesKeepSound, CallsKeepSound, TransfersKeepSound, RunsStartSound};
-ghost use Rattle.uac_bands.specs.Transfers.{CallsLookBack};
+ghost use Rattle.uac_bands.specs.BandTransfers.{TransfersKeepBands, MicroframesKeepSound, CallsKeepSound, TransfersKeepSound};
+ghost use Rattle.uac_bands.specs.BandTransfers.{RunsStartSound};
+ghost use Rattle.uac_bands.specs.BandTransfers.{CallsLookBack};
 
 /// All that a microframe makes of a stream to the device follows from its own packet, its own clock, and whether its packet and its report
 /// were lost.

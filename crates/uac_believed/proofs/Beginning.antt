@@ -2,17 +2,17 @@
 use Rattle.std.proofs.Common.{◌≡◌, sym, refl, ap, ℕ, ℤ, true, List, [], ◌∷◌, map, Option, None, Some, is_some, IfSome}
 use Rattle.std.specs.List.{AllByRecursion}
 use Rattle.std.proofs.lemmas.List.Elements.{All-map}
-use Rattle.uac_descriptor.specs.Reading.{AreBytes}
+use Rattle.uac_descriptor.specs.BlockReading.{AreBytes}
 use Rattle.uac_entities.specs.declared.entity.Entity.{Entity}
 use Rattle.uac_topology.specs.Function.{FunctionFields}
 use Rattle.uac_topology.specs.Topology.{IsSoundFunction}
-use Rattle.uac_topology.proofs.PinLemmas.{have_pins}
+use Rattle.uac_topology.proofs.Pins.{have_pins}
 use Rattle.uac_store.specs.declared.keys.Key.{Key}
-use Rattle.uac_store.specs.Controls.{IsStoreOf}
+use Rattle.uac_store.specs.StoreControls.{IsStoreOf}
 use Rattle.uac_store.specs.Keyed.{value_of}
 use Rattle.uac_store.proofs.Soundness.{keyed}
 use Rattle.uac_mixer.specs.Agreement.{IsAgreed}
-use Rattle.uac_mixer.specs.Elements.{listed, unread}
+use Rattle.uac_mixer.specs.MixerElements.{element_list, unread}
 use Rattle.uac_mixer.specs.ViewWorld.{IsViewOf, known_view, read_from}
 use Rattle.uac_mixer.specs.declared.element.Element.{Element}
 use Rattle.uac_mixer.proofs.Agreed.{held_as}
@@ -22,7 +22,7 @@ use Rattle.uac_script.specs.Phrase.{Phrase, feeds}
 use Rattle.uac_units.specs.Hearing.{Reading}
 use Rattle.uac_running.specs.RunningWorld.{at_start}
 use Rattle.uac_device.specs.DeviceWorld.{fresh}
-use Rattle.uac_bus.specs.World.{step_describing}
+use Rattle.uac_bus.specs.BusWorld.{step_describing}
 use Rattle.uac_steady.proofs.Beginning.{describing_is}
 use Rattle.uac_believed.proofs.Worlds.{Begins, IsBegun, IsBelieved}
 
@@ -36,12 +36,12 @@ unread_again values (x ∷ xs) none = (λ j. record x { value = sym none.0 j } �
 
 known_of : (entities : List Entity) (values : List (Key × ℤ)) → IsViewOf entities (known_view entities values)
 unfolding known_view
-known_of entities values = unread_again values (listed entities) (none_read entities)
+known_of entities values = unread_again values (element_list entities) (none_read entities)
 
 known_agrees : (entities : List Entity) (values : List (Key × ℤ)) → IsAgreed values (known_view entities values)
 unfolding known_view
 known_agrees entities values =
-    All-map (λ (x : Element). IfSome x.value (λ v. value_of values x.key ≡ Some v)) (read_from values) (listed entities)
+    All-map (λ (x : Element). IfSome x.value (λ v. value_of values x.key ≡ Some v)) (read_from values) (element_list entities)
     (λ k d below. itself (value_of values _))
   where
     itself : (o : Option ℤ) → IfSome o (λ v. o ≡ Some v)
@@ -62,7 +62,7 @@ all_known : (function : FunctionFields) → IsSoundFunction function
     → AllByRecursion (λ (x : Element). is_some x.value ≡ true) (known_view function.entities (fresh function).controls).elements
 unfolding known_view fresh
 all_known function sound =
-    each_known function.entities (fresh function).controls (listed function.entities) (starts have_pins keyed function sound)
+    each_known function.entities (fresh function).controls (element_list function.entities) (starts have_pins keyed function sound)
     (all_listed function.entities (keyed function sound).apart)
 
 starts_believed : (bytes : List ℕ) (function : FunctionFields) (meters : List Reading) → IsSoundFunction function

@@ -8,35 +8,35 @@ use Rattle.std.proofs.lemmas.List.{length-map}
 use Rattle.std.proofs.lemmas.List.Elements.{All-head, All-map, All-tail, All-weaker}
 use Rattle.std.proofs.lemmas.Map.Steps.{length-le_from_distinct_below}
 use Rattle.uac_pcm.specs.declared.tones.Tone.{Tone}
-use Rattle.uac_descriptor.specs.Reading.{AreBytes}
+use Rattle.uac_descriptor.specs.BlockReading.{AreBytes}
 use Rattle.uac_topology.specs.Function.{FunctionFields}
 use Rattle.uac_topology.proofs.Small.{small}
 use Rattle.uac_store.proofs.Soundness.{keyed}
-use Rattle.uac_alt.specs.Streams.{StreamFields}
+use Rattle.uac_alt.specs.AltStreams.{StreamFields}
 use Rattle.uac_units.specs.Hearing.{Reading}
 use Rattle.uac_request.specs.Requests.{after_request, held_by, reply_of, setup_of}
 use Rattle.uac_request.specs.declared.setup.Setup.{Setup}
 use Rattle.uac_host.specs.HostWorld.{HostWorld}
-use Rattle.uac_device.specs.DeviceWorld.{DeviceWorld, Domain, at_rest, controlled, deviated, fresh, is_input_jack, restarted, sets_interface, stream_in_setting, tells_done}
-use Rattle.uac_device.specs.Kept.{IsInRange}
-use Rattle.uac_mixer.specs.Elements.{fits_element}
+use Rattle.uac_device.specs.DeviceWorld.{DeviceWorld, Domain, at_rest, after_control, after_deviation, fresh, is_input_jack, after_restart, sets_interface, stream_in_setting, tells_done}
+use Rattle.uac_device.specs.DeviceKept.{IsInRange}
+use Rattle.uac_mixer.specs.MixerElements.{fits_element}
 use Rattle.uac_mixer.specs.declared.link.When.{When}
 use Rattle.uac_mixer.specs.declared.link.When.TheVariants as when
 use Rattle.uac_script.specs.Phrase.{Phrase, idle, feeds, goes, controls, gets, sets, shows, breaks, appends, tracks, jacks, deviates, runs, details, reports, is_id, is_in_range, is_within}
 use Rattle.uac_script.specs.Line.{Says}
-use Rattle.uac_script.specs.Reading.{answer}
+use Rattle.uac_script.specs.LineReading.{answer}
 use Rattle.uac_script.proofs.Answered.{answer_says}
 use Rattle.uac_script.proofs.Kept.{within_means}
 use Rattle.uac_transcript.specs.declared.report.StreamCounts.{StreamCounts}
-use Rattle.uac_streaming.specs.StreamingWorld.{StreamingWorld, followed}
+use Rattle.uac_streaming.specs.StreamingWorld.{StreamingWorld, after_following}
 use Rattle.uac_running.specs.declared.jacks.Jack.{Jack}
-use Rattle.uac_running.specs.RunningWorld.{RunningWorld, at_start, silent_jack, streaming_of, toned, with_detail, with_deviation, with_samples_on, with_tone, with_track}
+use Rattle.uac_running.specs.RunningWorld.{RunningWorld, at_start, silent_jack, streaming_of, jack_with_tone, with_detail, with_deviation, with_samples_on, with_tone, with_track}
 use Rattle.uac_running.specs.Naming.{are_frames, size_of}
 use Rattle.uac_running.specs.Events.{microframes}
-use Rattle.uac_running.specs.Lines.{ticks_since}
-use Rattle.uac_running.specs.Transfers.{acts, element_named, holds_setting, read_element, set_element, show_element, transfer, transferred, with_break}
+use Rattle.uac_running.specs.RunningLines.{ticks_since}
+use Rattle.uac_running.specs.RunningTransfers.{acts, element_named, holds_setting, read_element, set_element, show_element, transfer, after_transfer, with_break}
 use Rattle.uac_bus.specs.declared.fault.BusFault.{BusFault}
-use Rattle.uac_bus.specs.World.{Step, World, describing, done, refused, running, silently, start, step, step_describing, step_running, told, tone_of, unless}
+use Rattle.uac_bus.specs.BusWorld.{Step, World, describing, done, refused, running, silently, start, step, step_describing, step_running, step_telling, tone_of, unless}
 use Rattle.uac_bus.specs.After.{after, and_then, said_step}
 use Rattle.uac_steady.proofs.Beginning.{IsDescribed, describing_is, feeds_bytes}
 use Rattle.uac_steady.proofs.Steps.{on_element_is, unless_is}
@@ -89,8 +89,8 @@ start_counted most bytes function meters is = record {
 
 -- a control request leaves the function and the domains
 asked_counted : (p : Setup) (bytes : List ℕ) (most : ℕ) (w : StreamingWorld) → HaveCounted most w
-    → HaveCounted most (record w { device = controlled p bytes w.device })
-unfolding controlled restarted
+    → HaveCounted most (record w { device = after_control p bytes w.device })
+unfolding after_control after_restart
 asked_counted p bytes most w is = by (sets_interface p && tells_done (reply_of d.function (held_by d.controls d.settings) p bytes))
   where
     d : DeviceWorld
@@ -102,17 +102,17 @@ asked_counted p bytes most w is = by (sets_interface p && tells_done (reply_of d
     by : (b : Bool)
         → (let after = after_request d.function (held_by d.controls d.settings) p bytes in
         let asked : DeviceWorld = record d { controls = after.controls; settings = after.settings } in
-        HaveCounted most (record w { device = if b then restarted p.index begun asked else asked }))
+        HaveCounted most (record w { device = if b then after_restart p.index begun asked else asked }))
     by true = record { domains = is.domains; entities = is.entities; clocks = is.clocks; met = is.met }
     by false = record { domains = is.domains; entities = is.entities; clocks = is.clocks; met = is.met }
 
 followed_counted : (interface most : ℕ) (begun : Option StreamFields) (w : StreamingWorld) → HaveCounted most w
-    → HaveCounted most (followed interface begun w)
-unfolding followed
+    → HaveCounted most (after_following interface begun w)
+unfolding after_following
 followed_counted interface most begun w is = record { domains = is.domains; entities = is.entities; clocks = is.clocks; met = is.met }
 
-transfers_counted : (p : Setup) (bytes : List ℕ) (most : ℕ) (r : RunningWorld) → HasCounted most r → HasCounted most (transferred p bytes r)
-unfolding transferred
+transfers_counted : (p : Setup) (bytes : List ℕ) (most : ℕ) (r : RunningWorld) → HasCounted most r → HasCounted most (after_transfer p bytes r)
+unfolding after_transfer
 transfers_counted p bytes most r is =
     record { streams = by (holds_setting p bytes r) r.breaks; time = is.time; renders = is.renders; frames = is.frames }
   where
@@ -120,16 +120,16 @@ transfers_counted p bytes most r is =
     begun = stream_in_setting r.device.function r.device.controls p.index p.value
 
     acted : (pending : Option When)
-        → HaveCounted most (record (streaming_of r) { device = acts pending r.device (controlled p bytes r.device) })
+        → HaveCounted most (record (streaming_of r) { device = acts pending r.device (after_control p bytes r.device) })
     acted None = asked_counted p bytes most (streaming_of r) is.streams
     acted (Some when.Before) = is.streams
     acted (Some when.After) = asked_counted p bytes most (streaming_of r) is.streams
 
     by : (b : Bool) (pending : Option When)
-        → HaveCounted most (let s = record (streaming_of r) { device = acts pending r.device (controlled p bytes r.device) } in
-        if b then followed p.index begun s else s)
+        → HaveCounted most (let s = record (streaming_of r) { device = acts pending r.device (after_control p bytes r.device) } in
+        if b then after_following p.index begun s else s)
     by true pending =
-        followed_counted p.index most begun (record (streaming_of r) { device = acts pending r.device (controlled p bytes r.device) }) (acted pending)
+        followed_counted p.index most begun (record (streaming_of r) { device = acts pending r.device (after_control p bytes r.device) }) (acted pending)
     by false pending = acted pending
 
 -- ---- tones and clocks
@@ -140,32 +140,32 @@ toned_counted terminal tone most r is = record {
   streams = is.streams;
   time = is.time;
   renders = is.renders;
-  frames = All-map (HasGiven most) (toned terminal tone) r.jacks
-      (All-weaker (HasGiven most) (λ j. HasGiven most (toned terminal tone j)) (λ j given. by j (j.terminal == terminal) given) r.jacks is.frames);
+  frames = All-map (HasGiven most) (jack_with_tone terminal tone) r.jacks
+      (All-weaker (HasGiven most) (λ j. HasGiven most (jack_with_tone terminal tone j)) (λ j given. by j (j.terminal == terminal) given) r.jacks is.frames);
 }
   where
     by : (j : Jack) (b : Bool) → HasGiven most j → HasGiven most (if b then record j { tone = tone; place = 0 } else j)
     by j true given = omega arith
     by j false given = given
 
-off_timed : (clock : ℕ) (millionths : ℤ) (most : ℕ) → IsInRange millionths → (d : Domain) → IsTimed most d
-    → IsTimed most (if d.clock == clock then record d { deviation = millionths } else d)
-off_timed clock millionths most range d is = by (d.clock == clock)
+off_timed : (clock : ℕ) (ppm : ℤ) (most : ℕ) → IsInRange ppm → (d : Domain) → IsTimed most d
+    → IsTimed most (if d.clock == clock then record d { deviation = ppm } else d)
+off_timed clock ppm most range d is = by (d.clock == clock)
   where
-    by : (b : Bool) → IsTimed most (if b then record d { deviation = millionths } else d)
+    by : (b : Bool) → IsTimed most (if b then record d { deviation = ppm } else d)
     by true = record { ticks = is.ticks; range = range }
     by false = is
 
-deviated_counted : (clock : ℕ) (millionths : ℤ) (most : ℕ) (r : RunningWorld) → IsInRange millionths → HasCounted most r
-    → HasCounted most (with_deviation clock millionths r)
-unfolding with_deviation deviated
-deviated_counted clock millionths most r range is = record {
+deviated_counted : (clock : ℕ) (ppm : ℤ) (most : ℕ) (r : RunningWorld) → IsInRange ppm → HasCounted most r
+    → HasCounted most (with_deviation clock ppm r)
+unfolding with_deviation after_deviation
+deviated_counted clock ppm most r range is = record {
   streams = record {
     domains = is.streams.domains;
     entities = is.streams.entities;
-    clocks = All-map (IsTimed most) (λ (d : Domain). if d.clock == clock then record d { deviation = millionths } else d) r.device.domains
-        (All-weaker (IsTimed most) (λ (d : Domain). IsTimed most (if d.clock == clock then record d { deviation = millionths } else d))
-        (off_timed clock millionths most range) r.device.domains is.streams.clocks);
+    clocks = All-map (IsTimed most) (λ (d : Domain). if d.clock == clock then record d { deviation = ppm } else d) r.device.domains
+        (All-weaker (IsTimed most) (λ (d : Domain). IsTimed most (if d.clock == clock then record d { deviation = ppm } else d))
+        (off_timed clock ppm most range) r.device.domains is.streams.clocks);
     met = is.streams.met;
   };
   time = is.time;
@@ -212,12 +212,12 @@ module _ (most : ℕ) (r : RunningWorld) (is : HasCounted most r) where
   running_adds goes range = tt
   running_adds (controls setup sent) range = transfers_counted (setup_of setup) sent _ r more
   running_adds (gets name) range =
-      on_element_is (Adds most) refused_adds (element_named r name) (λ x. told (read_element x r)) (λ x. transfers_counted _ _ _ r more)
+      on_element_is (Adds most) refused_adds (element_named r name) (λ x. step_telling (read_element x r)) (λ x. transfers_counted _ _ _ r more)
   running_adds (sets name value) range =
-      on_element_is (Adds most) refused_adds (element_named r name) (λ x. unless (fits_element x.kind value) 7 (told (set_element x value r)))
-      (λ x. unless_is (Adds most) refused_adds (fits_element x.kind value) 7 (told (set_element x value r)) (transfers_counted _ _ _ r more))
+      on_element_is (Adds most) refused_adds (element_named r name) (λ x. unless (fits_element x.kind value) 7 (step_telling (set_element x value r)))
+      (λ x. unless_is (Adds most) refused_adds (fits_element x.kind value) 7 (step_telling (set_element x value r)) (transfers_counted _ _ _ r more))
   running_adds (shows name) range =
-      on_element_is (Adds most) refused_adds (element_named r name) (λ x. told (show_element x r)) (λ x. more)
+      on_element_is (Adds most) refused_adds (element_named r name) (λ x. step_telling (show_element x r)) (λ x. more)
   running_adds (breaks later) range = record { streams = more.streams; time = more.time; renders = more.renders; frames = more.frames }
   running_adds (appends number samples) range =
       unless_is (Adds most) refused_adds _ 6
@@ -229,12 +229,12 @@ module _ (most : ℕ) (r : RunningWorld) (is : HasCounted most r) where
   running_adds (jacks terminal voice) range =
       unless_is (Adds most) refused_adds _ 6 (silently (running (with_tone (size_of terminal) (tone_of voice) r)))
       (toned_counted (size_of terminal) (tone_of voice) _ r more)
-  running_adds (deviates clock millionths) range =
-      unless_is (Adds most) refused_adds _ 6 (silently (running (with_deviation (size_of clock) millionths r)))
-      (deviated_counted (size_of clock) millionths _ r (within_means (negsuc 99999) (pos 100000) millionths (and_parts (is_id clock) _ range).1) more)
-  running_adds (runs count losses) range =
-      unless_is (Adds most) refused_adds _ 6 (told (microframes losses (size_of count) r))
-      (microframes_add losses (size_of count) most (most + 524288000) r
+  running_adds (deviates clock ppm) range =
+      unless_is (Adds most) refused_adds _ 6 (silently (running (with_deviation (size_of clock) ppm r)))
+      (deviated_counted (size_of clock) ppm _ r (within_means (negsuc 99999) (pos 100000) ppm (and_parts (is_id clock) _ range).1) more)
+  running_adds (runs count marks) range =
+      unless_is (Adds most) refused_adds _ 6 (step_telling (microframes marks (size_of count) r))
+      (microframes_add marks (size_of count) most (most + 524288000) r
       (omega (arith, microframes_few count (and_parts (is_within (pos 1) (pos 8000) count) _ range).0)) is)
   running_adds (details level) range = record { streams = more.streams; time = more.time; renders = more.renders; frames = more.frames }
   running_adds reports range = more

@@ -13,8 +13,8 @@ use Rattle.uac_graph.proofs.NeedsLemmas.{needed_few}
 use Rattle.uac_units.specs.Hearing.{at_most_u64}
 use Rattle.uac_flow.specs.declared.arrival.Arrival.{Arrival}
 use Rattle.uac_flow.specs.declared.arrival.Arrival.TheVariants as arrivals
-use Rattle.uac_device.specs.DeviceWorld.{DeviceWorld, Domain, advanced, arrival_in, feedback_in, next_ticks, received, renders_of, sent, set_jack, settled, step_in, steps_with_next, ticked}
-use Rattle.uac_device.specs.Kept.{IsInRange}
+use Rattle.uac_device.specs.DeviceWorld.{DeviceWorld, Domain, after_advance, arrival_in, feedback_in, next_ticks, after_receiving, renders_of, after_sending_packet, set_jack, after_settling, step_in, steps_with_next, after_tick}
+use Rattle.uac_device.specs.DeviceKept.{IsInRange}
 use Rattle.uac_script.specs.Phrase.{SaidMark}
 use Rattle.uac_transcript.specs.declared.report.StreamCounts.{StreamCounts}
 use Rattle.uac_streaming.specs.Telling.{Telling, at_rest, in_turn}
@@ -167,7 +167,7 @@ found_adds most clock w met is k = by (finds_empty clock w k) (finds_full clock 
 -- ---- packets, ends and reports
 
 sent_adds : (lost : Bool) (n most : ℕ) (w : StreamingWorld) → HaveCounted most w → HaveCounted (most + 1) (packet_sent lost n w)
-unfolding packet_sent received
+unfolding packet_sent after_receiving
 sent_adds lost n most w is =
     let arrival = arrival_in w.device n (packet_to lost n w) in
     record {
@@ -178,7 +178,7 @@ sent_adds lost n most w is =
     }
 
 fetched_adds : (lost : Bool) (n most : ℕ) (w : StreamingWorld) → HaveCounted most w → HaveCounted (most + 1) (packet_fetched lost n w)
-unfolding packet_fetched sent
+unfolding packet_fetched after_sending_packet
 fetched_adds lost n most w is = record {
   domains = is.domains;
   entities = is.entities;
@@ -186,8 +186,8 @@ fetched_adds lost n most w is = record {
   met = met_adds most n (λ c. if lost then one_lost c else c) w.met (changed_adds most one_lost (lost_adds most) lost) is.met;
 }
 
-ended_adds : (n most : ℕ) (w : StreamingWorld) → HaveCounted most w → HaveCounted (most + 1) (record w { device = settled n w.device })
-unfolding settled
+ended_adds : (n most : ℕ) (w : StreamingWorld) → HaveCounted most w → HaveCounted (most + 1) (record w { device = after_settling n w.device })
+unfolding after_settling
 ended_adds n most w is = record {
   domains = is.domains;
   entities = is.entities;
@@ -231,56 +231,56 @@ all_turns_add : (event : ℕ → StreamingWorld → Telling StreamingWorld) → 
 all_turns_add event adds most w is =
     turns_add event adds (numbers w.device.function) most (most + 256) w (omega (arith, numbers_few w.device.function)) is
 
-module _ (detail : ℕ) (losses : List SaidMark) where
-  out_adds : AddsOne (out_turn detail losses)
+module _ (detail : ℕ) (marks : List SaidMark) where
+  out_adds : AddsOne (out_turn detail marks)
   unfolding out_turn
   out_adds n most w is = by (is_out_due w n)
     where
       by : (b : Bool)
-          → HaveCounted (most + 1) (if b then record { lines = sent_lines detail (loses_out losses n) n w; world = packet_sent (loses_out losses n) n w }
+          → HaveCounted (most + 1) (if b then record { lines = sent_lines detail (loses_out marks n) n w; world = packet_sent (loses_out marks n) n w }
           else at_rest w).world
-      by true = sent_adds (loses_out losses n) n most w is
+      by true = sent_adds (loses_out marks n) n most w is
       by false = streams_within most (most + 1) (omega arith) w is
 
-  in_adds : AddsOne (in_packet_turn detail losses)
+  in_adds : AddsOne (in_packet_turn detail marks)
   unfolding in_packet_turn
   in_adds n most w is = by (is_in_due w n)
     where
       by : (b : Bool)
-          → HaveCounted (most + 1) (if b then record { lines = fetched_lines detail (loses_in losses n) n w; world = packet_fetched (loses_in losses n) n w }
+          → HaveCounted (most + 1) (if b then record { lines = fetched_lines detail (loses_in marks n) n w; world = packet_fetched (loses_in marks n) n w }
           else at_rest w).world
-      by true = fetched_adds (loses_in losses n) n most w is
+      by true = fetched_adds (loses_in marks n) n most w is
       by false = streams_within most (most + 1) (omega arith) w is
 
   settled_adds : AddsOne (settled_turn detail)
   unfolding settled_turn
   settled_adds n most w is = ended_adds n most w is
 
-  report_adds : AddsOne (report_turn detail losses)
+  report_adds : AddsOne (report_turn detail marks)
   unfolding report_turn
   report_adds n most w is = by (feedback_in w.device n)
     where
       by : (o : Option ℕ)
-          → HaveCounted (most + 1) (option_map_or (λ value. record { lines = report_lines detail (loses_report losses n) value n; world = report_made (loses_report losses n) value n w })
+          → HaveCounted (most + 1) (option_map_or (λ value. record { lines = report_lines detail (loses_report marks n) value n; world = report_made (loses_report marks n) value n w })
           o (at_rest w)).world
       by None = streams_within most (most + 1) (omega arith) w is
-      by (Some value) = reported_adds (loses_report losses n) value n most w is
+      by (Some value) = reported_adds (loses_report marks n) value n most w is
 
-  all_out_add : (most : ℕ) (w : StreamingWorld) → HaveCounted most w → HaveCounted (most + 256) (out_packets detail losses w).world
+  all_out_add : (most : ℕ) (w : StreamingWorld) → HaveCounted most w → HaveCounted (most + 256) (out_packets detail marks w).world
   unfolding out_packets
-  all_out_add = all_turns_add (out_turn detail losses) out_adds
+  all_out_add = all_turns_add (out_turn detail marks) out_adds
 
-  all_in_add : (most : ℕ) (w : StreamingWorld) → HaveCounted most w → HaveCounted (most + 256) (in_packets detail losses w).world
+  all_in_add : (most : ℕ) (w : StreamingWorld) → HaveCounted most w → HaveCounted (most + 256) (in_packets detail marks w).world
   unfolding in_packets
-  all_in_add = all_turns_add (in_packet_turn detail losses) in_adds
+  all_in_add = all_turns_add (in_packet_turn detail marks) in_adds
 
   all_settled_add : (most : ℕ) (w : StreamingWorld) → HaveCounted most w → HaveCounted (most + 256) (all_settled detail w).world
   unfolding all_settled
   all_settled_add = all_turns_add (settled_turn detail) settled_adds
 
-  all_reported_add : (most : ℕ) (w : StreamingWorld) → HaveCounted most w → HaveCounted (most + 256) (all_reported detail losses w).world
+  all_reported_add : (most : ℕ) (w : StreamingWorld) → HaveCounted most w → HaveCounted (most + 256) (all_reported detail marks w).world
   unfolding all_reported
-  all_reported_add = all_turns_add (report_turn detail losses) report_adds
+  all_reported_add = all_turns_add (report_turn detail marks) report_adds
 
 -- ---- ticks
 
@@ -309,7 +309,7 @@ renders_few clock w few = omega (arith, needed_few w.function.entities clock, fe
 
 -- a tick: at most one frame of each jack, one ring found empty and one full of each interface, and 256 renders
 tick_adds : (clock most : ℕ) (r : RunningWorld) → HasCounted most r → HasCounted (most + 256) (tick clock r).world
-unfolding tick ticked
+unfolding tick after_tick
 tick_adds clock most r is =
     let given = all_given clock r in
     let counted = given_counted most clock r is in
@@ -364,8 +364,8 @@ goes_on_adds most clock w d is = by (d.clock == clock)
     by true = record { ticks = steps_add d.steps (step_in w d) most (next_few_of w d is.range) is.ticks; range = is.range }
     by false = timed_within most (most + 27) (omega arith) d is
 
-advanced_adds : (clock most : ℕ) (r : RunningWorld) → HasCounted most r → HasCounted (most + 27) (record r { device = advanced clock r.device })
-unfolding advanced
+advanced_adds : (clock most : ℕ) (r : RunningWorld) → HasCounted most r → HasCounted (most + 27) (record r { device = after_advance clock r.device })
+unfolding after_advance
 advanced_adds clock most r is = record {
   streams = record {
     domains = is.streams.domains;
@@ -385,7 +385,7 @@ domain_adds : (clock most : ℕ) (r : RunningWorld) → HasCounted most r → Ha
 unfolding domain_microframe
 domain_adds clock most r is =
     let ranges = All-weaker (IsTimed most) (λ (d : Domain). IsInRange d.deviation) (λ d timed. timed.range) r.device.domains is.streams.clocks in
-    ticks_add (next_ticks clock r.device) clock (most + 27) (most + 6939) (record r { device = advanced clock r.device })
+    ticks_add (next_ticks clock r.device) clock (most + 27) (most + 6939) (record r { device = after_advance clock r.device })
     (omega (arith, next_few r.device clock ranges)) (advanced_adds clock most r is)
 
 domains_add : (clocks : List ℕ) (most limit : ℕ) (r : RunningWorld) → most + length clocks * 6939 ≤ limit → HasCounted most r
@@ -406,37 +406,37 @@ streamed most limit more r w is counted = record {
   frames = all_given_within most limit more r.jacks is.frames;
 }
 
-before_the_end_adds : (losses : List SaidMark) (most : ℕ) (r : RunningWorld) → HasCounted most r
-    → HasCounted (most + 56024) (packets_and_ticks losses r).world
+before_the_end_adds : (marks : List SaidMark) (most : ℕ) (r : RunningWorld) → HasCounted most r
+    → HasCounted (most + 56024) (packets_and_ticks marks r).world
 unfolding packets_and_ticks
-before_the_end_adds losses most r is =
-    let sends = with_streaming r (out_packets r.detail losses (streaming_of r)).world in
-    let fetches = with_streaming sends (in_packets r.detail losses (streaming_of sends)).world in
+before_the_end_adds marks most r is =
+    let sends = with_streaming r (out_packets r.detail marks (streaming_of r)).world in
+    let fetches = with_streaming sends (in_packets r.detail marks (streaming_of sends)).world in
     let behind_out : HasCounted (most + 256) sends =
-    streamed most (most + 256) (omega arith) r (out_packets r.detail losses (streaming_of r)).world is
-    (all_out_add r.detail losses most (streaming_of r) is.streams) in
+    streamed most (most + 256) (omega arith) r (out_packets r.detail marks (streaming_of r)).world is
+    (all_out_add r.detail marks most (streaming_of r) is.streams) in
     let behind_in : HasCounted (most + 512) fetches =
-    streamed (most + 256) (most + 512) (omega arith) sends (in_packets r.detail losses (streaming_of sends)).world behind_out
-    (streams_within (most + 256 + 256) (most + 512) (omega arith) (in_packets r.detail losses (streaming_of sends)).world
-    (all_in_add r.detail losses (most + 256) (streaming_of sends) behind_out.streams)) in
+    streamed (most + 256) (most + 512) (omega arith) sends (in_packets r.detail marks (streaming_of sends)).world behind_out
+    (streams_within (most + 256 + 256) (most + 512) (omega arith) (in_packets r.detail marks (streaming_of sends)).world
+    (all_in_add r.detail marks (most + 256) (streaming_of sends) behind_out.streams)) in
     domains_add fetches.device.function.domains (most + 512) (most + 56024) fetches (omega (arith, behind_in.streams.domains)) behind_in
 
-the_end_adds : (losses : List SaidMark) (most : ℕ) (r : RunningWorld) → HasCounted most r
-    → HasCounted (most + 512) (ends_and_reports losses r).world
+the_end_adds : (marks : List SaidMark) (most : ℕ) (r : RunningWorld) → HasCounted most r
+    → HasCounted (most + 512) (ends_and_reports marks r).world
 unfolding ends_and_reports
-the_end_adds losses most r is =
+the_end_adds marks most r is =
     let ends = with_streaming r (all_settled r.detail (streaming_of r)).world in
     let behind_ends : HasCounted (most + 256) ends =
     streamed most (most + 256) (omega arith) r (all_settled r.detail (streaming_of r)).world is
-    (all_settled_add r.detail losses most (streaming_of r) is.streams) in
-    streamed (most + 256) (most + 512) (omega arith) ends (all_reported r.detail losses (streaming_of ends)).world behind_ends
-    (streams_within (most + 256 + 256) (most + 512) (omega arith) (all_reported r.detail losses (streaming_of ends)).world
-    (all_reported_add r.detail losses (most + 256) (streaming_of ends) behind_ends.streams))
+    (all_settled_add r.detail marks most (streaming_of r) is.streams) in
+    streamed (most + 256) (most + 512) (omega arith) ends (all_reported r.detail marks (streaming_of ends)).world behind_ends
+    (streams_within (most + 256 + 256) (most + 512) (omega arith) (all_reported r.detail marks (streaming_of ends)).world
+    (all_reported_add r.detail marks (most + 256) (streaming_of ends) behind_ends.streams))
 
-pub microframe_adds : (losses : List SaidMark) (most : ℕ) (r : RunningWorld) → HasCounted most r
-    → HasCounted (most + 65536) (microframe losses r).world
+pub microframe_adds : (marks : List SaidMark) (most : ℕ) (r : RunningWorld) → HasCounted most r
+    → HasCounted (most + 65536) (microframe marks r).world
 unfolding microframe
-microframe_adds losses most r is =
+microframe_adds marks most r is =
     let numbered : RunningWorld = record r { time = at_most_u64 (r.time + 1) } in
     let begun : HasCounted (most + 1) numbered = record {
       streams = streams_within most (most + 1) (omega arith) (streaming_of r) is.streams;
@@ -444,13 +444,13 @@ microframe_adds losses most r is =
       renders = omega (arith, is.renders);
       frames = all_given_within most (most + 1) (omega arith) r.jacks is.frames;
     } in
-    let ticking = (packets_and_ticks losses numbered).world in
-    within (most + 1 + 56024 + 512) (most + 65536) (omega arith) (ends_and_reports losses ticking).world
-    (the_end_adds losses (most + 1 + 56024) ticking (before_the_end_adds losses (most + 1) numbered begun))
+    let ticking = (packets_and_ticks marks numbered).world in
+    within (most + 1 + 56024 + 512) (most + 65536) (omega arith) (ends_and_reports marks ticking).world
+    (the_end_adds marks (most + 1 + 56024) ticking (before_the_end_adds marks (most + 1) numbered begun))
 
-pub microframes_add : (losses : List SaidMark) (count most limit : ℕ) (r : RunningWorld) → most + count * 65536 ≤ limit → HasCounted most r
-    → HasCounted limit (microframes losses count r).world
+pub microframes_add : (marks : List SaidMark) (count most limit : ℕ) (r : RunningWorld) → most + count * 65536 ≤ limit → HasCounted most r
+    → HasCounted limit (microframes marks count r).world
 unfolding microframes
-microframes_add losses zero most limit r few is = within most limit (omega arith) r is
-microframes_add losses (suc count) most limit r few is =
-    microframes_add losses count (most + 65536) limit (microframe losses r).world (omega arith) (microframe_adds losses most r is)
+microframes_add marks zero most limit r few is = within most limit (omega arith) r is
+microframes_add marks (suc count) most limit r few is =
+    microframes_add marks count (most + 65536) limit (microframe marks r).world (omega arith) (microframe_adds marks most r is)

@@ -2,19 +2,19 @@
 use Rattle.std.proofs.Common.{◌≡◌, ◌∙◌, refl, sym, ap, subst, ℕ, Bool, true, List, [], ◌∷◌, length, map, rules, Option, None, Some, is_some, unwrap_or, option_map, option_and_then, Result, Ok, Err}
 use Rattle.std.specs.List.{AllByRecursion, AllZip, cons_option}
 use Rattle.std.proofs.lemmas.List.Elements.{All-from_recursion}
-use Rattle.uac_descriptor.specs.Reading.{AreBytes}
-use Rattle.uac_mixer.specs.Elements.{fits_element, unread}
-use Rattle.uac_mixer.specs.Transfers.{is_for}
+use Rattle.uac_descriptor.specs.BlockReading.{AreBytes}
+use Rattle.uac_mixer.specs.MixerElements.{fits_element, unread}
+use Rattle.uac_mixer.specs.ViewTransfers.{is_for}
 use Rattle.uac_mixer.specs.declared.element.Element.{Element}
 use Rattle.uac_script.specs.Phrase.{Phrase, idle, feeds, goes, controls, gets, sets, shows, breaks, appends, tracks, jacks, deviates, runs, details, reports}
-use Rattle.uac_script.specs.Reading.{answer}
+use Rattle.uac_script.specs.LineReading.{answer}
 use Rattle.uac_request.specs.Requests.{setup_of}
 use Rattle.uac_running.specs.RunningWorld.{RunningWorld, with_detail, with_deviation, with_samples_on, with_tone, with_track}
 use Rattle.uac_running.specs.Naming.{are_frames, size_of}
 use Rattle.uac_running.specs.Events.{microframes}
-use Rattle.uac_running.specs.Transfers.{element_named, read_element, set_element, show_element, transfer, with_break}
+use Rattle.uac_running.specs.RunningTransfers.{element_named, read_element, set_element, show_element, transfer, with_break}
 use Rattle.uac_bus.specs.declared.fault.BusFault.{BusFault}
-use Rattle.uac_bus.specs.World.{Step, World, describing, done, on_element, refused, running, silently, start, step, step_running, told, tone_of, unless}
+use Rattle.uac_bus.specs.BusWorld.{Step, World, describing, done, on_element, refused, running, silently, start, step, step_running, step_telling, tone_of, unless}
 use Rattle.uac_bus.specs.After.{after, and_then, said_step}
 use Rattle.uac_believed.specs.Unknown.{ElementsStay, Transfer, ValuesAreKnownAsTold, elements_in, get_by, if_done, last_or, set_by, tells, tells_in, told_of, transfer_of}
 use Rattle.uac_steady.proofs.Beginning.{feeds_bytes}
@@ -29,19 +29,19 @@ use Rattle.uac_believed.proofs.Telling.{IsToldOf, none_told, transfer_told}
 
 -- what a line tells of each of these elements is what becomes of it; and the device runs on
 abbrev Tells : (Element → Option Bool) → List Element → Step → Type 0
-Tells told xs (done (running r) lines) = AllZip (λ x y. IsToldOf (told x) x y) xs r.view.elements
-Tells told xs (done (describing bytes meters) lines) = ⊥
-Tells told xs (refused fault) = Unit {0}
+Tells step_telling xs (done (running r) lines) = AllZip (λ x y. IsToldOf (step_telling x) x y) xs r.view.elements
+Tells step_telling xs (done (describing bytes meters) lines) = ⊥
+Tells step_telling xs (refused fault) = Unit {0}
 
 abbrev TellsNone : List Element → Step → Type 0
 TellsNone xs s = Tells (λ x. None) xs s
 
-refused_tells : (told : Element → Option Bool) (xs : List Element) (fault : BusFault) → Tells told xs (refused fault)
-refused_tells told xs fault = tt
+refused_tells : (step_telling : Element → Option Bool) (xs : List Element) (fault : BusFault) → Tells step_telling xs (refused fault)
+refused_tells step_telling xs fault = tt
 
-tells_unless : (told : Element → Option Bool) (xs : List Element) (b : Bool) (rule : ℕ) (s : Step) → Tells told xs s
-    → Tells told xs (unless b rule s)
-tells_unless told xs = unless_is (Tells told xs) (refused_tells told xs)
+tells_unless : (step_telling : Element → Option Bool) (xs : List Element) (b : Bool) (rule : ℕ) (s : Step) → Tells step_telling xs s
+    → Tells step_telling xs (unless b rule s)
+tells_unless step_telling xs = unless_is (Tells step_telling xs) (refused_tells step_telling xs)
 
 -- a line that names an element
 tells_on : (r : RunningWorld) (o : Option Element) (made : Element → Transfer) (of : Element → Step)
@@ -57,14 +57,14 @@ running_tells r (feeds more) = tt
 running_tells r goes = tt
 running_tells r (controls setup sent) = transfer_told r (record { setup = setup_of setup; sent = sent })
 running_tells r (gets name) =
-    tells_on r (element_named r name) (get_by r) (λ x. told (read_element x r)) (λ x. transfer_told r (get_by r x))
+    tells_on r (element_named r name) (get_by r) (λ x. step_telling (read_element x r)) (λ x. transfer_told r (get_by r x))
 running_tells r (sets name value) =
-    tells_on r (element_named r name) (set_by value r) (λ x. unless (fits_element x.kind value) 7 (told (set_element x value r)))
-    (λ x. tells_unless (λ y. tells r y (set_by value r x)) r.view.elements (fits_element x.kind value) 7 (told (set_element x value r))
+    tells_on r (element_named r name) (set_by value r) (λ x. unless (fits_element x.kind value) 7 (step_telling (set_element x value r)))
+    (λ x. tells_unless (λ y. tells r y (set_by value r x)) r.view.elements (fits_element x.kind value) 7 (step_telling (set_element x value r))
     (transfer_told r (set_by value r x)))
 running_tells r (shows name) =
     on_element_is (TellsNone r.view.elements) (refused_tells (λ x. None) r.view.elements) (element_named r name)
-    (λ x. told (show_element x r)) (λ x. none_told r.view.elements)
+    (λ x. step_telling (show_element x r)) (λ x. none_told r.view.elements)
 running_tells r (breaks later) = none_told r.view.elements
 running_tells r (appends number samples) =
     tells_unless (λ x. None) r.view.elements _ 6
@@ -78,12 +78,12 @@ running_tells r (tracks number voice) =
 running_tells r (jacks terminal voice) =
     tells_unless (λ x. None) r.view.elements _ 6 (silently (running (with_tone (size_of terminal) (tone_of voice) r)))
     (none_told r.view.elements)
-running_tells r (deviates clock millionths) =
-    tells_unless (λ x. None) r.view.elements _ 6 (silently (running (with_deviation (size_of clock) millionths r)))
+running_tells r (deviates clock ppm) =
+    tells_unless (λ x. None) r.view.elements _ 6 (silently (running (with_deviation (size_of clock) ppm r)))
     (none_told r.view.elements)
-running_tells r (runs count losses) =
-    tells_unless (λ x. None) r.view.elements _ 6 (told (microframes losses (size_of count) r))
-    (subst (λ v. AllZip (λ x y. IsToldOf None x y) r.view.elements v.elements) (sym (microframes_view losses (size_of count) r))
+running_tells r (runs count marks) =
+    tells_unless (λ x. None) r.view.elements _ 6 (step_telling (microframes marks (size_of count) r))
+    (subst (λ v. AllZip (λ x y. IsToldOf None x y) r.view.elements v.elements) (sym (microframes_view marks (size_of count) r))
     (none_told r.view.elements))
 running_tells r (details level) = none_told r.view.elements
 running_tells r reports = none_told r.view.elements
@@ -147,7 +147,7 @@ zip_both R S T both (x ∷ xs) (y ∷ ys) (z ∷ zs) one next = (both x y z one.
 pub last_cons : (o : Option Bool) (known : Bool) (rest : List Bool) → last_or known (cons_option o rest) ≡ last_or (unwrap_or o known) rest
 unfolding last_or
 last_cons None known rest = refl
-last_cons (Some told) known rest = refl
+last_cons (Some step_telling) known rest = refl
 
 left_behind : (saids : List (Result Phrase ℕ)) (r : RunningWorld) → AreLeft saids r (after saids (running r)).world
 unfolding after told_of last_or

@@ -4,8 +4,8 @@ use Rattle.std.specs.List.{cons_option}
 use Rattle.std.proofs.lemmas.List.Elements.{All-weaker}
 use Rattle.uac_mixer.specs.declared.element.Element.{Element}
 use Rattle.uac_script.specs.Phrase.{Phrase}
-use Rattle.uac_script.specs.Reading.{answer}
-use Rattle.uac_bus.specs.World.{Step, World, done, refused, start}
+use Rattle.uac_script.specs.LineReading.{answer}
+use Rattle.uac_bus.specs.BusWorld.{Step, World, done, refused, start}
 use Rattle.uac_bus.specs.After.{after, and_then, said_step}
 use Rattle.uac_believed.specs.Unknown.{IsLost, UnknownValuesAreLost, elements_in, if_done, last_or, tells_in, told_of}
 use Rattle.uac_believed.proofs.Known.{last_cons, values_are_known_as_told}
@@ -37,11 +37,11 @@ found (said ∷ saids) w x last = by (said_step said w) refl last (found saids)
         later l = record {
           before = said ∷ l.before;
           said = l.said;
-          behind = l.behind;
+          following = l.following;
           cut = ap (λ (ss : List Said). said ∷ ss) l.cut;
           whole = ap (λ (s : Step). (and_then s w (after (l.before ++ l.said ∷ []))).refusal) is ∙ l.whole;
           broke = ap (λ (s : Step). tells_in (and_then s w (after l.before)).world l.said x) is ∙ l.broke;
-          since = ap (λ (s : Step). told_of l.behind (and_then s w (after (l.before ++ l.said ∷ []))).world x) is ∙ l.since;
+          since = ap (λ (s : Step). told_of l.following (and_then s w (after (l.before ++ l.said ∷ []))).world x) is ∙ l.since;
         }
 
         here : (ts : List Bool) → told_of saids next x ≡ ts → (o : Option Bool) → tells_in w said x ≡ o
@@ -51,7 +51,7 @@ found (said ∷ saids) w x last = by (said_step said w) refl last (found saids)
         here [] none (Some false) tells last = record {
           before = [];
           said = said;
-          behind = saids;
+          following = saids;
           cut = refl;
           whole = ap (λ (s : Step). (and_then s w (after [])).refusal) is;
           broke = tells;
@@ -62,36 +62,36 @@ found (said ∷ saids) w x last = by (said_step said w) refl last (found saids)
 
 -- ---- and the other way round
 
-lost_at : (before : List Said) (said : Said) (behind : List Said) (w : World) (x : Element) (known : Bool)
+lost_at : (before : List Said) (said : Said) (following : List Said) (w : World) (x : Element) (known : Bool)
     → (after (before ++ said ∷ []) w).refusal ≡ None → tells_in (after before w).world said x ≡ Some false
-    → told_of behind (after (before ++ said ∷ []) w).world x ≡ [] → last_or known (told_of (before ++ said ∷ behind) w x) ≡ false
+    → told_of following (after (before ++ said ∷ []) w).world x ≡ [] → last_or known (told_of (before ++ said ∷ following) w x) ≡ false
 unfolding told_of last_or after
-lost_at [] said behind w x known whole broke since = by (said_step said w) whole since
+lost_at [] said following w x known whole broke since = by (said_step said w) whole since
   where
-    by : (s : Step) → (and_then s w (after [])).refusal ≡ None → told_of behind (and_then s w (after [])).world x ≡ []
-        → last_or known (if_done s (λ next. cons_option (tells_in w said x) (told_of behind next x))) ≡ false
+    by : (s : Step) → (and_then s w (after [])).refusal ≡ None → told_of following (and_then s w (after [])).world x ≡ []
+        → last_or known (if_done s (λ next. cons_option (tells_in w said x) (told_of following next x))) ≡ false
     by (refused fault) whole since = absurd (cc)
     by (done next lines) whole since =
         ap (λ (ts : List Bool). last_or known (cons_option (tells_in w said x) ts)) since
         ∙ ap (λ (o : Option Bool). last_or known (cons_option o [])) broke
-lost_at (first ∷ before) said behind w x known whole broke since =
-    by (said_step first w) whole broke since (lost_at before said behind)
+lost_at (first ∷ before) said following w x known whole broke since =
+    by (said_step first w) whole broke since (lost_at before said following)
   where
     by : (s : Step) → (and_then s w (after (before ++ said ∷ []))).refusal ≡ None
         → tells_in (and_then s w (after before)).world said x ≡ Some false
-        → told_of behind (and_then s w (after (before ++ said ∷ []))).world x ≡ []
+        → told_of following (and_then s w (after (before ++ said ∷ []))).world x ≡ []
         → ((next : World) (y : Element) (b : Bool) → (after (before ++ said ∷ []) next).refusal ≡ None
-        → tells_in (after before next).world said y ≡ Some false → told_of behind (after (before ++ said ∷ []) next).world y ≡ []
-        → last_or b (told_of (before ++ said ∷ behind) next y) ≡ false)
-        → last_or known (if_done s (λ next. cons_option (tells_in w first x) (told_of (before ++ said ∷ behind) next x))) ≡ false
+        → tells_in (after before next).world said y ≡ Some false → told_of following (after (before ++ said ∷ []) next).world y ≡ []
+        → last_or b (told_of (before ++ said ∷ following) next y) ≡ false)
+        → last_or known (if_done s (λ next. cons_option (tells_in w first x) (told_of (before ++ said ∷ following) next x))) ≡ false
     by (refused fault) whole broke since rest = absurd (cc)
     by (done next lines) whole broke since rest =
-        last_cons (tells_in w first x) known (told_of (before ++ said ∷ behind) next x)
+        last_cons (tells_in w first x) known (told_of (before ++ said ∷ following) next x)
         ∙ rest next x (unwrap_or (tells_in w first x) known) whole broke since
 
 lost : (saids : List Said) (w : World) (x : Element) → IsLost saids w x → last_or true (told_of saids w x) ≡ false
 lost saids w x l =
-    ap (λ (ss : List Said). last_or true (told_of ss w x)) l.cut ∙ lost_at l.before l.said l.behind w x true l.whole l.broke l.since
+    ap (λ (ss : List Said). last_or true (told_of ss w x)) l.cut ∙ lost_at l.before l.said l.following w x true l.whole l.broke l.since
 
 -- ---- the law
 

@@ -3,12 +3,12 @@ use Rattle.std.proofs.Common.{◌≡◌, refl, ℕ, ◌==◌, ◌&&◌, ◌||◌
 use Rattle.std.specs.List.{AllZip}
 use Rattle.uac_request.specs.Requests.{AnswerFields, is_done, is_stalled, with_bytes, with_descriptor}
 use Rattle.uac_request.specs.declared.setup.Setup.{Setup}
-use Rattle.uac_mixer.specs.Elements.{unread, width_of}
-use Rattle.uac_mixer.specs.Transfers.{after_get, after_set, element_after, gets, is_for, sets, value_after, value_in, view_after}
+use Rattle.uac_mixer.specs.MixerElements.{unread, width_of}
+use Rattle.uac_mixer.specs.ViewTransfers.{after_get, after_set, element_after, gets, is_for, sets, value_after, value_in, view_after}
 use Rattle.uac_mixer.specs.declared.element.Element.{Element}
 use Rattle.uac_mixer.proofs.Agreed.{is_request}
 use Rattle.uac_running.specs.RunningWorld.{RunningWorld}
-use Rattle.uac_running.specs.Transfers.{transferred}
+use Rattle.uac_running.specs.RunningTransfers.{after_transfer}
 use Rattle.uac_believed.specs.Unknown.{Transfer, brings, came_back, is_broken, says_done, tells}
 
 -- what becomes of an element: it stays the same but for its value, which is known as was told, or as it was where nothing was told
@@ -79,8 +79,8 @@ one_told r t x =
 
 -- what a transfer of a running device tells of each element of its view is what becomes of it
 pub transfer_told : (r : RunningWorld) (t : Transfer)
-    → AllZip (λ x y. IsToldOf (tells r x t) x y) r.view.elements (transferred t.setup t.sent r).view.elements
-unfolding transferred view_after
+    → AllZip (λ x y. IsToldOf (tells r x t) x y) r.view.elements (after_transfer t.setup t.sent r).view.elements
+unfolding after_transfer view_after
 transfer_told r t =
     zip_map (λ x y. IsToldOf (tells r x t) x y)
     (element_after r.device.function.control_interface t.setup t.sent (came_back r t)) r.view.elements (one_told r t)

@@ -8,16 +8,16 @@ use Rattle.uac_mixer.specs.declared.element.Element.{Element}
 use Rattle.uac_mixer.specs.declared.kinds.ElementKind.TheVariants as shown
 use Rattle.uac_script.specs.Phrase.{Phrase, breaks, controls}
 use Rattle.uac_running.specs.RunningWorld.{RunningWorld, at_start}
-use Rattle.uac_bus.specs.World.{running}
-use Rattle.uac_entities.specs.Streams.{named}
-use Rattle.uac_store.specs.Controls.{channels_at, controls_of, count_of, first_channels, has_on, initial_controls, start_of, takes, takes_on}
+use Rattle.uac_bus.specs.BusWorld.{running}
+use Rattle.uac_entities.specs.EntityStreams.{named}
+use Rattle.uac_store.specs.StoreControls.{channels_at, controls_of, count_of, first_channels, has_on, initial_controls, start_of, takes, takes_on}
 use Rattle.uac_store.specs.Keyed.{value_of, with_value}
-use Rattle.uac_store.specs.Values.{is_legal, ranges_of}
+use Rattle.uac_store.specs.StoreValues.{is_legal, ranges_of}
 use Rattle.uac_request.specs.Requests.{answered, breaks_q1, breaks_q2, breaks_q3, breaks_q4, breaks_q5, breaks_q6, breaks_q7, breaks_q8, breaks_q9, breaks_q10, breaks_q11, breaks_q12, after_request, cur_bytes, first_broken, left_by, owner_of, reply_of, value_bytes, value_from}
-use Rattle.uac_device.specs.DeviceWorld.{controlled, fresh}
-use Rattle.uac_mixer.specs.Transfers.{is_for, value_after, view_after}
-use Rattle.uac_running.specs.Transfers.{comes_back, transfer, transferred, with_break}
-use Rattle.uac_bus.specs.World.{step}
+use Rattle.uac_device.specs.DeviceWorld.{after_control, fresh}
+use Rattle.uac_mixer.specs.ViewTransfers.{is_for, value_after, view_after}
+use Rattle.uac_running.specs.RunningTransfers.{comes_back, transfer, after_transfer, with_break}
+use Rattle.uac_bus.specs.BusWorld.{step}
 use Rattle.uac_bus.specs.After.{after}
 use Rattle.uac_believed.specs.Unknown.{elements_in, tells, told_of}
 
@@ -82,7 +82,7 @@ told : (told_of broken (running world) volume ≡ false ∷ [])
     × (told_of (broken ++ set_it ∷ []) (running world) volume ≡ false ∷ true ∷ [])
     × (told_of (break ∷ get_both ∷ []) (running world) volume ≡ [])
     × (told_of (broken ++ get_one ∷ get_both ∷ []) (running world) mute ≡ [])
-unfolding told_of after broken break set_it get_one get_both values_behind world device volume mute at_start step transfer transferred tells is_for comes_back with_break reply_of first_broken breaks_q1 breaks_q2 breaks_q3 breaks_q4 breaks_q5 breaks_q6 breaks_q7 breaks_q8 breaks_q9 breaks_q10 breaks_q11 breaks_q12 owner_of named count_of fresh controlled answered cur_bytes value_bytes value_of initial_controls controls_of channels_at first_channels start_of has_on ranges_of is_legal value_from view_after value_after after_request with_value left_by takes takes_on
+unfolding told_of after broken break set_it get_one get_both values_behind world device volume mute at_start step transfer after_transfer tells is_for comes_back with_break reply_of first_broken breaks_q1 breaks_q2 breaks_q3 breaks_q4 breaks_q5 breaks_q6 breaks_q7 breaks_q8 breaks_q9 breaks_q10 breaks_q11 breaks_q12 owner_of named count_of fresh after_control answered cur_bytes value_bytes value_of initial_controls controls_of channels_at first_channels start_of has_on ranges_of is_legal value_from view_after value_after after_request with_value left_by takes takes_on
 told = (refl, refl, refl, refl, refl, refl)
 
 -- and the view's values, the volume's first
@@ -91,5 +91,5 @@ values : (values_behind broken ≡ None ∷ Some (pos 0) ∷ [])
     × (values_behind (broken ++ get_one ∷ get_both ∷ []) ≡ Some (negsuc 2559) ∷ Some (pos 0) ∷ [])
     × (values_behind (broken ++ set_it ∷ []) ≡ Some (negsuc 2559) ∷ Some (pos 0) ∷ [])
     × (values_behind (break ∷ get_both ∷ []) ≡ Some (pos 0) ∷ Some (pos 0) ∷ [])
-unfolding told_of after broken break set_it get_one get_both values_behind world device volume mute at_start step transfer transferred tells is_for comes_back with_break reply_of first_broken breaks_q1 breaks_q2 breaks_q3 breaks_q4 breaks_q5 breaks_q6 breaks_q7 breaks_q8 breaks_q9 breaks_q10 breaks_q11 breaks_q12 owner_of named count_of fresh controlled answered cur_bytes value_bytes value_of initial_controls controls_of channels_at first_channels start_of has_on ranges_of is_legal value_from view_after value_after after_request with_value left_by takes takes_on
+unfolding told_of after broken break set_it get_one get_both values_behind world device volume mute at_start step transfer after_transfer tells is_for comes_back with_break reply_of first_broken breaks_q1 breaks_q2 breaks_q3 breaks_q4 breaks_q5 breaks_q6 breaks_q7 breaks_q8 breaks_q9 breaks_q10 breaks_q11 breaks_q12 owner_of named count_of fresh after_control answered cur_bytes value_bytes value_of initial_controls controls_of channels_at first_channels start_of has_on ranges_of is_legal value_from view_after value_after after_request with_value left_by takes takes_on
 values = (refl, refl, refl, refl, refl)

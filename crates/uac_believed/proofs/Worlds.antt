@@ -1,16 +1,16 @@
 -- The worlds in which what the host knows is so, and stays so.
 use Rattle.std.proofs.Common.{◌≡◌, sym, subst, ℤ, true, List, is_some}
 use Rattle.std.specs.List.{AllByRecursion}
-use Rattle.uac_descriptor.specs.Reading.{AreBytes}
+use Rattle.uac_descriptor.specs.BlockReading.{AreBytes}
 use Rattle.uac_topology.specs.Function.{FunctionFields}
 use Rattle.uac_topology.specs.Topology.{IsSoundFunction}
 use Rattle.uac_store.specs.declared.keys.Key.{Key}
-use Rattle.uac_store.specs.Controls.{IsStoreOf}
+use Rattle.uac_store.specs.StoreControls.{IsStoreOf}
 use Rattle.uac_mixer.specs.Agreement.{IsAgreed}
 use Rattle.uac_mixer.specs.ViewWorld.{IsViewOf, ViewWorld}
 use Rattle.uac_mixer.specs.declared.element.Element.{Element}
 use Rattle.uac_running.specs.RunningWorld.{RunningWorld}
-use Rattle.uac_bus.specs.World.{Step, World, describing, done, refused, running}
+use Rattle.uac_bus.specs.BusWorld.{Step, World, describing, done, refused, running}
 use Rattle.uac_believed.specs.Believed.{IsSoIn}
 
 -- a sound function, a value for each of its controls, and a view of it that knows these values alone

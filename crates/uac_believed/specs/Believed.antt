@@ -1,9 +1,9 @@
 -- What the host knows of a control is the device's value, after every list of lines of a script (Audio Class 2.0, 5.2; profile).
 use Rattle.std.specs.Prelude.{ℕ, List, map}
 use Rattle.uac_units.specs.Hearing.{Reading}
-use Rattle.uac_script.specs.Reading.{answer}
+use Rattle.uac_script.specs.LineReading.{answer}
 use Rattle.uac_mixer.specs.Agreement.{IsAgreed}
-use Rattle.uac_bus.specs.World.{World, describing, running, start}
+use Rattle.uac_bus.specs.BusWorld.{World, describing, running, start}
 use Rattle.uac_bus.specs.After.{after}
 
 -- what the host knows of a control is the device's value: each element of its view has the value of the device's control, or none where

@@ -3,12 +3,12 @@
 use Rattle.std.specs.Prelude.{ℕ, ◌^◌, ◌<◌, ◌≤◌, List, map, length}
 use Rattle.std.specs.List.{All}
 use Rattle.uac_units.specs.Hearing.{Reading}
-use Rattle.uac_script.specs.Lines.{most_of_input}
-use Rattle.uac_script.specs.Reading.{answer}
+use Rattle.uac_script.specs.ScriptLines.{most_of_input}
+use Rattle.uac_script.specs.LineReading.{answer}
 use Rattle.uac_transcript.specs.declared.report.StreamCounts.{StreamCounts}
 use Rattle.uac_running.specs.RunningWorld.{RunningWorld}
-use Rattle.uac_running.specs.Lines.{ticks_since}
-use Rattle.uac_bus.specs.World.{World, describing, running, start}
+use Rattle.uac_running.specs.RunningLines.{ticks_since}
+use Rattle.uac_bus.specs.BusWorld.{World, describing, running, start}
 use Rattle.uac_bus.specs.After.{after}
 
 -- a count that is far from the greatest number of 64 bits

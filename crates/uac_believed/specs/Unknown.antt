@@ -6,16 +6,16 @@ use Rattle.std.specs.List.{All, cons_option}
 use Rattle.uac_units.specs.Hearing.{Reading}
 use Rattle.uac_request.specs.Requests.{AnswerFields, setup_of, value_bytes, is_done, is_stalled, with_bytes, with_descriptor}
 use Rattle.uac_request.specs.declared.setup.Setup.{Setup}
-use Rattle.uac_mixer.specs.Elements.{unread, width_of}
-use Rattle.uac_mixer.specs.Transfers as mixer
-use Rattle.uac_mixer.specs.Transfers.{get_of, set_of}
+use Rattle.uac_mixer.specs.MixerElements.{unread, width_of}
+use Rattle.uac_mixer.specs.ViewTransfers as mixer
+use Rattle.uac_mixer.specs.ViewTransfers.{get_of, set_of}
 use Rattle.uac_mixer.specs.declared.element.Element.{Element}
 use Rattle.uac_script.specs.Phrase.{Phrase, idle, feeds, goes, controls, gets, sets, shows, breaks, appends, tracks, jacks, deviates, runs}
 use Rattle.uac_script.specs.Phrase.{details, reports}
-use Rattle.uac_script.specs.Reading.{answer}
+use Rattle.uac_script.specs.LineReading.{answer}
 use Rattle.uac_running.specs.RunningWorld.{RunningWorld}
-use Rattle.uac_running.specs.Transfers.{comes_back, element_named}
-use Rattle.uac_bus.specs.World.{Step, World, describing, done, refused, running, start}
+use Rattle.uac_running.specs.RunningTransfers.{comes_back, element_named}
+use Rattle.uac_bus.specs.BusWorld.{Step, World, describing, done, refused, running, start}
 use Rattle.uac_bus.specs.After.{after, said_step}
 
 -- ---- the transfer that a line makes
@@ -45,8 +45,8 @@ transfer_of (breaks later) r = None
 transfer_of (appends interface samples) r = None
 transfer_of (tracks interface voice) r = None
 transfer_of (jacks terminal voice) r = None
-transfer_of (deviates clock millionths) r = None
-transfer_of (runs count losses) r = None
+transfer_of (deviates clock ppm) r = None
+transfer_of (runs count marks) r = None
 transfer_of (details level) r = None
 transfer_of reports r = None
 
@@ -133,11 +133,11 @@ ValuesAreKnownAsTold = (texts : List (List ℕ)) (shown : List Reading)
 pub record IsLost (saids : List (Result Phrase ℕ)) (w : World) (x : Element) : Type 0 where
   pub before : List (Result Phrase ℕ)
   pub said : Result Phrase ℕ
-  pub behind : List (Result Phrase ℕ)
-  pub cut : saids ≡ before ++ said ∷ behind
+  pub following : List (Result Phrase ℕ)
+  pub cut : saids ≡ before ++ said ∷ following
   pub whole : (after (before ++ said ∷ []) w).refusal ≡ None
   pub broke : tells_in (after before w).world said x ≡ Some false
-  pub since : told_of behind (after (before ++ said ∷ []) w).world x ≡ []
+  pub since : told_of following (after (before ++ said ∷ []) w).world x ≡ []
 
 -- after every list of lines exactly those values are unknown that were lost
 abbrev pub UnknownValuesAreLost : Type 0

@@ -4,11 +4,11 @@ use Rattle.std.proofs.lemmas.List.{append-nil}
 use Rattle.uac_script.specs.Phrase.{Phrase}
 use Rattle.uac_transcript.specs.Transcript.{Said}
 use Rattle.uac_bus.specs.declared.fault.BusFault.{BusFault}
-use Rattle.uac_bus.specs.World.{World, Step, done, refused}
-use Rattle.uac_bus.specs.After.{After, after, and_then, one_done, said_step, stepped, untouched, with_one_more}
+use Rattle.uac_bus.specs.BusWorld.{World, Step, done, refused}
+use Rattle.uac_bus.specs.After.{After, after, and_then, one_done, said_step, step_added, untouched, with_one_more}
 
 -- a line of no others
-first_line : (s : Step) (w : World) → and_then s w untouched ≡ stepped s (untouched w)
+first_line : (s : Step) (w : World) → and_then s w untouched ≡ step_added s (untouched w)
 first_line (done next lines) w = ap (λ (ls : List Said). let a : After = record { lines = ls; world = next; count = 1; refusal = None } in a) (append-nil lines)
 first_line (refused fault) w = refl
 
@@ -17,7 +17,7 @@ behind_done : (said : Result Phrase ℕ) (lines : List Said) (rest : After) → 
 behind_done said lines rest = by_refusal rest.lines rest.world rest.count rest.refusal
   where
     after_step : (s : Step) (ls : List Said) (w : World) (n : ℕ) (r : Option BusFault)
-        → one_done lines (stepped s (record { lines = ls; world = w; count = n; refusal = r })) ≡ stepped s (one_done lines (record { lines = ls; world = w; count = n; refusal = r }))
+        → one_done lines (step_added s (record { lines = ls; world = w; count = n; refusal = r })) ≡ step_added s (one_done lines (record { lines = ls; world = w; count = n; refusal = r }))
     after_step (done next more) ls w n r =
         ap (λ (xs : List Said). let a : After = record { lines = xs; world = next; count = n + 1 + 1; refusal = r } in a) (sym (append_assoc lines ls more))
     after_step (refused fault) ls w n r = refl

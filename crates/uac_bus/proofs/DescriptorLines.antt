@@ -3,7 +3,7 @@ use Rattle.std.proofs.Common.{◌≡◌, ◌≢◌, ℕ, List, [], ◌∷◌, �
 use Rattle.std.specs.Io.KnownBytes.{Appends}
 use Rattle.std.proofs.KnownBytes.{Appends-nil}
 use Rattle.uac_sentence.specs.declared.faults.GrammarFault.{GrammarFault}
-use Rattle.uac_grammar.specs.Reading as reader
+use Rattle.uac_grammar.specs.ReaderKept as reader
 use Rattle.uac_grammar.specs.Stop.{shown_fault, shown_stop}
 use Rattle.uac_grammar.specs.declared.fault.ReadStop.{ReadStop}
 use Rattle.uac_grammar.specs.declared.fault.ReadStop.TheVariants as reads
@@ -16,25 +16,25 @@ use Rattle.uac_configuration.specs.declared.describing.SoundDescriptor.{SoundDes
 use Rattle.uac_configuration.specs.declared.fault.DescriptorFault.{DescriptorFault}
 use Rattle.uac_configuration.specs.declared.fault.DescriptorFault.TheVariants as broken
 use Rattle.uac_configuration.specs.Description.{blocks_of, function_of}
-use Rattle.uac_configuration.specs.Verdict.{Describes, fault_of}
+use Rattle.uac_configuration.specs.ConfigurationVerdict.{Describes, fault_of}
 use Rattle.uac_units.specs.Hearing.{Reading}
 use Rattle.uac_edges.specs.Writing.{AppendsFront, Writes}
 use Rattle.uac_transcript.specs.Transcript.{spelled}
 use Rattle.uac_transcript.proofs.PrintingLemmas.{Appends-line, front_of_line}
-use Rattle.uac_running.specs.Kept.{RunningFields, StandsBetween}
-use Rattle.uac_running.specs.Lines.{ready_line}
+use Rattle.uac_running.specs.RunningKept.{RunningFields, StandsBetween}
+use Rattle.uac_running.specs.RunningLines.{ready_line}
 use Rattle.uac_running.specs.RunningWorld.{at_start}
 use Rattle.uac_bus.specs.declared.fault.BusFault.{BusFault}
 use Rattle.uac_bus.specs.declared.fault.BusFault.TheVariants as faults
 use Rattle.uac_bus.specs.declared.bus.BusStage.TheVariants as stages
-use Rattle.uac_bus.specs.World.{Step, done, describing, running, if_no_fault, if_sound, silently, fed, gone}
-use Rattle.uac_bus.specs.Kept.{StandsFor, Reaches, IsCut, Prevents}
-use Rattle.uac_bus.specs.Rows.{Begins, bus_fault_of}
+use Rattle.uac_bus.specs.BusWorld.{Step, done, describing, running, if_no_fault, if_sound, silently, step_feed, step_go}
+use Rattle.uac_bus.specs.BusKept.{StandsFor, Reaches, IsCut, Prevents}
+use Rattle.uac_bus.specs.BusRows.{Begins, bus_fault_of}
 
 -- the end of such a descriptor
 pub gone_well : (bytes : List ℕ) (d : SoundDescriptor) (shown : List Reading) → Describes bytes (Ok d)
-    → gone bytes shown ≡ done (running (at_start bytes d.function shown)) (ready_line d.function ∷ [])
-unfolding gone
+    → step_go bytes shown ≡ done (running (at_start bytes d.function shown)) (ready_line d.function ∷ [])
+unfolding step_go
 gone_well bytes sound shown d =
     let began : FunctionFields → Step = λ f. done (running (at_start bytes f shown)) (ready_line f ∷ []) in
     let whole : Step = began (function_of (blocks_of bytes)) in
@@ -43,8 +43,8 @@ gone_well bytes sound shown d =
     ∙ ap began (sym d.2)
 
 not_gone : (bytes : List ℕ) (fault : DescriptorFault) (shown : List Reading) (written : Option (List ℕ)) → Describes bytes (Err fault)
-    → Prevents (bus_fault_of fault) true (gone bytes shown) written written
-unfolding gone
+    → Prevents (bus_fault_of fault) true (step_go bytes shown) written written
+unfolding step_go
 not_gone bytes (broken.Grammar f) shown written d =
     let function = function_of (blocks_of bytes) in
     ap (λ (o : Option GrammarFault). if_no_fault o (if_sound (first_broken (blocks_of bytes)) (done (running (at_start bytes function shown)) (ready_line function ∷ [])))) d
@@ -56,30 +56,30 @@ not_gone bytes (broken.Topology f) shown written d =
 not_gone bytes broken.NoMemory shown written d = refl
 
 pub gone_ill : (bytes : List ℕ) (fault : DescriptorFault) (told : BusFault) (shown : List Reading) (written : Option (List ℕ)) → Describes bytes (Err fault)
-    → told ≡ bus_fault_of fault → Prevents told true (gone bytes shown) written written
+    → told ≡ bus_fault_of fault → Prevents told true (step_go bytes shown) written written
 gone_ill bytes fault told shown written d is =
-    subst (λ (f : BusFault). Prevents f true (gone bytes shown) written written) (sym is) (not_gone bytes fault shown written d)
+    subst (λ (f : BusFault). Prevents f true (step_go bytes shown) written written) (sym is) (not_gone bytes fault shown written d)
 
 -- the device's line was printed, or a front of it
 pub begun : (bytes : List ℕ) (d : SoundDescriptor) (p : RunningFields) (shown : List Reading) (written written' : Option (List ℕ)) (result : Result RunningFields BusFault)
     → Describes bytes (Ok d) → p.device.function ≡ d.function → StandsBetween p shown (at_start bytes d.function shown)
     → IfOk result (λ announced. announced ≡ p) → IfErr result (λ fault. fault ≡ faults.WriteFault)
-    → Writes written written' result (spelled (ready_line p.device.function)) → Begins (gone bytes shown) shown written written' result
+    → Writes written written' result (spelled (ready_line p.device.function)) → Begins (step_go bytes shown) shown written written' result
 begun bytes d p shown written written' (Ok announced) described same stands is other writes =
     subst (λ (s : Step). Reaches s (StandsFor (stages.Running announced) shown) written written') (sym (gone_well bytes d shown described)) (
       subst (λ (x : RunningFields). StandsBetween x shown (at_start bytes d.function shown)) (sym is) stands,
       Appends-line written written' (ready_line d.function) (subst (λ (f : FunctionFields). Appends written written' (spelled (ready_line f))) same writes),
     )
 begun bytes d p shown written written' (Err fault) described same stands is other writes =
-    subst (λ (f : BusFault). Prevents f true (gone bytes shown) written written') (sym other)
+    subst (λ (f : BusFault). Prevents f true (step_go bytes shown) written written') (sym other)
     (subst (λ (s : Step). IsCut s written written') (sym (gone_well bytes d shown described))
     (front_of_line written written' (ready_line d.function) (subst (λ (f : FunctionFields). AppendsFront written written' (spelled (ready_line f))) same writes)))
 
 -- more bytes show no fault
 pub fed_well : (taken piece : List ℕ) (r : reader.ReaderFields) (shown : List Reading) (written : Option (List ℕ)) → r.stop ≡ None → r.taken ≡ taken ++ piece
     → (r.stop ≢ Some reads.NoMemory → r.stop ≡ shown_stop (taken ++ piece))
-    → Reaches (fed (taken ++ piece) shown) (StandsFor (stages.Describing r) shown) written written
-unfolding fed
+    → Reaches (step_feed (taken ++ piece) shown) (StandsFor (stages.Describing r) shown) written written
+unfolding step_feed
 fed_well taken piece r shown written none all told =
     let quiet : shown_fault (taken ++ piece) ≡ None = no_stop_no_fault (shown_fault (taken ++ piece)) (sym (told (λ n. cc)) ∙ none) in
     let P : Option GrammarFault → Type 0 =
@@ -90,8 +90,8 @@ fed_well taken piece r shown written none all told =
 -- or they show one, or there was no memory
 fed_stopped : (taken piece : List ℕ) (stop : ReadStop) (told : Option ReadStop) (shown : List Reading) (written : Option (List ℕ))
     → told ≡ Some stop → (told ≢ Some reads.NoMemory → told ≡ shown_stop (taken ++ piece))
-    → Prevents (bus_fault_of (fault_of stop)) true (fed (taken ++ piece) shown) written written
-unfolding fed
+    → Prevents (bus_fault_of (fault_of stop)) true (step_feed (taken ++ piece) shown) written written
+unfolding step_feed
 fed_stopped taken piece (reads.Fault f) told shown written at shows =
     let found : shown_fault (taken ++ piece) ≡ Some f = stop_at-Fault (shown_fault (taken ++ piece)) f (sym (shows (λ n. cc)) ∙ at) in
     ap (λ (o : Option GrammarFault). if_no_fault o (silently (describing (taken ++ piece) shown))) found
@@ -99,7 +99,7 @@ fed_stopped taken piece reads.NoMemory told shown written at shows = refl
 
 pub fed_ill : (taken piece : List ℕ) (stop : ReadStop) (told : Option ReadStop) (fault : BusFault) (shown : List Reading) (written : Option (List ℕ))
     → told ≡ Some stop → (told ≢ Some reads.NoMemory → told ≡ shown_stop (taken ++ piece)) → fault ≡ bus_fault_of (fault_of stop)
-    → Prevents fault true (fed (taken ++ piece) shown) written written
+    → Prevents fault true (step_feed (taken ++ piece) shown) written written
 fed_ill taken piece stop told fault shown written at shows is =
-    subst (λ (f : BusFault). Prevents f true (fed (taken ++ piece) shown) written written) (sym is)
+    subst (λ (f : BusFault). Prevents f true (step_feed (taken ++ piece) shown) written written) (sym is)
     (fed_stopped taken piece stop told shown written at shows)

@@ -6,11 +6,11 @@ use Rattle.std.proofs.lemmas.Bool.{and_parts, eqb-true}
 use Rattle.std.proofs.lemmas.Map.Keys.{IsDistinct-tail}
 use Rattle.uac_entities.specs.declared.stream.StreamInterface.{StreamInterface}
 use Rattle.uac_topology.specs.Function.{FunctionFields, interface_in}
-use Rattle.uac_topology.specs.Kept.{AreNumbered}
-use Rattle.uac_alt.specs.Streams.{linked_channels}
+use Rattle.uac_topology.specs.FunctionKept.{AreNumbered}
+use Rattle.uac_alt.specs.AltStreams.{linked_channels}
 use Rattle.uac_graph.specs.Meaning.{entity}
 use Rattle.uac_device.proofs.GivenFrames.{find_own}
-use Rattle.uac_device.proofs.StreamsLemmas.{channels_linked}
+use Rattle.uac_device.proofs.SettingStreams.{channels_linked}
 use Rattle.uac_host.specs.Calls.{AreWhole, channels_at}
 use Rattle.uac_running.specs.Naming.{are_frames, is_out}
 

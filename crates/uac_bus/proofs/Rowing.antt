@@ -12,11 +12,11 @@ use Rattle.uac_topology.specs.Function.{FunctionFields}
 use Rattle.uac_running.specs.RunningWorld.{RunningWorld}
 use Rattle.uac_running.specs.Naming.{are_frames, has_out, is_placed}
 use Rattle.uac_running.specs.Events.{Told}
-use Rattle.uac_running.specs.Kept.{RunningFields, StandsBetween}
+use Rattle.uac_running.specs.RunningKept.{RunningFields, StandsBetween}
 use Rattle.uac_bus.specs.declared.bus.BusStage.TheVariants as stages
 use Rattle.uac_bus.specs.declared.fault.BusFault.{BusFault}
-use Rattle.uac_bus.specs.World.{World, Step, told, step_running, unless, breaks_rule}
-use Rattle.uac_bus.specs.Kept.{StandsFor, Reaches, IsCut, Does}
+use Rattle.uac_bus.specs.BusWorld.{World, Step, step_telling, step_running, unless, breaks_rule}
+use Rattle.uac_bus.specs.BusKept.{StandsFor, Reaches, IsCut, Does}
 use Rattle.uac_bus.proofs.Stepping.{unless_holds, unless_fails}
 
 -- the rule holds, and the step was made
@@ -34,7 +34,7 @@ unless_cut false rule s written written' e cut = absurd (cc)
 -- the rule holds, and what was told was printed
 pub told_reached : (b : Bool) (rule : ℕ) (t : Told) (p : RunningFields) (shown : List Reading) (written written' : Option (List ℕ)) → b ≡ true
     → Appends written written' (text_of t.lines) → StandsBetween p shown t.world
-    → Reaches (unless b rule (told t)) (StandsFor (stages.Running p) shown) written written'
+    → Reaches (unless b rule (step_telling t)) (StandsFor (stages.Running p) shown) written written'
 told_reached true rule t p shown written written' e printed stands = (stands, printed)
 told_reached false rule t p shown written written' e printed stands = absurd (cc)
 

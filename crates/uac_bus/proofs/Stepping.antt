@@ -3,11 +3,11 @@ use Rattle.std.proofs.Common.{◌≡◌, ℕ, Bool, true, false, List, ◌++◌,
 use Rattle.std.proofs.lemmas.Bool.{false≢true}
 use Rattle.std.specs.Prelude.{OnOk}
 use Rattle.std.proofs.KnownBytes.{Appends-nil}
-use Rattle.uac_grammar.specs.Reading as reader
+use Rattle.uac_grammar.specs.ReaderKept as reader
 use Rattle.uac_script.specs.declared.lent.LentLine.{LentLine}
 use Rattle.uac_script.specs.declared.lent.LentLine.TheVariants as lines
-use Rattle.uac_running.specs.Kept as play
-use Rattle.uac_running.specs.Kept.{RunningFields}
+use Rattle.uac_running.specs.RunningKept as play
+use Rattle.uac_running.specs.RunningKept.{RunningFields}
 use Rattle.uac_running.specs.RunningWorld.{RunningWorld}
 use Rattle.uac_bus.specs.declared.bus.BusStage.TheVariants as stages
 use Rattle.uac_pcm.specs.declared.tones.Tone.{Tone}
@@ -17,8 +17,8 @@ use Rattle.uac_script.specs.Line.{said_tone_of}
 use Rattle.uac_script.specs.Lent.{lent_phrase}
 use Rattle.uac_script.specs.Phrase.{Phrase, idle, feeds, goes}
 use Rattle.uac_bus.specs.declared.fault.BusFault.{BusFault}
-use Rattle.uac_bus.specs.World.{World, describing, running, Step, done, refused, unless, breaks_rule, tone_of, fed, gone, step, step_running}
-use Rattle.uac_bus.specs.Kept.{BusFields, Stands, StandsFor, Reaches, Prevents, Does, Answers, is_append, may_want}
+use Rattle.uac_bus.specs.BusWorld.{World, describing, running, Step, done, refused, unless, breaks_rule, tone_of, step_feed, step_go, step, step_running}
+use Rattle.uac_bus.specs.BusKept.{BusFields, Stands, StandsFor, Reaches, Prevents, Does, Answers, is_append, may_want}
 
 -- a tone is what its words spell
 pub tone_back : (tone : Tone) → tone_of (said_tone_of tone) ≡ tone
@@ -60,32 +60,32 @@ idle_in r shown (running world) written s = absurd s
 -- more bytes
 pub fed_in : (r r' : reader.ReaderFields) (more : List ℕ) (shown : List Reading) (w : World) (written : Option (List ℕ)) (result : Result (Unit {0}) BusFault)
     → StandsFor (stages.Describing r) shown w
-    → (r.stop ≡ None → (heard : List Reading) (old : Option (List ℕ)) → Does (fed (r.taken ++ more) heard) true (StandsFor (stages.Describing r') heard) old old result)
+    → (r.stop ≡ None → (heard : List Reading) (old : Option (List ℕ)) → Does (step_feed (r.taken ++ more) heard) true (StandsFor (stages.Describing r') heard) old old result)
     → Does (step (feeds more) w) (may_want (feeds more) w) (StandsFor (stages.Describing r') shown) written written result
 unfolding step
 fed_in r r' more shown (describing bytes heard) written result s does =
-    let before : Does (fed (r.taken ++ more) shown) true (StandsFor (stages.Describing r') shown) written written result = does s.1 shown written in
-    subst (λ (bs : List ℕ). Does (fed (bs ++ more) heard) true (StandsFor (stages.Describing r') shown) written written result) s.0
-    (subst (λ (xs : List Reading). Does (fed (r.taken ++ more) xs) true (StandsFor (stages.Describing r') shown) written written result) s.2 before)
+    let before : Does (step_feed (r.taken ++ more) shown) true (StandsFor (stages.Describing r') shown) written written result = does s.1 shown written in
+    subst (λ (bs : List ℕ). Does (step_feed (bs ++ more) heard) true (StandsFor (stages.Describing r') shown) written written result) s.0
+    (subst (λ (xs : List Reading). Does (step_feed (r.taken ++ more) xs) true (StandsFor (stages.Describing r') shown) written written result) s.2 before)
 fed_in r r' more shown (running world) written result s does = absurd s
 
 -- the descriptor's end, of a reader that was taken out
 pub begun_in : (r whole : reader.ReaderFields) (p : RunningFields) (shown : List Reading) (w : World) (written written' : Option (List ℕ))
-    → whole ≡ r → StandsFor (stages.Describing r) shown w → ((heard : List Reading) → Reaches (gone whole.taken heard) (StandsFor (stages.Running p) heard) written written')
+    → whole ≡ r → StandsFor (stages.Describing r) shown w → ((heard : List Reading) → Reaches (step_go whole.taken heard) (StandsFor (stages.Running p) heard) written written')
     → Reaches (step goes w) (StandsFor (stages.Running p) shown) written written'
 unfolding step
 begun_in r whole p shown (describing bytes heard) written written' same s begins =
-    subst (λ (bs : List ℕ). Reaches (gone bs heard) (StandsFor (stages.Running p) shown) written written') (ap (λ (x : reader.ReaderFields). x.taken) same ∙ s.0)
-    (subst (λ (xs : List Reading). Reaches (gone whole.taken xs) (StandsFor (stages.Running p) shown) written written') s.2 (begins shown))
+    subst (λ (bs : List ℕ). Reaches (step_go bs heard) (StandsFor (stages.Running p) shown) written written') (ap (λ (x : reader.ReaderFields). x.taken) same ∙ s.0)
+    (subst (λ (xs : List Reading). Reaches (step_go whole.taken xs) (StandsFor (stages.Running p) shown) written written') s.2 (begins shown))
 begun_in r whole p shown (running world) written written' same s begins = absurd s
 
 pub unbegun_in : (r whole : reader.ReaderFields) (fault : BusFault) (shown : List Reading) (w : World) (written written' : Option (List ℕ))
-    → whole ≡ r → StandsFor (stages.Describing r) shown w → ((heard : List Reading) → Prevents fault true (gone whole.taken heard) written written')
+    → whole ≡ r → StandsFor (stages.Describing r) shown w → ((heard : List Reading) → Prevents fault true (step_go whole.taken heard) written written')
     → Prevents fault (may_want goes w) (step goes w) written written'
 unfolding step
 unbegun_in r whole fault shown (describing bytes heard) written written' same s prevents =
-    subst (λ (bs : List ℕ). Prevents fault true (gone bs heard) written written') (ap (λ (x : reader.ReaderFields). x.taken) same ∙ s.0)
-    (subst (λ (xs : List Reading). Prevents fault true (gone whole.taken xs) written written') s.2 (prevents shown))
+    subst (λ (bs : List ℕ). Prevents fault true (step_go bs heard) written written') (ap (λ (x : reader.ReaderFields). x.taken) same ∙ s.0)
+    (subst (λ (xs : List Reading). Prevents fault true (step_go whole.taken xs) written written') s.2 (prevents shown))
 unbegun_in r whole fault shown (running world) written written' same s prevents = absurd s
 
 -- the descriptor's end once more

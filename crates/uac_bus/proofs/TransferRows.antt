@@ -3,9 +3,9 @@ use Rattle.std.proofs.Common.{◌≡◌, ◌∙◌, sym, subst, ℕ, ◌<◌, le
 use Rattle.std.specs.Option.{option_and_then}
 use Rattle.uac_mixer.specs.declared.element.Element.{Element}
 use Rattle.uac_running.specs.RunningWorld.{RunningWorld}
-use Rattle.uac_running.specs.Transfers.{element_named}
-use Rattle.uac_running.proofs.TransferLemmas.{an_element}
-use Rattle.uac_bus.specs.World.{Step, on_element}
+use Rattle.uac_running.specs.RunningTransfers.{element_named}
+use Rattle.uac_running.proofs.RunningTransfersLemmas.{an_element}
+use Rattle.uac_bus.specs.BusWorld.{Step, on_element}
 
 -- the element at the place that was found is the one that has the name
 pub on_named : (P : Step → Type 0) (r : RunningWorld) (name : List ℕ) (own : List Element) (at : ℕ) (step : Element → Step) → own ≡ r.view.elements → at < length own

@@ -3,7 +3,7 @@ use Rattle.std.specs.Prelude.{ℕ, ◌+◌, List, [], ◌∷◌, ◌++◌, Optio
 use Rattle.uac_script.specs.Phrase.{Phrase}
 use Rattle.uac_transcript.specs.Transcript.{Said}
 use Rattle.uac_bus.specs.declared.fault.BusFault.{BusFault}
-use Rattle.uac_bus.specs.World.{World, Step, done, refused, breaks_rule, step}
+use Rattle.uac_bus.specs.BusWorld.{World, Step, done, refused, breaks_rule, step}
 
 -- what a line makes of a world, which says a phrase or breaks a rule of spelling
 abbrev pub said_step : Result Phrase ℕ → World → Step
@@ -37,9 +37,9 @@ after [] w = untouched w
 after (said ∷ saids) w = and_then (said_step said w) w (after saids)
 
 -- one line more, after those that were done
-abbrev pub stepped : Step → After → After
-stepped (done next lines) so_far = record so_far { lines = so_far.lines ++ lines; world = next; count = so_far.count + 1 }
-stepped (refused fault) so_far = record so_far { refusal = Some fault }
+abbrev pub step_added : Step → After → After
+step_added (done next lines) so_far = record so_far { lines = so_far.lines ++ lines; world = next; count = so_far.count + 1 }
+step_added (refused fault) so_far = record so_far { refusal = Some fault }
 
 -- the first where a line was refused before, else the second
 abbrev pub if_refused : Option BusFault → After → After → After
@@ -48,4 +48,4 @@ if_refused (Some fault) so_far next = so_far
 
 -- what lines and one more come to: that one isn't done where one before it was refused
 abbrev pub with_one_more : Result Phrase ℕ → After → After
-with_one_more said so_far = if_refused so_far.refusal so_far (stepped (said_step said so_far.world) so_far)
+with_one_more said so_far = if_refused so_far.refusal so_far (step_added (said_step said so_far.world) so_far)

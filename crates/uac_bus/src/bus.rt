@@ -7,8 +7,8 @@ ghost use Rattle.uac_edges.specs.Faults.{Rose};
 ghost use Rattle.uac_script.specs.Line.{phrase_of, IsLineInRange};
 ghost use Rattle.uac_script.specs.Lent.{lent_phrase, LentKeeps};
 ghost use Rattle.uac_script.specs.Phrase.{goes};
-ghost use Rattle.uac_bus.specs.World.{World, start, step, finish_of};
-ghost use Rattle.uac_bus.specs.Kept.{Stands, StandsFor, Does, Answers, may_want, is_final};
+ghost use Rattle.uac_bus.specs.BusWorld.{World, start, step, finish_of};
+ghost use Rattle.uac_bus.specs.BusKept.{Stands, StandsFor, Does, Answers, may_want, is_final};
 
 use crate::describing::{begin, feed};
 use crate::fault::BusFault;
@@ -40,7 +40,7 @@ pub struct Bus {
 }
 
 impl Model for Bus {
-    ghost use Rattle.uac_bus.specs.Kept.{BusFields};
+    ghost use Rattle.uac_bus.specs.BusKept.{BusFields};
 
     ghost Value = { BusFields };
 

@@ -1,14 +1,14 @@
 // The lines of the descriptor.
 ghost use Rattle.std.specs.Prelude.{◌≡◌, ◌≢◌, ◌≤◌, ◌++◌, ℕ, List, Option, None, Ok, true, IfErr, OnOk, IfOk};
-ghost use Rattle.uac_configuration.specs.Verdict.{Describes};
+ghost use Rattle.uac_configuration.specs.ConfigurationVerdict.{Describes};
 ghost use Rattle.uac_units.specs.Hearing.{Reading};
 ghost use Rattle.uac_edges.specs.Faults.{HasCause, Rose};
 ghost use Rattle.uac_edges.specs.Writing.{Writes};
-ghost use Rattle.uac_running.specs.Lines.{ready_line};
+ghost use Rattle.uac_running.specs.RunningLines.{ready_line};
 ghost use Rattle.uac_transcript.specs.Transcript.{spelled};
-ghost use Rattle.uac_bus.specs.World.{fed, gone};
-ghost use Rattle.uac_bus.specs.Kept.{StandsFor, Does, is_final};
-ghost use Rattle.uac_bus.specs.Rows.{Begins, bus_fault_of};
+ghost use Rattle.uac_bus.specs.BusWorld.{step_feed, step_go};
+ghost use Rattle.uac_bus.specs.BusKept.{StandsFor, Does, is_final};
+ghost use Rattle.uac_bus.specs.BusRows.{Begins, bus_fault_of};
 
 use crate::bus::BusStage;
 use crate::fault::BusFault;
@@ -21,7 +21,8 @@ use uac_running::Running;
 /// Takes more bytes of the descriptor.
 pub(crate) fn feed(reader: &mut Reader, bytes: &[u8]) -> Result<(), BusFault>
     ensures does { reader.old.stop ≡ None → (shown : List Reading) (written : Option (List ℕ))
-        → Does (fed (reader.old.taken ++ bytes.now) shown) true (StandsFor (BusStage.Describing reader.new) shown) written written result }
+        → Does (step_feed (reader.old.taken ++ bytes.now) shown) true (StandsFor (BusStage.Describing reader.new) shown) written written
+        result }
     ensures fault { IfErr result (λ fault. is_final fault ≡ true) }
     ensures unwritten { IfErr result (λ fault. fault ≢ BusFault.WriteFault) }
 {
@@ -50,7 +51,7 @@ pub(crate) fn begin<K: Sink>(
     reader: Reader,
     sink: &mut K,
 ) -> Result<Running, BusFault>
-    ensures begins { (shown : List Reading) → Begins (gone reader.taken shown) shown (K.written sink.old) (K.written sink.new) result }
+    ensures begins { (shown : List Reading) → Begins (step_go reader.taken shown) shown (K.written sink.old) (K.written sink.new) result }
     ensures fault { IfErr result (λ fault. is_final fault ≡ true) }
     ensures unwritten { IfErr result (λ fault. fault ≢ BusFault.WriteFault → sink.new ≡ sink.old) }
     ensures cause { IfErr result (λ fault. fault ≡ BusFault.WriteFault → Rose (K.faults sink.old) (K.faults sink.new)) }
@@ -70,7 +71,7 @@ fn start<K: Sink>(
     sink: &mut K,
 ) -> Result<Running, BusFault>
     ensures begins { (bytes : List ℕ) → Describes bytes (Ok described)
-        → (shown : List Reading) → Begins (gone bytes shown) shown (K.written sink.old) (K.written sink.new) result }
+        → (shown : List Reading) → Begins (step_go bytes shown) shown (K.written sink.old) (K.written sink.new) result }
     ensures fault { IfErr result (λ fault. is_final fault ≡ true) }
     ensures unwritten { IfErr result (λ fault. fault ≢ BusFault.WriteFault → sink.new ≡ sink.old) }
     ensures cause { IfErr result (λ fault. fault ≡ BusFault.WriteFault → Rose (K.faults sink.old) (K.faults sink.new)) }

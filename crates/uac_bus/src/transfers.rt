@@ -4,9 +4,9 @@ ghost use Rattle.uac_units.specs.Hearing.{Reading};
 ghost use Rattle.uac_edges.specs.Faults.{Rose};
 ghost use Rattle.uac_script.specs.Phrase as phrase;
 ghost use Rattle.uac_running.specs.RunningWorld.{RunningWorld};
-ghost use Rattle.uac_running.specs.Kept.{StandsBetween};
-ghost use Rattle.uac_bus.specs.World.{step_running};
-ghost use Rattle.uac_bus.specs.Kept.{StandsFor, Does, is_final};
+ghost use Rattle.uac_running.specs.RunningKept.{StandsBetween};
+ghost use Rattle.uac_bus.specs.BusWorld.{step_running};
+ghost use Rattle.uac_bus.specs.BusKept.{StandsFor, Does, is_final};
 
 use crate::bus::BusStage;
 use crate::fault::BusFault;

@@ -9,8 +9,8 @@ use Rattle.uac_describe.specs.Closing.{Closes}
 use Rattle.uac_describe.specs.Outcome.{Outcome, stopped}
 use Rattle.uac_describe.proofs.Composing.{nothing_shown, quiet_so_far}
 use Rattle.uac_scripts.specs.declared.jobs.Job.TheVariants.{Describe}
-use Rattle.uac_scripts.specs.Run.{IsEnding, IsRun, WantsMemory, usage}
-use Rattle.uac_scripts.specs.Transcript.{Ending}
+use Rattle.uac_scripts.specs.ScriptRun.{IsEnding, IsRun, WantsMemory, usage}
+use Rattle.uac_scripts.specs.ScriptTranscript.{Ending}
 
 module _ (shown : List Reading) (a b : Option (List ℕ)) (r r' : ℕ) (w w' : Option (List ℕ)) (f f' : ℕ) (status : Status) where
   -- an outcome with the meters as they were

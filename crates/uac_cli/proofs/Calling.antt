@@ -2,7 +2,7 @@
 use Rattle.std.proofs.Common.{◌≡◌, ◌≢◌, ℕ, inl, inr, true, false, List, Option, None, Some, Err, refl, sym, ap, subst, ◌∙◌}
 use Rattle.std.specs.Io.KnownBytes.{IsAtEnd}
 use Rattle.uac_edges.specs.Faults.{Rose}
-use Rattle.uac_gen.specs.Script.{script_of}
+use Rattle.uac_gen.specs.GeneratedScript.{script_of}
 use Rattle.uac_units.specs.Hearing.{Reading}
 use Rattle.uac_words.specs.declared.commands.Command.{Command}
 use Rattle.uac_words.specs.declared.commands.Command.TheVariants as commands
@@ -15,11 +15,11 @@ use Rattle.uac_describe.specs.declared.description.Description.TheVariants.{Chec
 use Rattle.uac_describe.specs.declared.status.Status.{Status}
 use Rattle.uac_describe.specs.declared.status.Status.TheVariants as statuses
 use Rattle.uac_describe.specs.Outcome.{Outcome, no_memory}
-use Rattle.uac_scripts.specs.Run.{usage, IsRun}
+use Rattle.uac_scripts.specs.ScriptRun.{usage, IsRun}
 use Rattle.uac_describe.specs.Closing.{Closes, IsFaultless}
 use Rattle.uac_describe.specs.Answered.{IsAnswered}
 use Rattle.uac_cli.specs.Call.{AreAnswered, IsCall, IsDone, IsGenerated, Prints, ask_to_read, reads_all}
-use Rattle.uac_describe.specs.Settling.{settling}
+use Rattle.uac_describe.specs.SettleLines.{settling}
 use Rattle.uac_describe.proofs.Answering.{closes_faultless, told_status}
 use Rattle.uac_cli.proofs.Answering.{described_run, usage_run}
 

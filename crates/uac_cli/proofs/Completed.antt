@@ -1,13 +1,13 @@
 -- From what a call came to, to what all of its input comes to.
 use Rattle.std.proofs.Common.{◌≡◌, ◌≢◌, ℕ, ◌⊎◌, inl, inr, List, Option, Some, refl, sym, ap, subst, ◌∙◌, arith}
 use Rattle.std.specs.Io.KnownBytes.{Appends}
-use Rattle.uac_descriptor.specs.Reading.{AreBytes}
+use Rattle.uac_descriptor.specs.BlockReading.{AreBytes}
 use Rattle.uac_edges.specs.Faults.{Rose}
 use Rattle.uac_units.specs.Hearing.{Reading}
 use Rattle.uac_words.specs.declared.commands.Command.{Command}
 use Rattle.uac_words.specs.declared.commands.Command.TheVariants as commands
 use Rattle.uac_words.specs.declared.commands.Words.{Words}
-use Rattle.uac_gen.specs.Script.{script_of}
+use Rattle.uac_gen.specs.GeneratedScript.{script_of}
 use Rattle.uac_scripts.specs.declared.jobs.Job.TheVariants.{Describe, Run}
 use Rattle.uac_describe.specs.declared.description.Description.{Description}
 use Rattle.uac_describe.specs.declared.description.Description.TheVariants.{Check, Elements, Show}
@@ -15,11 +15,11 @@ use Rattle.uac_describe.specs.declared.status.Status.{Status}
 use Rattle.uac_describe.specs.declared.status.Status.TheVariants as statuses
 use Rattle.uac_describe.specs.Outcome.{Answers, Outcome, at_end, no_memory}
 use Rattle.uac_describe.specs.Closing.{Closes, Rests}
-use Rattle.uac_scripts.specs.Run.{IsRun}
+use Rattle.uac_scripts.specs.ScriptRun.{IsRun}
 use Rattle.uac_cli.specs.Call.{AreAnswered, IsCall, IsDone}
-use Rattle.uac_describe.specs.Settling.{settling}
+use Rattle.uac_describe.specs.SettleLines.{settling}
 use Rattle.uac_cli.specs.Completeness.{ComesTo, HasInput, IsComplete, ScriptComesTo}
-use Rattle.uac_scripts.specs.Transcript.{Ending}
+use Rattle.uac_scripts.specs.ScriptTranscript.{Ending}
 use Rattle.uac_scripts.proofs.Agreeing.{one_transcript}
 use Rattle.uac_scripts.proofs.Completing.{done_once}
 use Rattle.uac_describe.proofs.Completing.{said_once}

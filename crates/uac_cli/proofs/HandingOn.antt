@@ -10,10 +10,10 @@ use Rattle.uac_scripts.specs.declared.jobs.Job.{Job}
 use Rattle.uac_describe.specs.declared.status.Status.{Status}
 use Rattle.uac_describe.specs.declared.status.Status.TheVariants as statuses
 use Rattle.uac_describe.specs.Outcome.{Outcome, no_memory}
-use Rattle.uac_scripts.specs.Run.{IsRun}
+use Rattle.uac_scripts.specs.ScriptRun.{IsRun}
 use Rattle.uac_describe.specs.HandingOn.{HandsOn}
 use Rattle.uac_cli.specs.Call.{AreAnswered, IsCall, IsDone, Prints}
-use Rattle.uac_describe.specs.Settling.{settling}
+use Rattle.uac_describe.specs.SettleLines.{settling}
 use Rattle.uac_describe.proofs.Answering.{closes_faultless}
 use Rattle.uac_describe.proofs.HandingOn.{closes_on, status_before}
 

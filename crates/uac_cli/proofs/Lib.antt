@@ -2,5 +2,5 @@ pub mod Answering
 pub mod Asking
 pub mod Calling
 pub mod Completed
-pub mod GeneratedLemmas
+pub mod GeneratedCallLemmas
 pub mod HandingOn

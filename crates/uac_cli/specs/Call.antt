@@ -1,6 +1,6 @@
 -- One call of the program, by what its words ask for (profile).
 use Rattle.std.specs.Prelude.{◌≡◌, ℕ, ◌⊎◌, Bool, true, false, List, Option, None, Some}
-use Rattle.uac_gen.specs.Script.{script_of}
+use Rattle.uac_gen.specs.GeneratedScript.{script_of}
 use Rattle.uac_units.specs.Hearing.{Reading}
 use Rattle.uac_words.specs.declared.commands.Command.{Command}
 use Rattle.uac_words.specs.declared.commands.Command.TheVariants as commands
@@ -10,8 +10,8 @@ use Rattle.uac_describe.specs.declared.description.Description.TheVariants.{Chec
 use Rattle.uac_describe.specs.declared.status.Status.{Status}
 use Rattle.uac_describe.specs.Outcome.{Outcome, no_memory}
 use Rattle.uac_describe.specs.Closing.{Closes}
-use Rattle.uac_describe.specs.Settling.{settling}
-use Rattle.uac_scripts.specs.Run.{IsRun}
+use Rattle.uac_describe.specs.SettleLines.{settling}
+use Rattle.uac_scripts.specs.ScriptRun.{IsRun}
 
 -- nothing of the source was taken, and the meters heard nothing
 pub record IsApart (shown shown' : List Reading) (left left' : Option (List ℕ)) (reads reads' : ℕ) : Type 0 where

@@ -1,8 +1,8 @@
 -- What a call comes to where nothing of the outside fails: what all of its input comes to, however little of that was taken (profile).
 use Rattle.std.specs.Prelude.{◌≡◌, ℕ, ◌⊎◌, true, List, Option, Some}
 use Rattle.std.specs.Io.KnownBytes.{Appends}
-use Rattle.uac_descriptor.specs.Reading.{AreBytes}
-use Rattle.uac_gen.specs.Script.{script_of}
+use Rattle.uac_descriptor.specs.BlockReading.{AreBytes}
+use Rattle.uac_gen.specs.GeneratedScript.{script_of}
 use Rattle.uac_units.specs.Hearing.{Reading}
 use Rattle.uac_words.specs.declared.commands.Command.{Command}
 use Rattle.uac_words.specs.declared.commands.Command.TheVariants as commands
@@ -12,9 +12,9 @@ use Rattle.uac_describe.specs.declared.status.Status.{Status}
 use Rattle.uac_describe.specs.declared.status.Status.TheVariants as statuses
 use Rattle.uac_describe.specs.Closing.{Rests}
 use Rattle.uac_describe.specs.Outcome.{Answers, Outcome, at_end}
-use Rattle.uac_scripts.specs.Transcript.{Ending, IsTranscript}
+use Rattle.uac_scripts.specs.ScriptTranscript.{Ending, IsTranscript}
 use Rattle.uac_cli.specs.Call.{reads_all}
-use Rattle.uac_describe.specs.Settling.{settling}
+use Rattle.uac_describe.specs.SettleLines.{settling}
 
 -- a script of these bytes and no more has this outcome
 abbrev pub ScriptComesTo : List Reading → List ℕ → Outcome → Type 0

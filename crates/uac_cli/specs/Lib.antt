@@ -3,7 +3,7 @@
 pub mod Call
 pub mod Completeness
 -- What the laws say besides.
-pub mod Generated
+pub mod GeneratedCall
 -- What the contracts below them cite: steps of the code, no part of what is promised.
 pub mod Boxes
 pub mod Performing

@@ -19,14 +19,14 @@ pub(crate) fn words(alloc: Global, args: io::Result<Args>) -> Result<Vec<String>
     ensures unread { IfErr args (λ error. error_kind error ≢ ErrorKind.InvalidData → IsErr result) }
 {
     match args {
-        Ok(args) => Ok(behind_the_first(alloc, args)?),
+        Ok(args) => Ok(words_after_the_first(alloc, args)?),
         Err(error) if error.kind() == ErrorKind::InvalidData => Ok(Vec::new(alloc)),
         Err(_) => Err(NoMemory),
     }
 }
 
 /// All arguments but the first, in their order.
-fn behind_the_first(alloc: Global, args: Args) -> Result<Vec<String>, AllocError>
+fn words_after_the_first(alloc: Global, args: Args) -> Result<Vec<String>, AllocError>
     ensures { IfOk result (λ words. words.items ≡ drop 1 (into_iter_items args)) }
 {
     args.skip(1).collect(alloc)

@@ -1,5 +1,5 @@
 // Laws of `run` and `gen`, each the contract of a function that does nothing.
-ghost use Rattle.uac_cli.specs.Generated.{GeneratedScriptsRunWhole};
+ghost use Rattle.uac_cli.specs.GeneratedCall.{GeneratedScriptsRunWhole};
 
 pub use uac_scripts::laws::{
     a_script_has_one_transcript, refusal_stays, script_is_its_lines, script_is_what_its_lines_say,

@@ -303,7 +303,7 @@ fn script_fails_at_its_second_call(rt: HostRuntime) -> Result<(), Fail> {
 }
 
 #[test]
-fn no_call_behind_the_end(rt: HostRuntime) -> Result<(), Fail> {
+fn no_call_after_the_end(rt: HostRuntime) -> Result<(), Fail> {
     expect_run(
         &rt,
         rt.alloc(),
@@ -438,8 +438,8 @@ fn is_both(text: &[u8], front: &[u8], rest: &[u8]) -> bool {
     }
 }
 
-/// A run ended with this status, and what stands behind so many bytes of the script is followed by this text.
-fn judge_behind(
+/// A run ended with this status, and what stands after so many bytes of the script is followed by this text.
+fn judge_what_follows(
     rt: &impl Abort,
     got: Result<Status, AllocError>,
     sink: &MemorySink,
@@ -456,7 +456,7 @@ fn judge_behind(
     Ok(())
 }
 
-fn run_behind<R: Abort, S: Source>(
+fn run_what_follows<R: Abort, S: Source>(
     rt: &R,
     alloc: Global,
     source: &mut S,
@@ -466,11 +466,11 @@ fn run_behind<R: Abort, S: Source>(
 ) -> Result<(), AllocError> {
     let mut sink = sink_in_memory(alloc, 1, &[])?;
     let got = ended(alloc, &["run"], source, &mut sink);
-    judge_behind(rt, got, &sink, taken, rest, status)
+    judge_what_follows(rt, got, &sink, taken, rest, status)
 }
 
-/// `run` of that script, byte by byte, whose source fails behind so many bytes, or not at all where these are more than all.
-fn expect_behind(
+/// `run` of that script, byte by byte, whose source fails after so many bytes, or not at all where these are more than all.
+fn expect_what_follows(
     rt: &impl Abort,
     alloc: Global,
     taken: usize,
@@ -478,15 +478,15 @@ fn expect_behind(
     status: Status,
 ) -> Result<(), AllocError> {
     let mut source = source_of(alloc, SCRIPT, 1, &[taken.min(200) as u32 + 1])?;
-    run_behind(rt, alloc, &mut source, taken, rest, status)
+    run_what_follows(rt, alloc, &mut source, taken, rest, status)
 }
 
 #[test]
 fn source_of_a_script_fails_at_each_call(rt: HostRuntime) -> Result<(), Fail> {
     for taken in 0..SCRIPT.len() + 1 {
-        expect_behind(&rt, rt.alloc(), taken, b"read fault\n", Status::ReadFault)?;
+        expect_what_follows(&rt, rt.alloc(), taken, b"read fault\n", Status::ReadFault)?;
     }
-    expect_behind(&rt, rt.alloc(), SCRIPT.len() + 1, b"", Status::Ok)?;
+    expect_what_follows(&rt, rt.alloc(), SCRIPT.len() + 1, b"", Status::Ok)?;
     Ok(())
 }
 
@@ -546,7 +546,8 @@ fn counting_racks(
 
 /// The text of `gen 1`, without meters.
 const GENERATED: &[u8] =
-    b"ready entities 24 streams 1 domains 1\nc done\nc done\ntime 8000\nsteady yes\ndomain 1 rate 32000 ticks 32000\nstream 1 out setting 1 level 256 target 256 under 0 over 0 lost 120 missed 398\nrenders 672000\n";
+    b"ready entities 24 streams 1 domains 1\nc done\nc done\ntime 8000\nsteady yes\ndomain 1 rate 32000 ticks 32000\nstream 1 out setting 1
+    level 256 target 256 under 0 over 0 lost 120 missed 398\nrenders 672000\n";
 
 /// `gen 1` with these words behind it asks the boxes of each rack together so often.
 fn expect_counts(

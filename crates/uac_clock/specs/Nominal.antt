@@ -28,10 +28,10 @@ nominal_of hertz = if is_listed hertz then Some (values_of hertz) else None
 abbrev pub IsNominal : Nominal → Type 0
 IsNominal values = (hertz : ℕ) × (nominal_of hertz ≡ Some values)
 
--- what a clock gives in a microframe where it is off by so many millionths: the deviation is rounded down in size
+-- what a clock gives in a microframe where it is off by so many ppm: the deviation is rounded down in size
 abbrev pub step_of : Nominal → ℤ → ℕ
-step_of values (pos millionths) = values.f + values.f * millionths / 1000000
-step_of values (negsuc millionths) = values.f - values.f * suc millionths / 1000000
+step_of values (pos ppm) = values.f + values.f * ppm / 1000000
+step_of values (negsuc ppm) = values.f - values.f * suc ppm / 1000000
 
 -- a clock that is off by a thousandth stays between the whole numbers, which lie close
 pub record HasRoom (values : Nominal) : Type 0 where

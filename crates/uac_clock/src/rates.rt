@@ -26,7 +26,7 @@ pub fn nominal(rate: u32) -> Option<Nominal>
     })
 }
 
-/// What a clock gives in a microframe, in 65,536ths of a frame, where it is off by `ppm` millionths.
+/// What a clock gives in a microframe, in 65,536ths of a frame, where it is off by so many ppm.
 pub fn step(nominal: &Nominal, ppm: i32) -> u32
     requires low { negsuc 99999 ≤ℤ ppm }
     requires high { ppm ≤ℤ pos 100000 }

@@ -25,7 +25,7 @@ use Rattle.uac_configuration.specs.declared.fault.DescriptorFault.{DescriptorFau
 use Rattle.uac_configuration.specs.declared.fault.DescriptorFault.TheVariants as faults
 use Rattle.uac_configuration.specs.Configuration.{configuration_of}
 use Rattle.uac_configuration.specs.Description.{first_then, blocks_from, blocks_of, function_of}
-use Rattle.uac_configuration.specs.Verdict.{Describes, fault_of}
+use Rattle.uac_configuration.specs.ConfigurationVerdict.{Describes, fault_of}
 
 abbrev the_fields : List Entity → List ℕ → List StreamInterface → ℕ → ℕ → FunctionFields
 the_fields es ds ss k t = record { entities = es; domains = ds; streams = ss; control_interface = k; total = t }
@@ -38,9 +38,9 @@ blocks_from_spellings place [] each = ap (λ (cut : Cut). blocks_from place cut.
 blocks_from_spellings place (b ∷ blocks) (stands, each) =
     let piece : IsPiece (spelling b) = piece_of place b stands in
     let cut : chop (spelling b ++ spellings blocks) ≡ with_piece (spelling b) (chop (spellings blocks)) = chop_piece (spelling b) (spellings blocks) piece in
-    let behind : Block → List Block = λ x. blocks_from (context_after place x) (chop (spellings blocks)).pieces in
+    let following : Block → List Block = λ x. blocks_from (context_after place x) (chop (spellings blocks)).pieces in
     ap (λ (c : Cut). blocks_from place c.pieces) cut
-    ∙ ap (λ (o : Option Block). first_then o behind) (block_of-Spells place b (spelling b) stands)
+    ∙ ap (λ (o : Option Block). first_then o following) (block_of-Spells place b (spelling b) stands)
     ∙ ap (λ (rest : List Block). b ∷ rest) (blocks_from_spellings (context_after place b) blocks each)
 
 -- a sentence's bytes describe its blocks

@@ -3,7 +3,7 @@ use Rattle.std.specs.Prelude.{ℕ, List, [], ◌∷◌, Option, None, Some}
 use Rattle.uac_descriptor.specs.declared.context.Context.{Context}
 use Rattle.uac_descriptor.specs.declared.context.Context.TheVariants as context
 use Rattle.uac_descriptor.specs.declared.block.Block.{Block}
-use Rattle.uac_descriptor.specs.Reading.{block_of}
+use Rattle.uac_descriptor.specs.BlockReading.{block_of}
 use Rattle.uac_sentence.specs.Cutting.{chop}
 use Rattle.uac_sentence.specs.Letter.{context_after}
 use Rattle.uac_entities.specs.Entities.{entities_of}
@@ -14,8 +14,8 @@ use Rattle.uac_topology.specs.Topology.{control_number, first_given, streams_in,
 
 -- a block, if there is one, and those after it
 abbrev pub first_then : Option Block → (Block → List Block) → List Block
-first_then None behind = []
-first_then (Some b) behind = b ∷ behind b
+first_then None following = []
+first_then (Some b) following = b ∷ following b
 
 -- the blocks of these pieces, each read in the context in which it stands
 unfoldable pub blocks_from : Context → List (List ℕ) → List Block

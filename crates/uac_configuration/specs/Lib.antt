@@ -3,4 +3,4 @@
 pub mod Description
 pub mod Configuration
 -- What the contracts below them cite: steps of the code, no part of what is promised.
-pub mod Verdict
+pub mod ConfigurationVerdict

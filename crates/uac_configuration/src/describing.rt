@@ -2,7 +2,7 @@
 ghost use Rattle.std.specs.Prelude.{◌≡◌, flat_map, IfErr, IfOk};
 ghost use Rattle.uac_descriptor.specs.Spelling.{spelling};
 ghost use Rattle.uac_configuration.specs.Configuration.{configuration_of};
-ghost use Rattle.uac_configuration.specs.Verdict.{Describes, fault_of};
+ghost use Rattle.uac_configuration.specs.ConfigurationVerdict.{Describes, fault_of};
 
 use crate::bytes::configuration_in;
 use crate::fault::DescriptorFault;

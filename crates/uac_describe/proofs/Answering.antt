@@ -11,11 +11,11 @@ use Rattle.uac_topology.specs.Function.{FunctionFields}
 use Rattle.uac_topology.specs.Topology.{first_broken, IsSound, IsFunctionOf, Tells}
 use Rattle.uac_describe.specs.declared.description.Description.{Description}
 use Rattle.uac_describe.specs.declared.description.Description.TheVariants.{Elements}
-use Rattle.uac_describe.specs.declared.reading.Reading.TheVariants.{Whole, Stopped, Failed}
+use Rattle.uac_describe.specs.declared.reading.SourceEnd.TheVariants.{Whole, Stopped, Failed}
 use Rattle.uac_describe.specs.declared.status.Status.{Status}
 use Rattle.uac_describe.specs.declared.status.Status.TheVariants as statuses
 use Rattle.uac_describe.specs.Outcome.{at_end, read_failed, stopped, Outcome, no_memory, read_fault, refusal, sound, shows_fault, fails, ends_in_fault, is_sound, is_broken, is_read, unsound}
-use Rattle.uac_describe.specs.Reading.{Reads}
+use Rattle.uac_describe.specs.SourceReading.{Reads}
 use Rattle.uac_describe.specs.Closing.{Closes}
 use Rattle.uac_describe.specs.Answered.{Judges, Refuses, RefusesFunction, IsAnswered}
 

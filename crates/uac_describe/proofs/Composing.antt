@@ -7,12 +7,12 @@ use Rattle.uac_grammar.specs.declared.fault.ReadStop.TheVariants.{Fault, NoMemor
 use Rattle.uac_grammar.specs.Stop.{first_stop, shown_fault, shown_stop}
 use Rattle.uac_grammar.proofs.Readings.{no_stop_no_fault}
 use Rattle.uac_grammar.proofs.Stops.{stop_at-Fault}
-use Rattle.uac_describe.specs.declared.reading.Reading.{Reading}
-use Rattle.uac_describe.specs.declared.reading.Reading.TheVariants.{Whole, Stopped, Failed}
+use Rattle.uac_describe.specs.declared.reading.SourceEnd.{SourceEnd}
+use Rattle.uac_describe.specs.declared.reading.SourceEnd.TheVariants.{Whole, Stopped, Failed}
 use Rattle.uac_sentence.specs.Cutting.{chop, chop_within}
 use Rattle.uac_sentence.specs.Fault.{faults_from}
 use Rattle.uac_sentence.specs.Grammar.{first_fault, grammar, rule_at_end, start}
-use Rattle.uac_describe.specs.Reading.{piece_size, StopsThere, Comes, Reads, Finishes}
+use Rattle.uac_describe.specs.SourceReading.{piece_size, StopsThere, Comes, Reads, Finishes}
 use Rattle.uac_edges.proofs.Consuming.{Consumes-Consumes}
 
 -- no bytes show nothing: their fault is that the configuration is missing
@@ -56,7 +56,7 @@ finished_by taken NoMemory h = tt
 finished_by taken (Fault f) h = stop_at-Fault (first_fault taken) f (h (λ n. cc))
 
 -- Nothing was left: the verdict on all bytes is what reading came to.
-pub ended_by : (a b c : Option (List ℕ)) (before after : ℕ) (taken into : List ℕ) (n : ℕ) (reading : Reading)
+pub ended_by : (a b c : Option (List ℕ)) (before after : ℕ) (taken into : List ℕ) (n : ℕ) (reading : SourceEnd)
     → Consumes a b taken → Consumes b c (take n into) × (n ≡ 0 → 0 < length into → IsAtEnd c) → n ≡ 0 → 0 < length into
     → shown_fault taken ≡ None → Finishes taken reading → Reads a c before after reading
 ended_by a b c before after taken into n reading p q zero some quiet finishes =
@@ -69,7 +69,7 @@ ended_by a b c before after taken into n reading p q zero some quiet finishes =
       comes = came taken c before after reading (q.1 zero some) finishes;
     }
   where
-    came : (taken : List ℕ) (c : Option (List ℕ)) (before after : ℕ) (reading : Reading) → IsAtEnd c → Finishes taken reading → Comes reading taken c before after
+    came : (taken : List ℕ) (c : Option (List ℕ)) (before after : ℕ) (reading : SourceEnd) → IsAtEnd c → Finishes taken reading → Comes reading taken c before after
     came taken c before after (Whole blocks) end f = (end, f)
     came taken c before after (Stopped (Fault fault)) end f = inr (end, f)
     came taken c before after (Stopped NoMemory) end f = tt

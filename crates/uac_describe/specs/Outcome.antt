@@ -12,12 +12,12 @@ use Rattle.uac_describe.specs.declared.description.Description.{Description}
 use Rattle.uac_describe.specs.declared.description.Description.TheVariants.{Check, Elements, Show}
 use Rattle.uac_describe.specs.declared.status.Status.{Status}
 use Rattle.uac_describe.specs.declared.status.Status.TheVariants as statuses
-use Rattle.uac_listing.specs.Entities.{entity_line}
-use Rattle.uac_listing.specs.Settings.{setting_lines}
-use Rattle.uac_listing.specs.Elements.{element_lines}
+use Rattle.uac_listing.specs.EntityLines.{entity_line}
+use Rattle.uac_listing.specs.SettingLines.{setting_lines}
+use Rattle.uac_listing.specs.ElementLines.{element_lines}
 use Rattle.uac_mixer.specs.ViewWorld.{known_view}
-use Rattle.uac_store.specs.Controls.{initial_controls}
-use Rattle.uac_listing.specs.Blocks.{block_lines}
+use Rattle.uac_store.specs.StoreControls.{initial_controls}
+use Rattle.uac_listing.specs.BlockLines.{block_lines}
 
 -- why no more was taken of the source
 pub data End : Type 0 where

@@ -5,7 +5,7 @@ ghost use Rattle.uac_descriptor.specs.Spelling.{spelling};
 ghost use Rattle.uac_descriptor.specs.WellFormed.{AreWellFormed};
 ghost use Rattle.uac_edges.specs.Faults.{Rose, HasCause};
 ghost use Rattle.uac_edges.specs.Writing.{Writes};
-ghost use Rattle.uac_store.specs.Controls.{initial_controls};
+ghost use Rattle.uac_store.specs.StoreControls.{initial_controls};
 ghost use Rattle.uac_describe.specs.Answered.{IsAnswered, Judges, Refuses, RefusesFunction};
 ghost use Rattle.uac_describe.specs.Closing.{Closes, IsFaultless};
 ghost use Rattle.uac_describe.specs.Outcome.{no_memory, sound, text_of};
@@ -13,7 +13,7 @@ ghost use Rattle.uac_describe.specs.Outcome.{no_memory, sound, text_of};
 use crate::closing::close;
 use crate::description::Description;
 use crate::lines::{NO_MEMORY, READ_FAULT, refusal_line, sound_line, unsound_line};
-use crate::reading::{Reading, read_descriptor};
+use crate::reading::{SourceEnd, read_descriptor};
 use crate::status::Status;
 use std::alloc::Global;
 use uac_configuration::bytes_of;
@@ -41,12 +41,12 @@ pub fn describe<S: Source, K: Sink>(
     ensures ok { result ≡ Status.Ok → IsAtEnd (S.left source.new) }
 {
     match read_descriptor(alloc, source) {
-        Reading::Whole(blocks) => {
+        SourceEnd::Whole(blocks) => {
             sentences_are_well_formed();
             judge(alloc, description, &blocks, sink)
         }
-        Reading::Stopped(stop) => refuse(stop, sink),
-        Reading::Failed => close(sink, READ_FAULT, Status::ReadFault),
+        SourceEnd::Stopped(stop) => refuse(stop, sink),
+        SourceEnd::Failed => close(sink, READ_FAULT, Status::ReadFault),
     }
 }
 

@@ -1,6 +1,6 @@
 // Reading a descriptor from a source, to its end or to its first fault.
 ghost use Rattle.std.specs.Prelude.{◌≡◌, ◌≢◌, ◌≤◌, None};
-ghost use Rattle.uac_describe.specs.Reading.{Reads, Finishes};
+ghost use Rattle.uac_describe.specs.SourceReading.{Reads, Finishes};
 
 use std::alloc::Global;
 use uac_descriptor::Block;
@@ -9,7 +9,7 @@ use uac_grammar::{ReadStop, Reader};
 
 /// What came of reading a descriptor.
 #[derive(Drop)]
-pub enum Reading {
+pub enum SourceEnd {
     /// The input ended, and is these blocks.
     Whole(Vec<Block>),
     /// The descriptor is refused, or there was no memory for it.
@@ -20,32 +20,32 @@ pub enum Reading {
 
 /// Reads a descriptor: to the end of the input, a failed read, or the first fault that the bytes show. Unless it answers `Failed`, no read
 /// met a fault.
-pub fn read_descriptor<S: Source>(alloc: Global, source: &mut S) -> Reading
+pub fn read_descriptor<S: Source>(alloc: Global, source: &mut S) -> SourceEnd
     ensures reads { Reads (S.left source.old) (S.left source.new) (S.faults source.old) (S.faults source.new) result }
-    ensures faultless { result ≢ Reading.Failed → S.faults source.new ≡ S.faults source.old }
+    ensures faultless { result ≢ SourceEnd.Failed → S.faults source.new ≡ S.faults source.old }
     ensures never_falls { S.faults source.old ≤ S.faults source.new }
 {
     let mut reader = Reader::new(alloc);
     let mut piece = [0; 4096];
     loop {
         match source.take(&mut piece) {
-            Ok(0) => return finished(reader),
+            Ok(0) => return reading_at_end(reader),
             Ok(count) => match reader.feed(&piece[..count]) {
                 Ok(()) => {}
-                Err(stop) => return Reading::Stopped(stop),
+                Err(stop) => return SourceEnd::Stopped(stop),
             },
-            Err(Failed) => return Reading::Failed,
+            Err(Failed) => return SourceEnd::Failed,
         }
     }
 }
 
 /// What the bytes come to, now that there are no more.
-fn finished(reader: Reader) -> Reading
+fn reading_at_end(reader: Reader) -> SourceEnd
     requires { reader.stop ≡ None }
     ensures { Finishes reader.taken result }
 {
     match reader.finish() {
-        Ok(blocks) => Reading::Whole(blocks),
-        Err(stop) => Reading::Stopped(stop),
+        Ok(blocks) => SourceEnd::Whole(blocks),
+        Err(stop) => SourceEnd::Stopped(stop),
     }
 }

@@ -2,7 +2,7 @@
 ghost use Rattle.std.specs.Prelude.{◌≡◌, ◌≢◌, ◌++◌, codes, decimal, flat_map};
 ghost use Rattle.uac_edges.specs.Faults.{HasCause, Rose};
 ghost use Rattle.uac_edges.specs.Writing.{Writes};
-ghost use Rattle.uac_describe.specs.Settling.{settling, settling_line};
+ghost use Rattle.uac_describe.specs.SettleLines.{settling, settling_line};
 ghost use Rattle.uac_describe.specs.Closing.{Closes};
 
 use crate::status::Status;

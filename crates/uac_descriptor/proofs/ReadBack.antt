@@ -6,8 +6,8 @@ use Rattle.std.proofs.Math.Seq.{take-append_seam, drop-append_seam, get_or-appen
 use Rattle.uac_descriptor.specs.Layout.{IsWhole}
 use Rattle.uac_descriptor.specs.Little.{four}
 use Rattle.uac_descriptor.specs.Spelling.{spelling}
-use Rattle.uac_descriptor.specs.Rows.{row, Spells, IsComplete, Context, row_in}
-use Rattle.uac_descriptor.specs.Reading.{has_length, fields, is_whole, block_of, words_in, selector_fields, mixer_fields, last_of}
+use Rattle.uac_descriptor.specs.LayoutRows.{row, Spells, IsComplete, Context, row_in}
+use Rattle.uac_descriptor.specs.BlockReading.{has_length, fields, is_whole, block_of, words_in, selector_fields, mixer_fields, last_of}
 use Rattle.uac_descriptor.specs.Standard.{CS_INTERFACE, MIXER_UNIT, SELECTOR_UNIT, CLOCK_SELECTOR}
 use Rattle.uac_descriptor.specs.declared.block.Block.{Block}
 use Rattle.uac_descriptor.specs.declared.block.Block.TheVariants as variant
@@ -27,8 +27,8 @@ is_whole-IsWhole bytes whole =
     (le-leb 2 (length bytes) whole.0) (eq-eqb (slice_index bytes 0) (length bytes) whole.1)
 
 -- what follows the type
-abbrev behind : Block → List ℕ
-behind b = drop 2 (spelling b)
+abbrev following : Block → List ℕ
+following b = drop 2 (spelling b)
 
 -- the spelling of a block is a whole block
 pub is_whole-spelling : (b : Block) → IsComplete b → is_whole (spelling b) ≡ true
@@ -41,16 +41,16 @@ is_whole-spelling (variant.Endpoint c) _ = refl
 is_whole-spelling (variant.Header c) _ = refl
 is_whole-spelling (variant.InputTerminal c) _ = refl
 is_whole-spelling (variant.OutputTerminal c) _ = refl
-is_whole-spelling (variant.Mixer c) _ = is_whole-cons _ CS_INTERFACE (behind (variant.Mixer c)) refl
-is_whole-spelling (variant.Selector c) _ = is_whole-cons _ CS_INTERFACE (behind (variant.Selector c)) refl
-is_whole-spelling (variant.Feature c) _ = is_whole-cons _ CS_INTERFACE (behind (variant.Feature c)) refl
-is_whole-spelling (variant.Effect c) _ = is_whole-cons _ CS_INTERFACE (behind (variant.Effect c)) refl
+is_whole-spelling (variant.Mixer c) _ = is_whole-cons _ CS_INTERFACE (following (variant.Mixer c)) refl
+is_whole-spelling (variant.Selector c) _ = is_whole-cons _ CS_INTERFACE (following (variant.Selector c)) refl
+is_whole-spelling (variant.Feature c) _ = is_whole-cons _ CS_INTERFACE (following (variant.Feature c)) refl
+is_whole-spelling (variant.Effect c) _ = is_whole-cons _ CS_INTERFACE (following (variant.Effect c)) refl
 is_whole-spelling (variant.ClockSource c) _ = refl
-is_whole-spelling (variant.ClockSelector c) _ = is_whole-cons _ CS_INTERFACE (behind (variant.ClockSelector c)) refl
+is_whole-spelling (variant.ClockSelector c) _ = is_whole-cons _ CS_INTERFACE (following (variant.ClockSelector c)) refl
 is_whole-spelling (variant.ClockMultiplier c) _ = refl
 is_whole-spelling (variant.General c) _ = refl
 is_whole-spelling (variant.TypeOne c) _ = refl
-is_whole-spelling (variant.Extra c) _ = is_whole-cons _ CS_INTERFACE (behind (variant.Extra c)) refl
+is_whole-spelling (variant.Extra c) _ = is_whole-cons _ CS_INTERFACE (following (variant.Extra c)) refl
 is_whole-spelling (variant.ClassEndpoint c) _ = refl
 
 -- a field of two or four bytes is read back
@@ -157,8 +157,8 @@ fields-spelling (variant.ClockMultiplier c) = refl
 fields-spelling (variant.General c) = rw (four_back c.formats, four_back c.locations) refl
 fields-spelling (variant.TypeOne c) = refl
 fields-spelling (variant.ClassEndpoint c) = rw (two_back c.lock_delay) refl
-fields-spelling (variant.Mixer m) = ap variant.Mixer (mixer_back (length (behind (variant.Mixer m)) + 2) CS_INTERFACE MIXER_UNIT m.id m.channels m.locations m.names m.controls m.name m.sources m.mix_bits)
-fields-spelling (variant.Selector s) = ap variant.Selector (selector_back (length (behind (variant.Selector s)) + 2) CS_INTERFACE SELECTOR_UNIT s.id s.controls s.name s.sources)
+fields-spelling (variant.Mixer m) = ap variant.Mixer (mixer_back (length (following (variant.Mixer m)) + 2) CS_INTERFACE MIXER_UNIT m.id m.channels m.locations m.names m.controls m.name m.sources m.mix_bits)
+fields-spelling (variant.Selector s) = ap variant.Selector (selector_back (length (following (variant.Selector s)) + 2) CS_INTERFACE SELECTOR_UNIT s.id s.controls s.name s.sources)
 fields-spelling (variant.Feature f) =
     let counted : (length (spelling (variant.Feature f)) - 6) / 4 ≡ length f.words =
     omega (arith, length-append (flat_map four f.words) (f.name ∷ []), length-words f.words)
@@ -175,7 +175,7 @@ fields-spelling (variant.Effect e) =
     last_back (take 7 (spelling (variant.Effect e)) ++ flat_map four e.words) e.name
     in
     rw (counted, words_back e.words (e.name ∷ []), named, two_back e.effect_type) refl
-fields-spelling (variant.ClockSelector c) = ap variant.ClockSelector (selector_back (length (behind (variant.ClockSelector c)) + 2) CS_INTERFACE CLOCK_SELECTOR c.id c.controls c.name c.sources)
+fields-spelling (variant.ClockSelector c) = ap variant.ClockSelector (selector_back (length (following (variant.ClockSelector c)) + 2) CS_INTERFACE CLOCK_SELECTOR c.id c.controls c.name c.sources)
 fields-spelling (variant.Extra e) = refl
 fields-spelling (variant.Foreign bytes) = refl
 

@@ -8,9 +8,9 @@ use Rattle.std.proofs.lemmas.Option.{cond_some}
 use Rattle.uac_descriptor.specs.Layout.{IsWhole, is_type_one}
 use Rattle.uac_descriptor.specs.Little.{four, two_at, four_at}
 use Rattle.uac_descriptor.specs.Spelling.{spelling}
-use Rattle.uac_descriptor.specs.Rows as rows
-use Rattle.uac_descriptor.specs.Rows.{row, Row, Spells, IsComplete, Context, row_in, row_of, rows_of, row_beside}
-use Rattle.uac_descriptor.specs.Reading.{AreBytes, has_length, fields, is_whole, block_of, words_in, last_of}
+use Rattle.uac_descriptor.specs.LayoutRows as rows
+use Rattle.uac_descriptor.specs.LayoutRows.{row, Row, Spells, IsComplete, Context, row_in, row_of, rows_of, row_beside}
+use Rattle.uac_descriptor.specs.BlockReading.{AreBytes, has_length, fields, is_whole, block_of, words_in, last_of}
 use Rattle.uac_descriptor.specs.Standard.{
   CONFIGURATION,
   INTERFACE,
@@ -185,8 +185,8 @@ behind_type n size kind rest test =
 -- the content of a row with pins
 pins_spelt : (s p : ℕ) (rest : List ℕ) → slice_index rest 0 ≡ s → slice_index rest 2 ≡ p → length rest ≡ 5 + p →
     let more : List ℕ = drop 3 rest in
-    let behind : List ℕ = drop p more in
-    s ∷ slice_index rest 1 ∷ length (take p more) ∷ (take p more ++ slice_index behind 0 ∷ slice_index behind 1 ∷ []) ≡ rest
+    let following : List ℕ = drop p more in
+    s ∷ slice_index rest 1 ∷ length (take p more) ∷ (take p more ++ slice_index following 0 ∷ slice_index following 1 ∷ []) ≡ rest
 pins_spelt s p rest same pins counted =
     let more : List ℕ = drop 3 rest in
     let long : length more ≡ 2 + p = omega (arith, length-drop 3 rest, counted) in
@@ -199,23 +199,23 @@ pins_spelt s p rest same pins counted =
 -- the content of a mixer
 mixer_spelt : (p n : ℕ) (rest : List ℕ) → AreBytes rest → slice_index rest 0 ≡ MIXER_UNIT → slice_index rest 2 ≡ p →
     length rest ≡ 11 + p + n →
-    let behind : List ℕ = drop p (drop 3 rest) in
-    let tail : List ℕ = drop n (drop 6 behind) in
-    MIXER_UNIT ∷ slice_index rest 1 ∷ length (take p (drop 3 rest)) ∷ (take p (drop 3 rest) ++ (slice_index behind 0
-    ∷ four (four_at behind 1) ++ slice_index behind 5 ∷ (take n (drop 6 behind) ++ slice_index tail 0 ∷ slice_index tail 1 ∷ []))) ≡ rest
+    let following : List ℕ = drop p (drop 3 rest) in
+    let tail : List ℕ = drop n (drop 6 following) in
+    MIXER_UNIT ∷ slice_index rest 1 ∷ length (take p (drop 3 rest)) ∷ (take p (drop 3 rest) ++ (slice_index following 0
+    ∷ four (four_at following 1) ++ slice_index following 5 ∷ (take n (drop 6 following) ++ slice_index tail 0 ∷ slice_index tail 1 ∷ []))) ≡ rest
 mixer_spelt p n rest are same pins counted =
     let more : List ℕ = drop 3 rest in
-    let behind : List ℕ = drop p more in
-    let tail : List ℕ = drop n (drop 6 behind) in
+    let following : List ℕ = drop p more in
+    let tail : List ℕ = drop n (drop 6 following) in
     let long : length more ≡ 8 + p + n = omega (arith, length-drop 3 rest, counted) in
-    let past : length behind ≡ 8 + n = omega (arith, length-drop p more, long) in
-    let last : length (drop 6 behind) ≡ 2 + n = omega (arith, length-drop 6 behind, past) in
+    let past : length following ≡ 8 + n = omega (arith, length-drop p more, long) in
+    let last : length (drop 6 following) ≡ 2 + n = omega (arith, length-drop 6 following, past) in
     let e1 : length (take p more) ≡ p = length-take-le p more (omega (arith, long)) in
-    let f : _ = four_at_parts behind (AreBytes-drop p more (AreBytes-drop 3 rest are)) 1 in
-    let e2 : cells 0 2 tail ≡ tail = whole_cells 2 tail (omega (arith, length-drop n (drop 6 behind), last)) in
-    let e3 : take n (drop 6 behind) ++ tail ≡ drop 6 behind = take-append-drop n (drop 6 behind) in
-    let e4 : cells 0 6 behind ++ drop 6 behind ≡ behind = cells-drop 6 behind (omega (arith, past)) in
-    let e5 : take p more ++ behind ≡ more = take-append-drop p more in
+    let f : _ = four_at_parts following (AreBytes-drop p more (AreBytes-drop 3 rest are)) 1 in
+    let e2 : cells 0 2 tail ≡ tail = whole_cells 2 tail (omega (arith, length-drop n (drop 6 following), last)) in
+    let e3 : take n (drop 6 following) ++ tail ≡ drop 6 following = take-append-drop n (drop 6 following) in
+    let e4 : cells 0 6 following ++ drop 6 following ≡ following = cells-drop 6 following (omega (arith, past)) in
+    let e5 : take p more ++ following ≡ more = take-append-drop p more in
     rw (e1, f.0, f.1, f.2, f.3, e2, e3, e4, e5) (ap (λ x. x ∷ slice_index rest 1 ∷ p ∷ more) (sym same)
     ∙ ap (λ x. slice_index rest 0 ∷ slice_index rest 1 ∷ x ∷ more) (sym pins) ∙ cells-drop 3 rest (omega (arith, counted)))
 

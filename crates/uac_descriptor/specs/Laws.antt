@@ -2,8 +2,8 @@
 use Rattle.std.specs.Prelude.{◌≡◌, ℕ, ◌≤◌, List, length, Some}
 use Rattle.uac_descriptor.specs.Layout.{IsSelector, IsMixer, IsFeature, IsEffect, IsExtra, IsForeign}
 use Rattle.uac_descriptor.specs.Spelling.{spelling}
-use Rattle.uac_descriptor.specs.Rows.{Context, Spells}
-use Rattle.uac_descriptor.specs.Reading.{AreBytes, block_of}
+use Rattle.uac_descriptor.specs.LayoutRows.{Context, Spells}
+use Rattle.uac_descriptor.specs.BlockReading.{AreBytes, block_of}
 use Rattle.uac_descriptor.specs.declared.block.Block.{Block}
 use Rattle.uac_descriptor.specs.declared.block.Block.TheVariants as variant
 
@@ -23,26 +23,26 @@ ReadIsSpelt =
     (context : Context) (b : Block) (bytes : List ℕ) → AreBytes bytes → block_of context bytes ≡ Some b → Spells context b bytes
 
 -- what the type of a block keeps
-abbrev pub IsKept : Block → Type 0
-IsKept (variant.Mixer m) = IsMixer m.sources m.mix_bits
-IsKept (variant.Selector s) = IsSelector s.sources
-IsKept (variant.Feature f) = IsFeature f.words
-IsKept (variant.Effect e) = IsEffect e.words
-IsKept (variant.ClockSelector c) = IsSelector c.sources
-IsKept (variant.Extra e) = IsExtra e.subtype e.rest
-IsKept (variant.Foreign bytes) = IsForeign bytes
-IsKept (variant.Configuration _) = Unit {0}
-IsKept (variant.Association _) = Unit {0}
-IsKept (variant.Interface _) = Unit {0}
-IsKept (variant.Endpoint _) = Unit {0}
-IsKept (variant.Header _) = Unit {0}
-IsKept (variant.InputTerminal _) = Unit {0}
-IsKept (variant.OutputTerminal _) = Unit {0}
-IsKept (variant.ClockSource _) = Unit {0}
-IsKept (variant.ClockMultiplier _) = Unit {0}
-IsKept (variant.General _) = Unit {0}
-IsKept (variant.TypeOne _) = Unit {0}
-IsKept (variant.ClassEndpoint _) = Unit {0}
+abbrev pub IsKeptBlock : Block → Type 0
+IsKeptBlock (variant.Mixer m) = IsMixer m.sources m.mix_bits
+IsKeptBlock (variant.Selector s) = IsSelector s.sources
+IsKeptBlock (variant.Feature f) = IsFeature f.words
+IsKeptBlock (variant.Effect e) = IsEffect e.words
+IsKeptBlock (variant.ClockSelector c) = IsSelector c.sources
+IsKeptBlock (variant.Extra e) = IsExtra e.subtype e.rest
+IsKeptBlock (variant.Foreign bytes) = IsForeign bytes
+IsKeptBlock (variant.Configuration _) = Unit {0}
+IsKeptBlock (variant.Association _) = Unit {0}
+IsKeptBlock (variant.Interface _) = Unit {0}
+IsKeptBlock (variant.Endpoint _) = Unit {0}
+IsKeptBlock (variant.Header _) = Unit {0}
+IsKeptBlock (variant.InputTerminal _) = Unit {0}
+IsKeptBlock (variant.OutputTerminal _) = Unit {0}
+IsKeptBlock (variant.ClockSource _) = Unit {0}
+IsKeptBlock (variant.ClockMultiplier _) = Unit {0}
+IsKeptBlock (variant.General _) = Unit {0}
+IsKeptBlock (variant.TypeOne _) = Unit {0}
+IsKeptBlock (variant.ClassEndpoint _) = Unit {0}
 
 -- some context reads the block's bytes as this block, and their number fits a byte
 pub record HasSpelling (b : Block) : Type 0 where

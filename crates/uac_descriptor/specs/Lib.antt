@@ -4,14 +4,14 @@ pub mod Standard
 pub mod Layout
 pub mod Little
 pub mod Spelling
-pub mod Rows
+pub mod LayoutRows
 pub mod Endpoints
 pub mod Classes
-pub mod Reading
+pub mod BlockReading
 pub mod Kinds
-pub mod Turns
+pub mod BlockTurns
 -- What the laws say besides.
 pub mod Contexts
-pub mod Fields
+pub mod BlockFields
 pub mod WellFormed
 pub mod Laws

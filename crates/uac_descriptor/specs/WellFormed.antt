@@ -2,8 +2,8 @@
 -- Formats 2.0, 2.3.1.6 (bSubslotSize, bBitResolution); USB 2.0, 9.6.5 and 9.6.6 (the numbers of interfaces, and endpoints).
 use Rattle.std.specs.Prelude.{◌≢◌, List, [], length, IsTrue}
 use Rattle.uac_descriptor.specs.Contexts.{EachIn, is_audio}
-use Rattle.uac_descriptor.specs.Fields.{is_isochronous, IsHighSpeed, IsFormat}
-use Rattle.uac_descriptor.specs.Turns.{BeginsWithControl, InTurn, interfaces_in}
+use Rattle.uac_descriptor.specs.BlockFields.{is_isochronous, IsHighSpeed, IsFormat}
+use Rattle.uac_descriptor.specs.BlockTurns.{BeginsWithControl, InTurn, interfaces_in}
 use Rattle.uac_descriptor.specs.declared.context.Context.{Context}
 use Rattle.uac_descriptor.specs.declared.context.Context.TheVariants as context
 use Rattle.uac_descriptor.specs.declared.block.Block as block

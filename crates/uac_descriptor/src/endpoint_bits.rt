@@ -52,7 +52,7 @@ impl EndpointBits {
     }
 
     /// Whether the transfers are isochronous: bits 1 and 0 are 01.
-    #[tactic(auto, using(crate::proofs::EndpointLemmas::isochronous))]
+    #[tactic(auto, using(crate::proofs::EndpointsLemmas::isochronous))]
     pub fn is_isochronous(self) -> bool
         ensures { result ≡ (transfer_type self.0 == 1) }
     {
@@ -62,7 +62,7 @@ impl EndpointBits {
     }
 
     /// Whether the endpoint is asynchronous: bits 3 and 2 are 01.
-    #[tactic(auto, using(crate::proofs::EndpointLemmas::asynchronous))]
+    #[tactic(auto, using(crate::proofs::EndpointsLemmas::asynchronous))]
     pub fn is_asynchronous(self) -> bool
         ensures { result ≡ (synchronization_type self.0 == 1) }
     {
@@ -72,7 +72,7 @@ impl EndpointBits {
     }
 
     /// Whether an endpoint carries data alone: bits 5 and 4 are 00.
-    #[tactic(auto, using(crate::proofs::EndpointLemmas::data_alone))]
+    #[tactic(auto, using(crate::proofs::EndpointsLemmas::data_alone))]
     pub fn is_data(self) -> bool
         ensures { result ≡ (usage_type self.0 == 0) }
     {
@@ -82,7 +82,7 @@ impl EndpointBits {
     }
 
     /// Whether an endpoint carries feedback: bits 5 and 4 are 01.
-    #[tactic(auto, using(crate::proofs::EndpointLemmas::feedback_alone))]
+    #[tactic(auto, using(crate::proofs::EndpointsLemmas::feedback_alone))]
     pub fn is_feedback(self) -> bool
         ensures { result ≡ (usage_type self.0 == 1) }
     {
@@ -92,7 +92,7 @@ impl EndpointBits {
     }
 
     /// Whether an endpoint carries data that is feedback too: bits 5 and 4 are 10.
-    #[tactic(auto, using(crate::proofs::EndpointLemmas::implicit_feedback))]
+    #[tactic(auto, using(crate::proofs::EndpointsLemmas::implicit_feedback))]
     pub fn is_implicit_feedback(self) -> bool
         ensures { result ≡ (usage_type self.0 == 2) }
     {

@@ -1,6 +1,6 @@
 // The values of an endpoint's and of a format's fields that the standards don't allow.
 ghost use Rattle.std.specs.Prelude.{◌≡◌};
-ghost use Rattle.uac_descriptor.specs.Fields.{is_isochronous, is_no_format, is_no_high_speed};
+ghost use Rattle.uac_descriptor.specs.BlockFields.{is_isochronous, is_no_format, is_no_high_speed};
 
 use crate::endpoint_bits::EndpointBits;
 use crate::standard::Endpoint;
@@ -15,7 +15,7 @@ pub fn is_isochronous(endpoint: &Endpoint) -> bool
 
 /// Whether high speed does not allow an isochronous endpoint with these fields (USB 2.0, 9.6.6): no interval of 1 to 16,
 /// additional transactions 11, or more than 1024 bytes.
-#[tactic(auto, unfolding(crate::specs::Fields::is_no_high_speed))]
+#[tactic(auto, unfolding(crate::specs::BlockFields::is_no_high_speed))]
 pub fn is_no_high_speed(endpoint: &Endpoint) -> bool
     ensures { result ≡ is_no_high_speed endpoint.now }
 {
@@ -27,7 +27,7 @@ pub fn is_no_high_speed(endpoint: &Endpoint) -> bool
 
 /// Whether a format is no Type I format (Audio Data Formats 2.0, 2.3.1.6): not 1 to 4 bytes a sample, or not 1 bit up to all
 /// of theirs.
-#[tactic(auto, unfolding(crate::specs::Fields::is_no_format))]
+#[tactic(auto, unfolding(crate::specs::BlockFields::is_no_format))]
 pub fn is_no_format(format: &TypeOne) -> bool
     ensures { result ≡ is_no_format format.now }
 {

@@ -1,5 +1,5 @@
 // Laws of the spellings, each the contract of a function that does nothing.
-ghost use Rattle.uac_descriptor.specs.Laws.{OneSpelling, SpeltIsRead, ReadIsSpelt, IsKept, HasSpelling};
+ghost use Rattle.uac_descriptor.specs.Laws.{OneSpelling, SpeltIsRead, ReadIsSpelt, IsKeptBlock, HasSpelling};
 
 use crate::block::Block;
 
@@ -15,7 +15,7 @@ pub fn reading()
 {}
 
 /// The type `Block` keeps that its block has a spelling, of at most 255 bytes.
-#[tactic(auto, using(crate::proofs::KeptLemmas::kept_is_spelt))]
+#[tactic(auto, using(crate::proofs::LawsLemmas::kept_is_spelt))]
 pub fn has_spelling(block: &Block)
     ensures { HasSpelling block.now }
 {
@@ -24,7 +24,7 @@ pub fn has_spelling(block: &Block)
 
 /// What the type keeps.
 fn kept(block: &Block)
-    ensures { IsKept block.now }
+    ensures { IsKeptBlock block.now }
 {
     match block {
         Block::Mixer(block) => {

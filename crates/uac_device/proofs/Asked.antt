@@ -7,7 +7,7 @@ use Rattle.uac_clock.specs.Nominal.{nominal_of}
 use Rattle.uac_entities.specs.declared.stream.Setting.{Setting}
 use Rattle.uac_entities.specs.declared.stream.StreamInterface.{StreamInterface}
 use Rattle.uac_topology.specs.Function.{FunctionFields}
-use Rattle.uac_alt.specs.Streams.{stream_at, stream_of}
+use Rattle.uac_alt.specs.AltStreams.{stream_at, stream_of}
 
 pub number_is : (b : Bool) (n m : ℕ) → Some n ≡ (if b then Some m else None) → n ≡ m
 number_is true n m e = cc

@@ -7,21 +7,21 @@ use Rattle.uac_entities.specs.declared.stream.StreamInterface.{StreamInterface}
 use Rattle.uac_topology.specs.Function.{FunctionFields}
 use Rattle.uac_topology.specs.Topology.{IsSoundFunction}
 use Rattle.uac_store.specs.declared.keys.Key.{Key}
-use Rattle.uac_alt.specs.Streams.{StreamFields, stream_fields, stream_of}
+use Rattle.uac_alt.specs.AltStreams.{StreamFields, stream_fields, stream_of}
 use Rattle.uac_alt.specs.declared.settings.InterfaceSetting.{InterfaceSetting}
 use Rattle.uac_alt.specs.declared.values.Stream.{Stream}
 use Rattle.uac_request.specs.Requests.{Held, AnswerFields, after_request, held_by, rate_at, reply_of}
 use Rattle.uac_request.specs.declared.setup.Setup.{Setup}
-use Rattle.uac_flow.specs.Streams.{InStream, OutStream}
+use Rattle.uac_flow.specs.FlowStreams.{InStream, OutStream}
 use Rattle.uac_lanes.specs.declared.lane.Lane.{Lane}
 use Rattle.uac_lanes.specs.declared.lane.Port.{Port}
 use Rattle.uac_lanes.specs.InterfaceStreams.{in_from, out_from, replaced_at}
-use Rattle.uac_device.specs.DeviceWorld.{DeviceWorld, controlled, restarted, sets_interface, stream_in_setting, tells_done}
-use Rattle.uac_device.specs.Kept.{DeviceFields, IsControlled, IsDevice, Stands}
+use Rattle.uac_device.specs.DeviceWorld.{DeviceWorld, after_control, after_restart, sets_interface, stream_in_setting, tells_done}
+use Rattle.uac_device.specs.DeviceKept.{DeviceFields, IsControlled, IsDevice, Stands}
 use Rattle.uac_lanes.specs.Lanes.{KeepsStreams, port_of, ports}
 use Rattle.uac_device.specs.Linked.{FitsInterface}
 use Rattle.uac_lanes.proofs.LanesLemmas.{FitsAt}
-use Rattle.uac_device.proofs.StreamsLemmas.{stream_fits}
+use Rattle.uac_device.proofs.SettingStreams.{stream_fits}
 
 -- ---- the stream that is asked for
 
@@ -57,7 +57,7 @@ pub begun_fits : (device : DeviceFields) (begun : Option Stream) (interface sett
 begun_fits device None interface setting sound is asked = tt
 begun_fits device (Some s) interface setting sound is asked =
     let fits = asked_fits device.function sound device.controls interface setting (stream_fields s) (sym asked) in
-    let port = port_of device.function.entities fits.carrier in
+    let port = port_of device.function.entities fits.streaming_interface in
     let there : find (λ p. p.interface == interface) (ports device.lanes) ≡ Some port =
     ap (find (λ (p : Port). p.interface == interface)) is.ports
     ∙ find_port device.function.entities interface device.function.streams
@@ -110,13 +110,13 @@ module _ (device : DeviceFields) (controls : List (Key × ℤ)) (settings : List
 
   -- no setting was set
   stands_else : (sets_interface p && tells_done told) ≡ false → (w : DeviceWorld) → Stands device w
-      → Stands (record device { controls = controls; settings = settings }) (controlled p bytes w)
-  unfolding controlled with_held
+      → Stands (record device { controls = controls; settings = settings }) (after_control p bytes w)
+  unfolding after_control with_held
   stands_else test w stands =
       let after = after_request w.function (held_by w.controls w.settings) p bytes in
       let asked : DeviceWorld = record w { controls = after.controls; settings = after.settings } in
       subst (Stands (record device { controls = controls; settings = settings }))
-      (sym (ap (λ (b : Bool). if b then restarted p.index (stream_in_setting w.function w.controls p.index p.value) asked else asked) (tested w stands false test)))
+      (sym (ap (λ (b : Bool). if b then after_restart p.index (stream_in_setting w.function w.controls p.index p.value) asked else asked) (tested w stands false test)))
       (held_stands device.lanes w w.outs w.ins stands.streams stands)
 
   pub control_else : (sets_interface p && tells_done told) ≡ false → IsControlled p bytes told device (record device { controls = controls; settings = settings })
@@ -127,8 +127,8 @@ module _ (device : DeviceFields) (controls : List (Key × ℤ)) (settings : List
       → begun ≡ stream_in_setting device.function device.controls p.index p.value
       → ((outs : ℕ → Option OutStream) (ins : ℕ → Option InStream) → KeepsStreams device.lanes outs ins
       → KeepsStreams lanes (replaced_at p.index (option_and_then out_from begun) outs) (replaced_at p.index (option_and_then in_from begun) ins))
-      → (w : DeviceWorld) → Stands device w → Stands (record device { controls = controls; settings = settings; lanes = lanes }) (controlled p bytes w)
-  unfolding controlled restarted with_held
+      → (w : DeviceWorld) → Stands device w → Stands (record device { controls = controls; settings = settings; lanes = lanes }) (after_control p bytes w)
+  unfolding after_control after_restart with_held
   stands_then lanes begun test asked restarts w stands =
       let after = after_request w.function (held_by w.controls w.settings) p bytes in
       let left : DeviceWorld = record w { controls = after.controls; settings = after.settings } in
@@ -138,7 +138,7 @@ module _ (device : DeviceFields) (controls : List (Key × ℤ)) (settings : List
       ∙ ap (λ (f : FunctionFields). stream_in_setting f device.controls p.index p.value) stands.function
       ∙ ap (λ (cs : List (Key × ℤ)). stream_in_setting w.function cs p.index p.value) stands.controls in
       subst (Stands (record device { controls = controls; settings = settings; lanes = lanes }))
-      (sym (ap (λ (b : Bool). if b then restarted p.index new left else left) (tested w stands true test)))
+      (sym (ap (λ (b : Bool). if b then after_restart p.index new left else left) (tested w stands true test)))
       (held_stands lanes w (replaced_at p.index (option_and_then out_from new) w.outs) (replaced_at p.index (option_and_then in_from new) w.ins)
       (subst (λ (o : Option StreamFields). KeepsStreams lanes (replaced_at p.index (option_and_then out_from o) w.outs) (replaced_at p.index (option_and_then in_from o) w.ins)) same
       (restarts w.outs w.ins stands.streams))

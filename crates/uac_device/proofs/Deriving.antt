@@ -6,15 +6,15 @@ use Rattle.std.specs.Option.{option_and_then, option_map_or}
 use Rattle.std.proofs.lemmas.Bool.{and_parts, eqb-true}
 use Rattle.std.proofs.lemmas.List.Elements.{All-map}
 use Rattle.uac_clock.specs.Nominal.{nominal_of}
-use Rattle.uac_entities.specs.Streams.{named}
+use Rattle.uac_entities.specs.EntityStreams.{named}
 use Rattle.uac_entities.specs.declared.entity.Entity.{Entity}
 use Rattle.uac_topology_rules.specs.Links.{is_clock}
 use Rattle.uac_topology.specs.Function.{FunctionFields}
 use Rattle.uac_store.specs.declared.keys.Key.{Key}
 use Rattle.uac_store.specs.Keyed.{key_of, same_key, value_of, with_value}
 use Rattle.uac_alt.specs.declared.settings.InterfaceSetting.{InterfaceSetting}
-use Rattle.uac_alt.specs.Settings.{with_setting}
-use Rattle.uac_graph.specs.Controls.{held_in}
+use Rattle.uac_alt.specs.AltSettings.{with_setting}
+use Rattle.uac_graph.specs.GraphControls.{held_in}
 use Rattle.uac_graph.specs.Jobs.{AreSameBut}
 use Rattle.uac_request.specs.Requests.{Held, Owner, after_request, controls_set, first_broken, held_by, high, key_named, left_by, owner_of, sent_value, sets_cur, sets_interface}
 use Rattle.uac_request.proofs.Staying.{SameClocks, id_of_named, same_rate}

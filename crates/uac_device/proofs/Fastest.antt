@@ -8,8 +8,8 @@ use Rattle.uac_clock.specs.Nominal.{IsNominal, is_listed, nominal_of, step_of, t
 use Rattle.uac_clock.specs.declared.values.Nominal.{Nominal}
 use Rattle.uac_clock.proofs.Listed.{each_listed, nominal_of-listed, nominal_of-unlisted}
 use Rattle.uac_device.specs.declared.clocks.Clock.{Clock}
-use Rattle.uac_device.specs.Kept.{IsInRange}
-use Rattle.uac_device.specs.Turns.{first_ticks, step_by}
+use Rattle.uac_device.specs.DeviceKept.{IsInRange}
+use Rattle.uac_device.specs.DeviceTurns.{first_ticks, step_by}
 
 twelve_are_slow : AllByRecursion (λ r. (values_of r).f ≤ 1572864) twelve_rates
 unfolding values_of
@@ -26,7 +26,7 @@ nominal_most values rate = from (is_listed rate.0) refl
     from false other = absurd (let e : None ≡ Some values = sym (nominal_of-unlisted rate.0 other) ∙ rate.1 in cc)
 
 -- nor a tenth more
-step_most : (values : Nominal) (millionths : ℤ) → values.f ≤ 1572864 → IsInRange millionths → step_of values millionths ≤ 1730150
+step_most : (values : Nominal) (ppm : ℤ) → values.f ≤ 1572864 → IsInRange ppm → step_of values ppm ≤ 1730150
 step_most values (pos m) slow range =
     let small : m ≤ 100000 = omega (arith, ints) in
     let product : values.f * m ≤ 1572864 * 100000 = mul-le values.f m 1572864 100000 slow small in

@@ -18,9 +18,9 @@ use Rattle.uac_topology_rules.specs.Rules.{is_output}
 use Rattle.uac_topology_rules.proofs.Found.{position_is, position_none}
 use Rattle.uac_graph.specs.Meaning.{entity}
 use Rattle.uac_graph.specs.Wiring.{silence}
-use Rattle.uac_flow.specs.Streams.{OutStream, next_taken}
+use Rattle.uac_flow.specs.FlowStreams.{OutStream, next_taken}
 use Rattle.uac_lanes.specs.declared.lane.Port.{Port}
-use Rattle.uac_device.specs.DeviceWorld.{DeviceWorld, entity_in, input_of, is_jack, is_streamed, stream_to, streamed}
+use Rattle.uac_device.specs.DeviceWorld.{DeviceWorld, entity_in, input_of, is_jack, is_streamed, stream_to, streamed_frame}
 use Rattle.uac_device.specs.Linked.{AreLinked}
 use Rattle.uac_lanes.specs.Lanes.{frame_given, given_by, gives_to, port_of}
 
@@ -114,8 +114,8 @@ given_nothing w domain id before linked other =
 given_frame : (w : DeviceWorld) (domain id k : ℕ) (before : Option (List ℤ)) → AreLinked w.function
     → ((s : StreamInterface) → s.out ≡ false → is_output (entity w.function.entities s.terminal).kind ≡ true → s.terminal ≡ id → ⊥)
     → 1 ≤ (entity_in w id).cluster.channels → is_streamed domain (entity_in w id) ≡ true → position (λ s. s.terminal == id) w.function.streams ≡ Some k
-    → given_by domain id w.outs (map (port_of w.function.entities) w.function.streams) before ≡ Some (streamed w id)
-unfolding streamed
+    → given_by domain id w.outs (map (port_of w.function.entities) w.function.streams) before ≡ Some (streamed_frame w id)
+unfolding streamed_frame
 given_frame w domain id k before linked never some bus found =
     given_once (gives_to domain id) (λ p. frame_given (w.outs p.interface) p) ps before k (port_of entities e) (omega (arith, at.0, sized)) here others
     ∙ ap (λ (p : Port). Some (frame_given (w.outs p.interface) p)) (port_at entities streams k (port_of entities e) e at.0)
@@ -187,7 +187,7 @@ pub given_input : (w : DeviceWorld) (domain id : ℕ) (before : Option (List ℤ
     → is_input (entity_in w id).kind ≡ true → 1 ≤ (entity_in w id).cluster.channels → before ≡ Some (w.given id)
     → (is_jack (entity_in w id) ≡ false → find (λ s. s.terminal == id) w.function.streams ≡ None → w.given id ≡ silence (entity_in w id).cluster.channels)
     → given_by domain id w.outs (map (port_of w.function.entities) w.function.streams) before ≡ Some (input_of domain w id)
-unfolding input_of streamed
+unfolding input_of streamed_frame
 given_input w domain id before linked input some held unlinked = by_streamed (is_streamed domain (entity_in w id)) refl
   where
     streams : List StreamInterface
@@ -196,11 +196,11 @@ given_input w domain id before linked input some held unlinked = by_streamed (is
     given : Option (List ℤ)
     given = given_by domain id w.outs (map (port_of w.function.entities) w.function.streams) before
 
-    nothing_streamed : find (λ s. s.terminal == id) streams ≡ None → streamed w id ≡ silence (entity_in w id).cluster.channels
+    nothing_streamed : find (λ s. s.terminal == id) streams ≡ None → streamed_frame w id ≡ silence (entity_in w id).cluster.channels
     nothing_streamed none =
         ap (λ (o : Option StreamInterface). unwrap_or (option_and_then next_taken (option_and_then (λ (s : StreamInterface). w.outs s.number) o)) (silence (entity_in w id).cluster.channels)) none
 
-    by_place : is_streamed domain (entity_in w id) ≡ true → (o : Option ℕ) → position (λ s. s.terminal == id) streams ≡ o → given ≡ Some (streamed w id)
+    by_place : is_streamed domain (entity_in w id) ≡ true → (o : Option ℕ) → position (λ s. s.terminal == id) streams ≡ o → given ≡ Some (streamed_frame w id)
     by_place bus (Some k) found =
         given_frame w domain id k before linked
         (λ s other output at. apart (entity_in w id).kind input (subst (λ (n : ℕ). is_output (entity w.function.entities n).kind ≡ true) at output)) some bus found
@@ -234,6 +234,6 @@ given_input w domain id before linked input some held unlinked = by_streamed (is
         not_jack true e = absurd (cc)
         not_jack false e = refl
 
-    by_streamed : (b : Bool) → is_streamed domain (entity_in w id) ≡ b → given ≡ Some (if b then streamed w id else w.given id)
+    by_streamed : (b : Bool) → is_streamed domain (entity_in w id) ≡ b → given ≡ Some (if b then streamed_frame w id else w.given id)
     by_streamed true bus = by_place bus (position (λ s. s.terminal == id) streams) refl
     by_streamed false other = given_nothing w domain id before linked other ∙ held

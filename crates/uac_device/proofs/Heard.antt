@@ -11,7 +11,7 @@ use Rattle.uac_graph.specs.Wiring.{Frames, frame_on}
 use Rattle.uac_units.specs.Hearing.{Reading, after_hearing}
 use Rattle.uac_device.specs.declared.hearing.OutputJack.{OutputJack}
 use Rattle.uac_device.specs.DeviceWorld.{after_frames, is_jack, is_output_jack}
-use Rattle.uac_device.specs.Turns.{frames_heard, heard_on, jack_of, jacks_of}
+use Rattle.uac_device.specs.DeviceTurns.{frames_heard, heard_on, jack_of, jacks_of}
 
 -- one jack more
 frames_more : (wires : Frames) (domain : ℕ) (jacks : List OutputJack) (i : ℕ) (d : OutputJack) → i < length jacks

@@ -1,12 +1,12 @@
 pub mod GivenFrames
 pub mod LinkedLemmas
-pub mod StreamsLemmas
+pub mod SettingStreams
 pub mod Heard
-pub mod Kept
+pub mod DeviceKeptLemmas
 pub mod Fastest
 pub mod Played
 pub mod Streaming
-pub mod TickLemmas
+pub mod TickInputs
 pub mod Stillness
 pub mod Asked
 pub mod Controlled

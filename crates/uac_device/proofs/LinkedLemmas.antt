@@ -12,15 +12,15 @@ use Rattle.uac_descriptor.specs.Standard.{USB_STREAMING}
 use Rattle.uac_descriptor.specs.declared.block.Block as block
 use Rattle.uac_walk.proofs.Walks.{none_at}
 use Rattle.uac_entities.specs.Entities.{entities_of}
-use Rattle.uac_entities.specs.Settings.{alternates_of}
-use Rattle.uac_entities.specs.Streams.{links_of, named, stream_at, stream_of, streams_of}
+use Rattle.uac_entities.specs.EntitySettings.{alternates_of}
+use Rattle.uac_entities.specs.EntityStreams.{links_of, named, stream_at, stream_of, streams_of}
 use Rattle.uac_entities.specs.declared.alternate.Alternate.{Alternate}
 use Rattle.uac_entities.specs.declared.entity.Entity.{Entity}
 use Rattle.uac_entities.specs.declared.entity.EntityKind.{EntityKind}
 use Rattle.uac_entities.specs.declared.entity.EntityKind.TheVariants as kind
 use Rattle.uac_entities.specs.declared.stream.StreamInterface.{StreamInterface}
 use Rattle.uac_topology_rules.specs.Clusters.{cluster_of, clustered, is_input}
-use Rattle.uac_topology_rules.specs.Faults.{broken, broken_names}
+use Rattle.uac_topology_rules.specs.RuleFaults.{broken, broken_names}
 use Rattle.uac_topology_rules.specs.Links.{is_terminal}
 use Rattle.uac_topology_rules.specs.Rules.{breaks_u1, is_output, is_usb, is_usb_terminal}
 use Rattle.uac_topology_rules.specs.Table.{at, nothing, place_of, with_cluster}
@@ -30,8 +30,8 @@ use Rattle.uac_topology_rules.proofs.Sound.{has_names, or_none}
 use Rattle.uac_topology.specs.Function.{FunctionFields}
 use Rattle.uac_topology.specs.Topology.{first_broken, IsSound, IsSoundFunction, streams_in}
 use Rattle.uac_topology.proofs.Clustered.{clustered-at, length-clustered, same_place}
-use Rattle.uac_topology.proofs.LinkLemmas.{right_at, usb_there}
-use Rattle.uac_topology.proofs.RangeLemmas.{All-filter_map, not_false}
+use Rattle.uac_topology.proofs.SettingLinks.{right_at, usb_there}
+use Rattle.uac_topology.proofs.Ranges.{All-filter_map, not_false}
 use Rattle.uac_topology.proofs.SoundRules.{links_within}
 use Rattle.uac_graph.specs.Meaning.{entity}
 use Rattle.uac_device.specs.DeviceWorld.{is_jack}

@@ -14,9 +14,9 @@ use Rattle.uac_topology_rules.proofs.Found.{position_is, position-below}
 use Rattle.uac_topology_rules.proofs.KnownSteps.{map_same}
 use Rattle.uac_topology_rules.proofs.TableSteps.{at_read}
 use Rattle.uac_topology.specs.Function.{FunctionFields}
-use Rattle.uac_store.specs.Controls.{initial_controls}
+use Rattle.uac_store.specs.StoreControls.{initial_controls}
 use Rattle.uac_store.specs.declared.keys.Key.{Key}
-use Rattle.uac_graph.specs.Controls.{Controls, held_in}
+use Rattle.uac_graph.specs.GraphControls.{Controls, held_in}
 use Rattle.uac_graph.specs.Fitness.{IsSignalGraph}
 use Rattle.uac_graph.specs.Meaning.{entity, frame_of, meaning, samples, samples_by}
 use Rattle.uac_graph.specs.Needs.{depended, is_end, needed}
@@ -25,16 +25,16 @@ use Rattle.uac_graph.proofs.Equation.{samples_by-same}
 use Rattle.uac_graph.proofs.Links.{entity_past, place_or_none}
 use Rattle.uac_graph.proofs.Ticking.{input_signal, output_signal}
 use Rattle.uac_graph.proofs.Walking.{given_kept, signal_channels}
-use Rattle.uac_alt.specs.Settings.{initial_settings}
+use Rattle.uac_alt.specs.AltSettings.{initial_settings}
 use Rattle.uac_alt.specs.declared.settings.InterfaceSetting.{InterfaceSetting}
 use Rattle.uac_device.specs.declared.clocks.Clock.{Clock}
 use Rattle.uac_entities.specs.declared.stream.StreamInterface.{StreamInterface}
-use Rattle.uac_flow.specs.Streams.{next_taken}
+use Rattle.uac_flow.specs.FlowStreams.{next_taken}
 use Rattle.uac_lanes.specs.declared.lane.Lane.{Lane}
 use Rattle.uac_lanes.specs.Lanes.{KeepsLane, KeepsStreams, idle_lane, port_of}
-use Rattle.uac_device.specs.DeviceWorld.{DeviceWorld, at_rest, entity_in, fresh, heard_of, input_of, is_input_jack, is_jack, is_output_jack, is_streamed, played_at, renders_of, set_jack, stream_to, streamed, ticked}
-use Rattle.uac_device.specs.Kept.{DeviceFields, IsDevice, Stands, kept}
-use Rattle.uac_device.specs.Turns.{frames_heard, jacks_of, resting_clock}
+use Rattle.uac_device.specs.DeviceWorld.{DeviceWorld, at_rest, entity_in, fresh, heard_of, input_of, is_input_jack, is_jack, is_output_jack, is_streamed, played_at, renders_of, set_jack, stream_to, streamed_frame, after_tick}
+use Rattle.uac_device.specs.DeviceKept.{DeviceFields, IsDevice, Stands, kept}
+use Rattle.uac_device.specs.DeviceTurns.{frames_heard, jacks_of, resting_clock}
 use Rattle.uac_device.proofs.Heard.{heard_told}
 use Rattle.uac_device.proofs.GivenFrames.{apart}
 
@@ -144,7 +144,7 @@ jack_stands device wires terminal frame w jack set stands = record {
 -- a terminal of the bus to which no interface links gives silence again
 unlinked_gives : (w : DeviceWorld) (domain id : ℕ) → find (λ s. s.terminal == id) w.function.streams ≡ None
     → w.given id ≡ silence (entity_in w id).cluster.channels → input_of domain w id ≡ silence (entity_in w id).cluster.channels
-unfolding input_of streamed
+unfolding input_of streamed_frame
 unlinked_gives w domain id nowhere silent = by (is_streamed domain (entity_in w id))
   where
     nothing : unwrap_or (option_and_then next_taken (stream_to w id)) (silence (entity_in w id).cluster.channels) ≡ silence (entity_in w id).cluster.channels
@@ -235,8 +235,8 @@ module _ (device : DeviceFields) (mid wires : Frames) (domain : ℕ) (w : Device
   pub inputs_after : (id : ℕ) → is_input (entity_in w id).kind ≡ true → frame_on wires id ≡ Some (input_of domain w id)
   inputs_after = (given_kept w.function.entities (held_in w.controls) (input_of domain w) (depended w.function.entities domain) mid wires sound_here are_given rendered_here).inputs
 
-  pub outputs_after : (id : ℕ) → is_output (entity_in w id).kind ≡ true → frame_on wires id ≡ Some ((ticked domain w).played id)
-  unfolding ticked entities controls
+  pub outputs_after : (id : ℕ) → is_output (entity_in w id).kind ≡ true → frame_on wires id ≡ Some ((after_tick domain w).played id)
+  unfolding after_tick entities controls
   outputs_after id output =
       rendered_here.wires id
       ∙ ap (λ (b : Bool). if b then Some (meaning entities controls (input_of domain w) id) else frame_on mid id) (ends_here id output)
@@ -247,9 +247,9 @@ module _ (device : DeviceFields) (mid wires : Frames) (domain : ℕ) (w : Device
       either true now old before e = refl
       either false now old before e = e
 
-  pub tick_stands : (lanes : List Lane) → KeepsStreams lanes (ticked domain w).outs (ticked domain w).ins → Stands device w
-      → Stands (record device { wires = wires; lanes = lanes }) (ticked domain w)
-  unfolding ticked
+  pub tick_stands : (lanes : List Lane) → KeepsStreams lanes (after_tick domain w).outs (after_tick domain w).ins → Stands device w
+      → Stands (record device { wires = wires; lanes = lanes }) (after_tick domain w)
+  unfolding after_tick
   tick_stands lanes keeps stands = record {
     function = stands.function;
     controls = stands.controls;

@@ -7,24 +7,24 @@ use Rattle.std.proofs.lemmas.Bool.{and_parts, cases_Bool, eqb-true, true≢false
 use Rattle.uac_entities.specs.declared.stream.StreamInterface.{StreamInterface}
 use Rattle.uac_topology_rules.specs.Clusters.{is_input}
 use Rattle.uac_graph.specs.Wiring.{Frames, silence}
-use Rattle.uac_flow.specs.Streams.{OutStream, InStream, after_putting, after_taking, is_dry, is_full, next_taken}
+use Rattle.uac_flow.specs.FlowStreams.{OutStream, InStream, after_putting, after_taking, is_dry, is_full, next_taken}
 use Rattle.uac_lanes.specs.declared.ticking.Ticked.{Ticked}
 use Rattle.uac_lanes.specs.InterfaceStreams.{NoneRuns, bits_of, changed_where}
-use Rattle.uac_device.specs.DeviceWorld.{DeviceWorld, entity_in, input_of, is_input_jack, is_jack, is_on, is_streamed, met_of, played_to, set_jack, streamed, ticked}
-use Rattle.uac_device.specs.Kept.{DeviceFields, IsDevice, Stands}
-use Rattle.uac_topology.specs.Kept.{AreNumbered, HaveChannels}
+use Rattle.uac_device.specs.DeviceWorld.{DeviceWorld, entity_in, input_of, is_input_jack, is_jack, is_on, is_streamed, met_of, played_to, set_jack, streamed_frame, after_tick}
+use Rattle.uac_device.specs.DeviceKept.{DeviceFields, IsDevice, Stands}
+use Rattle.uac_topology.specs.FunctionKept.{AreNumbered, HaveChannels}
 use Rattle.uac_lanes.specs.Lanes.{ports}
 use Rattle.uac_lanes.specs.declared.lane.Lane.{Lane}
 use Rattle.uac_device.specs.Linked.{AreLinked}
 use Rattle.uac_device.specs.Stillness.{HasBegun, HasEnded, IsStill}
 use Rattle.uac_device.proofs.Played.{Rendered, tick_stands}
 use Rattle.uac_device.proofs.Streaming.{same_streams}
-use Rattle.uac_device.proofs.TickLemmas.{met_here, ticked_stands}
+use Rattle.uac_device.proofs.TickInputs.{met_here, ticked_stands}
 
 -- ---- where no interface runs a stream
 
-streamed_silent : (w : DeviceWorld) (id : ℕ) → NoneRuns w.outs w.ins → streamed w id ≡ silence (entity_in w id).cluster.channels
-unfolding streamed
+streamed_silent : (w : DeviceWorld) (id : ℕ) → NoneRuns w.outs w.ins → streamed_frame w id ≡ silence (entity_in w id).cluster.channels
+unfolding streamed_frame
 streamed_silent w id none = by (find (λ s. s.terminal == id) w.function.streams)
   where
     rest : List ℤ
@@ -60,14 +60,14 @@ nothing_met domain w none =
 -- ---- between two ticks
 
 -- after a tick it is still
-pub still_after : (domain : ℕ) (w : DeviceWorld) → NoneRuns w.outs w.ins → IsStill domain (ticked domain w)
-unfolding ticked input_of
+pub still_after : (domain : ℕ) (w : DeviceWorld) → NoneRuns w.outs w.ins → IsStill domain (after_tick domain w)
+unfolding after_tick input_of
 still_after domain w none = record {
   none = λ k. (
     none_where (is_on w domain) (λ interface. after_taking) w.outs k (none k).0,
-    none_where (is_on w domain) (λ interface. after_putting (played_to w (ticked domain w).played interface)) w.ins k (none k).1,
+    none_where (is_on w domain) (λ interface. after_putting (played_to w (after_tick domain w).played interface)) w.ins k (none k).1,
   );
-  gave = λ id bus. ap (λ (b : Bool). if b then streamed w id else w.given id) bus ∙ streamed_silent w id none;
+  gave = λ id bus. ap (λ (b : Bool). if b then streamed_frame w id else w.given id) bus ∙ streamed_silent w id none;
 }
 
 -- and so it is after a jack was given a frame
@@ -95,14 +95,14 @@ unfolding input_of
 given_stays domain w id still =
     elim (cases_Bool (is_streamed domain (entity_in w id))) [
       | inl bus ↦
-          ap (λ (b : Bool). if b then streamed w id else w.given id) bus ∙ streamed_silent w id still.none ∙ sym (still.gave id bus)
-      | inr other ↦ ap (λ (b : Bool). if b then streamed w id else w.given id) other
+          ap (λ (b : Bool). if b then streamed_frame w id else w.given id) bus ∙ streamed_silent w id still.none ∙ sym (still.gave id bus)
+      | inr other ↦ ap (λ (b : Bool). if b then streamed_frame w id else w.given id) other
     ]
 
 -- where the graph alone is rendered the device stands for the world in which the domain ticked
 pub still_stands : (device : DeviceFields) (wires : Frames) (domain : ℕ) (w : DeviceWorld) → Rendered device device.wires wires domain → IsStill domain w → Stands device w
-    → Stands (record device { wires = wires }) (ticked domain w)
-unfolding ticked
+    → Stands (record device { wires = wires }) (after_tick domain w)
+unfolding after_tick
 still_stands device wires domain w rendered still stands =
     tick_stands device device.wires wires domain w rendered
     (record {
@@ -110,9 +110,9 @@ still_stands device wires domain w rendered still stands =
       outputs = stands.outputs;
     })
     stands.function stands.controls device.lanes
-    (same_streams device.lanes w.outs (ticked domain w).outs w.ins (ticked domain w).ins stands.streams
+    (same_streams device.lanes w.outs (after_tick domain w).outs w.ins (after_tick domain w).ins stands.streams
     (λ k. none_where (is_on w domain) (λ interface. after_taking) w.outs k (still.none k).0 ∙ sym (still.none k).0)
-    (λ k. none_where (is_on w domain) (λ interface. after_putting (played_to w (ticked domain w).played interface)) w.ins k (still.none k).1 ∙ sym (still.none k).1))
+    (λ k. none_where (is_on w domain) (λ interface. after_putting (played_to w (after_tick domain w).played interface)) w.ins k (still.none k).1 ∙ sym (still.none k).1))
     stands
 
 -- ---- a tick, of a device that may be still
@@ -125,13 +125,13 @@ module _ (still : Bool) (device : DeviceFields) (mid wires : Frames) (between la
   pub ticked_or_still : AreNumbered device.function → AreLinked device.function → HaveChannels device.function.entities → IsDevice device
       → Rendered device mid wires domain → ports between ≡ ports device.lanes → (still ≡ false → HasBegun domain device.lanes between device.wires mid found) → Rests
       → (still ≡ false → HasEnded domain between lanes wires) → (still ≡ true → lanes ≡ between) → (still ≡ true → IsStill domain w) → Stands device w
-      → Stands (record device { wires = wires; lanes = lanes }) (ticked domain w)
+      → Stands (record device { wires = wires; lanes = lanes }) (after_tick domain w)
   ticked_or_still numbered linked have is rendered same begun rests ended left quiet stands =
       elim (cases_Bool still) [
         | inl rested ↦
             (let kept = rests rested in
             let own : Rendered device device.wires wires domain = subst (λ (frames : Frames). Rendered device frames wires domain) kept.1 rendered in
-            subst (λ (ls : List Lane). Stands (record device { wires = wires; lanes = ls }) (ticked domain w)) (sym (left rested ∙ kept.0))
+            subst (λ (ls : List Lane). Stands (record device { wires = wires; lanes = ls }) (after_tick domain w)) (sym (left rested ∙ kept.0))
             (still_stands device wires domain w own (quiet rested) stands))
         | inr moves ↦
             ticked_stands device mid wires between lanes domain w numbered linked have is

@@ -9,17 +9,17 @@ use Rattle.uac_entities.specs.declared.entity.Entity.{Entity}
 use Rattle.uac_entities.specs.declared.stream.StreamInterface.{StreamInterface}
 use Rattle.uac_topology_rules.specs.Rules.{is_output}
 use Rattle.uac_topology.specs.Function.{FunctionFields, interface_in}
-use Rattle.uac_topology.specs.Kept.{AreNumbered}
+use Rattle.uac_topology.specs.FunctionKept.{AreNumbered}
 use Rattle.uac_graph.specs.Meaning.{entity}
 use Rattle.uac_graph.specs.Wiring.{AreWiresOf, Frames, frame_on}
 use Rattle.uac_graph.proofs.Ticking.{input_signal, output_signal}
 use Rattle.uac_graph.proofs.Walking.{signal_channels}
-use Rattle.uac_flow.specs.Streams.{InStream, OutStream, after_packet, after_sending, settled_in, settled_out}
+use Rattle.uac_flow.specs.FlowStreams.{InStream, OutStream, after_packet, after_sending, settled_in, settled_out}
 use Rattle.uac_lanes.specs.declared.lane.Lane.{Lane}
 use Rattle.uac_lanes.specs.declared.lane.Port.{Port}
 use Rattle.uac_lanes.specs.InterfaceStreams.{NoneRuns, changed_at, runs_either}
-use Rattle.uac_device.specs.DeviceWorld.{DeviceWorld, is_on, played_to, received, sent, settled}
-use Rattle.uac_device.specs.Kept.{DeviceFields, IsDevice, Stands}
+use Rattle.uac_device.specs.DeviceWorld.{DeviceWorld, is_on, played_to, after_receiving, after_sending_packet, after_settling}
+use Rattle.uac_device.specs.DeviceKept.{DeviceFields, IsDevice, Stands}
 use Rattle.uac_device.specs.Linked.{AreLinked}
 use Rattle.uac_lanes.specs.Lanes.{KeepsLane, KeepsStreams, WiredIn, WiredOut, idle_lane, port_of, ports}
 use Rattle.uac_device.proofs.GivenFrames.{find_own}
@@ -60,31 +60,31 @@ none_changed interface k change streams none =
     elim (cases_Bool (k == interface)) [ inl same ↦ rw same (ap (option_map change) none) | inr other ↦ rw other none ]
 
 -- where no interface runs a stream none does when a microframe ended, and the device stands as it is for the world in which it did
-pub none_settled : (w : DeviceWorld) (interface : ℕ) → NoneRuns w.outs w.ins → NoneRuns (settled interface w).outs (settled interface w).ins
-unfolding settled
+pub none_settled : (w : DeviceWorld) (interface : ℕ) → NoneRuns w.outs w.ins → NoneRuns (after_settling interface w).outs (after_settling interface w).ins
+unfolding after_settling
 none_settled w interface none k =
     (none_changed interface k settled_out w.outs (none k).0, none_changed interface k settled_in w.ins (none k).1)
 
-pub quiet_settled : (device : DeviceFields) (w : DeviceWorld) (interface : ℕ) → NoneRuns w.outs w.ins → Stands device w → Stands device (settled interface w)
-unfolding settled
+pub quiet_settled : (device : DeviceFields) (w : DeviceWorld) (interface : ℕ) → NoneRuns w.outs w.ins → Stands device w → Stands device (after_settling interface w)
+unfolding after_settling
 quiet_settled device w interface none stands =
     stands_streams device device.lanes w (changed_at interface settled_out w.outs) (changed_at interface settled_in w.ins) stands
     (same_streams device.lanes w.outs (changed_at interface settled_out w.outs) w.ins (changed_at interface settled_in w.ins) stands.streams
     (λ k. none_changed interface k settled_out w.outs (none k).0 ∙ sym (none k).0) (λ k. none_changed interface k settled_in w.ins (none k).1 ∙ sym (none k).1))
 
 pub received_stands : (device : DeviceFields) (lanes : List Lane) (w : DeviceWorld) (interface : ℕ) (packet : Option (List ℕ)) → Stands device w
-    → KeepsStreams lanes (changed_at interface (after_packet packet) w.outs) w.ins → Stands (record device { lanes = lanes }) (received interface packet w)
-unfolding received
+    → KeepsStreams lanes (changed_at interface (after_packet packet) w.outs) w.ins → Stands (record device { lanes = lanes }) (after_receiving interface packet w)
+unfolding after_receiving
 received_stands device lanes w interface packet stands keeps = stands_streams device lanes w (changed_at interface (after_packet packet) w.outs) w.ins stands keeps
 
 pub sent_stands : (device : DeviceFields) (lanes : List Lane) (w : DeviceWorld) (interface : ℕ) → Stands device w
-    → KeepsStreams lanes w.outs (changed_at interface after_sending w.ins) → Stands (record device { lanes = lanes }) (sent interface w)
-unfolding sent
+    → KeepsStreams lanes w.outs (changed_at interface after_sending w.ins) → Stands (record device { lanes = lanes }) (after_sending_packet interface w)
+unfolding after_sending_packet
 sent_stands device lanes w interface stands keeps = stands_streams device lanes w w.outs (changed_at interface after_sending w.ins) stands keeps
 
 pub settled_stands : (device : DeviceFields) (lanes : List Lane) (w : DeviceWorld) (interface : ℕ) → Stands device w
-    → KeepsStreams lanes (changed_at interface settled_out w.outs) (changed_at interface settled_in w.ins) → Stands (record device { lanes = lanes }) (settled interface w)
-unfolding settled
+    → KeepsStreams lanes (changed_at interface settled_out w.outs) (changed_at interface settled_in w.ins) → Stands (record device { lanes = lanes }) (after_settling interface w)
+unfolding after_settling
 settled_stands device lanes w interface stands keeps =
     stands_streams device lanes w (changed_at interface settled_out w.outs) (changed_at interface settled_in w.ins) stands keeps
 

@@ -10,16 +10,16 @@ use Rattle.uac_topology_rules.specs.Links.{signal_sources}
 use Rattle.uac_topology_rules.specs.Table.{at, place_of}
 use Rattle.uac_topology.specs.Function.{FunctionFields}
 use Rattle.uac_clock.specs.Nominal.{nominal_of, values_of}
-use Rattle.uac_entities.specs.Streams.{named}
+use Rattle.uac_entities.specs.EntityStreams.{named}
 use Rattle.uac_store.specs.Keyed.{value_of}
 use Rattle.uac_store.specs.Rates.{rate_of, rate_step, rate_within, source_rate}
 use Rattle.uac_graph.specs.Meaning.{entity, frame_of, meaning, samples, samples_by}
 use Rattle.std.specs.Int.{int_wrap}
-use Rattle.uac_pcm.specs.Words.{cut, sample_of_word, word_of}
-use Rattle.uac_alt.specs.Streams.{StreamFields}
-use Rattle.uac_flow.specs.Streams.{InStream, OutStream, after_packet, after_putting, after_sending, after_taking, arrival_of, feedback_of, is_due, sent_packet, settled_in, settled_out, started_out}
+use Rattle.uac_pcm.specs.SampleWords.{cut, sample_of_word, word_of}
+use Rattle.uac_alt.specs.AltStreams.{StreamFields}
+use Rattle.uac_flow.specs.FlowStreams.{InStream, OutStream, after_packet, after_putting, after_sending, after_taking, arrival_of, feedback_of, is_due, sent_packet, settled_in, settled_out, started_out}
 use Rattle.uac_lanes.specs.InterfaceStreams.{bits_of}
-use Rattle.uac_device.specs.DeviceWorld.{DeviceWorld, advanced, feedback_in, input_of, is_due_in, level_of, met_of, next_ticks, received, restarted, sent, settled, step_in, streamed, target_of, ticked}
+use Rattle.uac_device.specs.DeviceWorld.{DeviceWorld, after_advance, feedback_in, input_of, is_due_in, level_of, met_of, next_ticks, after_receiving, after_restart, after_sending_packet, after_settling, step_in, streamed_frame, target_of, after_tick}
 use Rattle.uac_flow.specs.declared.arrival.Arrival.TheVariants as arrival
 
 abbrev with : ℕ → EntityKind → ℕ → List ℕ → ℕ → Entity
@@ -92,33 +92,33 @@ targets = (refl, refl, refl)
 -- bus gives what it gave last
 gives : (input_of 1 (world half one_put) 2 ≡ pos 6 ∷ []) × (input_of 1 (world priming one_put) 2 ≡ pos 0 ∷ []) × (input_of 1 (world half one_put) 5 ≡ pos 7 ∷ [])
     × (input_of 9 (world half one_put) 2 ≡ pos 7 ∷ [])
-unfolding input_of streamed world half priming function entities linked entity at place_of
+unfolding input_of streamed_frame world half priming function entities linked entity at place_of
 gives = (refl, refl, refl, refl)
 
 -- a tick of the domain: the jack plays the stream's frame, which the terminal of the bus gave, and the other stream has what its jack gave
-plays : ((ticked 1 (world half one_put)).played 4 ≡ pos 6 ∷ []) × ((ticked 1 (world half one_put)).ins 2 ≡ Some (record one_put { made = (pos 9 ∷ []) ∷ (pos 7 ∷ []) ∷ [] }))
-    × ((ticked 1 (world half one_put)).given 2 ≡ pos 6 ∷ [])
-unfolding ticked input_of streamed world half one_put function entities linked entity at place_of meaning samples samples_by frame_of signal_sources after_putting
+plays : ((after_tick 1 (world half one_put)).played 4 ≡ pos 6 ∷ []) × ((after_tick 1 (world half one_put)).ins 2 ≡ Some (record one_put { made = (pos 9 ∷ []) ∷ (pos 7 ∷ []) ∷ [] }))
+    × ((after_tick 1 (world half one_put)).given 2 ≡ pos 6 ∷ [])
+unfolding after_tick input_of streamed_frame world half one_put function entities linked entity at place_of meaning samples samples_by frame_of signal_sources after_putting
 plays = (refl, refl, refl)
 
 -- then its ring is empty: the next tick finds it so and plays silence, and it primes again
-plays_silence : (ticked 1 (ticked 1 (world half one_put))).played 4 ≡ pos 0 ∷ []
-unfolding ticked input_of streamed world half one_put function entities linked entity at place_of meaning samples samples_by frame_of signal_sources after_taking
+plays_silence : (after_tick 1 (after_tick 1 (world half one_put))).played 4 ≡ pos 0 ∷ []
+unfolding after_tick input_of streamed_frame world half one_put function entities linked entity at place_of meaning samples samples_by frame_of signal_sources after_taking
 plays_silence = refl
 
 -- a terminal whose interface runs no stream gives silence, and meets nothing
 at_rest : (input_of 1 (record (world half one_put) { outs = λ n. None }) 2 ≡ pos 0 ∷ []) × (met_of 1 (record (world half one_put) { outs = λ n. None; ins = λ n. None }) ≡ record { under = 0; over = 0 })
-unfolding input_of streamed met_of bits_of world function entities linked entity at place_of
+unfolding input_of streamed_frame met_of bits_of world function entities linked entity at place_of
 at_rest = (refl, refl)
 
 -- in a microframe of its domain a stream counts the ticks, here six at 48,000 Hz; in another's it doesn't
-counts : ((advanced 1 clocked).outs 1 ≡ Some (record half { ticks = 6 })) × ((advanced 9 clocked).outs 1 ≡ Some half)
-unfolding advanced clocked next_ticks step_in rate_of rate_within rate_step source_rate named value_of nominal_of values_of world half function entities linked entity at place_of
+counts : ((after_advance 1 clocked).outs 1 ≡ Some (record half { ticks = 6 })) × ((after_advance 9 clocked).outs 1 ≡ Some half)
+unfolding after_advance clocked next_ticks step_in rate_of rate_within rate_step source_rate named value_of nominal_of values_of world half function entities linked entity at place_of
 counts = (refl, refl)
 
-runs_dry : (met_of 1 (ticked 1 (world half one_put)) ≡ record { under = 1; over = 0 }) × ((ticked 1 (ticked 1 (world half one_put))).outs 1
+runs_dry : (met_of 1 (after_tick 1 (world half one_put)) ≡ record { under = 1; over = 0 }) × ((after_tick 1 (after_tick 1 (world half one_put))).outs 1
     ≡ Some (record half { arrived = []; taken = 0; target = None }))
-unfolding met_of bits_of ticked world half one_put function entities linked entity at place_of after_taking after_putting
+unfolding met_of bits_of after_tick world half one_put function entities linked entity at place_of after_taking after_putting
 runs_dry = (refl, refl)
 
 -- before that it meets nothing, and a priming stream never does
@@ -127,13 +127,13 @@ unfolding met_of bits_of world half priming one_put function entities linked ent
 met_none = (refl, refl)
 
 -- the second interface's ring is full: nothing is put
-met_full : (met_of 1 (world half full) ≡ record { under = 0; over = 2 }) × ((ticked 1 (world half full)).ins 2 ≡ Some full)
-unfolding met_of bits_of ticked world half full function entities linked entity at place_of after_putting
+met_full : (met_of 1 (world half full) ≡ record { under = 0; over = 2 }) × ((after_tick 1 (world half full)).ins 2 ≡ Some full)
+unfolding met_of bits_of after_tick world half full function entities linked entity at place_of after_putting
 met_full = (refl, refl)
 
 -- a tick of another domain leaves both
-elsewhere : (met_of 9 (world half full) ≡ record { under = 0; over = 0 }) × ((ticked 9 (world half full)).outs 1 ≡ Some half) × ((ticked 9 (world half full)).ins 2 ≡ Some full)
-unfolding met_of bits_of ticked world half full function entities linked entity at place_of
+elsewhere : (met_of 9 (world half full) ≡ record { under = 0; over = 0 }) × ((after_tick 9 (world half full)).outs 1 ≡ Some half) × ((after_tick 9 (world half full)).ins 2 ≡ Some full)
+unfolding met_of bits_of after_tick world half full function entities linked entity at place_of
 elsewhere = (refl, refl, refl)
 
 -- the samples 1 and -2
@@ -192,10 +192,10 @@ unfolding feedback_of half priming mono
 reports = (refl, refl, refl, refl)
 
 -- each of these changes its own interface's stream alone
-by_interface : ((received 1 None (world half one_put)).outs 1 ≡ Some (record half { lost = true })) × ((received 2 None (world half one_put)).outs 1 ≡ Some half)
-    × ((sent 2 (world half one_put)).ins 2 ≡ Some (record one_put { gone = 1 })) × ((settled 2 (world half one_put)).outs 1 ≡ Some half)
-    × ((settled 2 (world half one_put)).ins 2 ≡ Some (record one_put { microframes = 2 }))
-unfolding received sent settled settled_in after_packet after_sending world half one_put mono
+by_interface : ((after_receiving 1 None (world half one_put)).outs 1 ≡ Some (record half { lost = true })) × ((after_receiving 2 None (world half one_put)).outs 1 ≡ Some half)
+    × ((after_sending_packet 2 (world half one_put)).ins 2 ≡ Some (record one_put { gone = 1 })) × ((after_settling 2 (world half one_put)).outs 1 ≡ Some half)
+    × ((after_settling 2 (world half one_put)).ins 2 ≡ Some (record one_put { microframes = 2 }))
+unfolding after_receiving after_sending_packet after_settling settled_in after_packet after_sending world half one_put mono
 by_interface = (refl, refl, refl, refl, refl)
 
 told : (is_due_in (world half one_put) 1 ≡ true) × (is_due_in (world half one_put) 2 ≡ true) × (is_due_in (world half one_put) 3 ≡ false) × (feedback_in (world half one_put) 2 ≡ None)
@@ -203,7 +203,7 @@ unfolding is_due_in feedback_in world half one_put mono
 told = (refl, refl, refl, refl)
 
 -- a stream starts anew with an empty ring, or stops
-anew : ((restarted 1 (Some (mono true)) (world half one_put)).outs 1 ≡ Some (started_out (mono true))) × ((restarted 1 None (world half one_put)).outs 1 ≡ None)
-    × ((restarted 1 None (world half one_put)).ins 2 ≡ Some one_put)
-unfolding restarted world half one_put mono
+anew : ((after_restart 1 (Some (mono true)) (world half one_put)).outs 1 ≡ Some (started_out (mono true))) × ((after_restart 1 None (world half one_put)).outs 1 ≡ None)
+    × ((after_restart 1 None (world half one_put)).ins 2 ≡ Some one_put)
+unfolding after_restart world half one_put mono
 anew = (refl, refl, refl)

@@ -12,21 +12,22 @@ use Rattle.uac_topology_rules.specs.Clusters.{is_input}
 use Rattle.uac_topology_rules.specs.Rules.{is_output}
 use Rattle.uac_topology.specs.Function.{FunctionFields, interface_in}
 use Rattle.uac_store.specs.declared.keys.Key.{Key}
-use Rattle.uac_store.specs.Controls.{initial_controls}
+use Rattle.uac_store.specs.StoreControls.{initial_controls}
 use Rattle.uac_store.specs.Rates.{rate_of}
-use Rattle.uac_graph.specs.Controls.{held_in}
+use Rattle.uac_graph.specs.GraphControls.{held_in}
 use Rattle.uac_graph.specs.Meaning.{entity, meaning}
 use Rattle.uac_graph.specs.Needs.{is_end, needed}
 use Rattle.uac_graph.specs.Wiring.{silence}
 use Rattle.uac_units.specs.Hearing.{Reading, after_hearing}
 use Rattle.uac_alt.specs.declared.settings.InterfaceSetting.{InterfaceSetting}
-use Rattle.uac_alt.specs.Settings.{initial_settings}
-use Rattle.uac_alt.specs.Streams.{StreamFields, stream_of}
+use Rattle.uac_alt.specs.AltSettings.{initial_settings}
+use Rattle.uac_alt.specs.AltStreams.{StreamFields, stream_of}
 use Rattle.uac_request.specs.Requests.{AnswerFields, after_request, held_by, is_done, is_stalled, rate_at, reply_of}
 use Rattle.uac_request.specs.Requests.{with_bytes, with_descriptor}
 use Rattle.uac_request.specs.declared.setup.Setup.{Setup}
-use Rattle.uac_flow.specs.Streams.{InStream, OutStream, after_packet, after_putting, after_sending, after_taking, after_ticks, arrival_of}
-use Rattle.uac_flow.specs.Streams.{feedback_of, is_dry, is_full, next_taken, sent_frames, sent_packet, settled_in, settled_out}
+use Rattle.uac_flow.specs.FlowStreams.{InStream, OutStream, after_packet, after_putting, after_sending, after_taking, after_ticks}
+use Rattle.uac_flow.specs.FlowStreams.{arrival_of}
+use Rattle.uac_flow.specs.FlowStreams.{feedback_of, is_dry, is_full, next_taken, sent_frames, sent_packet, settled_in, settled_out}
 use Rattle.uac_flow.specs.Flows.{ZerosFit}
 use Rattle.uac_flow.specs.declared.arrival.Arrival.{Arrival}
 use Rattle.uac_flow.specs.declared.arrival.Arrival.TheVariants as arrival
@@ -34,7 +35,7 @@ use Rattle.uac_lanes.specs.InterfaceStreams.{bits_of, changed_at, changed_where,
 use Rattle.uac_lanes.specs.InterfaceStreams.{runs_either}
 use Rattle.uac_lanes.specs.declared.ticking.Ticked.{Ticked}
 
--- a clock domain: the clock that its terminals name, what that is off by in millionths, and its steps since the start, one
+-- a clock domain: the clock that its terminals name, what that is off by in ppm, and its steps since the start, one
 -- for each microframe, in 65,536ths of a frame
 pub record Domain : Type 0 where
   pub clock : ℕ
@@ -135,9 +136,9 @@ step_in w d =
 abbrev pub with_domain : ℕ → (Domain → Domain) → DeviceWorld → DeviceWorld
 with_domain clock change w = record w { domains = map (λ d. if d.clock == clock then change d else d) w.domains }
 
--- a domain's clock is off by so many millionths from now on
-unfoldable pub deviated : ℕ → ℤ → DeviceWorld → DeviceWorld
-deviated clock millionths w = with_domain clock (λ d. record d { deviation = millionths }) w
+-- a domain's clock is off by so many ppm from now on
+unfoldable pub after_deviation : ℕ → ℤ → DeviceWorld → DeviceWorld
+after_deviation clock ppm w = with_domain clock (λ d. record d { deviation = ppm }) w
 
 -- the steps of a domain with that of the microframe that comes
 abbrev pub steps_with_next : DeviceWorld → Domain → List ℕ
@@ -148,8 +149,8 @@ unfoldable pub next_ticks : ℕ → DeviceWorld → ℕ
 next_ticks clock w = option_map_or (λ d. ticks_in (steps_with_next w d)) (find (λ d. d.clock == clock) w.domains) 0
 
 -- a domain's clock goes on by one microframe; the streams to its terminals count its ticks
-unfoldable pub advanced : ℕ → DeviceWorld → DeviceWorld
-advanced clock w =
+unfoldable pub after_advance : ℕ → DeviceWorld → DeviceWorld
+after_advance clock w =
     record (with_domain clock (λ d. record d { steps = steps_with_next w d }) w) {
       outs = changed_where (is_on w clock) (λ interface. after_ticks (next_ticks clock w)) w.outs;
     }
@@ -161,13 +162,13 @@ unfoldable pub set_jack : ℕ → List ℤ → DeviceWorld → DeviceWorld
 set_jack terminal frame w = record w { given = λ id. if id == terminal then frame else w.given id }
 
 -- what a terminal of the bus gives: its stream's next frame, or silence where it has none
-unfoldable pub streamed : DeviceWorld → ℕ → List ℤ
-streamed w id = unwrap_or (option_and_then next_taken (stream_to w id)) (silence (entity_in w id).cluster.channels)
+unfoldable pub streamed_frame : DeviceWorld → ℕ → List ℤ
+streamed_frame w id = unwrap_or (option_and_then next_taken (stream_to w id)) (silence (entity_in w id).cluster.channels)
 
 -- what an input terminal gives at a tick of a domain: a terminal of the bus in that domain what its stream gives, and any other what it
 -- gave last, or was given since
 unfoldable pub input_of : ℕ → DeviceWorld → ℕ → List ℤ
-input_of clock w id = if is_streamed clock (entity_in w id) then streamed w id else w.given id
+input_of clock w id = if is_streamed clock (entity_in w id) then streamed_frame w id else w.given id
 
 -- the frame that the terminal to which an interface links last played
 abbrev pub played_to : DeviceWorld → (ℕ → List ℤ) → ℕ → List ℤ
@@ -175,8 +176,8 @@ played_to w played interface = option_map_or (λ s. played s.terminal) (interfac
 
 -- one tick of a domain: each of its output terminals plays the samples of its wire, under the controls held now; the streams to
 -- its terminals gave their frames, and those from its terminals have what these played
-unfoldable pub ticked : ℕ → DeviceWorld → DeviceWorld
-ticked clock w =
+unfoldable pub after_tick : ℕ → DeviceWorld → DeviceWorld
+after_tick clock w =
     let played : ℕ → List ℤ =
     λ id. if is_end clock (entity_in w id) then meaning w.function.entities (held_in w.controls) (input_of clock w) id
     else w.played id in
@@ -213,16 +214,16 @@ abbrev pub at_in : ℕ → (InStream → InStream) → DeviceWorld → DeviceWor
 at_in interface change w = record w { ins = changed_at interface change w.ins }
 
 -- a packet comes to the device, or is lost
-unfoldable pub received : ℕ → Option (List ℕ) → DeviceWorld → DeviceWorld
-received interface packet w = at_out interface (after_packet packet) w
+unfoldable pub after_receiving : ℕ → Option (List ℕ) → DeviceWorld → DeviceWorld
+after_receiving interface packet w = at_out interface (after_packet packet) w
 
 -- what becomes of that packet; where the interface runs no stream to the device, nothing takes it
 unfoldable pub arrival_in : DeviceWorld → ℕ → Option (List ℕ) → Arrival
 arrival_in w interface packet = option_map_or (arrival_of packet) (w.outs interface) arrival.Lost
 
 -- the device sends a packet
-unfoldable pub sent : ℕ → DeviceWorld → DeviceWorld
-sent interface w = at_in interface after_sending w
+unfoldable pub after_sending_packet : ℕ → DeviceWorld → DeviceWorld
+after_sending_packet interface w = at_in interface after_sending w
 
 -- that packet, and the number of its frames; where the interface runs no stream from the device, it is empty
 unfoldable pub packet_in : DeviceWorld → ℕ → List ℕ
@@ -232,8 +233,8 @@ unfoldable pub frames_in : DeviceWorld → ℕ → ℕ
 frames_in w interface = option_map_or sent_frames (w.ins interface) 0
 
 -- a microframe ends for an interface's stream
-unfoldable pub settled : ℕ → DeviceWorld → DeviceWorld
-settled interface w = at_in interface settled_in (at_out interface settled_out w)
+unfoldable pub after_settling : ℕ → DeviceWorld → DeviceWorld
+after_settling interface w = at_in interface settled_in (at_out interface settled_out w)
 
 -- an interface runs a stream that has a packet in the next microframe
 unfoldable pub is_due_in : DeviceWorld → ℕ → Bool
@@ -270,19 +271,19 @@ stream_in_setting function controls interface setting =
     (interface_in function interface)
 
 -- an interface's stream starts anew, or stops where none is given
-unfoldable pub restarted : ℕ → Option StreamFields → DeviceWorld → DeviceWorld
-restarted interface begun w =
+unfoldable pub after_restart : ℕ → Option StreamFields → DeviceWorld → DeviceWorld
+after_restart interface begun w =
     record w {
       outs = replaced_at interface (option_and_then out_from begun) w.outs;
       ins = replaced_at interface (option_and_then in_from begun) w.ins;
     }
 
 -- a control request: it changes what its answer says, and a setting that it sets starts the interface's stream anew, or stops it
-unfoldable pub controlled : Setup → List ℕ → DeviceWorld → DeviceWorld
-controlled p bytes w =
+unfoldable pub after_control : Setup → List ℕ → DeviceWorld → DeviceWorld
+after_control p bytes w =
     let held = held_by w.controls w.settings in
     let after = after_request w.function held p bytes in
     let asked = record w { controls = after.controls; settings = after.settings } in
     if sets_interface p && tells_done (reply_of w.function held p bytes)
-    then restarted p.index (stream_in_setting w.function w.controls p.index p.value) asked
+    then after_restart p.index (stream_in_setting w.function w.controls p.index p.value) asked
     else asked

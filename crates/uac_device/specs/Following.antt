@@ -9,13 +9,13 @@ use Rattle.uac_entities.specs.declared.entity.Entity.{Entity}
 use Rattle.uac_topology.specs.Function.{FunctionFields}
 use Rattle.uac_store.specs.declared.keys.Key.{Key}
 use Rattle.uac_store.specs.Rates.{rate_of}
-use Rattle.uac_graph.specs.Controls.{held_in}
+use Rattle.uac_graph.specs.GraphControls.{held_in}
 use Rattle.uac_graph.specs.Jobs.{AreJobs, AreSameBut}
 use Rattle.uac_request.specs.Requests.{high, sets_cur}
 use Rattle.uac_request.specs.declared.setup.Setup.{Setup}
 use Rattle.uac_device.specs.declared.derived.Derived.{Derived}
 use Rattle.uac_device.specs.declared.derived.Pace.{Pace}
-use Rattle.uac_device.specs.Turns.{jacks_of}
+use Rattle.uac_device.specs.DeviceTurns.{jacks_of}
 
 -- the nominal values of the rate that a domain's clock has, if it has one
 abbrev pub nominal_at : List Entity → List (Key × ℤ) → ℕ → Option Nominal

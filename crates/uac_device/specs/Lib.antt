@@ -3,7 +3,7 @@
 pub mod DeviceWorld
 -- What the contracts below them cite: steps of the code, no part of what is promised.
 pub mod Linked
-pub mod Kept
-pub mod Turns
+pub mod DeviceKept
+pub mod DeviceTurns
 pub mod Following
 pub mod Stillness

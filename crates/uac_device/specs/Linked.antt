@@ -7,7 +7,7 @@ use Rattle.uac_topology_rules.specs.Clusters.{is_input}
 use Rattle.uac_topology_rules.specs.Rules.{is_output}
 use Rattle.uac_topology.specs.Function.{FunctionFields, interface_in}
 use Rattle.uac_graph.specs.Meaning.{entity}
-use Rattle.uac_alt.specs.Streams.{StreamFields}
+use Rattle.uac_alt.specs.AltStreams.{StreamFields}
 use Rattle.uac_flow.specs.Flows.{CanRun}
 use Rattle.uac_device.specs.DeviceWorld.{is_jack}
 
@@ -32,8 +32,8 @@ pub record AreLinked (function : FunctionFields) : Type 0 where
 -- a stream is one that an interface of the function can run: it goes the interface's way, and has its terminal's channels
 pub record FitsInterface (function : FunctionFields) (interface : ℕ) (stream : StreamFields) : Type 0 where
   pub runs : CanRun stream
-  pub carrier : StreamInterface
-  pub there : interface_in function interface ≡ Some carrier
-  pub out : stream.out ≡ carrier.out
-  pub channels : stream.channels ≡ (entity function.entities carrier.terminal).cluster.channels
+  pub streaming_interface : StreamInterface
+  pub there : interface_in function interface ≡ Some streaming_interface
+  pub out : stream.out ≡ streaming_interface.out
+  pub channels : stream.channels ≡ (entity function.entities streaming_interface.terminal).cluster.channels
   pub some : 1 ≤ stream.channels

@@ -2,7 +2,7 @@
 use Rattle.std.specs.Prelude.{◌≡◌, ℕ, ◌≤◌, ◌==◌, Bool, true, false, ℤ, List, Option, Some}
 use Rattle.std.specs.List.{All}
 use Rattle.uac_graph.specs.Wiring.{Frames, frame_on, silence}
-use Rattle.uac_flow.specs.Streams.{InStream, OutStream, after_putting, after_taking}
+use Rattle.uac_flow.specs.FlowStreams.{InStream, OutStream, after_putting, after_taking}
 use Rattle.uac_lanes.specs.InterfaceStreams.{NoneRuns, changed_where}
 use Rattle.uac_lanes.specs.Lanes.{KeepsStreams, given_by, met_by, ports}
 use Rattle.uac_lanes.specs.declared.lane.Lane.{Lane}

@@ -3,14 +3,14 @@ ghost use Rattle.std.specs.Prelude.{◌≡◌, ◌≤◌, ◌≤ℤ◌, negsuc, 
 ghost use Rattle.std.specs.List.{All};
 ghost use Rattle.uac_clock.specs.declared.values.Nominal.{Nominal};
 ghost use Rattle.uac_clock.specs.Nominal.{IsNominal};
-ghost use Rattle.uac_device.specs.Kept.{IsInRange};
-ghost use Rattle.uac_device.specs.Turns as spec;
+ghost use Rattle.uac_device.specs.DeviceKept.{IsInRange};
+ghost use Rattle.uac_device.specs.DeviceTurns as spec;
 
 use std::alloc::Global;
 use uac_clock::{Nominal, Phase, step};
 use uac_descriptor::NoMemory;
 
-/// A clock domain's clock: its id, what it is off by in millionths, and how far it is past its last tick.
+/// A clock domain's clock: its id, what it is off by in ppm, and how far it is past its last tick.
 #[derive(Clone, Copy, Debug, PartialEq, Eq)]
 pub struct Clock {
     pub clock: u8,
@@ -39,7 +39,7 @@ fn resting_clock(domain: u8) -> Clock
     }
 }
 
-/// The clocks of a domain are off by `ppm` millionths from now on.
+/// The clocks of a domain are off by so many ppm from now on.
 pub(crate) fn deviate(clocks: &mut [Clock], domain: u8, ppm: i32)
     ensures { clocks.new ≡ map (spec.deviated_clock domain ppm) clocks.old }
 {
@@ -85,7 +85,7 @@ fn advance_one(clock: &mut Clock, domain: u8, values: Option<Nominal>) -> Option
     Some(clock.phase.advance(gives))
 }
 
-// What a clock that is off by `ppm` millionths gives in a microframe, in 65,536ths of a frame.
+// What a clock that is off by so many ppm gives in a microframe, in 65,536ths of a frame.
 fn step_by(values: Option<Nominal>, ppm: i32) -> u32
     requires low { negsuc 99999 ≤ℤ ppm }
     requires high { ppm ≤ℤ pos 100000 }

@@ -2,7 +2,7 @@
 ghost use Rattle.std.specs.Prelude.{◌≡◌, ℤ, List, false, IfOk, length, map};
 ghost use Rattle.std.specs.List.{All};
 ghost use Rattle.std.specs.Option.{option_map_or};
-ghost use Rattle.uac_entities.specs.Streams.{named};
+ghost use Rattle.uac_entities.specs.EntityStreams.{named};
 ghost use Rattle.uac_topology_rules.specs.Links as links;
 ghost use Rattle.uac_clock.specs.declared.values.Nominal as values;
 ghost use Rattle.uac_store.specs.declared.keys.Key as keys;

@@ -6,11 +6,13 @@ ghost use Rattle.uac_graph.specs.Needs.{needed};
 ghost use Rattle.uac_graph.specs.Wiring.{tone_frame};
 ghost use Rattle.uac_units.specs.Fitting.{IsFitted};
 ghost use Rattle.uac_units.specs.Panel.{readings};
-ghost use Rattle.uac_device.specs.DeviceWorld.{DeviceWorld, ZerosFitIn, advanced, after_frames, arrival_in, deviated, feedback_in};
+ghost use Rattle.uac_device.specs.DeviceWorld.{DeviceWorld, ZerosFitIn, after_advance, after_frames, arrival_in, after_deviation};
+ghost use Rattle.uac_device.specs.DeviceWorld.{feedback_in};
 ghost use Rattle.uac_device.specs.DeviceWorld.{frames_in, fresh, heard_of, is_due_in, is_input_jack, is_output_jack, level_of, met_of};
-ghost use Rattle.uac_device.specs.DeviceWorld.{next_ticks, packet_in, played_at, received, renders_of, runs_one, sent, set_jack, settled};
-ghost use Rattle.uac_device.specs.DeviceWorld.{target_of, ticked};
-ghost use Rattle.uac_device.specs.Kept.{IsControlled, Stands};
+ghost use Rattle.uac_device.specs.DeviceWorld.{next_ticks, packet_in, played_at, after_receiving, renders_of, runs_one};
+ghost use Rattle.uac_device.specs.DeviceWorld.{after_sending_packet, set_jack, after_settling};
+ghost use Rattle.uac_device.specs.DeviceWorld.{target_of, after_tick};
+ghost use Rattle.uac_device.specs.DeviceKept.{IsControlled, Stands};
 ghost use Rattle.uac_device.specs.Stillness.{IsStill};
 ghost use Rattle.uac_lanes.specs.InterfaceStreams.{NoneRuns};
 ghost use Rattle.uac_request.specs.Requests.{answer_fields};
@@ -54,7 +56,7 @@ pub struct Device {
 
 impl Model for Device {
     ghost use Rattle.std.specs.Prelude.{◌≡◌};
-    ghost use Rattle.uac_device.specs.Kept.{DeviceFields, IsDevice};
+    ghost use Rattle.uac_device.specs.DeviceKept.{DeviceFields, IsDevice};
     ghost use Rattle.uac_device.specs.Following.{IsDerived};
 
     ghost Value = { DeviceFields };
@@ -168,7 +170,7 @@ impl Device {
     /// hasn't. Where the interface runs no stream to the device, nothing takes it.
     pub fn microframe_out(&mut self, interface: u8, packet: Option<&Packet>) -> Arrival
         ensures stands { (w : DeviceWorld) → Stands self.old w
-            → Stands self.new (received interface (option_map (λ p. p.now.items) packet.entry) w) }
+            → Stands self.new (after_receiving interface (option_map (λ p. p.now.items) packet.entry) w) }
         ensures arrival { (w : DeviceWorld) → Stands self.old w
             → result ≡ arrival_in w interface (option_map (λ p. p.now.items) packet.entry) }
         ensures function { self.new.function ≡ self.old.function }
@@ -179,7 +181,7 @@ impl Device {
     /// Forms the packet that an interface sends: the oldest frames of the ring, as many as fit. Answers their number. It is empty
     /// where the interface runs no stream from the device.
     pub fn microframe_in(&mut self, interface: u8, packet: &mut Packet) -> u32
-        ensures stands { (w : DeviceWorld) → Stands self.old w → Stands self.new (sent interface w) }
+        ensures stands { (w : DeviceWorld) → Stands self.old w → Stands self.new (after_sending_packet interface w) }
         ensures packet { (w : DeviceWorld) → Stands self.old w → packet.new.items ≡ packet_in w interface }
         ensures frames { (w : DeviceWorld) → Stands self.old w → result ≡ frames_in w interface }
         ensures function { self.new.function ≡ self.old.function }
@@ -190,7 +192,7 @@ impl Device {
     /// A microframe ends for an interface's stream. Where it was due, zeros replace a lost packet, one for each tick of its domain since
     /// the last such microframe, and a stream whose ring has enough frames is primed.
     pub fn settle(&mut self, interface: u8)
-        ensures stands { (w : DeviceWorld) → Stands self.old w → ZerosFitIn w interface → Stands self.new (settled interface w) }
+        ensures stands { (w : DeviceWorld) → Stands self.old w → ZerosFitIn w interface → Stands self.new (after_settling interface w) }
         ensures function { self.new.function ≡ self.old.function }
     {
         self.lanes.settle(interface);
@@ -219,11 +221,11 @@ impl Device {
         answer
     }
 
-    /// A domain's clock is off by `ppm` millionths from now on. A number of no domain changes nothing.
+    /// A domain's clock is off by so many ppm from now on. A number of no domain changes nothing.
     pub fn deviate(&mut self, domain: u8, ppm: i32)
         requires low { negsuc 99999 ≤ℤ ppm }
         requires high { ppm ≤ℤ pos 100000 }
-        ensures stands { (w : DeviceWorld) → Stands self.old w → Stands self.new (deviated domain ppm w) }
+        ensures stands { (w : DeviceWorld) → Stands self.old w → Stands self.new (after_deviation domain ppm w) }
         ensures function { self.new.function ≡ self.old.function }
     {
         deviate(&mut self.clocks, domain, ppm);
@@ -232,7 +234,7 @@ impl Device {
     /// A domain's clock goes on by one microframe; answers how often it ticks, at most 27 times. The streams to its terminals count
     /// these ticks.
     pub fn ticks(&mut self, domain: u8) -> u32
-        ensures stands { (w : DeviceWorld) → Stands self.old w → Stands self.new (advanced domain w) }
+        ensures stands { (w : DeviceWorld) → Stands self.old w → Stands self.new (after_advance domain w) }
         ensures ticks { (w : DeviceWorld) → Stands self.old w → result ≡ next_ticks domain w }
         ensures few { result ≤ 27 }
         ensures function { self.new.function ≡ self.old.function }
@@ -278,11 +280,11 @@ impl Device {
     ) -> Ticked
         requires rack { IsFitted (λ v x. (⟦<dyn Unit as Unit>⟧ v).kind_of x) rack.now }
         requires room { steps.old + length (needed self.old.function.entities domain) < 2 ^ 64 }
-        ensures stands { (w : DeviceWorld) → Stands self.old w → Stands self.new (ticked domain w) }
+        ensures stands { (w : DeviceWorld) → Stands self.old w → Stands self.new (after_tick domain w) }
         ensures once { (w : DeviceWorld) → Stands self.old w → steps.new ≡ steps.old + renders_of domain w }
         ensures heard { (w : DeviceWorld) → Stands self.old w
             → readings (λ v x. (⟦<dyn Meter as Meter>⟧ v).reading_of x) meters.new
-            ≡ after_frames (heard_of domain (ticked domain w)) (readings (λ v x. (⟦<dyn Meter as Meter>⟧ v).reading_of x) meters.old) }
+            ≡ after_frames (heard_of domain (after_tick domain w)) (readings (λ v x. (⟦<dyn Meter as Meter>⟧ v).reading_of x) meters.old) }
         ensures met { (w : DeviceWorld) → Stands self.old w → result ≡ met_of domain w }
         ensures function { self.new.function ≡ self.old.function }
     {
@@ -301,11 +303,11 @@ impl Device {
     ) -> Ticked
         requires rack { IsFitted (λ v x. (⟦<dyn Unit as Unit>⟧ v).kind_of x) rack.now }
         requires room { steps.old + length (needed self.old.function.entities domain) < 2 ^ 64 }
-        ensures stands { (w : DeviceWorld) → Stands self.old w → (still ≡ true → IsStill domain w) → Stands self.new (ticked domain w) }
+        ensures stands { (w : DeviceWorld) → Stands self.old w → (still ≡ true → IsStill domain w) → Stands self.new (after_tick domain w) }
         ensures once { (w : DeviceWorld) → Stands self.old w → steps.new ≡ steps.old + renders_of domain w }
         ensures heard { (w : DeviceWorld) → Stands self.old w → (still ≡ true → IsStill domain w)
             → readings (λ v x. (⟦<dyn Meter as Meter>⟧ v).reading_of x) meters.new
-            ≡ after_frames (heard_of domain (ticked domain w)) (readings (λ v x. (⟦<dyn Meter as Meter>⟧ v).reading_of x) meters.old) }
+            ≡ after_frames (heard_of domain (after_tick domain w)) (readings (λ v x. (⟦<dyn Meter as Meter>⟧ v).reading_of x) meters.old) }
         ensures met { (w : DeviceWorld) → Stands self.old w → (still ≡ true → IsStill domain w) → result ≡ met_of domain w }
         ensures function { self.new.function ≡ self.old.function }
     {

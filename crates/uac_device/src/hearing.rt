@@ -5,7 +5,7 @@ ghost use Rattle.uac_entities.specs.declared.entity.Entity.{Entity};
 ghost use Rattle.uac_graph.specs.Wiring.{AreWiresOf};
 ghost use Rattle.uac_units.specs.Panel.{readings};
 ghost use Rattle.uac_device.specs.DeviceWorld.{after_frames};
-ghost use Rattle.uac_device.specs.Turns as spec;
+ghost use Rattle.uac_device.specs.DeviceTurns as spec;
 
 use crate::terminals::is_output_jack;
 use std::alloc::Global;

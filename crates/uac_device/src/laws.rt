@@ -1,5 +1,5 @@
 // A law of devices, as the contract of a function that does nothing.
-ghost use Rattle.uac_store.specs.Controls.{IsStoreOf};
+ghost use Rattle.uac_store.specs.StoreControls.{IsStoreOf};
 
 use crate::device::Device;
 

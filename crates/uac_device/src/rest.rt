@@ -2,7 +2,7 @@
 ghost use Rattle.std.specs.Prelude.{◌≡◌, IfOk, map};
 ghost use Rattle.uac_graph.specs.Wiring.{AreSilent, AreWiresOf};
 ghost use Rattle.uac_lanes.specs.Lanes.{idle_lane, port_of};
-ghost use Rattle.uac_device.specs.Turns.{resting_clock};
+ghost use Rattle.uac_device.specs.DeviceTurns.{resting_clock};
 
 use crate::clocks::{Clock, resting_clocks};
 use std::alloc::Global;

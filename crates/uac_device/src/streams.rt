@@ -2,7 +2,7 @@
 ghost use Rattle.std.specs.Prelude.{◌≡◌, Some};
 ghost use Rattle.std.specs.Option.{option_and_then, option_map};
 ghost use Rattle.uac_topology.specs.Function.{interface_in};
-ghost use Rattle.uac_alt.specs.Streams.{stream_fields, stream_of};
+ghost use Rattle.uac_alt.specs.AltStreams.{stream_fields, stream_of};
 ghost use Rattle.uac_request.specs.Requests as requests;
 ghost use Rattle.uac_device.specs.DeviceWorld as spec;
 ghost use Rattle.uac_device.specs.DeviceWorld.{stream_in_setting};

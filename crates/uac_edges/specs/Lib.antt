@@ -5,4 +5,4 @@ pub mod Writing
 pub mod Numerals
 -- What the contracts below them cite: steps of the code, no part of what is promised.
 pub mod Memory
-pub mod Streams
+pub mod EdgeStreams

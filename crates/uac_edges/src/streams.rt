@@ -3,7 +3,7 @@ ghost use Rattle.std.specs.Prelude.{◌≡◌, ◌<◌, ◌≤◌, length, IfOk,
 ghost use Rattle.std.specs.Io.KnownBytes.{Keeps, ReadConsumes, WriteAppends};
 ghost use Rattle.uac_edges.specs.Faults.{HasCause};
 ghost use Rattle.uac_edges.specs.Memory.{one_more};
-ghost use Rattle.uac_edges.specs.Streams.{without_last};
+ghost use Rattle.uac_edges.specs.EdgeStreams.{without_last};
 
 use crate::edges::{Failed, Sink, Source};
 use std::io::{Error, ErrorKind, Read, Write};
@@ -69,7 +69,7 @@ impl<W: Write + Drop> StdSink<W> {
     }
 
     // Writes from the front of `piece`, and flushes.
-    #[tactic(auto, using(crate::proofs::KeepingLemmas::keeping))]
+    #[tactic(auto, using(crate::proofs::KeptBytes::keeping))]
     fn write(&mut self, piece: &[u8]) -> Result<usize, Failed>
         requires { 0 < length piece.now }
         ensures some { IfOk result (λ n. 0 < n) }
@@ -119,7 +119,7 @@ impl<W: Write + Drop> Sink for StdSink<W> {
     }
 
     /// Does nothing, since each write was flushed and nothing waits.
-    #[tactic(auto, using(crate::proofs::KeepingLemmas::keeping))]
+    #[tactic(auto, using(crate::proofs::KeptBytes::keeping))]
     fn settle(&mut self) -> Result<(), Failed>
         ensures ok { result ≡ Ok tt }
         ensures same { self.new ≡ self.old }
@@ -148,7 +148,7 @@ fn is_interrupted(error: &Error) -> bool {
 }
 
 // One read, as often as it is interrupted.
-#[tactic(auto, using(crate::proofs::KeepingLemmas::keeping))]
+#[tactic(auto, using(crate::proofs::KeptBytes::keeping))]
 fn read_some<R: Read>(input: &mut R, into: &mut [u8]) -> Result<usize, Failed>
     ensures fits { IfOk result (λ n. n ≤ length into.new) }
     ensures bytes { ReadConsumes (R.remaining input.old) (R.remaining input.new) result into.new }
@@ -164,7 +164,7 @@ fn read_some<R: Read>(input: &mut R, into: &mut [u8]) -> Result<usize, Failed>
 }
 
 // One write, as often as it is interrupted. It fails where it takes nothing.
-#[tactic(auto, using(crate::proofs::KeepingLemmas::keeping))]
+#[tactic(auto, using(crate::proofs::KeptBytes::keeping))]
 fn write_some<W: Write>(output: &mut W, piece: &[u8]) -> Result<usize, Failed>
     requires { 0 < length piece.now }
     ensures some { IfOk result (λ n. 0 < n) }
@@ -183,7 +183,7 @@ fn write_some<W: Write>(output: &mut W, piece: &[u8]) -> Result<usize, Failed>
 }
 
 // One flush, as often as it is interrupted.
-#[tactic(auto, using(crate::proofs::KeepingLemmas::keeping))]
+#[tactic(auto, using(crate::proofs::KeptBytes::keeping))]
 fn flush<W: Write>(output: &mut W) -> Result<(), Failed>
     ensures kept { Keeps (W.contents output.old) (W.contents output.new) }
 {

@@ -1,5 +1,5 @@
 -- The entities and the streaming interfaces that the blocks of a descriptor describe.
 -- What the program's theorem says: to be read and believed.
 pub mod Entities
-pub mod Settings
-pub mod Streams
+pub mod EntitySettings
+pub mod EntityStreams

@@ -1,7 +1,7 @@
 // The settings in turn, each with its own blocks.
 ghost use Rattle.std.specs.Prelude.{◌≡◌, length, slice_get, IfOk};
 ghost use Rattle.uac_descriptor.specs.declared.block.Block.TheVariants as row;
-ghost use Rattle.uac_entities.specs.Settings as spec;
+ghost use Rattle.uac_entities.specs.EntitySettings as spec;
 
 use crate::lists::keep;
 use crate::stream::Setting;
@@ -36,36 +36,36 @@ pub fn alternates_of(alloc: Global, blocks: &[Block]) -> Result<Vec<Alternate>, 
 }
 
 // The setting that the interface begins if it is a streaming interface, with all that stands after it.
-#[tactic(auto, unfolding(crate::specs::Settings::alternate_at))]
-fn alternate_at(interface: &Interface, behind: &[Block]) -> Option<Alternate>
-    ensures { result ≡ spec.alternate_at (row.Interface interface.now) behind.now }
+#[tactic(auto, unfolding(crate::specs::EntitySettings::alternate_at))]
+fn alternate_at(interface: &Interface, following: &[Block]) -> Option<Alternate>
+    ensures { result ≡ spec.alternate_at (row.Interface interface.now) following.now }
 {
     if is_streaming_interface(interface) {
-        Some(alternate_of(interface, behind))
+        Some(alternate_of(interface, following))
     } else {
         None
     }
 }
 
-fn alternate_of(interface: &Interface, behind: &[Block]) -> Alternate
-    ensures { result ≡ spec.alternate_of interface.now behind.now }
+fn alternate_of(interface: &Interface, following: &[Block]) -> Alternate
+    ensures { result ≡ spec.alternate_of interface.now following.now }
 {
     Alternate {
         interface: interface.number,
         declared: interface.endpoints,
-        endpoints: endpoints_behind(behind),
+        endpoints: endpoints_following(following),
         setting: Setting {
             number: interface.setting,
-            general: general_behind(behind),
-            format: format_behind(behind),
-            first: endpoint_behind(behind, 0),
-            second: endpoint_behind(behind, 1),
+            general: general_following(following),
+            format: format_following(following),
+            first: endpoint_following(following, 0),
+            second: endpoint_following(following, 1),
         },
     }
 }
 
 // The first general block of the setting.
-fn general_behind(blocks: &[Block]) -> Option<General>
+fn general_following(blocks: &[Block]) -> Option<General>
     ensures { result ≡ slice_get (spec.own spec.general_of blocks.now) 0 }
 {
     for block in blocks {
@@ -80,7 +80,7 @@ fn general_behind(blocks: &[Block]) -> Option<General>
 }
 
 // The first Type I format of the setting.
-fn format_behind(blocks: &[Block]) -> Option<TypeOne>
+fn format_following(blocks: &[Block]) -> Option<TypeOne>
     ensures { result ≡ slice_get (spec.own spec.format_of blocks.now) 0 }
 {
     for block in blocks {
@@ -95,7 +95,7 @@ fn format_behind(blocks: &[Block]) -> Option<TypeOne>
 }
 
 // The endpoint after so many others, of the setting.
-fn endpoint_behind(blocks: &[Block], others: usize) -> Option<Endpoint>
+fn endpoint_following(blocks: &[Block], others: usize) -> Option<Endpoint>
     ensures { result ≡ slice_get (spec.own spec.endpoint_of blocks.now) others }
 {
     let mut left = others;
@@ -114,7 +114,7 @@ fn endpoint_behind(blocks: &[Block], others: usize) -> Option<Endpoint>
 }
 
 // How many endpoints there are of the setting.
-fn endpoints_behind(blocks: &[Block]) -> usize
+fn endpoints_following(blocks: &[Block]) -> usize
     ensures { result ≡ length (spec.own spec.endpoint_of blocks.now) }
 {
     let mut count = 0;
@@ -130,14 +130,14 @@ fn endpoints_behind(blocks: &[Block]) -> usize
 }
 
 // Another interface, or the association in front of another function's blocks.
-#[tactic(auto, unfolding(crate::specs::Settings::ends_setting))]
+#[tactic(auto, unfolding(crate::specs::EntitySettings::ends_setting))]
 fn ends_setting(block: &Block) -> bool
     ensures { result ≡ spec.ends_setting block.now }
 {
     matches!(block, Block::Interface(_) | Block::Association(_))
 }
 
-#[tactic(auto, unfolding(crate::specs::Settings::general_of))]
+#[tactic(auto, unfolding(crate::specs::EntitySettings::general_of))]
 fn general_of(block: &Block) -> Option<General>
     ensures { result ≡ spec.general_of block.now }
 {
@@ -148,7 +148,7 @@ fn general_of(block: &Block) -> Option<General>
     }
 }
 
-#[tactic(auto, unfolding(crate::specs::Settings::format_of))]
+#[tactic(auto, unfolding(crate::specs::EntitySettings::format_of))]
 fn format_of(block: &Block) -> Option<TypeOne>
     ensures { result ≡ spec.format_of block.now }
 {
@@ -159,7 +159,7 @@ fn format_of(block: &Block) -> Option<TypeOne>
     }
 }
 
-#[tactic(auto, unfolding(crate::specs::Settings::endpoint_of))]
+#[tactic(auto, unfolding(crate::specs::EntitySettings::endpoint_of))]
 fn endpoint_of(block: &Block) -> Option<Endpoint>
     ensures { result ≡ spec.endpoint_of block.now }
 {

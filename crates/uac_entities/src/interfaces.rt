@@ -1,7 +1,7 @@
 // The streaming interfaces, from the settings in turn.
 ghost use Rattle.std.specs.Prelude.{◌≡◌, false, IfOk, slice_get, unwrap_or};
 ghost use Rattle.std.specs.Option.{option_map, option_map_or};
-ghost use Rattle.uac_entities.specs.Streams as spec;
+ghost use Rattle.uac_entities.specs.EntityStreams as spec;
 
 use crate::alternate::{Alternate, copy_setting};
 use crate::entity::{Entity, EntityKind, is_input};
@@ -27,7 +27,7 @@ pub fn streams_of(
 }
 
 // The streaming interface that a setting begins.
-#[tactic(auto, unfolding(crate::specs::Streams::stream_at))]
+#[tactic(auto, unfolding(crate::specs::EntityStreams::stream_at))]
 fn stream_at(
     alloc: Global,
     entities: &[Entity],
@@ -43,7 +43,7 @@ fn stream_at(
     }
 }
 
-#[tactic(auto, unfolding(crate::specs::Streams::stream_of))]
+#[tactic(auto, unfolding(crate::specs::EntityStreams::stream_of))]
 fn stream_of(
     alloc: Global,
     entities: &[Entity],
@@ -74,7 +74,7 @@ fn settings_of(alloc: Global, all: &[Alternate], number: u8) -> Result<SettingLi
     Ok(SettingList::from_vec(settings))
 }
 
-#[tactic(auto, unfolding(crate::specs::Streams::setting_of))]
+#[tactic(auto, unfolding(crate::specs::EntityStreams::setting_of))]
 fn setting_of(number: u8, alternate: &Alternate) -> Option<Setting>
     ensures { result ≡ spec.setting_of number alternate.now }
 {
@@ -98,7 +98,7 @@ fn first_link(settings: &[Setting]) -> u8
 }
 
 /// The terminal that a setting links to.
-#[tactic(auto, unfolding(crate::specs::Streams::link_of))]
+#[tactic(auto, unfolding(crate::specs::EntityStreams::link_of))]
 pub fn link_of(setting: &Setting) -> Option<u8>
     ensures { result ≡ spec.link_of setting.now }
 {
@@ -109,7 +109,7 @@ pub fn link_of(setting: &Setting) -> Option<u8>
 }
 
 // The kind of the first entity with this id.
-#[tactic(auto, unfolding(crate::specs::Streams::named))]
+#[tactic(auto, unfolding(crate::specs::EntityStreams::named))]
 fn kind_of(entities: &[Entity], id: u8) -> Option<EntityKind>
     ensures { result ≡ option_map (λ e. e.kind) (spec.named entities.now id) }
 {

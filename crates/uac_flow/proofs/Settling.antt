@@ -1,7 +1,7 @@
 -- A stream to the device at the end of a microframe, which is due or isn't.
 use Rattle.std.proofs.Common.{◌≡◌, ℕ, ◌+◌, Bool, true, false, if◌then◌else◌, ℤ, List, ap, sym, subst}
 use Rattle.uac_flow.specs.Flows.{KeepsOut, kept_count}
-use Rattle.uac_flow.specs.Streams.{OutStream, is_due, settled_out, settled_when_due}
+use Rattle.uac_flow.specs.FlowStreams.{OutStream, is_due, settled_out, settled_when_due}
 use Rattle.uac_flow.specs.declared.outward.OutFlow.{OutFlow}
 
 -- one microframe later

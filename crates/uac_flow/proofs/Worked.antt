@@ -2,10 +2,10 @@
 use Rattle.std.proofs.Common.{◌≡◌, ℕ, pos, negsuc, List, [], ◌∷◌, ◌++◌, Some, None, Bool, true, false, map, refl, ℤ}
 use Rattle.std.specs.List.{range_with_len}
 use Rattle.std.specs.Int.{int_wrap}
-use Rattle.uac_alt.specs.Streams.{StreamFields}
-use Rattle.uac_pcm.specs.Words.{cut, sample_of_word, word_of}
+use Rattle.uac_alt.specs.AltStreams.{StreamFields}
+use Rattle.uac_pcm.specs.SampleWords.{cut, sample_of_word, word_of}
 use Rattle.uac_flow.specs.Flows.{kept_count}
-use Rattle.uac_flow.specs.Streams.{InStream, OutStream, after_packet, after_putting, after_sending, after_taking, after_ticks, arrival_of, feedback_of, is_dry, is_due, is_full, next_taken, sent_frames, sent_packet, settled_out, started_in, started_out}
+use Rattle.uac_flow.specs.FlowStreams.{InStream, OutStream, after_packet, after_putting, after_sending, after_taking, after_ticks, arrival_of, feedback_of, is_dry, is_due, is_full, next_taken, sent_frames, sent_packet, settled_out, started_in, started_out}
 use Rattle.uac_flow.specs.declared.arrival.Arrival.TheVariants as arrival
 
 -- mono at 48,000 Hz, in samples of two bytes: 6 frames in a microframe, at most 12 in a packet, a report every second microframe

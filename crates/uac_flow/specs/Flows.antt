@@ -1,11 +1,11 @@
 -- How the device keeps a running stream: the frames that came and are not gone lie in a ring, and counts are kept as far as they matter.
 use Rattle.std.specs.Prelude.{◌≡◌, ℕ, zero, suc, ◌+◌, ◌*◌, ◌%◌, ◌≤◌, true, min, ℤ, List, length, Some}
 use Rattle.std.specs.List.{All}
-use Rattle.uac_alt.specs.Streams.{StreamFields, stream_fields}
+use Rattle.uac_alt.specs.AltStreams.{StreamFields, stream_fields}
 use Rattle.uac_clock.specs.Nominal.{IsNominal}
 use Rattle.uac_rate.specs.Levels.{IsInterval}
 use Rattle.uac_ring.specs.Rings.{Holds, ring_frames}
-use Rattle.uac_flow.specs.Streams.{InStream, OutStream, is_due, out_level, zeros_due}
+use Rattle.uac_flow.specs.FlowStreams.{InStream, OutStream, is_due, out_level, zeros_due}
 use Rattle.uac_flow.specs.declared.inward.InFlow.{InFlow}
 use Rattle.uac_flow.specs.declared.outward.OutFlow.{OutFlow}
 

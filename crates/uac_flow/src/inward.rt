@@ -1,10 +1,10 @@
 // A running stream from the device.
 ghost use Rattle.std.specs.Prelude.{◌≡◌, ◌≤◌, ℕ, ℤ, List, length};
-ghost use Rattle.uac_alt.specs.Streams.{stream_fields};
+ghost use Rattle.uac_alt.specs.AltStreams.{stream_fields};
 ghost use Rattle.uac_ring.specs.Rings.{ring_frames};
 ghost use Rattle.uac_flow.specs.Flows.{CanRun, IsInFlow, KeepsIn};
-ghost use Rattle.uac_flow.specs.Streams as spec;
-ghost use Rattle.uac_flow.specs.Streams.{InStream, after_putting, after_sending, sent_frames, sent_packet, settled_in, started_in};
+ghost use Rattle.uac_flow.specs.FlowStreams as spec;
+ghost use Rattle.uac_flow.specs.FlowStreams.{InStream, after_putting, after_sending, sent_frames, sent_packet, settled_in, started_in};
 
 use crate::counting::{is_due, next_count};
 use crate::frames::take_frames;
@@ -35,7 +35,7 @@ impl InFlow {
     }
 
     /// Moves the oldest frames of the ring, as many as fit, into a packet in place of its bytes, and answers their number.
-    #[tactic(auto, unfolding(crate::specs::Streams::after_sending, crate::specs::Streams::sent_packet))]
+    #[tactic(auto, unfolding(crate::specs::FlowStreams::after_sending, crate::specs::FlowStreams::sent_packet))]
     pub fn send(&self, ring: &mut Ring, packet: &mut Packet) -> u32
         requires sound { IsInFlow ring.old self.now }
         ensures stands { (i : InStream) → KeepsIn ring.old self.now i → KeepsIn ring.new self.now (after_sending i) }
@@ -49,7 +49,7 @@ impl InFlow {
     }
 
     /// Puts the frame that its terminal played into the ring, where there is room.
-    #[tactic(auto, unfolding(crate::specs::Streams::after_putting))]
+    #[tactic(auto, unfolding(crate::specs::FlowStreams::after_putting))]
     pub fn put(&self, ring: &mut Ring, frame: &Frame)
         requires sound { IsInFlow ring.old self.now }
         requires channels { length frame.now.items ≡ self.now.stream.format.channels }
@@ -76,7 +76,7 @@ impl InFlow {
     }
 
     /// The end of a microframe.
-    #[tactic(auto, unfolding(crate::specs::Streams::settled_in))]
+    #[tactic(auto, unfolding(crate::specs::FlowStreams::settled_in))]
     pub fn settle(&mut self)
         requires { self.old.microframes ≤ 8 }
         ensures stands { (ring : List (List ℤ)) (i : InStream) → KeepsIn ring self.old i → KeepsIn ring self.new (settled_in i) }

@@ -1,13 +1,13 @@
 // A running stream to the device.
 ghost use Rattle.std.specs.Prelude.{◌≡◌, ℕ, ◌+◌, ◌≤◌, nat_le, ℤ, List, length, Some, None, IfSome, true};
 ghost use Rattle.std.specs.Option.{option_map};
-ghost use Rattle.uac_alt.specs.Streams.{stream_fields};
+ghost use Rattle.uac_alt.specs.AltStreams.{stream_fields};
 ghost use Rattle.uac_pcm.specs.Packets.{whole_frames};
 ghost use Rattle.uac_ring.specs.Rings.{ring_frames};
 ghost use Rattle.uac_flow.specs.Flows.{CanRun, IsOutFlow, KeepsOut, ZerosFit};
-ghost use Rattle.uac_flow.specs.Streams as spec;
-ghost use Rattle.uac_flow.specs.Streams.{OutStream, after_packet, after_taking, arrival_of, feedback_of, next_taken, out_level};
-ghost use Rattle.uac_flow.specs.Streams.{settled_out, settled_when_due, started_out, zeros_due};
+ghost use Rattle.uac_flow.specs.FlowStreams as spec;
+ghost use Rattle.uac_flow.specs.FlowStreams.{OutStream, after_packet, after_taking, arrival_of, feedback_of, next_taken, out_level};
+ghost use Rattle.uac_flow.specs.FlowStreams.{settled_out, settled_when_due, started_out, zeros_due};
 
 use crate::arrival::Arrival;
 use crate::counting::{is_due, next_count, reports_now};
@@ -51,7 +51,7 @@ impl OutFlow {
     }
 
     /// Takes a packet's frames, where the ring has room for all; None is a lost packet.
-    #[tactic(auto, unfolding(crate::specs::Streams::after_packet, crate::specs::Streams::arrival_of))]
+    #[tactic(auto, unfolding(crate::specs::FlowStreams::after_packet, crate::specs::FlowStreams::arrival_of))]
     pub fn receive(&mut self, ring: &mut Ring, packet: Option<&Packet>) -> Arrival
         requires sound { IsOutFlow ring.old self.old }
         ensures stands { (o : OutStream) → KeepsOut ring.old self.old o
@@ -69,7 +69,7 @@ impl OutFlow {
     }
 
     // The packet came. A ring that has no room for all its frames takes none.
-    #[tactic(auto, unfolding(crate::specs::Streams::after_packet, crate::specs::Streams::arrival_of))]
+    #[tactic(auto, unfolding(crate::specs::FlowStreams::after_packet, crate::specs::FlowStreams::arrival_of))]
     fn receive_bytes(&mut self, ring: &mut Ring, packet: &Packet) -> Arrival
         requires sound { IsOutFlow ring.old self.old }
         ensures stands { (o : OutStream) → KeepsOut ring.old self.old o
@@ -120,7 +120,7 @@ impl OutFlow {
     }
 
     /// Drops the front frame, which the stream's terminal took. Where the ring was empty, the stream primes again.
-    #[tactic(auto, unfolding(crate::specs::Streams::after_taking))]
+    #[tactic(auto, unfolding(crate::specs::FlowStreams::after_taking))]
     pub fn go_on(&mut self, ring: &mut Ring)
         requires sound { IsOutFlow ring.old self.old }
         ensures stands { (o : OutStream) → KeepsOut ring.old self.old o → KeepsOut ring.new self.new (after_taking o) }
@@ -190,7 +190,7 @@ impl OutFlow {
     }
 
     /// The report that is due at the end of a microframe (USB 2.0, 5.12.4.2): the nominal value while the stream is priming.
-    #[tactic(auto, unfolding(crate::specs::Streams::feedback_of))]
+    #[tactic(auto, unfolding(crate::specs::FlowStreams::feedback_of))]
     pub fn feedback(&self, ring: &Ring) -> Option<u32>
         requires sound { IsOutFlow ring.now self.now }
         ensures { (o : OutStream) → KeepsOut ring.now self.now o → result ≡ feedback_of o }

@@ -1,3 +1,3 @@
 pub mod DescriptorLemmas
-pub mod LineLemmas
-pub mod SourceLemmas
+pub mod GeneratedScriptLemmas
+pub mod LineMoves

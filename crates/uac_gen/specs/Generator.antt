@@ -73,11 +73,11 @@ groups (suc count) x =
 
 -- ---- the whole script: the first draw picks the rate, the second the number of units
 
-abbrev pub behind_descriptor : ℕ → ℕ → ℕ → List (List ℕ)
-behind_descriptor number hertz x = codes "g" ∷ rate_line hertz ∷ setting_line ∷ tone_line number ∷ (groups 250 x ++ codes "q" ∷ [])
+abbrev pub lines_after_descriptor : ℕ → ℕ → ℕ → List (List ℕ)
+lines_after_descriptor number hertz x = codes "g" ∷ rate_line hertz ∷ setting_line ∷ tone_line number ∷ (groups 250 x ++ codes "q" ∷ [])
 
 unfoldable pub generated : ℕ → List (List ℕ)
 generated number =
     let first = next_x number in
     let second = next_x first in
-    feed_lines (descriptor_of (1 + draw 30 second)) ++ behind_descriptor number (slice_index twelve_rates (draw 12 first)) second
+    feed_lines (descriptor_of (1 + draw 30 second)) ++ lines_after_descriptor number (slice_index twelve_rates (draw 12 first)) second

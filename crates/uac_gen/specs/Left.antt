@@ -3,7 +3,8 @@ use Rattle.std.specs.Prelude.{ℕ, ◌-◌, ◌*◌, List, [], ◌∷◌, ◌++�
 use Rattle.std.specs.List.{range_with_len}
 use Rattle.uac_gen.specs.declared.places.Place.{Place}
 use Rattle.uac_gen.specs.declared.places.Place.TheVariants as place
-use Rattle.uac_gen.specs.Generator.{feed_line, feed_count, behind_descriptor, rate_line, setting_line, tone_line, run_line, unpacked_lines}
+use Rattle.uac_gen.specs.Generator.{feed_line, feed_count, lines_after_descriptor, rate_line, setting_line, tone_line, run_line}
+use Rattle.uac_gen.specs.Generator.{unpacked_lines}
 use Rattle.uac_gen.specs.Generator.{rest_line, groups}
 
 -- so many groups from x on, and the report
@@ -12,15 +13,15 @@ from_groups count x = groups count x ++ codes "q" ∷ []
 
 abbrev pub lines_left : ℕ → ℕ → List ℕ → ℕ → Place → List (List ℕ)
 lines_left number hertz bytes x (place.Feed fed) =
-    map (feed_line bytes) (range_with_len fed (feed_count bytes - fed)) ++ behind_descriptor number hertz x
+    map (feed_line bytes) (range_with_len fed (feed_count bytes - fed)) ++ lines_after_descriptor number hertz x
 lines_left number hertz bytes x place.Rate = rate_line hertz ∷ setting_line ∷ tone_line number ∷ from_groups 250 x
 lines_left number hertz bytes x place.Setting = setting_line ∷ tone_line number ∷ from_groups 250 x
 lines_left number hertz bytes x place.Tone = tone_line number ∷ from_groups 250 x
 lines_left number hertz bytes x (place.Deviation count) = from_groups count x
 lines_left number hertz bytes x (place.Unreported group) =
     run_line (8 * group.eights) (codes " f1")
-    ∷ (unpacked_lines group.lost ++ rest_line group.eights group.lost ∷ from_groups group.behind x)
+    ∷ (unpacked_lines group.lost ++ rest_line group.eights group.lost ∷ from_groups group.following x)
 lines_left number hertz bytes x (place.Unpacked group) =
-    run_line 1 (codes " o1") ∷ rest_line group.eights group.lost ∷ from_groups group.behind x
-lines_left number hertz bytes x (place.Rest group) = rest_line group.eights group.lost ∷ from_groups group.behind x
+    run_line 1 (codes " o1") ∷ rest_line group.eights group.lost ∷ from_groups group.following x
+lines_left number hertz bytes x (place.Rest group) = rest_line group.eights group.lost ∷ from_groups group.following x
 lines_left number hertz bytes x place.End = []

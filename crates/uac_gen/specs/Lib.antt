@@ -2,6 +2,6 @@
 -- What the program's theorem says: to be read and believed.
 pub mod Descriptor
 pub mod Generator
-pub mod Script
+pub mod GeneratedScript
 -- What the contracts below them cite: steps of the code, no part of what is promised.
 pub mod Left

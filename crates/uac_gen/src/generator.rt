@@ -5,7 +5,7 @@ ghost use Rattle.uac_gen.specs.Left.{lines_left};
 
 use crate::descriptor::{Bytes, descriptor};
 use crate::draws::Draws;
-use crate::groups::{behind_unreported, next_group, rest_line};
+use crate::groups::{next_group, place_after_unreported, rest_line};
 use crate::lines::{LineText, feed_line, fixed_line, rate_line, run_line, tone_line};
 use crate::places::Place;
 use arrayvec::ArrayVec;
@@ -91,10 +91,10 @@ fn step(
         Place::Deviation(count) => Some(next_group(draws, count)),
         Place::Unreported(group) => Some((
             run_line(8 * u64::from(group.eights), b" f1"),
-            behind_unreported(group),
+            place_after_unreported(group),
         )),
         Place::Unpacked(group) => Some((run_line(1, b" o1"), Place::Rest(group))),
-        Place::Rest(group) => Some((rest_line(group), Place::Deviation(group.behind))),
+        Place::Rest(group) => Some((rest_line(group), Place::Deviation(group.following))),
         Place::End => None,
     }
 }

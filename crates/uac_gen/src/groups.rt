@@ -22,27 +22,28 @@ pub fn next_group(draws: &mut Draws, count: u8) -> (LineText, Place)
     let group = Group {
         eights,
         lost,
-        behind: count - 1,
+        following: count - 1,
     };
-    (deviation_line(drawn), behind_deviation(group))
+    (deviation_line(drawn), place_after_deviation(group))
 }
 
 // The place after a group's first line.
-fn behind_deviation(group: Group) -> Place
+fn place_after_deviation(group: Group) -> Place
     ensures { (number hertz x : ℕ) (bytes : List ℕ) → lines_left number hertz bytes x result
-        ≡ unreported_lines group.eights ++ (unpacked_lines group.lost ++ rest_line group.eights group.lost ∷ from_groups group.behind x) }
+        ≡ unreported_lines group.eights
+        ++ (unpacked_lines group.lost ++ rest_line group.eights group.lost ∷ from_groups group.following x) }
 {
     if group.eights > 0 {
         Place::Unreported(group)
     } else {
-        behind_unreported(group)
+        place_after_unreported(group)
     }
 }
 
 /// The place after the microframes of a group that have no report.
-pub fn behind_unreported(group: Group) -> Place
+pub fn place_after_unreported(group: Group) -> Place
     ensures { (number hertz x : ℕ) (bytes : List ℕ) → lines_left number hertz bytes x result
-        ≡ unpacked_lines group.lost ++ rest_line group.eights group.lost ∷ from_groups group.behind x }
+        ≡ unpacked_lines group.lost ++ rest_line group.eights group.lost ∷ from_groups group.following x }
 {
     if group.lost {
         Place::Unpacked(group)

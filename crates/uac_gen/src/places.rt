@@ -8,7 +8,7 @@ pub struct Group {
     pub eights: u8,
     /// One microframe has no packet.
     pub lost: bool,
-    pub behind: u8,
+    pub following: u8,
     ghost few: { eights < 4 },
 }
 

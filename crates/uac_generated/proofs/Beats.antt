@@ -4,13 +4,13 @@ use Rattle.std.proofs.Common.{◌≡◌, ◌∙◌, sym, refl, ap, subst, ℕ, z
 use Rattle.std.specs.List.{filter, fold}
 use Rattle.std.specs.Option.{option_and_then, option_map, option_map_or}
 use Rattle.uac_units.specs.Hearing.{at_most_u64}
-use Rattle.uac_rate.specs.Steadiness.{Given, reported}
+use Rattle.uac_rate.specs.Steadiness.{Given, with_report_given}
 use Rattle.uac_topology.specs.Function.{FunctionFields}
 use Rattle.uac_rate.specs.Reports.{report_of}
-use Rattle.uac_flow.specs.Streams.{OutStream, after_packet, after_taking, after_ticks, feedback_of, is_dry, is_due, out_level, settled_out, settled_when_due}
+use Rattle.uac_flow.specs.FlowStreams.{OutStream, after_packet, after_taking, after_ticks, feedback_of, is_dry, is_due, out_level, settled_out, settled_when_due}
 use Rattle.uac_lanes.specs.InterfaceStreams.{changed_at}
-use Rattle.uac_device.specs.DeviceWorld.{DeviceWorld, advanced, feedback_in, is_on, next_ticks, received, set_jack, settled, ticked}
-use Rattle.uac_device.specs.DeviceWorld.{sent as device_sends}
+use Rattle.uac_device.specs.DeviceWorld.{DeviceWorld, after_advance, feedback_in, is_on, next_ticks, after_receiving, set_jack, after_settling, after_tick}
+use Rattle.uac_device.specs.DeviceWorld.{after_sending_packet as device_sends}
 use Rattle.uac_script.specs.Phrase.{SaidMark}
 use Rattle.uac_streaming.specs.Telling.{Telling, at_rest}
 use Rattle.uac_streaming.specs.StreamingWorld.{StreamingWorld, all_reported, all_settled, fetched_lines, given_at, in_packet_turn, in_packets, is_in_due, is_out_due, loses_in, loses_out, loses_report, numbers, out_packets, out_turn, packet_fetched, packet_sent, packet_to, place_of, report_lines, report_made, report_turn, sent_lines, settled_turn}
@@ -86,33 +86,33 @@ module _ (function : FunctionFields) (interface : ℕ) where
     pub plays : Plays beat w.device
     pub given_is : w.given ≡ given
 
-  module _ (detail : ℕ) (losses : List SaidMark) where
+  module _ (detail : ℕ) (marks : List SaidMark) where
     module _ (given : Given) (beat : Option Beat) where
-      out_beats : (n : ℕ) (w : StreamingWorld) → Beats beat given w → Beats beat given (out_turn detail losses n w).world
-      unfolding out_turn packet_sent received
+      out_beats : (n : ℕ) (w : StreamingWorld) → Beats beat given w → Beats beat given (out_turn detail marks n w).world
+      unfolding out_turn packet_sent after_receiving
       out_beats n w beats = by (is_out_due w n)
         where
           by : (b : Bool)
-              → Beats beat given (if b then record { lines = sent_lines detail (loses_out losses n) n w; world = packet_sent (loses_out losses n) n w }
+              → Beats beat given (if b then record { lines = sent_lines detail (loses_out marks n) n w; world = packet_sent (loses_out marks n) n w }
               else at_rest w).world
           by true = record {
             plays = record {
               function_is = beats.plays.function_is;
               own =
-                  kept_at n interface (after_packet (packet_to (loses_out losses n) n w)) (packet_beat (packet_to (loses_out losses n) n w)) w.device.outs
+                  kept_at n interface (after_packet (packet_to (loses_out marks n) n w)) (packet_beat (packet_to (loses_out marks n) n w)) w.device.outs
                   ∙ beats.plays.own;
-              others = λ m other. none_at n m (after_packet (packet_to (loses_out losses n) n w)) w.device.outs (beats.plays.others m other);
+              others = λ m other. none_at n m (after_packet (packet_to (loses_out marks n) n w)) w.device.outs (beats.plays.others m other);
             };
             given_is = beats.given_is;
           }
           by false = beats
 
-      in_beats : (n : ℕ) (w : StreamingWorld) → Beats beat given w → Beats beat given (in_packet_turn detail losses n w).world
+      in_beats : (n : ℕ) (w : StreamingWorld) → Beats beat given w → Beats beat given (in_packet_turn detail marks n w).world
       unfolding in_packet_turn packet_fetched device_sends
       in_beats n w beats = by (is_in_due w n)
         where
           by : (b : Bool)
-              → Beats beat given (if b then record { lines = fetched_lines detail (loses_in losses n) n w; world = packet_fetched (loses_in losses n) n w }
+              → Beats beat given (if b then record { lines = fetched_lines detail (loses_in marks n) n w; world = packet_fetched (loses_in marks n) n w }
               else at_rest w).world
           by true = record {
             plays = record { function_is = beats.plays.function_is; own = beats.plays.own; others = beats.plays.others };
@@ -122,7 +122,7 @@ module _ (function : FunctionFields) (interface : ℕ) where
 
       settled_other : (n : ℕ) (w : StreamingWorld) → (interface == n) ≡ false → Beats beat given w
           → Beats beat given (settled_turn detail n w).world
-      unfolding settled_turn settled
+      unfolding settled_turn after_settling
       settled_other n w other beats = record {
         plays = record {
           function_is = beats.plays.function_is;
@@ -133,15 +133,15 @@ module _ (function : FunctionFields) (interface : ℕ) where
       }
 
       report_other : (n : ℕ) (w : StreamingWorld) → (interface == n) ≡ false → Beats beat given w
-          → Beats beat given (report_turn detail losses n w).world
+          → Beats beat given (report_turn detail marks n w).world
       unfolding report_turn feedback_in
       report_other n w other beats =
-          subst (λ (o : Option OutStream). Beats beat given (option_map_or (λ value. record { lines = report_lines detail (loses_report losses n) value n; world = report_made (loses_report losses n) value n w }) (option_and_then feedback_of o) (at_rest w)).world)
+          subst (λ (o : Option OutStream). Beats beat given (option_map_or (λ value. record { lines = report_lines detail (loses_report marks n) value n; world = report_made (loses_report marks n) value n w }) (option_and_then feedback_of o) (at_rest w)).world)
           (sym (beats.plays.others n other)) beats
 
     settled_here : (given : Given) (beat : Option Beat) (w : StreamingWorld) → Beats beat given w
         → Beats (option_map next_beat beat) given (settled_turn detail interface w).world
-    unfolding settled_turn settled
+    unfolding settled_turn after_settling
     settled_here given beat w beats = record {
       plays = record {
         function_is = beats.plays.function_is;
@@ -154,14 +154,14 @@ module _ (function : FunctionFields) (interface : ℕ) where
     }
 
     report_here : (given : Given) (beat : Option Beat) (w : StreamingWorld) → Beats beat given w
-        → Beats beat (given_behind (loses_report losses interface) (place_of function interface) beat given) (report_turn detail losses interface w).world
+        → Beats beat (given_behind (loses_report marks interface) (place_of function interface) beat given) (report_turn detail marks interface w).world
     unfolding report_turn report_made feedback_in feedback_of
     report_here given beat w beats =
         subst (λ (b : Option Beat). Beats beat (given_behind lost (place_of function interface) b given) (option_map_or made (option_and_then feedback_of (w.device.outs interface)) (at_rest w)).world)
         beats.plays.own (by (w.device.outs interface))
       where
         lost : Bool
-        lost = loses_report losses interface
+        lost = loses_report marks interface
 
         made : ℕ → Telling StreamingWorld
         made value = record { lines = report_lines detail lost value interface; world = report_made lost value interface w }
@@ -172,8 +172,8 @@ module _ (function : FunctionFields) (interface : ℕ) where
         due value true = record {
           plays = record { function_is = beats.plays.function_is; own = beats.plays.own; others = beats.plays.others };
           given_is =
-              ap (λ (f : FunctionFields). given_at (place_of f interface) (λ p. reported p lost) w.given) beats.plays.function_is
-              ∙ ap (given_at (place_of function interface) (λ p. reported p lost)) beats.given_is;
+              ap (λ (f : FunctionFields). given_at (place_of f interface) (λ p. with_report_given p lost) w.given) beats.plays.function_is
+              ∙ ap (given_at (place_of function interface) (λ p. with_report_given p lost)) beats.given_is;
         }
         due value false = beats
 
@@ -187,13 +187,13 @@ module _ (function : FunctionFields) (interface : ℕ) where
       here_among : (w : StreamingWorld) → Beats beat given w → Among interface (numbers w.device.function)
       here_among w beats = subst (λ (f : FunctionFields). Among interface (numbers f)) (sym beats.plays.function_is) among
 
-      pub all_out_beat : (w : StreamingWorld) → Beats beat given w → Beats beat given (out_packets detail losses w).world
+      pub all_out_beat : (w : StreamingWorld) → Beats beat given w → Beats beat given (out_packets detail marks w).world
       unfolding out_packets
-      all_out_beat w beats = turns_keep (Beats beat given) (out_turn detail losses) (out_beats given beat) (numbers w.device.function) w beats
+      all_out_beat w beats = turns_keep (Beats beat given) (out_turn detail marks) (out_beats given beat) (numbers w.device.function) w beats
 
-      pub all_in_beat : (w : StreamingWorld) → Beats beat given w → Beats beat given (in_packets detail losses w).world
+      pub all_in_beat : (w : StreamingWorld) → Beats beat given w → Beats beat given (in_packets detail marks w).world
       unfolding in_packets
-      all_in_beat w beats = turns_keep (Beats beat given) (in_packet_turn detail losses) (in_beats given beat) (numbers w.device.function) w beats
+      all_in_beat w beats = turns_keep (Beats beat given) (in_packet_turn detail marks) (in_beats given beat) (numbers w.device.function) w beats
 
       pub all_settled_beat : (w : StreamingWorld) → Beats beat given w → Beats (option_map next_beat beat) given (all_settled detail w).world
       unfolding all_settled
@@ -202,14 +202,14 @@ module _ (function : FunctionFields) (interface : ℕ) where
           (settled_other given (option_map next_beat beat)) (settled_here given beat) (numbers w.device.function) w (numbers_differ w.device.function) (here_among w beats) beats
 
       pub all_reported_beat : (w : StreamingWorld) → Beats beat given w
-          → Beats beat (given_behind (loses_report losses interface) (place_of function interface) beat given) (all_reported detail losses w).world
+          → Beats beat (given_behind (loses_report marks interface) (place_of function interface) beat given) (all_reported detail marks w).world
       unfolding all_reported
       all_reported_beat w beats =
-          turns_once (report_turn detail losses) interface (Beats beat given) (Beats beat behind) (report_other given beat)
-          (report_other behind beat) (report_here given beat) (numbers w.device.function) w (numbers_differ w.device.function) (here_among w beats) beats
+          turns_once (report_turn detail marks) interface (Beats beat given) (Beats beat following) (report_other given beat)
+          (report_other following beat) (report_here given beat) (numbers w.device.function) w (numbers_differ w.device.function) (here_among w beats) beats
         where
-          behind : Given
-          behind = given_behind (loses_report losses interface) (place_of function interface) beat given
+          following : Given
+          following = given_behind (loses_report marks interface) (place_of function interface) beat given
 
   -- ---- ticks
 
@@ -226,8 +226,8 @@ module _ (function : FunctionFields) (interface : ℕ) where
     unfolding all_given
     given_plays c r plays = jacks_play (filter (λ (j : Jack). j.clock == c) r.jacks) r.device plays
 
-    ticked_plays : (c : ℕ) (w : DeviceWorld) → Plays beat w → Plays beat (ticked c w)
-    unfolding ticked
+    ticked_plays : (c : ℕ) (w : DeviceWorld) → Plays beat w → Plays beat (after_tick c w)
+    unfolding after_tick
     ticked_plays c w plays = record {
       function_is = plays.function_is;
       own =
@@ -236,8 +236,8 @@ module _ (function : FunctionFields) (interface : ℕ) where
       others = λ n other. ap (option_map (λ s. if is_on w c n then after_taking s else s)) (plays.others n other);
     }
 
-    advanced_plays : (c : ℕ) (w : DeviceWorld) → Plays beat w → Plays beat (advanced c w)
-    unfolding advanced
+    advanced_plays : (c : ℕ) (w : DeviceWorld) → Plays beat w → Plays beat (after_advance c w)
+    unfolding after_advance
     advanced_plays c w plays =
         let count : OutStream → OutStream = after_ticks (next_ticks c w) in
         record {
@@ -261,7 +261,7 @@ module _ (function : FunctionFields) (interface : ℕ) where
       domain_beats : (c : ℕ) (r : RunningWorld) → Beats beat given (streaming_of r) → Beats beat given (streaming_of (domain_microframe c r).world)
       unfolding domain_microframe
       domain_beats c r beats =
-          ticks_beat (next_ticks c r.device) c (record r { device = advanced c r.device })
+          ticks_beat (next_ticks c r.device) c (record r { device = after_advance c r.device })
           (record { plays = advanced_plays c r.device beats.plays; given_is = beats.given_is })
 
       domains_beat : (clocks : List ℕ) (r : RunningWorld) → Beats beat given (streaming_of r)
@@ -272,18 +272,18 @@ module _ (function : FunctionFields) (interface : ℕ) where
 
   -- ---- a microframe
 
-  pub microframe_beats : (among : Among interface (numbers function)) (losses : List SaidMark) (r : RunningWorld) (beat : Option Beat) (given : Given)
+  pub microframe_beats : (among : Among interface (numbers function)) (marks : List SaidMark) (r : RunningWorld) (beat : Option Beat) (given : Given)
       → Beats beat given (streaming_of r)
       → Beats (option_map next_beat beat)
-      (given_behind (loses_report losses interface) (place_of function interface) (option_map next_beat beat) given)
-      (streaming_of (microframe losses r).world)
+      (given_behind (loses_report marks interface) (place_of function interface) (option_map next_beat beat) given)
+      (streaming_of (microframe marks r).world)
   unfolding microframe packets_and_ticks ends_and_reports
-  microframe_beats among losses r beat given beats =
+  microframe_beats among marks r beat given beats =
       let v : RunningWorld = record r { time = at_most_u64 (r.time + 1) } in
-      let sent = with_streaming v (out_packets v.detail losses (streaming_of v)).world in
-      let fetched = with_streaming sent (in_packets v.detail losses (streaming_of sent)).world in
-      let u = (packets_and_ticks losses v).world in
-      all_reported_beat u.detail losses among given (option_map next_beat beat) (all_settled u.detail (streaming_of u)).world
-      (all_settled_beat u.detail losses among given beat (streaming_of u)
+      let sent = with_streaming v (out_packets v.detail marks (streaming_of v)).world in
+      let fetched = with_streaming sent (in_packets v.detail marks (streaming_of sent)).world in
+      let u = (packets_and_ticks marks v).world in
+      all_reported_beat u.detail marks among given (option_map next_beat beat) (all_settled u.detail (streaming_of u)).world
+      (all_settled_beat u.detail marks among given beat (streaming_of u)
       (domains_beat beat given fetched.device.function.domains fetched
-      (all_in_beat v.detail losses among given beat (streaming_of sent) (all_out_beat v.detail losses among given beat (streaming_of v) beats))))
+      (all_in_beat v.detail marks among given beat (streaming_of sent) (all_out_beat v.detail marks among given beat (streaming_of v) beats))))

@@ -5,8 +5,8 @@ use Rattle.std.specs.List.{list_all, range_with_len}
 use Rattle.std.proofs.lemmas.List.{drop-take, length-take, take-append-drop, take-take, take_all}
 use Rattle.uac_descriptor.specs.declared.block.Block.{Block}
 use Rattle.uac_descriptor.specs.Classes.{is_audio_association, is_control_interface, is_streaming_interface}
-use Rattle.uac_descriptor.specs.Reading.{block_of, fields, is_whole, has_length}
-use Rattle.uac_descriptor.specs.Rows.{row_of, row_in}
+use Rattle.uac_descriptor.specs.BlockReading.{block_of, fields, is_whole, has_length}
+use Rattle.uac_descriptor.specs.LayoutRows.{row_of, row_in}
 use Rattle.uac_descriptor.specs.Spelling.{spelling}
 use Rattle.uac_sentence.specs.Cutting.{chop, chop_within}
 use Rattle.uac_sentence.specs.Grammar.{first_fault}
@@ -21,9 +21,9 @@ use Rattle.uac_topology.specs.Topology.{first_broken}
 use Rattle.uac_units.specs.Hearing.{Reading}
 use Rattle.uac_script.specs.Phrase.{feeds, goes}
 use Rattle.uac_running.specs.RunningWorld.{at_start}
-use Rattle.uac_running.specs.Lines.{ready_line}
+use Rattle.uac_running.specs.RunningLines.{ready_line}
 use Rattle.uac_configuration.specs.Description.{blocks_from, blocks_of, function_of}
-use Rattle.uac_bus.specs.World.{Step, World, describing, done, fed, gone, if_no_fault, if_sound, running, silently, step}
+use Rattle.uac_bus.specs.BusWorld.{Step, World, describing, done, step_feed, step_go, if_no_fault, if_sound, running, silently, step}
 use Rattle.uac_gen.specs.Descriptor.{descriptor_of}
 use Rattle.uac_gen.specs.Generator.{feed_count, feed_line}
 use Rattle.uac_generated.proofs.Grammatical.{none_faulty}
@@ -59,7 +59,7 @@ module _ (bytes : List ℕ) (shown : List Reading) (whole : first_fault bytes �
   before place = describing (take (64 * place) bytes) shown
 
   fed_is : (place : ℕ) → step (feeds (take 64 (drop (64 * place) bytes))) (before place) ≡ done (before (place + 1)) []
-  unfolding step fed
+  unfolding step step_feed
   fed_is place =
       let next : List ℕ = take (64 * place) bytes ++ take 64 (drop (64 * place) bytes) in
       let more : next ≡ take (64 * (place + 1)) bytes =
@@ -101,7 +101,7 @@ function_at d = function_of (blocks_at d)
 pub gone_is : (d : ℕ) (shown : List Reading) → d < 30
     → step goes (describing (descriptor_of (1 + d)) shown)
     ≡ done (running (at_start (descriptor_of (1 + d)) (function_at d) shown)) (ready_line (function_at d) ∷ [])
-unfolding step gone
+unfolding step step_go
 gone_is d shown below =
     let bytes : List ℕ = descriptor_of (1 + d) in
     let begun : FunctionFields → Step = λ function. done (running (at_start bytes function shown)) (ready_line function ∷ []) in

@@ -4,8 +4,8 @@ use Rattle.std.specs.Prelude.{nat_le, nat_lt}
 use Rattle.std.specs.List.{list_all}
 use Rattle.std.proofs.lemmas.Bool.{leb-true}
 use Rattle.uac_descriptor.specs.Classes.{is_audio_association, is_control_interface, is_streaming_interface}
-use Rattle.uac_descriptor.specs.Reading.{block_of, fields, is_whole, has_length}
-use Rattle.uac_descriptor.specs.Rows.{row_of, row_in}
+use Rattle.uac_descriptor.specs.BlockReading.{block_of, fields, is_whole, has_length}
+use Rattle.uac_descriptor.specs.LayoutRows.{row_of, row_in}
 use Rattle.uac_descriptor.specs.Spelling.{spelling}
 use Rattle.uac_sentence.specs.Grammar.{first_fault, grammar, start, rule_at_end, rule_broken, state_after, comes_again, lists_unknown, lacks_association, is_out_of_order, is_refused, passes_total, passes_list, ends_list_early, is_in_turn}
 use Rattle.uac_sentence.specs.Fault.{faults_from}

@@ -1,9 +1,9 @@
 -- Lines in a row, none of them refused.
 use Rattle.std.proofs.Common.{◌≡◌, ◌∙◌, sym, refl, ap, subst, ℕ, List, [], ◌∷◌, ◌++◌, map, None, Some, Result, Ok}
 use Rattle.uac_script.specs.Phrase.{Phrase}
-use Rattle.uac_script.specs.Reading.{answer}
+use Rattle.uac_script.specs.LineReading.{answer}
 use Rattle.uac_transcript.specs.Transcript.{Said}
-use Rattle.uac_bus.specs.World.{Step, World, done, refused, step}
+use Rattle.uac_bus.specs.BusWorld.{Step, World, done, refused, step}
 use Rattle.uac_bus.specs.After.{After, after, and_then, said_step}
 
 -- none of these lines is refused in a world, and this holds after them
@@ -27,10 +27,10 @@ then_line text texts phrase w next lines P said is rest =
     (record { none_refused = rest.none_refused; holds = rest.holds })
 
 -- and then others
-module _ (ys : List (List ℕ)) (P Q : World → Type 0) (behind : (v : World) → P v → Reaches ys v Q) where
+module _ (ys : List (List ℕ)) (P Q : World → Type 0) (following : (v : World) → P v → Reaches ys v Q) where
   pub then_lines : (xs : List (List ℕ)) (w : World) → Reaches xs w P → Reaches (xs ++ ys) w Q
   unfolding after
-  then_lines [] w reaches = behind w reaches.holds
+  then_lines [] w reaches = following w reaches.holds
   then_lines (x ∷ xs) w reaches = by (said_step (answer x) w) (then_lines xs) reaches
     where
       by : (s : Step) → ((v : World) → Reaches xs v P → Reaches (xs ++ ys) v Q) → Leaves (and_then s w (after (map answer xs))) P

@@ -4,12 +4,12 @@ use Rattle.std.specs.List.{flat_map, list_all, list_any}
 use Rattle.std.proofs.lemmas.Bool.{and_parts, true≢false}
 use Rattle.uac_walk.specs.Walk.{links}
 use Rattle.uac_entities.specs.declared.entity.Entity.{Entity}
-use Rattle.uac_entities.specs.Streams.{is_input}
+use Rattle.uac_entities.specs.EntityStreams.{is_input}
 use Rattle.uac_topology_rules.specs.Table.{at}
 use Rattle.uac_topology_rules.specs.Links.{signal_links}
 use Rattle.uac_topology_rules.specs.Clusters.{clocks_by, clocks_of, clocks_step, clocks_within}
 use Rattle.uac_topology_rules.specs.Rules.{breaks_u11, is_output}
-use Rattle.uac_topology_rules.specs.Faults.{of_entity}
+use Rattle.uac_topology_rules.specs.RuleFaults.{of_entity}
 use Rattle.uac_topology_rules.proofs.FirstPlace.{no_entity_breaks}
 
 -- a terminal has clock 1

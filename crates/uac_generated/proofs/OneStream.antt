@@ -9,16 +9,16 @@ use Rattle.uac_clock.specs.Nominal.{nominal_of}
 use Rattle.uac_clock.specs.declared.values.Nominal.{Nominal}
 use Rattle.uac_descriptor.specs.Classes.{is_streaming_interface}
 use Rattle.uac_entities.specs.Entities.{entity_of, entities_of}
-use Rattle.uac_entities.specs.Settings.{alternates_of, alternate_at, own_blocks, ends_setting, general_of, format_of, endpoint_of}
-use Rattle.uac_entities.specs.Streams.{link_of, named, setting_of}
-use Rattle.uac_entities.specs.Streams as entities
+use Rattle.uac_entities.specs.EntitySettings.{alternates_of, alternate_at, own_blocks, ends_setting, general_of, format_of, endpoint_of}
+use Rattle.uac_entities.specs.EntityStreams.{link_of, named, setting_of}
+use Rattle.uac_entities.specs.EntityStreams as entities
 use Rattle.uac_entities.specs.declared.stream.Setting.{Setting}
 use Rattle.uac_entities.specs.declared.stream.StreamInterface.{StreamInterface}
 use Rattle.uac_topology_rules.specs.Domains.{clock_named, domains_of, each_once}
 use Rattle.uac_topology.specs.Function.{FunctionFields}
 use Rattle.uac_topology.specs.Topology.{streams_in}
 use Rattle.uac_store.specs.declared.keys.Key.{Key}
-use Rattle.uac_alt.specs.Streams.{StreamFields, stream_at, stream_of}
+use Rattle.uac_alt.specs.AltStreams.{StreamFields, stream_at, stream_of}
 use Rattle.uac_request.specs.Requests.{rate_at}
 use Rattle.uac_device.specs.DeviceWorld.{stream_in_setting}
 use Rattle.uac_streaming.specs.StreamingWorld.{place_of}

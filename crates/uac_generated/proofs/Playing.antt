@@ -1,28 +1,28 @@
 -- A running device under a generated script: what the lines leave of its stream, between groups of microframes and within one.
 use Rattle.std.proofs.Common.{◌≡◌, ◌∙◌, sym, refl, ap, subst, ℕ, zero, suc, ◌+◌, ◌/◌, ◌%◌, ◌≤◌, ◌<◌, ◌==◌, ◌&&◌, not, if◌then◌else◌, Bool, true, false, ℤ, List, [], Option, None, Some, arith}
 use Rattle.std.specs.Option.{option_and_then, option_map}
-use Rattle.uac_rate.specs.Steadiness.{Given, is_slight, is_steady, nothing_given, restarted}
+use Rattle.uac_rate.specs.Steadiness.{Given, is_slight, is_steady, nothing_given, with_restart_given}
 use Rattle.uac_rate.specs.Steadiness as steadiness
 use Rattle.uac_pcm.specs.declared.tones.Tone.{Tone}
 use Rattle.uac_topology.specs.Function.{FunctionFields}
 use Rattle.uac_store.specs.declared.keys.Key.{Key}
-use Rattle.uac_alt.specs.Streams.{StreamFields}
+use Rattle.uac_alt.specs.AltStreams.{StreamFields}
 use Rattle.uac_units.specs.Hearing.{Reading}
 use Rattle.uac_request.specs.Requests.{after_request, held_by, reply_of, setup_of}
 use Rattle.uac_lanes.specs.InterfaceStreams.{out_from}
-use Rattle.uac_device.specs.DeviceWorld.{DeviceWorld, controlled, deviated, fresh, stream_in_setting, tells_done}
+use Rattle.uac_device.specs.DeviceWorld.{DeviceWorld, after_control, after_deviation, fresh, stream_in_setting, tells_done}
 use Rattle.uac_device.specs.DeviceWorld as device
-use Rattle.uac_flow.specs.Streams.{OutStream, started_out}
+use Rattle.uac_flow.specs.FlowStreams.{OutStream, started_out}
 use Rattle.uac_mixer.specs.declared.link.When.{When}
 use Rattle.uac_mixer.specs.declared.link.When.TheVariants as when
 use Rattle.uac_script.specs.Phrase.{SaidMark}
-use Rattle.uac_streaming.specs.StreamingWorld.{StreamingWorld, followed, given_at, loses_report, numbers, place_of}
+use Rattle.uac_streaming.specs.StreamingWorld.{StreamingWorld, after_following, given_at, loses_report, numbers, place_of}
 use Rattle.uac_running.specs.RunningWorld.{RunningWorld, at_start, streaming_of, with_deviation, with_track}
-use Rattle.uac_running.specs.Transfers.{acts, breaks_before, transferred}
+use Rattle.uac_running.specs.RunningTransfers.{acts, breaks_before, after_transfer}
 use Rattle.uac_running.specs.Events.{microframe, microframes}
 use Rattle.uac_bands.proofs.Once.{Among}
 use Rattle.uac_generated.proofs.Beats.{Beats, Plays, microframe_beats}
-use Rattle.uac_generated.proofs.Reports.{IsKept, anew_kept, at_most, none_kept, off_kept, steady_of}
+use Rattle.uac_generated.proofs.Reports.{KeepsReports, anew_kept, at_most, none_kept, off_kept, steady_of}
 use Rattle.uac_generated.proofs.Spelt.{rate_setup, setting_setup}
 use Rattle.uac_generated.proofs.Timely.{Beat, IsWell, beat_of, bound, given_behind, next_beat, well_in, well_lost, well_on}
 
@@ -50,59 +50,59 @@ module _ (function : FunctionFields) (place : ℕ) where
   -- ---- microframes
 
   module _ (has : HasOne function place) where
-    behind : (losses : List SaidMark) (lost : Bool) (r : RunningWorld) (beat : Option Beat) (given : Given) → loses_report losses 1 ≡ lost
+    following : (marks : List SaidMark) (lost : Bool) (r : RunningWorld) (beat : Option Beat) (given : Given) → loses_report marks 1 ≡ lost
         → Beats function 1 beat given (streaming_of r)
-        → Beats function 1 (option_map next_beat beat) (given_behind lost (Some place) (option_map next_beat beat) given) (streaming_of (microframe losses r).world)
-    behind losses lost r beat given is beats =
-        subst (λ (b : Bool). Beats function 1 (option_map next_beat beat) (given_behind b (Some place) (option_map next_beat beat) given) (streaming_of (microframe losses r).world)) is
-        (subst (λ (o : Option ℕ). Beats function 1 (option_map next_beat beat) (given_behind (loses_report losses 1) o (option_map next_beat beat) given) (streaming_of (microframe losses r).world)) has.placed
-        (microframe_beats function 1 has.among losses r beat given beats))
+        → Beats function 1 (option_map next_beat beat) (given_behind lost (Some place) (option_map next_beat beat) given) (streaming_of (microframe marks r).world)
+    following marks lost r beat given is beats =
+        subst (λ (b : Bool). Beats function 1 (option_map next_beat beat) (given_behind b (Some place) (option_map next_beat beat) given) (streaming_of (microframe marks r).world)) is
+        (subst (λ (o : Option ℕ). Beats function 1 (option_map next_beat beat) (given_behind (loses_report marks 1) o (option_map next_beat beat) given) (streaming_of (microframe marks r).world)) has.placed
+        (microframe_beats function 1 has.among marks r beat given beats))
 
     -- so many microframes that lose no report, the last of which ends eight, so that a report came
-    pub all_come : (losses : List SaidMark) (count passed most : ℕ) (r : RunningWorld) → loses_report losses 1 ≡ false
-        → (passed + suc count) % 8 ≡ 0 → IsPlaying passed most r → IsPlaying 0 0 (microframes losses (suc count) r).world
+    pub all_come : (marks : List SaidMark) (count passed most : ℕ) (r : RunningWorld) → loses_report marks 1 ≡ false
+        → (passed + suc count) % 8 ≡ 0 → IsPlaying passed most r → IsPlaying 0 0 (microframes marks (suc count) r).world
     unfolding microframes
-    all_come losses zero passed most r comes due is = record {
+    all_come marks zero passed most r comes due is = record {
       beat = option_map next_beat is.beat;
       given = given_behind false (Some place) (option_map next_beat is.beat) is.given;
-      beats = behind losses false r is.beat is.given comes is.beats;
+      beats = following marks false r is.beat is.given comes is.beats;
       well = well_in place passed most is.beat is.given due is.well;
     }
-    all_come losses (suc count) passed most r comes due is =
-        all_come losses count (passed + 1) most (microframe losses r).world comes (omega arith) (record {
+    all_come marks (suc count) passed most r comes due is =
+        all_come marks count (passed + 1) most (microframe marks r).world comes (omega arith) (record {
           beat = option_map next_beat is.beat;
           given = given_behind false (Some place) (option_map next_beat is.beat) is.given;
-          beats = behind losses false r is.beat is.given comes is.beats;
+          beats = following marks false r is.beat is.given comes is.beats;
           well = well_on place passed most is.beat is.given is.well;
         })
 
     -- so many that lose no report
-    pub some_come : (losses : List SaidMark) (count passed most : ℕ) (r : RunningWorld) → loses_report losses 1 ≡ false
-        → IsPlaying passed most r → IsPlaying (passed + count) most (microframes losses count r).world
+    pub some_come : (marks : List SaidMark) (count passed most : ℕ) (r : RunningWorld) → loses_report marks 1 ≡ false
+        → IsPlaying passed most r → IsPlaying (passed + count) most (microframes marks count r).world
     unfolding microframes
-    some_come losses zero passed most r comes is =
+    some_come marks zero passed most r comes is =
         subst (λ (n : ℕ). IsPlaying n most r) (let same : passed ≡ passed + 0 = omega arith in same) is
-    some_come losses (suc count) passed most r comes is =
-        subst (λ (n : ℕ). IsPlaying n most (microframes losses (suc count) r).world) (let same : passed + 1 + count ≡ passed + suc count = omega arith in same)
-        (some_come losses count (passed + 1) most (microframe losses r).world comes (record {
+    some_come marks (suc count) passed most r comes is =
+        subst (λ (n : ℕ). IsPlaying n most (microframes marks (suc count) r).world) (let same : passed + 1 + count ≡ passed + suc count = omega arith in same)
+        (some_come marks count (passed + 1) most (microframe marks r).world comes (record {
           beat = option_map next_beat is.beat;
           given = given_behind false (Some place) (option_map next_beat is.beat) is.given;
-          beats = behind losses false r is.beat is.given comes is.beats;
+          beats = following marks false r is.beat is.given comes is.beats;
           well = well_on place passed most is.beat is.given is.well;
         }))
 
     -- so many that lose their reports, of the first 32
-    pub all_lost : (losses : List SaidMark) (count passed : ℕ) (r : RunningWorld) → loses_report losses 1 ≡ true → passed + count < 32
-        → IsPlaying passed (passed / 8) r → IsPlaying (passed + count) ((passed + count) / 8) (microframes losses count r).world
+    pub all_lost : (marks : List SaidMark) (count passed : ℕ) (r : RunningWorld) → loses_report marks 1 ≡ true → passed + count < 32
+        → IsPlaying passed (passed / 8) r → IsPlaying (passed + count) ((passed + count) / 8) (microframes marks count r).world
     unfolding microframes
-    all_lost losses zero passed r lost few is =
+    all_lost marks zero passed r lost few is =
         subst (λ (n : ℕ). IsPlaying n (n / 8) r) (let same : passed ≡ passed + 0 = omega arith in same) is
-    all_lost losses (suc count) passed r lost few is =
-        subst (λ (n : ℕ). IsPlaying n (n / 8) (microframes losses (suc count) r).world) (let same : passed + 1 + count ≡ passed + suc count = omega arith in same)
-        (all_lost losses count (passed + 1) (microframe losses r).world lost (omega arith) (record {
+    all_lost marks (suc count) passed r lost few is =
+        subst (λ (n : ℕ). IsPlaying n (n / 8) (microframes marks (suc count) r).world) (let same : passed + 1 + count ≡ passed + suc count = omega arith in same)
+        (all_lost marks count (passed + 1) (microframe marks r).world lost (omega arith) (record {
           beat = option_map next_beat is.beat;
           given = given_behind true (Some place) (option_map next_beat is.beat) is.given;
-          beats = behind losses true r is.beat is.given lost is.beats;
+          beats = following marks true r is.beat is.given lost is.beats;
           well = well_lost place passed is.beat is.given (omega arith) is.well;
         }))
 
@@ -117,17 +117,17 @@ module _ (function : FunctionFields) (place : ℕ) where
     well = record { timely = tt; kept = none_kept place 0 };
   }
 
-  pub goes_off : (passed most clock : ℕ) (millionths : ℤ) (r : RunningWorld) → is_slight millionths ≡ true → IsPlaying passed most r
-      → IsPlaying passed most (with_deviation clock millionths r)
-  unfolding with_deviation deviated
-  goes_off passed most clock millionths r slight is = record {
+  pub goes_off : (passed most clock : ℕ) (ppm : ℤ) (r : RunningWorld) → is_slight ppm ≡ true → IsPlaying passed most r
+      → IsPlaying passed most (with_deviation clock ppm r)
+  unfolding with_deviation after_deviation
+  goes_off passed most clock ppm r slight is = record {
     beat = is.beat;
-    given = steadiness.deviated millionths is.given;
+    given = steadiness.with_deviation_given ppm is.given;
     beats = record {
       plays = record { function_is = is.beats.plays.function_is; own = is.beats.plays.own; others = is.beats.plays.others };
-      given_is = ap (steadiness.deviated millionths) is.beats.given_is;
+      given_is = ap (steadiness.with_deviation_given ppm) is.beats.given_is;
     };
-    well = record { timely = is.well.timely; kept = off_kept place (bound most is.beat) millionths is.given slight is.well.kept };
+    well = record { timely = is.well.timely; kept = off_kept place (bound most is.beat) ppm is.given slight is.well.kept };
   }
 
   pub tracks_on : (passed most interface : ℕ) (tone : Tone) (r : RunningWorld) → IsPlaying passed most r
@@ -146,8 +146,8 @@ module _ (function : FunctionFields) (place : ℕ) where
   -- ---- transfers
 
   -- the rate is set
-  pub rate_set : (bytes : List ℕ) (r : RunningWorld) → IsPlaying 0 0 r → IsPlaying 0 0 (transferred (setup_of rate_setup) bytes r)
-  unfolding transferred controlled
+  pub rate_set : (bytes : List ℕ) (r : RunningWorld) → IsPlaying 0 0 r → IsPlaying 0 0 (after_transfer (setup_of rate_setup) bytes r)
+  unfolding after_transfer after_control
   rate_set bytes r is = record {
     beat = is.beat;
     given = is.given;
@@ -155,7 +155,7 @@ module _ (function : FunctionFields) (place : ℕ) where
     well = is.well;
   }
     where
-      by : (breaks : Option When) → Plays function 1 is.beat (acts breaks r.device (controlled (setup_of rate_setup) bytes r.device))
+      by : (breaks : Option When) → Plays function 1 is.beat (acts breaks r.device (after_control (setup_of rate_setup) bytes r.device))
       by None = record { function_is = is.beats.plays.function_is; own = is.beats.plays.own; others = is.beats.plays.others }
       by (Some when.Before) = is.beats.plays
       by (Some when.After) = record { function_is = is.beats.plays.function_is; own = is.beats.plays.own; others = is.beats.plays.others }
@@ -177,19 +177,19 @@ module _ (function : FunctionFields) (place : ℕ) where
         has.eight r.device.controls stream
         (subst (λ (f : FunctionFields). stream_in_setting f r.device.controls 1 1 ≡ Some stream) is.beats.plays.function_is asked) out
 
-    started : (w : DeviceWorld) → Plays function 1 is.beat w → After (followed 1 begun (record (streaming_of r) { device = device.restarted 1 begun w }))
-    unfolding device.restarted followed
+    started : (w : DeviceWorld) → Plays function 1 is.beat w → After (after_following 1 begun (record (streaming_of r) { device = device.after_restart 1 begun w }))
+    unfolding device.after_restart after_following
     started w plays = by begun refl
       where
-        fresh_given : given_at (place_of w.function 1) restarted r.given ≡ restarted place is.given
+        fresh_given : given_at (place_of w.function 1) with_restart_given r.given ≡ with_restart_given place is.given
         fresh_given =
-            ap (λ (f : FunctionFields). given_at (place_of f 1) restarted r.given) plays.function_is
-            ∙ ap (λ (o : Option ℕ). given_at o restarted r.given) has.placed ∙ ap (restarted place) is.beats.given_is
+            ap (λ (f : FunctionFields). given_at (place_of f 1) with_restart_given r.given) plays.function_is
+            ∙ ap (λ (o : Option ℕ). given_at o with_restart_given r.given) has.placed ∙ ap (with_restart_given place) is.beats.given_is
 
-        anew : IsKept place 0 (restarted place is.given)
+        anew : KeepsReports place 0 (with_restart_given place is.given)
         anew = anew_kept place (bound 0 is.beat) is.given is.well.kept
 
-        kept_now : IsKept place 0 is.given
+        kept_now : KeepsReports place 0 is.given
         kept_now = at_most place (bound 0 is.beat) 0 is.given (none_bound is.beat) is.well.kept
           where
             none_bound : (b : Option Beat) → bound 0 b ≤ 0
@@ -208,7 +208,7 @@ module _ (function : FunctionFields) (place : ℕ) where
 
         -- the stream goes to the device, or none runs to it
         runs : (stream : StreamFields) → begun ≡ Some stream → (b : Bool) → stream.out ≡ b
-            → (beat : Option Beat) × (option_map beat_of (option_and_then out_from (Some stream)) ≡ beat) × IsWell place 0 0 beat (restarted place is.given)
+            → (beat : Option Beat) × (option_map beat_of (option_and_then out_from (Some stream)) ≡ beat) × IsWell place 0 0 beat (with_restart_given place is.given)
         runs stream asked true out =
             let period : stream.period ≡ 8 = eight_of stream asked out in
             let beat : Beat = record { period = stream.period; microframes = 0 } in
@@ -218,7 +218,7 @@ module _ (function : FunctionFields) (place : ℕ) where
             let begins : option_and_then out_from (Some stream) ≡ None = ap (λ (b : Bool). if b then Some (started_out stream) else None) out in
             (None, ap (option_map beat_of) begins, record { timely = tt; kept = anew })
 
-        by : (o : Option StreamFields) → begun ≡ o → After (followed 1 o (record (streaming_of r) { device = device.restarted 1 o w }))
+        by : (o : Option StreamFields) → begun ≡ o → After (after_following 1 o (record (streaming_of r) { device = device.after_restart 1 o w }))
         by None asked = (
           None,
           is.given,
@@ -231,7 +231,7 @@ module _ (function : FunctionFields) (place : ℕ) where
         by (Some stream) asked =
             let running = runs stream asked stream.out refl in (
               running.0,
-              restarted place is.given,
+              with_restart_given place is.given,
               record {
                 plays = record { function_is = plays.function_is; own = running.1; others = others (option_and_then out_from (Some stream)) };
                 given_is = fresh_given;
@@ -239,9 +239,9 @@ module _ (function : FunctionFields) (place : ℕ) where
               running.2,
             )
 
-  pub setting_set : (has : HasOne function place) (r : RunningWorld) → IsPlaying 0 0 r → IsPlaying 0 0 (transferred (setup_of setting_setup) [] r)
-  unfolding transferred controlled
-  setting_set has r is = of_after _ (by (tells_done (reply_of r.device.function (held_by r.device.controls r.device.settings) (setup_of setting_setup) [])) r.breaks) (transferred (setup_of setting_setup) [] r) refl
+  pub setting_set : (has : HasOne function place) (r : RunningWorld) → IsPlaying 0 0 r → IsPlaying 0 0 (after_transfer (setup_of setting_setup) [] r)
+  unfolding after_transfer after_control
+  setting_set has r is = of_after _ (by (tells_done (reply_of r.device.function (held_by r.device.controls r.device.settings) (setup_of setting_setup) [])) r.breaks) (after_transfer (setup_of setting_setup) [] r) refl
     where
       asked : DeviceWorld
       asked =
@@ -260,9 +260,9 @@ module _ (function : FunctionFields) (place : ℕ) where
       }
 
       by : (done : Bool) (breaks : Option When)
-          → (let acted : DeviceWorld = if done then device.restarted 1 (begun has r is) asked else asked in
+          → (let acted : DeviceWorld = if done then device.after_restart 1 (begun has r is) asked else asked in
           let w : StreamingWorld = record (streaming_of r) { device = acts breaks r.device acted } in
-          After has r is (if not (breaks_before breaks) && done then followed 1 (begun has r is) w else w))
+          After has r is (if not (breaks_before breaks) && done then after_following 1 (begun has r is) w else w))
       by true None = started has r is asked asked_plays
       by true (Some when.Before) = resting has r is r.device is.beats.plays
       by true (Some when.After) = started has r is asked asked_plays

@@ -6,8 +6,8 @@ use Rattle.uac_descriptor.specs.Classes.{is_streaming_interface}
 use Rattle.uac_descriptor.specs.declared.block.Block as block
 use lib.Count.{ones, ones_in}
 use Rattle.uac_entities.specs.Entities.{entity_of, entities_of}
-use Rattle.uac_entities.specs.Settings.{alternates_of, alternate_at, own_blocks, ends_setting, general_of, format_of, endpoint_of}
-use Rattle.uac_entities.specs.Streams.{link_of, named, setting_of, stream_at, stream_of}
+use Rattle.uac_entities.specs.EntitySettings.{alternates_of, alternate_at, own_blocks, ends_setting, general_of, format_of, endpoint_of}
+use Rattle.uac_entities.specs.EntityStreams.{link_of, named, setting_of, stream_at, stream_of}
 use Rattle.uac_entities.specs.declared.entity.Entity.{Entity}
 use Rattle.uac_topology_rules.specs.declared.fault.TopologyFault.{TopologyFault}
 use Rattle.uac_topology_rules.specs.Table.{at, found, place_of, kind_of}
@@ -16,8 +16,8 @@ use Rattle.uac_topology_rules.specs.Clusters.{cluster_step, cluster_within, clus
 use Rattle.uac_topology_rules.specs.Domains.{names_new, clock_named, each_once, domains_of}
 use Rattle.uac_topology_rules.specs.Offenders.{first_place, offender, number_at, interface_offender}
 use Rattle.uac_topology_rules.specs.Rules.{breaks_u1, breaks_u2, breaks_u3, breaks_u4, breaks_u5, breaks_u8, breaks_u9, breaks_u10, breaks_u11, breaks_u12, breaks_u13, breaks_u14, at_stream, is_usb, is_wrong, exceeds, names_ninth}
-use Rattle.uac_topology_rules.specs.Faults.{broken, broken_ends, broken_names, broken_shapes, broken_walks, of_entity, of_interface}
-use Rattle.uac_topology_rules.proofs.CyclesLemmas.{cycles_are_named}
+use Rattle.uac_topology_rules.specs.RuleFaults.{broken, broken_ends, broken_names, broken_shapes, broken_walks, of_entity, of_interface}
+use Rattle.uac_topology_rules.proofs.LinkCyclesLemmas.{cycles_are_named}
 use Rattle.uac_topology.specs.Topology.{first_broken, streams_in}
 use Rattle.uac_gen.specs.Descriptor.{blocks_with, control_total, whole_total}
 use Rattle.uac_generated.proofs.Descending.{descends_from, none_round}

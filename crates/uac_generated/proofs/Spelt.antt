@@ -21,7 +21,7 @@ use Rattle.uac_script.specs.declared.line.MarkKind.TheVariants.{Out, Feedback}
 use Rattle.uac_script.specs.Words.{hex_of, words_of}
 use Rattle.uac_script.specs.Phrase.{SaidMark, Phrase, hisses, feeds, goes, controls, tracks, deviates, runs, reports, are_marks_in_range, is_in_range, is_within}
 use Rattle.uac_script.specs.Line.{IsRow, mark_word}
-use Rattle.uac_script.specs.Reading.{answer}
+use Rattle.uac_script.specs.LineReading.{answer}
 use Rattle.uac_script.proofs.Answered.{says_only}
 use Rattle.uac_gen.specs.Generator.{deviation_line, rate_line, run_line, setting_line, tone_line}
 use Rattle.uac_generated.proofs.InEach.{in_each}

@@ -3,10 +3,10 @@ use Rattle.std.proofs.Common.{◌≡◌, sym, subst, ℕ, suc, ◌+◌, ◌/◌,
 use Rattle.std.specs.Prelude.{nat_lt}
 use Rattle.std.specs.Option.{option_map, option_map_or}
 use Rattle.std.proofs.lemmas.Bool.{and_from, and_right, cases_eq, eq-eqb, lt-ltb, ne_eqb}
-use Rattle.uac_rate.specs.Steadiness.{Given, reported}
-use Rattle.uac_flow.specs.Streams.{OutStream}
+use Rattle.uac_rate.specs.Steadiness.{Given, with_report_given}
+use Rattle.uac_flow.specs.FlowStreams.{OutStream}
 use Rattle.uac_streaming.specs.StreamingWorld.{given_at}
-use Rattle.uac_generated.proofs.Reports.{IsKept, at_most, report_came, report_lost}
+use Rattle.uac_generated.proofs.Reports.{KeepsReports, at_most, report_came, report_lost}
 
 -- the microframes between two reports of a stream, and those since its start
 pub record Beat : Type 0 where
@@ -25,7 +25,7 @@ is_told b = nat_lt 0 b.microframes && b.microframes % b.period == 0
 
 -- what is given after a report of the stream of an interface, if one falls due
 abbrev pub told_at : Bool → Option ℕ → Bool → Given → Given
-told_at lost place told given = if told then given_at place (λ p. reported p lost) given else given
+told_at lost place told given = if told then given_at place (λ p. with_report_given p lost) given else given
 
 abbrev pub given_behind : Bool → Option ℕ → Option Beat → Given → Given
 given_behind lost place beat given = told_at lost place (option_map_or is_told beat false) given
@@ -43,7 +43,7 @@ bound most (Some b) = most
 -- both, of the stream whose interface stands at a place
 pub record IsWell (place passed most : ℕ) (beat : Option Beat) (given : Given) : Type 0 where
   pub timely : IsTimely passed beat
-  pub kept : IsKept place (bound most beat) given
+  pub kept : KeepsReports place (bound most beat) given
 
 -- ---- whether a report falls due
 
@@ -67,8 +67,8 @@ module _ (place : ℕ) where
   well_on passed most None given is = record { timely = tt; kept = is.kept }
   well_on passed most (Some b) given is = record { timely = timely_on passed b is.timely.0 is.timely.1; kept = by (is_told (next_beat b)) }
     where
-      by : (told : Bool) → IsKept place most (told_at false (Some place) told given)
-      by true = at_most place 0 most (reported place false given) (omega arith) (report_came place most given is.kept)
+      by : (told : Bool) → KeepsReports place most (told_at false (Some place) told given)
+      by true = at_most place 0 most (with_report_given place false given) (omega arith) (report_came place most given is.kept)
       by false = is.kept
 
   -- and one after which it comes
@@ -80,7 +80,7 @@ module _ (place : ℕ) where
       let count = is.timely.1 in
       record {
         timely = (is.timely.0, omega arith);
-        kept = subst (λ (t : Bool). IsKept place 0 (told_at false (Some place) t given)) (sym told) (report_came place most given is.kept);
+        kept = subst (λ (t : Bool). KeepsReports place 0 (told_at false (Some place) t given)) (sym told) (report_came place most given is.kept);
       }
 
   -- ---- a microframe whose report, if one falls due, is lost; so it is only in the first of 32
@@ -92,11 +92,11 @@ module _ (place : ℕ) where
     timely = timely_on passed b is.timely.0 is.timely.1;
     kept = elim (cases_eq ((passed + 1) % 8) 0) [
       | inl due ↦
-          subst (λ (t : Bool). IsKept place ((passed + 1) / 8) (told_at true (Some place) t given)) (sym (told_on passed b is.timely.0 is.timely.1 due))
-          (at_most place (suc (passed / 8)) ((passed + 1) / 8) (reported place true given) (omega arith)
+          subst (λ (t : Bool). KeepsReports place ((passed + 1) / 8) (told_at true (Some place) t given)) (sym (told_on passed b is.timely.0 is.timely.1 due))
+          (at_most place (suc (passed / 8)) ((passed + 1) / 8) (with_report_given place true given) (omega arith)
           (report_lost place (passed / 8) given (omega arith) is.kept))
       | inr quiet ↦
-          subst (λ (t : Bool). IsKept place ((passed + 1) / 8) (told_at true (Some place) t given)) (sym (untold_on passed b is.timely.0 is.timely.1 quiet))
+          subst (λ (t : Bool). KeepsReports place ((passed + 1) / 8) (told_at true (Some place) t given)) (sym (untold_on passed b is.timely.0 is.timely.1 quiet))
           (at_most place (passed / 8) ((passed + 1) / 8) given (omega arith) is.kept)
     ];
   }

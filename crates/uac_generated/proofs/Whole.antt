@@ -9,19 +9,19 @@ use Rattle.uac_units.specs.Hearing.{Reading}
 use Rattle.uac_topology.specs.Function.{FunctionFields}
 use Rattle.uac_request.specs.Requests.{setup_of}
 use Rattle.uac_script.specs.Phrase.{SaidMark, Phrase, controls, deviates, goes, hisses, reports, runs, tracks}
-use Rattle.uac_script.specs.Reading.{answer}
+use Rattle.uac_script.specs.LineReading.{answer}
 use Rattle.uac_transcript.specs.Transcript.{Said}
 use Rattle.uac_running.specs.RunningWorld.{RunningWorld, at_start, with_deviation, with_track}
 use Rattle.uac_running.specs.Naming.{has_domain, has_out, is_placed}
 use Rattle.uac_running.specs.Events.{microframes}
-use Rattle.uac_running.specs.Lines.{ready_line, report_lines}
-use Rattle.uac_running.specs.Transfers.{transfer, transferred}
-use Rattle.uac_bus.specs.World.{World, describing, done, finish_of, running, silently, start, step, told}
+use Rattle.uac_running.specs.RunningLines.{ready_line, report_lines}
+use Rattle.uac_running.specs.RunningTransfers.{transfer, after_transfer}
+use Rattle.uac_bus.specs.BusWorld.{World, describing, done, finish_of, running, silently, start, step, step_telling}
 use Rattle.uac_bus.proofs.Stepping.{unless_holds}
-use Rattle.uac_steady.specs.Scripts.{behind_lines, is_steady_in}
+use Rattle.uac_steady.specs.Scripts.{after_texts, is_steady_in}
 use Rattle.uac_gen.specs.Descriptor.{descriptor_of}
-use Rattle.uac_gen.specs.Generator.{behind_descriptor, deviation_line, draw, feed_lines, generated, group_lines, groups, next_x, rate_line, rest_line, run_line, setting_line, tone_line, unpacked_lines, unreported_lines}
-use Rattle.uac_gen.specs.Script.{script_of}
+use Rattle.uac_gen.specs.Generator.{lines_after_descriptor, deviation_line, draw, feed_lines, generated, group_lines, groups, next_x, rate_line, rest_line, run_line, setting_line, tone_line, unpacked_lines, unreported_lines}
+use Rattle.uac_gen.specs.GeneratedScript.{script_of}
 use Rattle.uac_generated.specs.Generated.{GeneratedScriptsAreDone, GeneratedScriptsAreScripts, GeneratedScriptsAreSteady, IsLineOfScript}
 use Rattle.uac_generated.proofs.Feeding.{all_fed, function_at, gone_is}
 use Rattle.uac_generated.proofs.Grammatical.{all_bytes, none_faulty}
@@ -60,17 +60,17 @@ module _ (function : FunctionFields) (streams : function.streams ≡ the_stream 
   BehindEights eights = Plays (0 + 8 * eights) ((0 + 8 * eights) / 8)
 
   module _ (r : RunningWorld) (same : r.device.function ≡ function) where
-    runs_is : (count : ℕ) (losses : List SaidMark) → list_all (is_placed function.streams) losses ≡ true
-        → step (runs (pos count) losses) (running r) ≡ done (running (microframes losses count r).world) (microframes losses count r).lines
+    runs_is : (count : ℕ) (marks : List SaidMark) → list_all (is_placed function.streams) marks ≡ true
+        → step (runs (pos count) marks) (running r) ≡ done (running (microframes marks count r).world) (microframes marks count r).lines
     unfolding step
-    runs_is count losses placed =
-        unless_holds (list_all (is_placed r.device.function.streams) losses) 6 (told (microframes losses count r))
-        (ap (λ (f : FunctionFields). list_all (is_placed f.streams) losses) same ∙ placed)
+    runs_is count marks placed =
+        unless_holds (list_all (is_placed r.device.function.streams) marks) 6 (step_telling (microframes marks count r))
+        (ap (λ (f : FunctionFields). list_all (is_placed f.streams) marks) same ∙ placed)
 
-    deviates_is : (millionths : ℤ) → step (deviates (pos 1) millionths) (running r) ≡ done (running (with_deviation 1 millionths r)) []
+    deviates_is : (ppm : ℤ) → step (deviates (pos 1) ppm) (running r) ≡ done (running (with_deviation 1 ppm r)) []
     unfolding step
-    deviates_is millionths =
-        unless_holds (has_domain r 1) 6 (silently (running (with_deviation 1 millionths r)))
+    deviates_is ppm =
+        unless_holds (has_domain r 1) 6 (silently (running (with_deviation 1 ppm r)))
         (ap (λ (f : FunctionFields). list_any (λ d. d == 1) f.domains) same ∙ ap (list_any (λ d. d == 1)) domains)
 
     tracks_is : (number : ℕ) → step (tracks (pos 1) (hisses (pos number))) (running r) ≡ done (running (with_track 1 (Noise number) r)) []
@@ -128,7 +128,7 @@ module _ (function : FunctionFields) (streams : function.streams ≡ the_stream 
       then_line (deviation_line drawn) (unreported_lines eights ++ rest) (deviates (pos 1) off) (running r) (running next) [] Between
       (deviation_said drawn drawn_is) (deviates_is r (of_playing 0 0 r is) off)
       (then_lines rest (Is (BehindEights eights)) Between
-      (on_running (BehindEights eights) rest Between (λ v behind. left eights lost v few behind)) (unreported_lines eights) (running next)
+      (on_running (BehindEights eights) rest Between (λ v following. left eights lost v few following)) (unreported_lines eights) (running next)
       (unreported eights next few (goes_off function 0 0 0 1 off r (drawn_slight drawn drawn_is) is)))
 
   all_groups : (count x : ℕ) (r : RunningWorld) → Plays 0 0 r → Reaches (groups count x) (running r) Between
@@ -150,15 +150,15 @@ module _ (function : FunctionFields) (streams : function.streams ≡ the_stream 
   report r is = one_line (codes "q") reports r r (report_lines r) (Plays 0 0) report_said refl is
 
   transfer_is : (setup sent : List ℕ) (r : RunningWorld)
-      → step (controls setup sent) (running r) ≡ done (running (transferred (setup_of setup) sent r)) (transfer (setup_of setup) sent r).lines
+      → step (controls setup sent) (running r) ≡ done (running (after_transfer (setup_of setup) sent r)) (transfer (setup_of setup) sent r).lines
   unfolding step transfer
   transfer_is setup sent r = refl
 
   behind_end : (number place x : ℕ) (r : RunningWorld) → number < 2 ^ 32 → place < 12 → Plays 0 0 r
       → Reaches (rate_line (slice_index twelve_rates place) ∷ setting_line ∷ tone_line number ∷ (groups 250 x ++ codes "q" ∷ [])) (running r) Between
   behind_end number place x r below placed is =
-      let rated : RunningWorld = transferred (setup_of rate_setup) (rate_bytes place) r in
-      let set : RunningWorld = transferred (setup_of setting_setup) [] rated in
+      let rated : RunningWorld = after_transfer (setup_of rate_setup) (rate_bytes place) r in
+      let set : RunningWorld = after_transfer (setup_of setting_setup) [] rated in
       let toned : RunningWorld = with_track 1 (Noise number) set in
       let rated_is = rate_set function 0 (rate_bytes place) r is in
       let set_is = setting_set function 0 (has_one function streams) rated rated_is in
@@ -179,16 +179,16 @@ abbrev Ends : ℕ → World → Type 0
 Ends d = Is (IsPlaying (function_at d) 0 0 0)
 
 whole : (number d place x : ℕ) (shown : List Reading) → number < 2 ^ 32 → d < 30 → place < 12
-    → Reaches (feed_lines (descriptor_of (1 + d)) ++ behind_descriptor number (slice_index twelve_rates place) x) (start shown) (Ends d)
+    → Reaches (feed_lines (descriptor_of (1 + d)) ++ lines_after_descriptor number (slice_index twelve_rates place) x) (start shown) (Ends d)
 whole number d place x shown below units placed =
     let bytes : List ℕ = descriptor_of (1 + d) in
     let described : World = describing bytes shown in
-    let lines : List (List ℕ) = behind_descriptor number (slice_index twelve_rates place) x in
+    let lines : List (List ℕ) = lines_after_descriptor number (slice_index twelve_rates place) x in
     let begun : RunningWorld = at_start bytes (function_at d) shown in
-    let behind : Reaches lines described (Ends d) =
+    let following : Reaches lines described (Ends d) =
     then_line (codes "g") (rate_line (slice_index twelve_rates place) ∷ setting_line ∷ tone_line number ∷ (groups 250 x ++ codes "q" ∷ [])) goes described (running begun) (ready_line (function_at d) ∷ []) (Ends d) go_said (gone_is d shown units)
     (behind_end (function_at d) (streams_are d units) (domains_are d units) number place x begun below placed (starts (function_at d) 0 bytes shown)) in
-    then_lines lines (λ w. w ≡ described) (Ends d) (λ v same. subst (λ (w : World). Reaches lines w (Ends d)) (sym same) behind) (feed_lines bytes)
+    then_lines lines (λ w. w ≡ described) (Ends d) (λ v same. subst (λ (w : World). Reaches lines w (Ends d)) (sym same) following) (feed_lines bytes)
     (describing [] shown) (all_fed bytes shown (none_faulty d units) (all_bytes d units) (λ w. w ≡ described) refl)
 
 -- how many units a number draws, less one
@@ -230,7 +230,7 @@ generated_scripts_are_done number shown below =
     let reaches = runs_whole number shown below in
     record {
       none_refused = reaches.none_refused;
-      ends = done_at (IsPlaying (function_at (units_of number)) 0 0 0) (behind_lines (generated number) shown).world reaches.holds;
+      ends = done_at (IsPlaying (function_at (units_of number)) 0 0 0) (after_texts (generated number) shown).world reaches.holds;
     }
 
 steady_at : (function : FunctionFields) (w : World) → Is (IsPlaying function 0 0 0) w → is_steady_in w ≡ true
@@ -239,4 +239,4 @@ steady_at function (running r) is = steady_now function 0 0 0 r is
 
 pub generated_scripts_are_steady : GeneratedScriptsAreSteady
 generated_scripts_are_steady number shown below =
-    steady_at (function_at (units_of number)) (behind_lines (generated number) shown).world (runs_whole number shown below).holds
+    steady_at (function_at (units_of number)) (after_texts (generated number) shown).world (runs_whole number shown below).holds

@@ -3,11 +3,11 @@ use Rattle.std.specs.Prelude.{◌≡◌, ◌≢◌, ℕ, ◌^◌, ◌<◌, ◌�
 use Rattle.std.specs.List.{All, AllByRecursion}
 use Rattle.uac_units.specs.Hearing.{Reading}
 use Rattle.uac_gen.specs.Generator.{generated}
-use Rattle.uac_gen.specs.Script.{script_of}
-use Rattle.uac_script.specs.Lines.{most_of_input, most_of_line}
-use Rattle.uac_bus.specs.World.{finish_of}
+use Rattle.uac_gen.specs.GeneratedScript.{script_of}
+use Rattle.uac_script.specs.ScriptLines.{most_of_input, most_of_line}
+use Rattle.uac_bus.specs.BusWorld.{finish_of}
 use Rattle.uac_bus.specs.After.{After}
-use Rattle.uac_steady.specs.Scripts.{behind_lines, is_steady_in}
+use Rattle.uac_steady.specs.Scripts.{after_texts, is_steady_in}
 
 -- a line of a script: at most 4,096 bytes, none of them a newline
 pub record IsLineOfScript (text : List ℕ) : Type 0 where
@@ -30,9 +30,9 @@ pub record IsDone (a : After) : Type 0 where
 -- so it is whatever the meters show
 abbrev pub GeneratedScriptsAreDone : Type 0
 GeneratedScriptsAreDone =
-    (number : ℕ) (shown : List Reading) → number < 2 ^ 32 → IsDone (behind_lines (generated number) shown)
+    (number : ℕ) (shown : List Reading) → number < 2 ^ 32 → IsDone (after_texts (generated number) shown)
 
 -- no clock is off by more than a thousandth, and no stream loses four feedback reports in succession
 abbrev pub GeneratedScriptsAreSteady : Type 0
 GeneratedScriptsAreSteady =
-    (number : ℕ) (shown : List Reading) → number < 2 ^ 32 → is_steady_in (behind_lines (generated number) shown).world ≡ true
+    (number : ℕ) (shown : List Reading) → number < 2 ^ 32 → is_steady_in (after_texts (generated number) shown).world ≡ true

@@ -3,7 +3,7 @@ use Rattle.std.proofs.Common.{◌≡◌, ◌+◌, ◌*◌, ◌-◌, ℕ, zero, s
 use Rattle.std.proofs.lemmas.List.{take_rest, get_or-drop}
 use Rattle.byteorder.specs.Endian.{little_number}
 use Rattle.uac_descriptor.specs.Little.{two_at, four_at}
-use Rattle.uac_descriptor.specs.Reading.{words_in}
+use Rattle.uac_descriptor.specs.BlockReading.{words_in}
 
 -- a byte after the first n, found from the front
 byte_behind : (n : ℕ) (bytes : List ℕ) (i j k : ℕ) → k ≡ n + i + j → get_or (drop n bytes) (i + j) 0 ≡ get_or bytes k 0

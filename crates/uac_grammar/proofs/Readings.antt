@@ -3,7 +3,7 @@ use Rattle.std.proofs.Common.{◌≡◌, ◌≢◌, ◌≤◌, ◌+◌, ◌==◌
 use Rattle.std.proofs.lemmas.Bool.{cases_Bool}
 use Rattle.std.proofs.lemmas.List.{take-append-drop}
 use Rattle.std.proofs.lemmas.Bool.Decides.{nat_tests}
-use Rattle.uac_descriptor.specs.Reading.{AreBytes}
+use Rattle.uac_descriptor.specs.BlockReading.{AreBytes}
 use Rattle.uac_descriptor.specs.declared.block.Block.{Block}
 use Rattle.uac_sentence.specs.Fault.{IsShown, at_place, faults_from}
 use Rattle.uac_sentence.specs.Grammar.{grammar, start, state_after, first_fault, rule_at_end}
@@ -16,9 +16,9 @@ use Rattle.uac_sentence.proofs.ReachLaw.{read_reach}
 use Rattle.uac_sentence.proofs.SentenceLaw.{bytes_left, bytes_right}
 use Rattle.uac_grammar.specs.declared.fault.ReadStop.{ReadStop}
 use Rattle.uac_grammar.specs.declared.fault.ReadStop.TheVariants.{Fault, NoMemory}
-use Rattle.uac_grammar.specs.Reading.{IsUnstopped, most_taken, IsPartial, IsGoing, IsReading}
+use Rattle.uac_grammar.specs.ReaderKept.{IsUnstopped, most_taken, IsPartial, IsGoing, IsReaderOf}
 use Rattle.uac_grammar.specs.Stop.{is_shown, shown_within, shown_fault, stop_at, first_stop, shown_stop}
-use Rattle.uac_grammar.specs.Verdict.{Shows, IsKept, Keeps, IsUnchanged, Refuses}
+use Rattle.uac_grammar.specs.Verdict.{Shows, KeepsBlock, Keeps, IsUnchanged, Refuses}
 use Rattle.uac_grammar.proofs.Verdicts.{partial_one, pending_faults}
 
 -- ---- faults that are shown
@@ -107,7 +107,7 @@ going_shows blocks s place pending bytes fault going shows rest =
 
 -- a block more
 pub going_keeps : (blocks : List Block) (s : State) (place : ℕ) (pending bytes : List ℕ) (b : Block) → IsGoing blocks s place pending
-    → AreBytes bytes → IsKept s place bytes b → IsGoing (blocks ++ b ∷ []) (state_after s place b) (place + length bytes) []
+    → AreBytes bytes → KeepsBlock s place bytes b → IsGoing (blocks ++ b ∷ []) (state_after s place b) (place + length bytes) []
 going_keeps blocks s place pending bytes b going are kept =
     let (read, spelt) = block_read blocks s place bytes b going.read are kept.read kept.unbroken in
     let all : AreBytes (spellings (blocks ++ b ∷ [])) =
@@ -141,7 +141,7 @@ pub going_more : (old new : List Block) (s t : State) (place : ℕ) (pending byt
     → Keeps old new s t place bytes → IsGoing new t (place + length bytes) []
 going_more old new s t place pending bytes going are keeps =
     subst (λ (bs : List Block). IsGoing bs t (place + length bytes) []) (sym keeps.more)
-    (subst (λ (u : State). IsGoing (old ++ keeps.block ∷ []) u (place + length bytes) []) (sym keeps.behind)
+    (subst (λ (u : State). IsGoing (old ++ keeps.block ∷ []) u (place + length bytes) []) (sym keeps.following)
     (going_keeps old s place pending bytes keeps.block going are keeps.kept))
 
 -- the first of some bytes
@@ -157,7 +157,7 @@ more_bytes front pending n bytes are more = bytes_both pending (take n bytes) (b
 
 -- the bytes that were taken, with those that end a block
 pub going_taken : (blocks : List Block) (s : State) (place : ℕ) (pending more : List ℕ) (b : Block) → IsGoing blocks s place pending
-    → AreBytes (pending ++ more) → IsKept s place (pending ++ more) b → spellings (blocks ++ b ∷ []) ++ [] ≡ (spellings blocks ++ pending) ++ more
+    → AreBytes (pending ++ more) → KeepsBlock s place (pending ++ more) b → spellings (blocks ++ b ∷ []) ++ [] ≡ (spellings blocks ++ pending) ++ more
 going_taken blocks s place pending more b going are kept =
     append-nil (spellings (blocks ++ b ∷ []))
     ∙ ((block_read blocks s place (pending ++ more) b going.read are kept.read kept.unbroken).1 ∙ sym (append_assoc (spellings blocks) pending more))
@@ -228,7 +228,7 @@ going_sentence blocks s place (x ∷ xs) going e =
 -- ---- the reader's value
 
 pub reading_stopped : (blocks : List Block) (s : State) (place : ℕ) (pending bytes : List ℕ) (fault : GrammarFault) → IsGoing blocks s place pending
-    → Shows s place bytes fault → IsReading blocks s place bytes (Some (Fault fault))
+    → Shows s place bytes fault → IsReaderOf blocks s place bytes (Some (Fault fault))
 reading_stopped blocks s place pending bytes fault going shows = record {
   going = λ (none : Some (Fault fault) ≡ None). absurd (cc);
   stopped = λ (stop : ReadStop) (same : Some (Fault fault) ≡ Some stop) (_ : stop ≢ NoMemory) (rest : List ℕ).
@@ -237,10 +237,10 @@ reading_stopped blocks s place pending bytes fault going shows = record {
 
 -- bytes that are refused
 pub reading_refused : (old new : List Block) (s t : State) (place : ℕ) (pending bytes : List ℕ) (stop : ReadStop) → IsGoing old s place pending
-    → Refuses old new s t place bytes stop → IsReading new t place bytes (Some stop)
+    → Refuses old new s t place bytes stop → IsReaderOf new t place bytes (Some stop)
 reading_refused old new s t place pending bytes (Fault fault) going (shows, same) =
-    subst (λ (bs : List Block). IsReading bs t place bytes (Some (Fault fault))) (sym same.blocks)
-    (subst (λ (u : State). IsReading old u place bytes (Some (Fault fault))) (sym same.state)
+    subst (λ (bs : List Block). IsReaderOf bs t place bytes (Some (Fault fault))) (sym same.blocks)
+    (subst (λ (u : State). IsReaderOf old u place bytes (Some (Fault fault))) (sym same.state)
     (reading_stopped old s place pending bytes fault going shows))
 reading_refused old new s t place pending bytes NoMemory going _ = record {
   going = λ (none : Some NoMemory ≡ None). absurd (cc);
@@ -254,13 +254,13 @@ refused_shows old new s t place pending bytes (Fault fault) going (shows, same) 
 refused_shows old new s t place pending bytes NoMemory going _ other rest = absurd (other refl)
 
 pub reading_going : (blocks : List Block) (s : State) (place : ℕ) (pending : List ℕ) (stop : Option ReadStop) → stop ≡ None
-    → IsGoing blocks s place pending → IsReading blocks s place pending stop
+    → IsGoing blocks s place pending → IsReaderOf blocks s place pending stop
 reading_going blocks s place pending stop e going = record {
   going = λ (_ : stop ≡ None). going;
   stopped = λ (other : ReadStop) (some : stop ≡ Some other) (_ : other ≢ NoMemory) (rest : List ℕ). absurd (cc);
 }
 
-pub unstopped : (blocks : List Block) (s : State) (place : ℕ) (pending : List ℕ) (stop : Option ReadStop) → IsReading blocks s place pending stop → stop ≡ None
+pub unstopped : (blocks : List Block) (s : State) (place : ℕ) (pending : List ℕ) (stop : Option ReadStop) → IsReaderOf blocks s place pending stop → stop ≡ None
     → IsUnstopped (record { taken = spellings blocks ++ pending; stop = stop })
 unstopped blocks s place pending stop reading e = record {
   no_stop = e;

@@ -2,14 +2,14 @@
 use Rattle.std.proofs.Common.{◌≡◌, ◌≢◌, ◌≤◌, ◌<◌, ℕ, Bool, true, false, List, [], ◌∷◌, ◌++◌, length, ap, ◌∙◌, arith, Some, None, inl, inr}
 use Rattle.std.proofs.lemmas.Bool.{cases_lt}
 use Rattle.std.specs.Prelude.{slice_index}
-use Rattle.uac_descriptor.specs.Reading.{block_of}
+use Rattle.uac_descriptor.specs.BlockReading.{block_of}
 use Rattle.uac_descriptor.specs.declared.block.Block.{Block}
 use Rattle.uac_sentence.specs.Cutting.{IsPiece}
 use Rattle.uac_sentence.specs.Fault.{at_place, faults_from}
 use Rattle.uac_sentence.specs.Grammar.{grammar, least, rule_broken, rule_at_end}
 use Rattle.uac_sentence.specs.declared.states.State.{State}
 use Rattle.uac_sentence.proofs.ProgressLaw.{fault_unread, fault_broken, fault_short, fault_lone, fault_partial, fault_at_end}
-use Rattle.uac_grammar.specs.Reading.{IsPartial}
+use Rattle.uac_grammar.specs.ReaderKept.{IsPartial}
 use Rattle.uac_grammar.specs.Verdict.{Shows}
 
 -- ---- blocks

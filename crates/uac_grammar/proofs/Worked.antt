@@ -1,7 +1,7 @@
 -- What bytes show, read by hand and computed by the checker.
 use Rattle.std.proofs.Common.{◌≡◌, ℕ, List, [], ◌∷◌, Option, None, Some, refl}
-use Rattle.uac_descriptor.specs.Reading.{block_of, fields, is_whole, has_length}
-use Rattle.uac_descriptor.specs.Rows.{row_of, row_in}
+use Rattle.uac_descriptor.specs.BlockReading.{block_of, fields, is_whole, has_length}
+use Rattle.uac_descriptor.specs.LayoutRows.{row_of, row_in}
 use Rattle.uac_sentence.specs.Cutting.{chop, chop_within}
 use Rattle.uac_sentence.specs.Fault.{faults_from}
 use Rattle.uac_sentence.specs.Grammar.{first_fault, grammar, start, rule_at_end, rule_broken, state_after, comes_again, lists_unknown, lacks_association, is_out_of_order, is_refused, passes_total, passes_list, ends_list_early, is_in_turn}

@@ -3,5 +3,5 @@
 pub mod Stop
 -- What the contracts below them cite: steps of the code, no part of what is promised.
 pub mod Row
-pub mod Reading
+pub mod ReaderKept
 pub mod Verdict

@@ -1,8 +1,8 @@
 -- The block that a row of the layouts reads.
 use Rattle.std.specs.Prelude.{ℕ, Bool, ◌==◌, ◌||◌, if◌then◌else◌, List, Option, Some, None}
 use Rattle.uac_descriptor.specs.declared.block.Block as block
-use Rattle.uac_descriptor.specs.Reading.{has_length, fields}
-use Rattle.uac_descriptor.specs.Rows.{Row}
+use Rattle.uac_descriptor.specs.BlockReading.{has_length, fields}
+use Rattle.uac_descriptor.specs.LayoutRows.{Row}
 use Rattle.uac_descriptor.specs.Standard.{CONFIGURATION, INTERFACE, ENDPOINT, INTERFACE_ASSOCIATION, CS_INTERFACE, CS_ENDPOINT}
 
 -- the row's block, where the bytes have one of its lengths

@@ -1,6 +1,6 @@
 -- What a verdict on the bytes of a block says, of all that may follow them.
 use Rattle.std.specs.Prelude.{◌≡◌, ℕ, ◌+◌, Bool, true, false, List, [], ◌∷◌, ◌++◌, length, max, Some, None}
-use Rattle.uac_descriptor.specs.Reading.{block_of}
+use Rattle.uac_descriptor.specs.BlockReading.{block_of}
 use Rattle.uac_descriptor.specs.declared.block.Block.{Block}
 use Rattle.uac_sentence.specs.Cutting.{IsPiece}
 use Rattle.uac_sentence.specs.Fault.{IsShown, faults_from}
@@ -11,7 +11,7 @@ use Rattle.uac_grammar.specs.declared.judge.Verdict.{Verdict}
 use Rattle.uac_grammar.specs.declared.judge.Verdict.TheVariants.{Partial, Kept, Stopped}
 use Rattle.uac_grammar.specs.declared.fault.ReadStop.{ReadStop}
 use Rattle.uac_grammar.specs.declared.fault.ReadStop.TheVariants.{Fault, NoMemory}
-use Rattle.uac_grammar.specs.Reading.{IsPartial}
+use Rattle.uac_grammar.specs.ReaderKept.{IsPartial}
 
 -- after the blocks that left this state at this place, these bytes show this fault, whatever follows
 pub record Shows (state : State) (place : ℕ) (bytes : List ℕ) (fault : GrammarFault) : Type 0 where
@@ -19,7 +19,7 @@ pub record Shows (state : State) (place : ℕ) (bytes : List ℕ) (fault : Gramm
   pub shown : IsShown fault (place + length bytes)
 
 -- these bytes are this block, and it breaks no rule
-pub record IsKept (state : State) (place : ℕ) (bytes : List ℕ) (block : Block) : Type 0 where
+pub record KeepsBlock (state : State) (place : ℕ) (bytes : List ℕ) (block : Block) : Type 0 where
   pub piece : IsPiece bytes
   pub read : block_of state.context bytes ≡ Some block
   pub unbroken : rule_broken state place (length bytes) block ≡ None
@@ -27,9 +27,9 @@ pub record IsKept (state : State) (place : ℕ) (bytes : List ℕ) (block : Bloc
 -- where these bytes are kept as a block more: the blocks and the state before and after it
 pub record Keeps (old new : List Block) (s t : State) (place : ℕ) (bytes : List ℕ) : Type 0 where
   pub block : Block
-  pub kept : IsKept s place bytes block
+  pub kept : KeepsBlock s place bytes block
   pub more : new ≡ old ++ block ∷ []
-  pub behind : t ≡ state_after s place block
+  pub following : t ≡ state_after s place block
 
 -- nothing was kept
 pub record IsUnchanged (old new : List Block) (s t : State) : Type 0 where
@@ -49,8 +49,8 @@ IsVerdict old new s t place bytes (Stopped stop) = Refuses old new s t place byt
 -- ---- the bytes that are judged
 
 -- how many bytes a block has of this length byte; but two show that a length below 2 is wrong
-abbrev pub wanted : ℕ → ℕ
-wanted size = max size 2
+abbrev pub bytes_wanted : ℕ → ℕ
+bytes_wanted size = max size 2
 
 abbrev pub is_kept : Verdict → Bool
 is_kept Kept = true

@@ -1,10 +1,10 @@
 // One block from its bytes: the row by context, type and subtype, then the row's length and fields.
 ghost use Rattle.std.specs.Prelude.{◌≡◌, IfOk, slice_index, drop, false, Some};
 ghost use Rattle.uac_descriptor.specs.Layout.{IsWhole};
-ghost use Rattle.uac_descriptor.specs.Reading.{block_of, is_whole};
-ghost use Rattle.uac_descriptor.specs.Rows as rows;
+ghost use Rattle.uac_descriptor.specs.BlockReading.{block_of, is_whole};
+ghost use Rattle.uac_descriptor.specs.LayoutRows as rows;
 ghost use Rattle.uac_descriptor.specs.declared.context.Context.TheVariants as contexts;
-ghost use Rattle.uac_descriptor.specs.Rows.{control_row, streaming_row, class_endpoint_row, row_in};
+ghost use Rattle.uac_descriptor.specs.LayoutRows.{control_row, streaming_row, class_endpoint_row, row_in};
 ghost use Rattle.uac_descriptor.specs.declared.context.Context.{Context};
 ghost use Rattle.uac_grammar.specs.Row.{read_row, has_row};
 
@@ -79,7 +79,7 @@ pub(crate) fn read_whole(alloc: Global, bytes: &[u8]) -> Result<Block, NoMemory>
 }
 
 /// The first byte says how many there are, at least 2.
-#[tactic(auto, unfolding(uac_descriptor::specs::Reading::is_whole))]
+#[tactic(auto, unfolding(uac_descriptor::specs::BlockReading::is_whole))]
 fn is_whole(bytes: &[u8]) -> bool
     ensures { result ≡ is_whole bytes.now }
 {
@@ -98,7 +98,7 @@ fn in_front(alloc: Global, bytes: &[u8]) -> Result<Option<Block>, NoMemory>
         if bytes.len() < 3 {
             return foreign(alloc, bytes);
         }
-        behind_endpoint(alloc, bytes)
+        class_endpoint_block(alloc, bytes)
     } else {
         parting(alloc, bytes)
     }
@@ -115,7 +115,7 @@ fn in_control(alloc: Global, bytes: &[u8]) -> Result<Option<Block>, NoMemory>
     } else if bytes[1] == ENDPOINT {
         Ok(endpoint(bytes))
     } else if bytes[1] == CS_ENDPOINT {
-        behind_endpoint(alloc, bytes)
+        class_endpoint_block(alloc, bytes)
     } else {
         parting(alloc, bytes)
     }
@@ -132,7 +132,7 @@ fn in_streaming(alloc: Global, bytes: &[u8]) -> Result<Option<Block>, NoMemory>
     } else if bytes[1] == ENDPOINT {
         Ok(endpoint(bytes))
     } else if bytes[1] == CS_ENDPOINT {
-        behind_endpoint(alloc, bytes)
+        class_endpoint_block(alloc, bytes)
     } else {
         parting(alloc, bytes)
     }
@@ -200,7 +200,7 @@ fn streaming_block(alloc: Global, bytes: &[u8]) -> Result<Option<Block>, NoMemor
 
 /// A class block after an endpoint.
 #[tactic(auto, using(crate::proofs::RowsIn::endpoint_too_short, crate::proofs::RowsIn::subtype_and_rest, std::proofs::lemmas::Bool::Decides::nat_tests))]
-fn behind_endpoint(alloc: Global, bytes: &[u8]) -> Result<Option<Block>, NoMemory>
+fn class_endpoint_block(alloc: Global, bytes: &[u8]) -> Result<Option<Block>, NoMemory>
     requires whole { IsWhole bytes.now }
     requires kind { slice_index bytes.now 1 ≡ CS_ENDPOINT }
     ensures { IfOk result (λ found. found ≡ read_row (class_endpoint_row rows.too_short (drop 2 bytes.now)) bytes.now) }

@@ -1,11 +1,11 @@
 // What the bytes of a block come to, and the end of the input.
 ghost use Rattle.std.specs.Prelude.{◌≡◌, ◌<◌, ◌≤◌, length, slice_index, MatchResult, Some};
-ghost use Rattle.uac_descriptor.specs.Reading.{block_of};
+ghost use Rattle.uac_descriptor.specs.BlockReading.{block_of};
 ghost use Rattle.uac_sentence.specs.Cutting.{IsPiece};
 ghost use Rattle.uac_sentence.specs.Fault.{faults_from};
 ghost use Rattle.uac_sentence.specs.Grammar.{grammar};
 ghost use Rattle.uac_sentence.specs.declared.states.TheConstants.{FURTHEST};
-ghost use Rattle.uac_grammar.specs.Reading.{IsPartial};
+ghost use Rattle.uac_grammar.specs.ReaderKept.{IsPartial};
 ghost use Rattle.uac_grammar.specs.Verdict.{IsVerdict, Keeps, Refuses, is_kept};
 
 use crate::blocks::{has_row, read_block, read_whole};

@@ -2,8 +2,8 @@
 // wrong length, or at its last, so nothing is judged in between.
 ghost use Rattle.std.specs.Prelude.{◌≡◌, ◌≤◌, ◌<◌, ◌+◌, ◌++◌, [], length, take};
 ghost use Rattle.uac_sentence.specs.declared.states.TheConstants.{FURTHEST};
-ghost use Rattle.uac_grammar.specs.Reading.{IsPartial};
-ghost use Rattle.uac_grammar.specs.Verdict.{IsVerdict, wanted, left_by};
+ghost use Rattle.uac_grammar.specs.ReaderKept.{IsPartial};
+ghost use Rattle.uac_grammar.specs.Verdict.{IsVerdict, bytes_wanted, left_by};
 
 use crate::judge::{Verdict, judge};
 use arrayvec::ArrayVec;
@@ -68,7 +68,7 @@ fn judge_front(
     ensures verdict { IsVerdict blocks.old.items blocks.new.items state.old state.new place (take result.count bytes.now) result.verdict }
     ensures left { pending.new.items ≡ left_by result.verdict (take result.count bytes.now) }
 {
-    let count = wanted(bytes[0]).min(bytes.len());
+    let count = bytes_wanted(bytes[0]).min(bytes.len());
     let front = &bytes[..count];
     let verdict = judge(alloc, blocks, state, place, front);
     if !verdict.is_kept() {
@@ -102,7 +102,7 @@ fn judge_more(
         (pending.old.items ++ take result.count bytes.now) result.verdict }
     ensures left { pending.new.items ≡ left_by result.verdict (pending.old.items ++ take result.count bytes.now) }
 {
-    let count = (wanted(pending[0]) - pending.len()).min(bytes.len());
+    let count = (bytes_wanted(pending[0]) - pending.len()).min(bytes.len());
     let _fits = pending.try_extend_from_slice(&bytes[..count]);
     let size = pending.len();
     let verdict = judge(alloc, blocks, state, place, pending.as_slice());
@@ -117,8 +117,8 @@ fn judge_more(
 }
 
 /// How many bytes a block has of this length byte; but two show that a length below 2 is wrong.
-fn wanted(length: u8) -> usize
-    ensures { result ≡ wanted length }
+fn bytes_wanted(length: u8) -> usize
+    ensures { result ≡ bytes_wanted length }
 {
     (length as usize).max(2)
 }

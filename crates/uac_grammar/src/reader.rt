@@ -2,7 +2,7 @@
 ghost use Rattle.std.specs.Prelude.{◌≡◌, ◌≢◌, ◌≤◌, ◌<◌, [], ◌++◌, length, take, IsOk, IfOk, OnOk, IfErr, MatchResult, None};
 ghost use Rattle.uac_sentence.specs.Grammar.{first_fault};
 ghost use Rattle.uac_sentence.specs.Sentence.{IsSentence};
-ghost use Rattle.uac_grammar.specs.Reading.{ReaderFields, IsUnstopped, most_taken};
+ghost use Rattle.uac_grammar.specs.ReaderKept.{ReaderFields, IsUnstopped, most_taken};
 ghost use Rattle.uac_grammar.specs.Stop.{first_stop, shown_stop};
 
 use crate::fault::ReadStop;
@@ -31,13 +31,13 @@ pub struct Reader {
 impl Model for Reader {
     ghost use Rattle.std.specs.Prelude.{◌++◌};
     ghost use Rattle.uac_sentence.specs.Sentence.{spellings};
-    ghost use Rattle.uac_grammar.specs.Reading.{ReaderFields, IsReading};
+    ghost use Rattle.uac_grammar.specs.ReaderKept.{ReaderFields, IsReaderOf};
 
     ghost Value = { ReaderFields };
 
     ghost view = { λ r. record { taken = spellings r.blocks.items ++ r.pending.items; stop = r.stop } };
 
-    ghost invariant = { λ r. IsReading r.blocks.items r.state r.place r.pending.items r.stop };
+    ghost invariant = { λ r. IsReaderOf r.blocks.items r.state r.place r.pending.items r.stop };
 }
 
 impl Reader {

@@ -9,12 +9,12 @@ use Rattle.uac_entities.specs.declared.entity.EntityKind.{EntityKind}
 use Rattle.uac_entities.specs.declared.entity.EntityKind.TheVariants as kind
 use Rattle.uac_topology_rules.specs.Links.{is_clock}
 use Rattle.uac_topology_rules.specs.Table.{at, place_of}
-use Rattle.uac_store.specs.Controls.{pins_of}
+use Rattle.uac_store.specs.StoreControls.{pins_of}
 use Rattle.uac_gain.specs.Gain.{gain_of, unity}
 use Rattle.uac_units.specs.declared.jobs.Job.{Job}
 use Rattle.uac_units.specs.declared.jobs.UnitKind.{UnitKind}
 use Rattle.uac_units.specs.declared.jobs.UnitKind.TheVariants as unit
-use Rattle.uac_graph.specs.Controls.{Controls, control_value, feature_gain, pin_of, volume_gain}
+use Rattle.uac_graph.specs.GraphControls.{Controls, control_value, feature_gain, pin_of, volume_gain}
 use Rattle.uac_graph.specs.Fitness.{FitsPins, IsSignalGraph}
 use Rattle.uac_graph.specs.Jobs.{AreFirstJobs, AreJobs, AreSameBut, HasJob, IsAskable, IsJob, gain_at, gain_count, pin_at, unit_of}
 use Rattle.uac_graph.proofs.Rendered.{few_pins, range_same}
@@ -61,7 +61,7 @@ pub sources_few : (entities : List Entity) (e : Entity) (u : UnitKind) → unit_
     → length e.sources ≤ 256
 unfolding pins_of
 sources_few entities e u is askable chosen some =
-    omega (arith, selector_by e.kind u e.cluster.channels (pins_of entities e) is chosen some askable.fits, length-map e.sources (Rattle.uac_entities.specs.Streams.channels_of entities))
+    omega (arith, selector_by e.kind u e.cluster.channels (pins_of entities e) is chosen some askable.fits, length-map e.sources (Rattle.uac_entities.specs.EntityStreams.channels_of entities))
 
 -- what it is asked is its job
 pub is_asked : (controls : Controls) (e : Entity) (u : UnitKind) (inputs row : ℕ) (job : Job) → unit_of e.kind ≡ Some u → inputs ≡ row

@@ -9,11 +9,11 @@ use Rattle.uac_entities.specs.declared.entity.EntityKind.TheVariants as kind
 use Rattle.uac_topology_rules.specs.Clusters.{is_input}
 use Rattle.uac_topology_rules.specs.Links.{is_clock}
 use Rattle.uac_topology_rules.specs.Table.{at}
-use Rattle.uac_store.specs.Controls.{pins_of}
+use Rattle.uac_store.specs.StoreControls.{pins_of}
 use Rattle.uac_units.specs.declared.jobs.Job.{Job}
 use Rattle.uac_units.specs.declared.jobs.UnitKind.{UnitKind}
 use Rattle.uac_units.specs.Rendering.{FitsKind, in_a_row, rendered}
-use Rattle.uac_graph.specs.Controls.{Controls}
+use Rattle.uac_graph.specs.GraphControls.{Controls}
 use Rattle.uac_graph.specs.Fitness.{IsSignalGraph}
 use Rattle.uac_graph.specs.Jobs.{AreJobs, HasJob, unit_of}
 use Rattle.uac_graph.specs.Meaning.{frame_of}

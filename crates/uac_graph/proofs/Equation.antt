@@ -6,7 +6,7 @@ use Rattle.uac_topology_rules.specs.Clusters.{is_input}
 use Rattle.uac_topology_rules.specs.Links.{signal_sources, signal_links}
 use Rattle.uac_topology_rules.proofs.KnownSteps.{map_same}
 use Rattle.uac_topology_rules.specs.Table.{place_of, nothing}
-use Rattle.uac_graph.specs.Controls.{Controls}
+use Rattle.uac_graph.specs.GraphControls.{Controls}
 use Rattle.uac_graph.specs.Fitness.{IsSignalGraph}
 use Rattle.uac_graph.specs.Meaning.{entity, frame_of, meaning, samples, samples_by}
 use Rattle.uac_graph.proofs.Links.{entity_past, source_ends, place_or_none}

@@ -7,7 +7,7 @@ use Rattle.uac_entities.specs.declared.entity.Entity.{Entity}
 use Rattle.uac_topology_rules.specs.Clusters.{is_input}
 use Rattle.uac_topology_rules.specs.Table.{at}
 use Rattle.uac_units.specs.declared.jobs.Job.{Job}
-use Rattle.uac_graph.specs.Controls.{Controls}
+use Rattle.uac_graph.specs.GraphControls.{Controls}
 use Rattle.uac_graph.specs.Fitness.{IsSignalGraph}
 use Rattle.uac_graph.specs.Jobs.{AreJobs}
 use Rattle.uac_graph.specs.Needs.{unit_count}
@@ -87,15 +87,15 @@ module _ (entities : List Entity) (places : List ℕ) (sound : IsSignalGraph ent
       ≡ cond worked (task_of entities (get_or places upto 0) ∷ tasks_at entities (drop (upto + 1) places)) (tasks_at entities (drop (upto + 1) places))
   from_place upto worked below is =
       let p = get_or places upto 0 in
-      let behind = filter (is_worked entities) (drop (upto + 1) places) in
+      let following = filter (is_worked entities) (drop (upto + 1) places) in
       ap (λ (ps : List ℕ). map (task_of entities) (filter (is_worked entities) ps)) (drop_more places upto 0 below)
-      ∙ ap (λ (b : Bool). map (task_of entities) (cond b (p ∷ behind) behind)) is
-      ∙ by worked p behind
+      ∙ ap (λ (b : Bool). map (task_of entities) (cond b (p ∷ following) following)) is
+      ∙ by worked p following
     where
-      by : (b : Bool) (p : ℕ) (behind : List ℕ)
-          → map (task_of entities) (cond b (p ∷ behind) behind) ≡ cond b (task_of entities p ∷ map (task_of entities) behind) (map (task_of entities) behind)
-      by true p behind = refl
-      by false p behind = refl
+      by : (b : Bool) (p : ℕ) (following : List ℕ)
+          → map (task_of entities) (cond b (p ∷ following) following) ≡ cond b (task_of entities p ∷ map (task_of entities) following) (map (task_of entities) following)
+      by true p following = refl
+      by false p following = refl
 
   next_over : (upto : ℕ) (task : Task) (rest : List Task) → upto < length places → is_input (at entities (get_or places upto 0)).kind ≡ true
       → IsNext entities places (upto + 1) task rest → IsNext entities places upto task rest
@@ -120,7 +120,7 @@ module _ (entities : List Entity) (places : List ℕ) (sound : IsSignalGraph ent
         named = named;
         works = ap (λ (t : Task). t.work) same ∙ ap (λ (n : ℕ). work_of (at entities n)) (sym named);
         worked = ap (λ (n : ℕ). is_input (at entities n).kind) named ∙ other;
-        left = (let behind : rest ≡ tasks_at entities (drop (upto + 1) places) = cc in behind);
+        left = (let following : rest ≡ tasks_at entities (drop (upto + 1) places) = cc in following);
         skips = skips_none upto;
       }
 

@@ -20,7 +20,7 @@ use Rattle.uac_topology_rules.proofs.Along.{cluster_is}
 use Rattle.uac_topology_rules.proofs.TableSteps.{found_is}
 use Rattle.uac_topology.specs.Function.{FunctionFields}
 use Rattle.uac_topology.specs.Topology.{IsSoundFunction}
-use Rattle.uac_store.specs.Controls.{pins_of}
+use Rattle.uac_store.specs.StoreControls.{pins_of}
 use Rattle.uac_topology.proofs.Clustered.{clustered-at, length-clustered, same_place, seen_alike}
 use Rattle.uac_topology.proofs.SoundRules.{KeepsRules, rules_hold}
 use Rattle.uac_store.proofs.Soundness.{same_pins}

@@ -1,4 +1,4 @@
--- Entities rendered in an order, each behind its sources.
+-- Entities rendered in an order, each after its sources.
 use Rattle.std.proofs.Common.{◌≡◌, ◌∙◌, sym, ap, subst, refl, ℕ, ◌+◌, ◌<◌, ◌≤◌, Bool, true, false, ◌||◌, ◌&&◌, not, eqb, if◌then◌else◌, ℤ, List, [], Some, length, get_or, take, map, unwrap_or, ◌⊎◌, inl, inr, sum}
 use Rattle.std.specs.List.{All}
 use Rattle.std.specs.Option.{option_map}
@@ -11,9 +11,9 @@ use Rattle.uac_topology_rules.specs.Clusters.{is_input}
 use Rattle.uac_topology_rules.specs.Links.{is_clock, signal_sources}
 use Rattle.uac_topology_rules.specs.Table.{at}
 use Rattle.uac_topology_rules.proofs.KnownSteps.{map_same}
-use Rattle.uac_store.specs.Controls.{pins_of}
+use Rattle.uac_store.specs.StoreControls.{pins_of}
 use Rattle.uac_units.specs.Rendering.{in_a_row}
-use Rattle.uac_graph.specs.Controls.{Controls}
+use Rattle.uac_graph.specs.GraphControls.{Controls}
 use Rattle.uac_graph.specs.Fitness.{IsSignalGraph}
 use Rattle.uac_graph.specs.Jobs.{FitsFrames, HasJob}
 use Rattle.uac_units.specs.declared.jobs.Job.{Job}
@@ -105,7 +105,7 @@ step_rendered entities controls ins places i old mid new sound order below given
     rendered_here id same false unit =
         ap (λ (b : Bool). if not b && eqb e.id id then Some made else frame_on mid id) unit
         ∙ ap (λ (b : Bool). if b then Some made else frame_on mid id) (eq-eqb e.id id same)
-        ∙ ap Some (frame_meant entities controls ins done p old mid sound inside (order.signal i 0 below) unit before (order.behind i below))
+        ∙ ap Some (frame_meant entities controls ins done p old mid sound inside (order.signal i 0 below) unit before (order.following i below))
         ∙ ap (λ (n : ℕ). Some (m n)) same
 
     by_id : (id : ℕ) → (e.id ≡ id) ⊎ (e.id ≡ id → ⊥)

@@ -88,7 +88,7 @@ more u x xs = by_test (u x)
     by_test true = omega arith
     by_test false = omega arith
 
--- the next of them, and those behind it
+-- the next of them, and those after it
 pub units_next : (entities : List Entity) (places : List ℕ) (i : ℕ) → i < length places
     → units_left entities places i ≡ unit_count (at entities (get_or places i 0)).kind + units_left entities places (i + 1)
 units_next entities places i below =

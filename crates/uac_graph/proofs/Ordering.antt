@@ -17,7 +17,7 @@ use Rattle.uac_topology_rules.proofs.TableSteps.{at_read}
 use Rattle.uac_graph.specs.Fitness.{IsSignalGraph}
 use Rattle.uac_graph.specs.Meaning.{entity}
 use Rattle.uac_graph.specs.Needs.{depended, is_end, reaches}
-use Rattle.uac_graph.specs.Orders.{AreOrders, IsKept, IsOrder, IsOrderOf, holds}
+use Rattle.uac_graph.specs.Orders.{AreOrders, IsKeptOrder, IsOrder, IsOrderOf, holds}
 use Rattle.uac_graph.specs.declared.orders.Order.{Order}
 use Rattle.uac_graph.proofs.Apart.{apart_more}
 use Rattle.uac_graph.proofs.Lookups.{id_at}
@@ -53,7 +53,7 @@ sources_held entities places id k sound order held below =
     let itself : entity entities id ≡ at entities place = ap (entity entities) (sym named) ∙ entity_itself entities place sound (order.inside j 0 found.1) in
     any_front (λ p. eqb (at entities p).id (get_or (signal_sources (entity entities id)) k 0)) places j
     (subst (λ (e : Entity). (i : ℕ) → i < length (signal_sources e) → holds entities (take j places) (get_or (signal_sources e) i 0) ≡ true) (sym itself)
-    (λ i inside. order.behind j found.1 i 0 inside) k below)
+    (λ i inside. order.following j found.1 i 0 inside) k below)
 
 -- and so is all that it reaches
 closed : (entities : List Entity) (places : List ℕ) (n id k : ℕ) → IsSignalGraph entities → IsOrder entities places → holds entities places id ≡ true
@@ -103,7 +103,7 @@ held_done entities links i id e sources old new signal here own past before k =
     ∙ ap (λ (xs : List ℕ). holds entities old k || list_any (λ s. reaches entities links s k) xs)
     (take_all i sources past ∙ own ∙ ap (λ (f : Entity). f.sources) here ∙ sym (signal_sources_of (entity entities id) signal))
 
--- the entity itself, behind its sources
+-- the entity itself, after its sources
 pub held_itself : (entities : List Entity) (links id place : ℕ) (old mid new : List ℕ) → is_clock (entity entities id).kind ≡ false → 0 < links
     → place ≡ place_of entities id → new ≡ mid ++ place ∷ []
     → ((k : ℕ) → holds entities mid k ≡ (holds entities old k || list_any (λ s. reaches entities (links - 1) s k) (signal_sources (entity entities id))))
@@ -118,7 +118,7 @@ held_itself entities links id place old mid new signal some where_it_is pushed b
     ∙ ap (λ (n : ℕ). holds entities old k || (eqb n k || later)) named
     ∙ ap (λ (b : Bool). holds entities old k || b) (sym (reaches_step entities links id k some))
 
--- the entity stands behind its sources
+-- the entity stands after its sources
 pub order_more : (entities : List Entity) (links id place : ℕ) (old mid new : List ℕ) → IsSignalGraph entities → is_clock (entity entities id).kind ≡ false
     → place ≡ place_of entities id → new ≡ mid ++ place ∷ [] → holds entities mid id ≡ false → IsOrder entities mid
     → ((k : ℕ) → holds entities mid k ≡ (holds entities old k || list_any (λ s. reaches entities links s k) (signal_sources (entity entities id))))
@@ -132,12 +132,12 @@ order_more entities links id place old mid new sound signal where_it_is pushed a
           All-push (λ p. is_clock (at entities p).kind ≡ false) mid place order.signal
           (subst (λ (p : ℕ). is_clock (at entities p).kind ≡ false) (sym where_it_is) signal);
       apart = apart_more entities id place mid signal where_it_is absent order;
-      behind = λ k below. elim (cases_lt k (length mid)) [
+      following = λ k below. elim (cases_lt k (length mid)) [
         | inl inside ↦
             subst (λ (p : ℕ). All (λ s. holds entities (take k (mid ++ place ∷ [])) s ≡ true) (signal_sources (at entities p)))
             (sym (get_or-append mid (place ∷ []) 0 k inside))
             (subst (λ (ps : List ℕ). All (λ s. holds entities ps s ≡ true) (signal_sources (at entities (get_or mid k 0))))
-            (sym (take-append-le k mid (place ∷ []) (omega arith))) (order.behind k inside))
+            (sym (take-append-le k mid (place ∷ []) (omega arith))) (order.following k inside))
         | inr past ↦
             (let last : k ≡ length mid = omega (arith, length-append mid (place ∷ [])) in
             subst (λ (j : ℕ). All (λ s. holds entities (take j (mid ++ place ∷ [])) s ≡ true) (signal_sources (at entities (get_or (mid ++ place ∷ []) j 0)))) (sym last)
@@ -163,7 +163,7 @@ order_none entities places none =
       inside = λ k d below. absurd (omega arith);
       signal = λ k d below. absurd (omega arith);
       apart = λ j k less below. absurd (omega arith);
-      behind = λ k below. absurd (omega arith);
+      following = λ k below. absurd (omega arith);
     })
 
 pub held_none : (entities : List Entity) (places : List ℕ) (k : ℕ) → places ≡ [] → holds entities places k ≡ false
@@ -213,13 +213,13 @@ passed_more slice orders i e below item here before =
     (subst (λ (f : Entity). is_output f.kind ≡ true → list_any (λ o. o.domain == f.clock) orders ≡ true) (at_read slice i e below item) here)
 
 -- no orders
-pub each_none : (entities : List Entity) (orders : List Order) → orders ≡ [] → All (IsKept entities) orders
-each_none entities orders none = subst (All (IsKept entities)) (sym none) (All-nil (IsKept entities))
+pub each_none : (entities : List Entity) (orders : List Order) → orders ≡ [] → All (IsKeptOrder entities) orders
+each_none entities orders none = subst (All (IsKeptOrder entities)) (sym none) (All-nil (IsKeptOrder entities))
 
 -- with one order more
-pub each_more : (entities : List Entity) (old new : List Order) (o : Order) → new ≡ old ++ o ∷ [] → All (IsKept entities) old → IsKept entities o
-    → All (IsKept entities) new
-each_more entities old new o pushed before here = subst (All (IsKept entities)) (sym pushed) (All-push (IsKept entities) old o before here)
+pub each_more : (entities : List Entity) (old new : List Order) (o : Order) → new ≡ old ++ o ∷ [] → All (IsKeptOrder entities) old → IsKeptOrder entities o
+    → All (IsKeptOrder entities) new
+each_more entities old new o pushed before here = subst (All (IsKeptOrder entities)) (sym pushed) (All-push (IsKeptOrder entities) old o before here)
 
 pub known_more : (slice : List Entity) (old new : List Order) (o : Order) (i : ℕ) → new ≡ old ++ o ∷ []
     → ((k : ℕ) → k < i → is_output (at slice k).kind ≡ true → list_any (λ p. p.domain == (at slice k).clock) old ≡ true)
@@ -236,7 +236,7 @@ known_last old new o domain pushed same =
 
 -- all entities
 pub orders_all : (entities slice : List Entity) (orders : List Order) (i : ℕ) → slice ≡ entities → length slice ≤ i
-    → All (IsKept entities) orders
+    → All (IsKeptOrder entities) orders
     → ((k : ℕ) → k < i → is_output (at slice k).kind ≡ true → list_any (λ o. o.domain == (at slice k).clock) orders ≡ true)
     → AreOrders entities orders
 unfolding depended at
@@ -262,8 +262,8 @@ orders_all entities slice orders i same past each passed = record {
 
 -- the order at a place among those that are kept
 pub order_at : (entities : List Entity) (orders : List Order) (i : ℕ) (o : Order) → i < length orders → o ≡ get_or orders i o → AreOrders entities orders
-    → IsKept entities o
-order_at entities orders i o below item are = subst (IsKept entities) (sym item) (are.each i o below)
+    → IsKeptOrder entities o
+order_at entities orders i o below item are = subst (IsKeptOrder entities) (sym item) (are.each i o below)
 
 -- the order of a domain that has none
 pub order_of_none : (entities : List Entity) (orders : List Order) (domain i : ℕ) (places : List ℕ) → length orders ≤ i → list_any (λ o. o.domain == domain) (take i orders) ≡ false

@@ -6,7 +6,7 @@ use Rattle.std.proofs.lemmas.List.{get_or_default, get_or-set_same, get_or-set_o
 use Rattle.std.proofs.lemmas.List.{set-append_left, set-append_right}
 use Rattle.std.proofs.Math.ListN.{get_or-append}
 use Rattle.std.proofs.Math.Seq.{get_or-append_right}
-use Rattle.uac_graph.specs.Rows.{frames_in, numbered, passed}
+use Rattle.uac_graph.specs.FrameRows.{frames_in, numbered, passed}
 use Rattle.uac_graph.specs.Wiring.{frame_on, samples_on}
 use Rattle.uac_graph.proofs.Rows.{no_samples}
 

@@ -4,7 +4,7 @@ use Rattle.uac_entities.specs.declared.entity.Entity.{Entity}
 use Rattle.uac_topology_rules.specs.Clusters.{is_input}
 use Rattle.uac_topology_rules.specs.Links.{is_clock, signal_sources}
 use Rattle.uac_topology_rules.specs.Table.{place_of}
-use Rattle.uac_graph.specs.Controls.{Controls}
+use Rattle.uac_graph.specs.GraphControls.{Controls}
 use Rattle.uac_graph.specs.Fitness.{IsSignalGraph, wire_channels}
 use Rattle.uac_graph.specs.Meaning.{entity, frame_of, meaning, samples_by}
 use Rattle.uac_graph.specs.Wiring.{AreGiven, AreRendered, Frames, frame_on}

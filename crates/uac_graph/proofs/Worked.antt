@@ -7,7 +7,7 @@ use Rattle.uac_entities.specs.declared.entity.EntityKind.TheVariants as kind
 use Rattle.uac_gain.specs.Gain.{decibel_gain, raised_gain}
 use Rattle.uac_topology_rules.specs.Links.{signal_sources}
 use Rattle.uac_topology_rules.specs.Table.{at, place_of}
-use Rattle.uac_graph.specs.Controls.{Controls}
+use Rattle.uac_graph.specs.GraphControls.{Controls}
 use Rattle.uac_graph.specs.Meaning.{entity, frame_of, meaning, samples, samples_by}
 use Rattle.uac_graph.specs.Needs.{depended, needed, reaches}
 

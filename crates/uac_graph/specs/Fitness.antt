@@ -8,7 +8,7 @@ use Rattle.uac_entities.specs.declared.entity.EntityKind.TheVariants as kind
 use Rattle.uac_topology_rules.specs.Links.{is_clock, signal_sources, signal_links}
 use Rattle.uac_topology_rules.specs.Rules.{is_output}
 use Rattle.uac_topology_rules.specs.Table.{at, place_of}
-use Rattle.uac_store.specs.Controls.{pins_of}
+use Rattle.uac_store.specs.StoreControls.{pins_of}
 use Rattle.uac_graph.specs.Meaning.{entity}
 
 -- the channels of the wire of the entity with this id; a clock entity has no wire

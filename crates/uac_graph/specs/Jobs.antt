@@ -10,8 +10,8 @@ use Rattle.uac_units.specs.declared.jobs.UnitKind.{UnitKind}
 use Rattle.uac_units.specs.declared.jobs.UnitKind.TheVariants as unit
 use Rattle.uac_topology_rules.specs.Links.{is_clock}
 use Rattle.uac_topology_rules.specs.Table.{at}
-use Rattle.uac_store.specs.Controls.{pins_of}
-use Rattle.uac_graph.specs.Controls.{Controls, feature_gain, node_gain, chosen_pin}
+use Rattle.uac_store.specs.StoreControls.{pins_of}
+use Rattle.uac_graph.specs.GraphControls.{Controls, feature_gain, node_gain, chosen_pin}
 use Rattle.uac_graph.specs.Fitness.{FitsPins}
 
 -- the unit that renders an entity of this kind, if it is a unit

@@ -10,7 +10,7 @@ use Rattle.uac_topology_rules.specs.Links.{signal_sources}
 use Rattle.uac_topology_rules.specs.Table.{at, place_of}
 use Rattle.uac_units.specs.declared.jobs.UnitKind.TheVariants as unit
 use Rattle.uac_units.specs.Rendering.{Setting, by_frames, input, pin_frame, unit_sample}
-use Rattle.uac_graph.specs.Controls.{Controls, feature_gain, node_gain, chosen_pin}
+use Rattle.uac_graph.specs.GraphControls.{Controls, feature_gain, node_gain, chosen_pin}
 
 -- the entity with this id; where no entity has it, one with no sources and no channels
 unfoldable pub entity : List Entity → ℕ → Entity

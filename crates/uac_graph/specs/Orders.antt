@@ -6,7 +6,7 @@ use Rattle.uac_entities.specs.declared.entity.Entity.{Entity}
 use Rattle.uac_topology_rules.specs.Clusters.{is_input}
 use Rattle.uac_topology_rules.specs.Links.{is_clock, signal_sources}
 use Rattle.uac_topology_rules.specs.Table.{at}
-use Rattle.uac_graph.specs.Controls.{Controls}
+use Rattle.uac_graph.specs.GraphControls.{Controls}
 use Rattle.uac_graph.specs.Meaning.{frame_of}
 use Rattle.uac_graph.specs.Needs.{depended}
 use Rattle.uac_graph.specs.Wiring.{Frames, frame_on, samples_on}
@@ -17,12 +17,12 @@ use Rattle.uac_graph.specs.Tasks.{tasks_at}
 abbrev pub holds : List Entity → List ℕ → ℕ → Bool
 holds entities places id = list_any (λ place. (at entities place).id == id) places
 
--- places of entities that carry a signal, each once and behind all of its sources
+-- places of entities that carry a signal, each once and after all of its sources
 pub record IsOrder (entities : List Entity) (places : List ℕ) : Type 0 where
   pub inside : All (λ place. place < length entities) places
   pub signal : All (λ place. is_clock (at entities place).kind ≡ false) places
   pub apart : (j k : ℕ) → j < k → k < length places → slice_index_or places j 0 ≡ slice_index_or places k 0 → ⊥
-  pub behind : (k : ℕ) → k < length places
+  pub following : (k : ℕ) → k < length places
       → All (λ s. holds entities (take k places) s ≡ true) (signal_sources (at entities (slice_index_or places k 0)))
 
 -- such an order of exactly the entities on which the domain's output terminals depend, and these terminals
@@ -31,13 +31,13 @@ pub record IsOrderOf (entities : List Entity) (domain : ℕ) (places : List ℕ)
   pub all : (id : ℕ) → holds entities places id ≡ depended entities domain id
 
 -- the order of its domain, and what is done at its places
-pub record IsKept (entities : List Entity) (order : Order) : Type 0 where
+pub record IsKeptOrder (entities : List Entity) (order : Order) : Type 0 where
   pub order_of : IsOrderOf entities order.domain order.places.items
   pub tasks_of : order.tasks.items ≡ tasks_at entities order.places.items
 
 -- an order for each domain that has an output terminal
 pub record AreOrders (entities : List Entity) (orders : List Order) : Type 0 where
-  pub each : All (IsKept entities) orders
+  pub each : All (IsKeptOrder entities) orders
   pub others : (domain : ℕ) → list_any (λ o. o.domain == domain) orders ≡ false → (id : ℕ) → depended entities domain id ≡ false
 
 -- the frame on a wire once the entity at a place was rendered, from those on the wires of its sources. An input terminal has its frame

@@ -1,7 +1,7 @@
 // What the held controls make of a signal.
 ghost use Rattle.std.specs.Prelude.{◌≡◌, ◌≤◌, ◌<◌, ◌%◌, ◌+◌, ◌/◌};
-ghost use Rattle.uac_graph.specs.Controls as spec;
-ghost use Rattle.uac_graph.specs.Controls.{held_in};
+ghost use Rattle.uac_graph.specs.GraphControls as spec;
+ghost use Rattle.uac_graph.specs.GraphControls.{held_in};
 
 use uac_gain::gain;
 use uac_store::selectors::{

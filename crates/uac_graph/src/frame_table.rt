@@ -5,7 +5,7 @@ ghost use Rattle.uac_entities.specs.declared.entity.Entity.{Entity};
 ghost use Rattle.std.specs.Option.{option_map};
 ghost use Rattle.uac_units.specs.Rendering.{FitsKind, rendered};
 ghost use Rattle.uac_graph.specs.Fitness.{IsSignalGraph};
-ghost use Rattle.uac_graph.specs.Rows.{frames_in, passed};
+ghost use Rattle.uac_graph.specs.FrameRows.{frames_in, passed};
 ghost use Rattle.uac_graph.specs.Wiring.{AreSilent, AreWiresOf, frame_on, samples_on, tone_frame};
 
 use crate::frames::silent;
@@ -28,7 +28,7 @@ pub struct FrameTable {
 impl Model for FrameTable {
     ghost use Rattle.std.specs.Prelude.{◌≡◌, length, map};
     ghost use Rattle.std.specs.Option.{option_map};
-    ghost use Rattle.uac_graph.specs.Rows.{frames_in};
+    ghost use Rattle.uac_graph.specs.FrameRows.{frames_in};
     ghost use Rattle.uac_graph.specs.Wiring.{Frames};
 
     ghost Value = { Frames };

@@ -4,12 +4,12 @@ ghost use Rattle.uac_topology_rules.specs.Clusters.{is_input};
 ghost use Rattle.uac_topology_rules.specs.Links.{is_clock};
 ghost use Rattle.uac_topology_rules.specs.Table.{at};
 ghost use Rattle.uac_units.specs.Fitting.{IsFitted};
-ghost use Rattle.uac_store.specs.Controls.{pins_of};
-ghost use Rattle.uac_graph.specs.Controls.{Controls, held_in};
+ghost use Rattle.uac_store.specs.StoreControls.{pins_of};
+ghost use Rattle.uac_graph.specs.GraphControls.{Controls, held_in};
 ghost use Rattle.uac_graph.specs.Fitness.{IsSignalGraph};
 ghost use Rattle.uac_graph.specs.Jobs.{AreJobs, AreSameBut, HasJob};
 ghost use Rattle.uac_graph.specs.Needs.{depended, needed, unit_count};
-ghost use Rattle.uac_graph.specs.Orders.{IsKept, frame_after};
+ghost use Rattle.uac_graph.specs.Orders.{IsKeptOrder, frame_after};
 ghost use Rattle.uac_graph.specs.Tasks.{work_of};
 ghost use Rattle.uac_graph.specs.Wiring.{AreRendered, AreWiresOf, frame_on, samples_on};
 
@@ -145,7 +145,7 @@ impl Graph {
     fn follow(&self, order: &Order, jobs: &Jobs, rack: &Rack, wires: &mut Wires, steps: &mut Steps)
         requires rack { IsFitted (λ v x. (⟦<dyn Unit as Unit>⟧ v).kind_of x) rack.now }
         requires sound { IsSignalGraph self.now }
-        requires order { IsKept self.now order.now }
+        requires order { IsKeptOrder self.now order.now }
         requires jobs { (controls : Controls) × AreJobs self.now controls jobs.now }
         requires wires { AreWiresOf self.now wires.old }
         requires room { steps.old + length (needed self.now order.now.domain) < 2 ^ 64 }

@@ -1,7 +1,7 @@
 // What all units are asked to render, kept from tick to tick.
 ghost use Rattle.std.specs.Prelude.{◌≡◌, ◌<◌, IfOk, length, get_or};
 ghost use Rattle.uac_units.specs.declared.jobs.Job as asked;
-ghost use Rattle.uac_graph.specs.Controls.{Controls, held_in};
+ghost use Rattle.uac_graph.specs.GraphControls.{Controls, held_in};
 ghost use Rattle.uac_graph.specs.Fitness.{IsSignalGraph};
 ghost use Rattle.uac_graph.specs.Jobs.{AreJobs, AreSameBut};
 

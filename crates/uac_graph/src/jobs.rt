@@ -1,12 +1,12 @@
 // What a unit is asked to render, and over which inputs.
 ghost use Rattle.std.specs.Prelude.{◌≡◌, ◌≤◌, ◌<◌, ◌+◌, ◌*◌, ◌++◌, map, take, length, sum};
 ghost use Rattle.std.specs.List.{range_with_len};
-ghost use Rattle.uac_store.specs.Controls.{pins_of};
+ghost use Rattle.uac_store.specs.StoreControls.{pins_of};
 ghost use Rattle.std.specs.Option.{option_map};
 ghost use Rattle.uac_units.specs.Fitting.{IsFitted};
 ghost use Rattle.uac_units.specs.Rendering.{in_a_row};
 ghost use Rattle.uac_units.specs.declared.jobs.UnitKind.TheVariants.{Selector};
-ghost use Rattle.uac_graph.specs.Controls.{held_in};
+ghost use Rattle.uac_graph.specs.GraphControls.{held_in};
 ghost use Rattle.uac_graph.specs.Jobs as spec;
 ghost use Rattle.uac_graph.specs.Jobs.{HasJob, IsAskable, IsJob};
 ghost use Rattle.uac_graph.specs.Needs as needs;
@@ -204,7 +204,7 @@ fn gather_all(pins: &mut Pins, frames: &FrameTable, sources: &[u8])
     pins.truncate(end);
 }
 
-// Puts samples behind the first pins, so many, and answers how many these are then. Others that lie there are written over.
+// Puts samples after the first pins, so many, and answers how many these are then. Others that lie there are written over.
 fn write(pins: &mut Pins, from: usize, samples: &[i32]) -> usize
     requires inside { from ≤ length pins.old.items }
     requires fits { from + length samples.now ≤ 256 }

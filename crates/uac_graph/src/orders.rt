@@ -8,7 +8,7 @@ ghost use Rattle.uac_topology_rules.specs.Table.{place_of};
 ghost use Rattle.uac_graph.specs.Fitness.{IsSignalGraph};
 ghost use Rattle.uac_graph.specs.Meaning.{entity};
 ghost use Rattle.uac_graph.specs.Needs.{reaches};
-ghost use Rattle.uac_graph.specs.Orders.{AreOrders, IsKept, IsOrder, IsOrderOf, holds};
+ghost use Rattle.uac_graph.specs.Orders.{AreOrders, IsKeptOrder, IsOrder, IsOrderOf, holds};
 
 use crate::tasks::{Task, tasks_of};
 use crate::terminals::is_end;
@@ -50,7 +50,7 @@ fn has_order(orders: &[Order], domain: u8) -> bool
 // The order for a domain, and what is done at its places.
 fn kept_order(alloc: Global, table: &EntityTable, domain: u8) -> Result<Order, NoMemory>
     requires { IsSignalGraph table.now }
-    ensures { IfOk result (λ order. (order.domain ≡ domain) × IsKept table.now order) }
+    ensures { IfOk result (λ order. (order.domain ≡ domain) × IsKeptOrder table.now order) }
 {
     let places = order_of(alloc, table, domain)?;
     let tasks = tasks_of(alloc, table, &places)?;
@@ -76,7 +76,7 @@ fn order_of(alloc: Global, table: &EntityTable, domain: u8) -> Result<Vec<usize>
     Ok(places)
 }
 
-// Puts an entity behind all that it depends on, where it isn't there yet. No walk of so many links leads on from it.
+// Puts an entity after all that it depends on, where it isn't there yet. No walk of so many links leads on from it.
 fn visit(table: &EntityTable, id: u8, links: usize, places: &mut Vec<usize>) -> Result<(), NoMemory>
     requires sound { IsSignalGraph table.now }
     requires signal { is_clock (entity table.now id).kind ≡ false }
@@ -110,7 +110,7 @@ pub(crate) fn places_for(orders: &[Order], domain: u8) -> &[usize]
 /// The order of a domain, None where it has no output terminal.
 pub(crate) fn order_for(orders: &[Order], domain: u8) -> Option<&Order>
     ensures found { (entities : List Entity) → AreOrders entities orders.now
-        → IfSome result (λ order. (order.now.domain ≡ domain) × IsKept entities order.now) }
+        → IfSome result (λ order. (order.now.domain ≡ domain) × IsKeptOrder entities order.now) }
     ensures none { (entities : List Entity) → AreOrders entities orders.now → IfNone result (IsOrderOf entities domain []) }
 {
     for order in orders {

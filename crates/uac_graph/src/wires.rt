@@ -4,7 +4,7 @@ ghost use Rattle.uac_entities.specs.declared.entity.Entity.{Entity};
 ghost use Rattle.std.specs.Option.{option_map};
 ghost use Rattle.uac_units.specs.Fitting.{IsFitted};
 ghost use Rattle.uac_units.specs.Rendering.{FitsKind, in_a_row, rendered};
-ghost use Rattle.uac_graph.specs.Controls.{Controls};
+ghost use Rattle.uac_graph.specs.GraphControls.{Controls};
 ghost use Rattle.uac_graph.specs.Jobs.{FitsFrames, HasJob};
 ghost use Rattle.uac_graph.specs.Meaning as spec;
 ghost use Rattle.uac_graph.specs.Needs.{unit_count};

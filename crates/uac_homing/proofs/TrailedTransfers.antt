@@ -4,20 +4,20 @@ use Rattle.std.specs.Option.{option_and_then, option_map}
 use Rattle.std.proofs.lemmas.Option.{cond_some}
 use Rattle.uac_rate.specs.Steadiness.{Given}
 use Rattle.uac_store.specs.declared.keys.Key.{Key}
-use Rattle.uac_alt.specs.Streams.{StreamFields}
+use Rattle.uac_alt.specs.AltStreams.{StreamFields}
 use Rattle.uac_alt.specs.declared.settings.InterfaceSetting.{InterfaceSetting}
 use Rattle.uac_request.specs.declared.setup.Setup.{Setup}
-use Rattle.uac_flow.specs.Streams.{InStream, OutStream, started_out}
+use Rattle.uac_flow.specs.FlowStreams.{InStream, OutStream, started_out}
 use Rattle.uac_host.specs.HostWorld.{Pace}
-use Rattle.uac_host.specs.Calls.{at_interface, started, with_stream}
+use Rattle.uac_host.specs.Calls.{at_interface, fresh_pace, with_stream}
 use Rattle.uac_lanes.specs.InterfaceStreams.{in_from, out_from, replaced_at}
-use Rattle.uac_device.specs.DeviceWorld.{Domain, restarted}
+use Rattle.uac_device.specs.DeviceWorld.{Domain, after_restart}
 use Rattle.uac_streaming.specs.StreamingWorld.{place_of}
 use Rattle.uac_running.specs.RunningWorld.{RunningWorld}
-use Rattle.uac_running.specs.Transfers.{transferred}
+use Rattle.uac_running.specs.RunningTransfers.{after_transfer}
 use Rattle.uac_bands.specs.Life.{Life, domain_on, life_of}
-use Rattle.uac_bands.specs.Run.{RunInBand}
-use Rattle.uac_bands.specs.Transfers.{IsSoundRun}
+use Rattle.uac_bands.specs.BandRun.{RunInBand}
+use Rattle.uac_bands.specs.BandTransfers.{IsSoundRun}
 use Rattle.uac_bands.proofs.Shown.{if_false}
 use Rattle.uac_bands.proofs.SteadyRun.{lived}
 use Rattle.uac_bands.proofs.Requested.{asked_device, begun, given_then, seen, transferred_so}
@@ -79,7 +79,7 @@ module _ (p : Setup) (bytes : List ℕ) (r : RunningWorld) (band : RunInBand r) 
   ins_then = replaced_at p.index (option_and_then in_from (begun p bytes r)) r.device.ins
 
   abbrev paces_then : ℕ → Option Pace
-  paces_then = at_interface p.index (option_map started (begun p bytes r)) r.host.paces
+  paces_then = at_interface p.index (option_map fresh_pace (begun p bytes r)) r.host.paces
 
   not_primed : (b : Option StreamFields) (o : OutStream) → option_and_then out_from b ≡ Some o → o.target ≡ None
   not_primed None o there = absurd (cc)
@@ -89,13 +89,13 @@ module _ (p : Setup) (bytes : List ℕ) (r : RunningWorld) (band : RunInBand r) 
   module _ (other : RunningWorld) where
     abbrev restarted_world : RunningWorld
     restarted_world = record other {
-      device = restarted p.index (begun p bytes r) (asked_device p bytes r);
+      device = after_restart p.index (begun p bytes r) (asked_device p bytes r);
       host = with_stream p.index (begun p bytes r) r.host;
       given = given_then p bytes r;
     }
 
     restarts : PrimedBefore r restarted_world
-    unfolding restarted with_stream
+    unfolding after_restart with_stream
     restarts k l target life is = by (k == p.index) refl
       where
         out : outs_then k ≡ Some l.out
@@ -119,7 +119,7 @@ carried r other k l target life is = life
 
 -- ---- a transfer
 
-primed_before : (p : Setup) (bytes : List ℕ) (r : RunningWorld) → RunInBand r → IsSoundRun r → PrimedBefore r (transferred p bytes r)
+primed_before : (p : Setup) (bytes : List ℕ) (r : RunningWorld) → RunInBand r → IsSoundRun r → PrimedBefore r (after_transfer p bytes r)
 primed_before p bytes r band sound =
     transferred_so p bytes r (PrimedBefore r) (λ set. restarts p bytes r band sound (seen p bytes r)) (λ other. acts_alone p bytes r band sound (seen p bytes r))
     (carried r (seen p bytes r))

@@ -8,11 +8,11 @@ use Rattle.uac_rate.specs.Levels.{HasBand, IsRobust, Point, Within}
 use Rattle.uac_rate.specs.Steadiness.{latest_run}
 use Rattle.uac_rate.proofs.LevelsLemmas.{rates_band, tight_within}
 use Rattle.uac_settle.specs.Settling.{Ends, IsIntervalEnd, settle_of}
-use Rattle.uac_settle.proofs.StretchesLemmas.{stretch_settles}
-use Rattle.uac_settle.proofs.TurnsLemmas.{ends_by_count}
-use Rattle.uac_flow.specs.Streams.{OutStream, is_due, out_level, priming_level}
+use Rattle.uac_settle.proofs.Stretches.{stretch_settles}
+use Rattle.uac_settle.proofs.TurnsGoOn.{ends_by_count}
+use Rattle.uac_flow.specs.FlowStreams.{OutStream, is_due, out_level, priming_level}
 use Rattle.uac_bands.specs.Life.{Life, life_after, with_feedback}
-use Rattle.uac_bands.specs.Bands.{InBand, IsAt, IsBehind, IsFilling, IsSlightStep, IsSteadyMicroframe, passed}
+use Rattle.uac_bands.specs.Bands.{InBand, IsAt, IsFollowing, IsFilling, IsSlightStep, IsSteadyMicroframe, microframes_since_due}
 use Rattle.uac_bands.proofs.Numbers.{IsPlacedAt, placed_at}
 use Rattle.uac_bands.proofs.Steady.{Goes, is_some_more, is_zero, primed_goes, times_none}
 use Rattle.uac_bands.proofs.Banded.{behind_not_due, end_point, ended_first, ended_life, ended_primed, first_point, interval, is_below, is_lost, just_primed, level_now, lived_due, lived_not_due, n, target_by}
@@ -24,15 +24,15 @@ use Rattle.uac_homing.proofs.Turns.{HasCome, come_on, each_more, length_more, pr
 -- ---- at the end of an interval
 
 -- no step of its clock is after the point
-no_steps : (l : Life) (target : ℕ) (p : Point) (b : IsBehind l target p) → passed l.out ≡ 0 → b.ticked.steps ≡ 0
+no_steps : (l : Life) (target : ℕ) (p : Point) (b : IsFollowing l target p) → microframes_since_due l.out ≡ 0 → b.ticked.steps ≡ 0
 no_steps l target p b ended =
-    let e = times_none (passed l.out) l.out.stream.nominal.e ended in
-    let f = times_none (passed l.out) l.out.stream.nominal.f ended in
+    let e = times_none (microframes_since_due l.out) l.out.stream.nominal.e ended in
+    let f = times_none (microframes_since_due l.out) l.out.stream.nominal.f ended in
     let slight = b.ticked.slight in
     omega (arith, slight.0)
 
 trail_at_end : (l : Life) (target : ℕ) (p : Point) (past : Past)
-    → HasCome l.out.stream.nominal l.out.stream.service l.out.stream.period past p → IsBehind l target p → passed l.out ≡ 0
+    → HasCome l.out.stream.nominal l.out.stream.service l.out.stream.period past p → IsFollowing l target p → microframes_since_due l.out ≡ 0
     → HasTrail l target past
 trail_at_end l target p past come b ended = record {
   all = come.all;
@@ -40,7 +40,7 @@ trail_at_end l target p past come b ended = record {
   point = p;
   stretch = come.stretch;
   keeps = come.keeps;
-  behind = b;
+  following = b;
   recent = [];
   slight = tt;
   as_many = sym ended;
@@ -52,7 +52,7 @@ trail_at_end l target p past come b ended = record {
 
 -- and after the report that falls due there
 trail_behind : (m : Life) (lost : Bool) (target : ℕ) (q : Point) (past : Past) → Goes m lost target q (with_feedback lost m)
-    → passed m.out ≡ 0
+    → microframes_since_due m.out ≡ 0
     → ((next : Point) → IsRobust m.out.stream.nominal 65 m.out.stream.service m.out.stream.period next
     → IsIntervalEnd m.out.stream.service m.out.stream.period next → Ends m.out.stream.nominal m.out.stream.period lost q next
     → HasCome m.out.stream.nominal m.out.stream.service m.out.stream.period past next)
@@ -60,9 +60,9 @@ trail_behind : (m : Life) (lost : Bool) (target : ℕ) (q : Point) (past : Past)
 trail_behind m lost target q past goes ended come =
     trail_at_end after target goes.point past
     (subst (λ (o : OutStream). HasCome o.stream.nominal o.stream.service o.stream.period past goes.point) (sym same) (come goes.point
-    (subst (λ (o : OutStream). IsRobust o.stream.nominal 65 o.stream.service o.stream.period goes.point) same goes.behind.robust)
+    (subst (λ (o : OutStream). IsRobust o.stream.nominal 65 o.stream.service o.stream.period goes.point) same goes.following.robust)
     (subst (λ (o : OutStream). IsIntervalEnd o.stream.service o.stream.period goes.point) same at_end) goes.ends))
-    goes.behind now
+    goes.following now
   where
     after : Life
     after = with_feedback lost m
@@ -70,16 +70,16 @@ trail_behind m lost target q past goes ended come =
     same : after.out ≡ m.out
     same = feedback_out lost m
 
-    now : passed after.out ≡ 0
-    now = ap (λ (o : OutStream). passed o) same ∙ ended
+    now : microframes_since_due after.out ≡ 0
+    now = ap (λ (o : OutStream). microframes_since_due o) same ∙ ended
 
-    counted : after.out.microframes - passed after.out ≡ after.out.microframes
+    counted : after.out.microframes - microframes_since_due after.out ≡ after.out.microframes
     counted = omega (arith, now)
 
     at_end : IsIntervalEnd after.out.stream.service after.out.stream.period goes.point
     at_end =
         ends_by_count after.out.stream.service after.out.stream.period after.out.microframes goes.point goes.band.intervals now
-        (goes.behind.waited ∙ ap (λ (k : ℕ). k % after.out.stream.period) counted)
+        (goes.following.waited ∙ ap (λ (k : ℕ). k % after.out.stream.period) counted)
 
 -- ---- a steady microframe
 
@@ -110,16 +110,16 @@ module _ (l : Life) (packet : Option (List ℕ)) (step : ℕ) (band : InBand l) 
   waits : is_due l.out.stream l.out.microframes ≡ false → (target : ℕ) → l.out.target ≡ Some target → (past : Past)
       → HasTrail l target past → HasTrail after target (one_later false past)
   waits due target is past t =
-      let on = behind_not_due l packet step band given due target t.point t.behind in
-      let within : (l.out.microframes + 1) % s ≡ passed l.out + 1 = at.within (is_some_more ((l.out.microframes + 1) % s) due) in
+      let on = behind_not_due l packet step band given due target t.point t.following in
+      let within : (l.out.microframes + 1) % s ≡ microframes_since_due l.out + 1 = at.within (is_some_more ((l.out.microframes + 1) % s) due) in
       subst (λ (m : Life). HasTrail m target (one_later false past))
-      (sym (lived_not_due l packet step band given (Some target) is (t.point, t.behind) due report_lost)) (record {
+      (sym (lived_not_due l packet step band given (Some target) is (t.point, t.following) due report_lost)) (record {
         all = t.all;
         start = t.start;
         point = t.point;
         stretch = t.stretch;
         keeps = t.keeps;
-        behind = on.0;
+        following = on.0;
         recent = t.recent ++ step ∷ [];
         slight = each_more (IsSlightStep values) t.recent step t.slight given.slight;
         as_many = length_more t.recent step ∙ ap (λ (k : ℕ). k + 1) t.as_many ∙ sym within;
@@ -131,17 +131,17 @@ module _ (l : Life) (packet : Option (List ℕ)) (step : ℕ) (band : InBand l) 
 
   module _ (due : is_due l.out.stream l.out.microframes ≡ true) where
     -- where one is, the interval ends
-    ends : passed l.out + 1 ≡ s
+    ends : microframes_since_due l.out + 1 ≡ s
     ends = at.ends (is_zero ((l.out.microframes + 1) % s) due)
 
     passes : (target : ℕ) → l.out.target ≡ Some target → (past : Past) → HasTrail l target past
         → HasTrail after target (one_later (is_lost packet) past)
     passes target is past t =
-        let lived = lived_due l packet step band given (Some target) is (t.point, t.behind) due report_lost in
+        let lived = lived_due l packet step band given (Some target) is (t.point, t.following) due report_lost in
         let m : Life = ended_life l packet step band given (n l packet step band given) in
-        let q : Point = end_point l packet step band given due target is t.point t.behind in
-        let at_end = ended_primed l packet step band given due target is t.point t.behind in
-        let i = interval l packet step band given due target is t.point t.behind in
+        let q : Point = end_point l packet step band given due target is t.point t.following in
+        let at_end = ended_primed l packet step band given due target is t.point t.following in
+        let i = interval l packet step band given due target is t.point t.following in
         subst (λ (m : Life). HasTrail m target (one_later (is_lost packet) past)) (sym lived)
         (trail_behind m report_lost target q (one_later (is_lost packet) past)
         (primed_goes m report_lost target q at_end (subst (λ (m : Life). latest_run m.reports ≤ 3) lived few)) at_end.ended.passed_is
@@ -188,7 +188,7 @@ module _ (l : Life) (packet : Option (List ℕ)) (step : ℕ) (band : InBand l) 
             primed_come values s period report_lost facts band.intervals q next (just_primed l packet step band given due is filling reached) robust whole end)))
 
   -- a primed stream stays so
-  stays_primed : (target : ℕ) (p : Point) → l.out.target ≡ Some target → IsBehind l target p → after.out.target ≡ Some target
+  stays_primed : (target : ℕ) (p : Point) → l.out.target ≡ Some target → IsFollowing l target p → after.out.target ≡ Some target
   stays_primed target p is b = by (is_due l.out.stream l.out.microframes) refl
     where
       by : (c : Bool) → is_due l.out.stream l.out.microframes ≡ c → after.out.target ≡ Some target
@@ -209,7 +209,7 @@ module _ (l : Life) (packet : Option (List ℕ)) (step : ℕ) (band : InBand l) 
       subst (λ (k : ℕ). HasTrail after k (one_later loses past)) same (by (is_due l.out.stream l.out.microframes) refl)
     where
       same : target ≡ t
-      same = let both : Some target ≡ Some t = sym (stays_primed target trail.point is trail.behind) ∙ primed in cc
+      same = let both : Some target ≡ Some t = sym (stays_primed target trail.point is trail.following) ∙ primed in cc
 
       by : (b : Bool) → is_due l.out.stream l.out.microframes ≡ b → HasTrail after target (one_later loses past)
       by false due =
@@ -237,7 +237,7 @@ pub record IsHome (l : Life) (past : Past) (level target : ℕ) : Type 0 where
   pub settled : settle_of l.out.stream.nominal ≤ past.quiet → Within 4 level target
   pub tight : past.primed ≡ past.quiet → Within 3 level target
 
-pub trail_home : (l : Life) (target : ℕ) (past : Past) → InBand l → HasTrail l target past → passed l.out ≡ 0
+pub trail_home : (l : Life) (target : ℕ) (past : Past) → InBand l → HasTrail l target past → microframes_since_due l.out ≡ 0
     → IsHome l past (out_level l.out) target
 trail_home l target past band t ended = record {
   settled = λ long. close 4
@@ -261,11 +261,11 @@ trail_home l target past band t ended = record {
 
     level : t.point.level ≡ out_level l.out
     level =
-        let none = no_steps l target t.point t.behind ended in
-        let below = t.behind.robust.counted.clock in
-        let no_ticks : l.out.ticks ≡ 0 = omega (arith, t.behind.ticked.ticks) in
-        omega (arith, t.behind.level)
+        let none = no_steps l target t.point t.following ended in
+        let below = t.following.robust.counted.clock in
+        let no_ticks : l.out.ticks ≡ 0 = omega (arith, t.following.ticked.ticks) in
+        omega (arith, t.following.level)
 
     close : (most : ℕ) → Within most t.point.level t.point.target → Within most (out_level l.out) target
     close most near =
-        subst (λ (k : ℕ). Within most k target) level (subst (λ (k : ℕ). Within most t.point.level k) t.behind.target_is near)
+        subst (λ (k : ℕ). Within most k target) level (subst (λ (k : ℕ). Within most t.point.level k) t.following.target_is near)

@@ -6,7 +6,7 @@ use Rattle.uac_clock.specs.declared.values.Nominal.{Nominal}
 use Rattle.uac_rate.specs.Levels.{AreIntervals, HasBand, Interval, IsJustPrimed, IsRobust, IsTight, Anchor, Point, aged, anchor_after, anchor_of}
 use Rattle.uac_rate.proofs.LevelsLemmas.{interval_tight, primed_tight, report_tight}
 use Rattle.uac_settle.specs.Settling.{Ends, IsIntervalEnd, IsServed, KeepsPackets, Served, Stretch}
-use Rattle.uac_settle.proofs.TurnsLemmas.{turns_and}
+use Rattle.uac_settle.proofs.TurnsGoOn.{turns_and}
 use Rattle.uac_bands.proofs.Numbers.{times_more}
 use Rattle.uac_homing.specs.Past.{Past, no_past, one_later}
 
@@ -90,7 +90,7 @@ module _ (values : Nominal) (service period : ℕ) (report_lost : Bool) (facts :
           robust = stretch.robust;
           begins = stretch.begins;
           turns = turns_and values service period all one start p next stretch.turns
-              (record { is_served = served; behind = q; interval = i; steps_are = sums; ends = ends });
+              (record { is_served = served; following = q; interval = i; steps_are = sums; ends = ends });
         };
         keeps = each_more (λ (s : Served). s.packet_lost ≡ false) all one keeps refl;
         since = since ∙ sym many;

@@ -9,16 +9,16 @@ use Rattle.uac_pcm.specs.declared.tones.Tone.{Tone}
 use Rattle.uac_units.specs.Hearing.{Reading}
 use Rattle.uac_topology.specs.Function.{FunctionFields}
 use Rattle.uac_request.specs.declared.setup.Setup.{Setup}
-use Rattle.uac_flow.specs.Streams.{OutStream}
+use Rattle.uac_flow.specs.FlowStreams.{OutStream}
 use Rattle.uac_script.specs.Phrase.{SaidMark}
 use Rattle.uac_transcript.specs.Transcript.{Said, says_level}
 use Rattle.uac_running.specs.RunningWorld.{RunningWorld, at_start, with_detail, with_deviation, with_samples_on, with_tone, with_track}
 use Rattle.uac_running.specs.Events.{microframe}
-use Rattle.uac_running.specs.Transfers.{transferred, with_break}
+use Rattle.uac_running.specs.RunningTransfers.{after_transfer, with_break}
 use Rattle.uac_bands.specs.Life.{Life, life_of}
-use Rattle.uac_bands.specs.Bands.{IsBehind, IsSlightStep, passed}
-use Rattle.uac_bands.specs.Run.{RunInBand}
-use Rattle.uac_bands.specs.Transfers.{IsSoundRun}
+use Rattle.uac_bands.specs.Bands.{IsFollowing, IsSlightStep, microframes_since_due}
+use Rattle.uac_bands.specs.BandRun.{RunInBand}
+use Rattle.uac_bands.specs.BandTransfers.{IsSoundRun}
 use Rattle.uac_homing.specs.Past.{Past, Pasts, pasts_after}
 
 -- a primed stream between two microframes, by what it came through since it was primed or lost its last packet: service intervals one after
@@ -30,12 +30,12 @@ pub record HasTrail (l : Life) (target : ℕ) (past : Past) : Type 0 where
   pub point : Point
   pub stretch : Stretch l.out.stream.nominal l.out.stream.service l.out.stream.period all start point
   pub keeps : KeepsPackets all
-  pub behind : IsBehind l target point
+  pub following : IsFollowing l target point
   pub recent : List ℕ
   pub slight : AllByRecursion (IsSlightStep l.out.stream.nominal) recent
-  pub as_many : length recent ≡ passed l.out
-  pub steps : behind.ticked.steps ≡ sum recent
-  pub since : past.quiet ≡ length all * l.out.stream.service + passed l.out
+  pub as_many : length recent ≡ microframes_since_due l.out
+  pub steps : following.ticked.steps ≡ sum recent
+  pub since : past.quiet ≡ length all * l.out.stream.service + microframes_since_due l.out
   pub earlier : past.quiet ≤ past.primed
   pub tight : past.primed ≡ past.quiet → (anchor : Anchor) × IsTight l.out.stream.nominal l.out.stream.period anchor point
 
@@ -63,14 +63,14 @@ RunsStartTrailed =
     → HaveTrails (at_start descriptor function meters) pasts
 
 -- a microframe of a run in its bands that is steady after it leaves it so, and each level that it tells is close
-pub record StaysTrailed (losses : List SaidMark) (r : RunningWorld) (pasts : Pasts) : Type 0 where
-  pub stays : HaveTrails (microframe losses r).world (pasts_after losses r pasts)
-  pub close : All (IsClose (microframe losses r).world (pasts_after losses r pasts)) (microframe losses r).lines
+pub record StaysTrailed (marks : List SaidMark) (r : RunningWorld) (pasts : Pasts) : Type 0 where
+  pub stays : HaveTrails (microframe marks r).world (pasts_after marks r pasts)
+  pub close : All (IsClose (microframe marks r).world (pasts_after marks r pasts)) (microframe marks r).lines
 
 abbrev pub MicroframesStayTrailed : Type 0
 MicroframesStayTrailed =
-    (losses : List SaidMark) (r : RunningWorld) (pasts : Pasts) → RunInBand r
-    → steadiness.is_steady (microframe losses r).world.given ≡ true → HaveTrails r pasts → StaysTrailed losses r pasts
+    (marks : List SaidMark) (r : RunningWorld) (pasts : Pasts) → RunInBand r
+    → steadiness.is_steady (microframe marks r).world.given ≡ true → HaveTrails r pasts → StaysTrailed marks r pasts
 
 -- what else is asked of a run leaves it so
 pub record StaysTrailedBetween (r : RunningWorld) (pasts : Pasts) : Type 0 where
@@ -79,7 +79,7 @@ pub record StaysTrailedBetween (r : RunningWorld) (pasts : Pasts) : Type 0 where
   pub breaks : (after : Bool) → HaveTrails (with_break after r) pasts
   pub samples : (interface : ℕ) (samples : List ℤ) → HaveTrails (with_samples_on interface samples r) pasts
   pub track : (interface : ℕ) (tone : Tone) → HaveTrails (with_track interface tone r) pasts
-  pub deviation : (clock : ℕ) (millionths : ℤ) → HaveTrails (with_deviation clock millionths r) pasts
+  pub deviation : (clock : ℕ) (ppm : ℤ) → HaveTrails (with_deviation clock ppm r) pasts
 
 abbrev pub CallsStayTrailed : Type 0
 CallsStayTrailed = (r : RunningWorld) (pasts : Pasts) → HaveTrails r pasts → StaysTrailedBetween r pasts
@@ -88,4 +88,4 @@ CallsStayTrailed = (r : RunningWorld) (pasts : Pasts) → HaveTrails r pasts →
 abbrev pub TransfersStayTrailed : Type 0
 TransfersStayTrailed =
     (p : Setup) (bytes : List ℕ) (r : RunningWorld) (pasts : Pasts) → RunInBand r → IsSoundRun r → HaveTrails r pasts
-    → HaveTrails (transferred p bytes r) pasts
+    → HaveTrails (after_transfer p bytes r) pasts

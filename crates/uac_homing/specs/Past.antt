@@ -20,9 +20,9 @@ abbrev pub one_later : Bool → Past → Past
 one_later lost past = record { primed = past.primed + 1; quiet = if lost then 0 else past.quiet + 1 }
 
 -- the past of a stream that was primed before the microframe; for any other it begins
-abbrev pub past_behind : Bool → Option ℕ → Past → Past
-past_behind lost None past = no_past
-past_behind lost (Some target) past = one_later lost past
+abbrev pub past_after_packet : Bool → Option ℕ → Past → Past
+past_after_packet lost None past = no_past
+past_after_packet lost (Some target) past = one_later lost past
 
 -- by interface
 abbrev pub Pasts : Type 0
@@ -33,5 +33,5 @@ no_pasts interface = no_past
 
 -- after a microframe with these losses
 unfoldable pub pasts_after : List SaidMark → RunningWorld → Pasts → Pasts
-pasts_after losses r pasts interface =
-    past_behind (is_due_in r.device interface && loses_out losses interface) (target_of r.device interface) (pasts interface)
+pasts_after marks r pasts interface =
+    past_after_packet (is_due_in r.device interface && loses_out marks interface) (target_of r.device interface) (pasts interface)

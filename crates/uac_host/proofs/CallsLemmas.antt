@@ -7,7 +7,7 @@ use Rattle.std.proofs.lemmas.List.FromFn.{map-range_with_len_more}
 use Rattle.std.proofs.lemmas.Int.{int_wrap-add_right, int_wrap-mul_right}
 use Rattle.std.proofs.lemmas.Bool.{cases_lt}
 use Rattle.std.proofs.lemmas.Nat.{mul-mod_first}
-use Rattle.uac_pcm.specs.Words.{wrap}
+use Rattle.uac_pcm.specs.SampleWords.{wrap}
 use Rattle.uac_pcm.specs.Tones.{tone_sample}
 use Rattle.uac_pcm.specs.declared.tones.Tone.{Tone}
 use Rattle.uac_pcm.specs.declared.tones.Tone.TheVariants.{Silent, Ramp, Noise}

@@ -1,5 +1,5 @@
 pub mod CallsLemmas
-pub mod StreamsLemmas
-pub mod KeptLemmas
-pub mod StandsLemmas
+pub mod SettingStreams
+pub mod HostKeptLemmas
+pub mod StandsAfterCalls
 mod Worked

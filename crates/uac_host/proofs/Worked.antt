@@ -3,25 +3,25 @@ use Rattle.std.proofs.Common.{◌≡◌, ℕ, true, pos, [], ◌∷◌, refl}
 use Rattle.std.specs.Int.{int_wrap}
 use Rattle.uac_clock.specs.Nominal.{values_of}
 use Rattle.uac_pcm.specs.declared.tones.Tone.TheVariants.{Ramp}
-use Rattle.uac_alt.specs.Streams.{StreamFields}
+use Rattle.uac_alt.specs.AltStreams.{StreamFields}
 use Rattle.uac_host.specs.HostWorld.{Track}
-use Rattle.uac_host.specs.Calls.{after_frames, within_nominal, next_frames, next_size, sent, started}
+use Rattle.uac_host.specs.Calls.{after_frames, within_nominal, next_frames, next_size, pace_after_packet, fresh_pace}
 
 -- one channel of 16 bits to the device, at 44,100 Hz and at 48,000 Hz
 mono : ℕ → ℕ → StreamFields
 mono hertz service = record { channels = 1; subslot = 2; bits = 16; nominal = values_of hertz; out = true; most = 100; period = 8; service = service }
 
 -- half a frame is kept from packet to packet
-five : next_size (started (mono 44100 1)) ≡ 5
+five : next_size (fresh_pace (mono 44100 1)) ≡ 5
 unfolding mono values_of
 five = refl
 
-six : next_size (sent (started (mono 44100 1))) ≡ 6
+six : next_size (pace_after_packet (fresh_pace (mono 44100 1))) ≡ 6
 unfolding mono values_of
 six = refl
 
 -- a packet every eight microframes
-eight_times_six : next_size (started (mono 48000 8)) ≡ 48
+eight_times_six : next_size (fresh_pace (mono 48000 8)) ≡ 48
 unfolding mono values_of
 eight_times_six = refl
 

@@ -9,8 +9,8 @@ use Rattle.uac_pcm.specs.Packets.{packed, unpacked}
 use Rattle.uac_pcm.specs.Tones.{tone_sample}
 use Rattle.uac_pcm.specs.declared.tones.Tone.{Tone}
 use Rattle.uac_topology.specs.Function.{FunctionFields, interface_in}
-use Rattle.uac_alt.specs.Streams.{StreamFields, linked_channels, stream_of}
-use Rattle.uac_rate.specs.Packets.{frames_in_packet}
+use Rattle.uac_alt.specs.AltStreams.{StreamFields, linked_channels, stream_of}
+use Rattle.uac_rate.specs.PacketSizes.{frames_in_packet}
 use Rattle.uac_host.specs.HostWorld.{HostWorld, Pace, Track}
 
 -- a value at one interface, and elsewhere what was there
@@ -30,24 +30,25 @@ pub record IsStreamOf (function : FunctionFields) (interface : ℕ) (stream : St
   pub is : stream_of function rate interface setting ≡ Some stream
 
 -- a stream that starts: its nominal rate is in force, and no microframe has passed
-abbrev pub started : StreamFields → Pace
-started stream = record { stream = stream; used = []; value = stream.nominal.f }
+abbrev pub fresh_pace : StreamFields → Pace
+fresh_pace stream = record { stream = stream; used = []; value = stream.nominal.f }
 
 -- an interface starts a stream anew, or runs none; its track stays
 unfoldable pub with_stream : ℕ → Option StreamFields → HostWorld → HostWorld
-with_stream interface stream w = record w { paces = at_interface interface (option_map started stream) w.paces }
+with_stream interface stream w = record w { paces = at_interface interface (option_map fresh_pace stream) w.paces }
 
 -- a rate value, held between the least and the greatest packet of a stream
 abbrev pub within_nominal : StreamFields → ℕ → ℕ
 within_nominal stream value = max (stream.nominal.lo * 65536) (min value (stream.nominal.hi * 65536))
 
 -- a feedback report came: its value is in force, as far as it may be
-abbrev pub reported : ℕ → Pace → Pace
-reported value p = record p { value = within_nominal p.stream value }
+abbrev pub pace_after_report : ℕ → Pace → Pace
+pace_after_report value p = record p { value = within_nominal p.stream value }
 
 -- the report comes to the stream that an interface runs
 unfoldable pub with_report : ℕ → ℕ → HostWorld → HostWorld
-with_report interface value w = record w { paces = at_interface interface (option_map (reported value) (w.paces interface)) w.paces }
+with_report interface value w = record w
+    { paces = at_interface interface (option_map (pace_after_report value) (w.paces interface)) w.paces }
 
 -- ---- tracks
 
@@ -105,14 +106,14 @@ packet_of w interface =
     (w.paces interface) []
 
 -- a stream whose next packet was formed
-abbrev pub sent : Pace → Pace
-sent p = record p { used = used_next p }
+abbrev pub pace_after_packet : Pace → Pace
+pace_after_packet p = record p { used = used_next p }
 
 -- a packet was sent: the pace of the stream that an interface runs goes on, and its track
 unfoldable pub after_packet : ℕ → HostWorld → HostWorld
 after_packet interface w =
     record w {
-      paces = at_interface interface (option_map sent (w.paces interface)) w.paces;
+      paces = at_interface interface (option_map pace_after_packet (w.paces interface)) w.paces;
       tracks = at_interface interface (after_frames (size_of w interface) (w.tracks interface)) w.tracks;
     }
 

@@ -3,5 +3,5 @@
 pub mod HostWorld
 pub mod Calls
 -- What the contracts below them cite: steps of the code, no part of what is promised.
-pub mod Fields
-pub mod Kept
+pub mod HostFields
+pub mod HostKept

@@ -4,11 +4,11 @@ ghost use Rattle.std.specs.Bool.{OnTrue, OnFalse};
 ghost use Rattle.std.specs.Option.{option_map};
 ghost use Rattle.uac_topology.specs.Function.{FunctionFields};
 ghost use Rattle.uac_topology.specs.Topology.{IsSoundFunction};
-ghost use Rattle.uac_alt.specs.Streams.{stream_fields};
+ghost use Rattle.uac_alt.specs.AltStreams.{stream_fields};
 ghost use Rattle.uac_host.specs.HostWorld.{HostWorld, fresh_host};
 ghost use Rattle.uac_host.specs.Calls.{AreWhole, IsStreamOf, after_packet, heard_in, packet_of, size_of};
 ghost use Rattle.uac_host.specs.Calls.{with_report, with_samples, with_stream, with_tone};
-ghost use Rattle.uac_host.specs.Kept.{Stands};
+ghost use Rattle.uac_host.specs.HostKept.{Stands};
 
 use crate::lanes::Lane;
 use std::alloc::Global;

@@ -2,11 +2,11 @@
 ghost use Rattle.std.specs.Prelude.{◌≡◌, ◌↔◌, ◌<◌, length, slice_get, Some, IsTrue, IfSome};
 ghost use Rattle.std.specs.Bool.{OnTrue, OnFalse};
 ghost use Rattle.std.specs.Option.{option_map};
-ghost use Rattle.uac_alt.specs.Streams.{stream_fields};
+ghost use Rattle.uac_alt.specs.AltStreams.{stream_fields};
 ghost use Rattle.uac_host.specs.HostWorld.{HostWorld};
-ghost use Rattle.uac_host.specs.Calls.{after_packet, heard_in, packet_of, size_of, started};
-ghost use Rattle.uac_host.specs.Fields.{IsRunnable};
-ghost use Rattle.uac_host.specs.Kept.{IsKept, kept_lane, kept_pace, kept_report, resting_lane};
+ghost use Rattle.uac_host.specs.Calls.{after_packet, heard_in, packet_of, size_of, fresh_pace};
+ghost use Rattle.uac_host.specs.HostFields.{IsRunnable};
+ghost use Rattle.uac_host.specs.HostKept.{IsKeptLane, kept_lane, kept_pace, kept_report, resting_lane};
 
 use crate::paces::Pace;
 use crate::tracks::Track;
@@ -37,7 +37,7 @@ impl Lane {
     /// Starts a stream anew, or runs none from now on.
     pub(crate) fn run(&mut self, stream: Option<Stream>)
         requires { IfSome stream (λ s. IsRunnable (stream_fields s)) }
-        ensures { self.new ≡ record self.old { pace = option_map (λ s. kept_pace (started (stream_fields s))) stream } }
+        ensures { self.new ≡ record self.old { pace = option_map (λ s. kept_pace (fresh_pace (stream_fields s))) stream } }
     {
         match stream {
             Some(stream) => self.pace = Some(Pace::start(stream)),
@@ -58,9 +58,9 @@ impl Lane {
     /// Makes the packet the next frames of the track, as many as the stream's pace gives, and answers how many these are. Where no stream
     /// runs there are none.
     pub(crate) fn send(&mut self, packet: &mut Packet) -> u32
-        ensures size { (w : HostWorld) → IsKept w self.old → result ≡ size_of w self.old.interface }
-        ensures packet { (w : HostWorld) → IsKept w self.old → packet.new.items ≡ packet_of w self.old.interface }
-        ensures stands { (w : HostWorld) → IsKept w self.old
+        ensures size { (w : HostWorld) → IsKeptLane w self.old → result ≡ size_of w self.old.interface }
+        ensures packet { (w : HostWorld) → IsKeptLane w self.old → packet.new.items ≡ packet_of w self.old.interface }
+        ensures stands { (w : HostWorld) → IsKeptLane w self.old
             → self.new ≡ kept_lane (after_packet self.old.interface w) self.old.interface }
     {
         match &mut self.pace {
@@ -80,9 +80,9 @@ impl Lane {
     /// Makes `frame` the frame of a number, from 0, of a packet of the stream; false exactly where the packet has no such frame, and then
     /// `frame` stays as it was. Where no stream runs there is none.
     pub(crate) fn hear(&self, packet: &Packet, at: u32, frame: &mut Frame) -> bool
-        ensures there { (w : HostWorld) → IsKept w self.now
+        ensures there { (w : HostWorld) → IsKeptLane w self.now
             → IsTrue result ↔ (at < length (heard_in w self.now.interface packet.now.items)) }
-        ensures samples { (w : HostWorld) → IsKept w self.now
+        ensures samples { (w : HostWorld) → IsKeptLane w self.now
             → OnTrue result (slice_get (heard_in w self.now.interface packet.now.items) at ≡ Some frame.new.items) }
         ensures unchanged { OnFalse result (frame.new ≡ frame.old) }
     {

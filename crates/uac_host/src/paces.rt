@@ -1,9 +1,9 @@
 // How a running stream is sent.
 ghost use Rattle.std.specs.Prelude.{◌≡◌, ◌≤◌, ◌<◌, ◌+◌, ◌*◌, ◌/◌, ◌%◌};
 ghost use Rattle.uac_pcm.specs.Frames.{IsFormat};
-ghost use Rattle.uac_alt.specs.Streams.{stream_fields};
+ghost use Rattle.uac_alt.specs.AltStreams.{stream_fields};
 ghost use Rattle.uac_host.specs.Calls as spec;
-ghost use Rattle.uac_host.specs.Fields.{IsRunnable};
+ghost use Rattle.uac_host.specs.HostFields.{IsRunnable};
 
 use std::marker::Model;
 use uac_alt::Stream;
@@ -21,8 +21,8 @@ pub(crate) struct Pace {
 }
 
 impl Model for Pace {
-    ghost use Rattle.uac_alt.specs.Streams.{stream_fields};
-    ghost use Rattle.uac_host.specs.Fields.{PaceFields, IsPace};
+    ghost use Rattle.uac_alt.specs.AltStreams.{stream_fields};
+    ghost use Rattle.uac_host.specs.HostFields.{PaceFields, IsPace};
 
     ghost Value = { PaceFields };
 

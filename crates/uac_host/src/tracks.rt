@@ -6,7 +6,7 @@ ghost use Rattle.uac_pcm.specs.Packets.{packed};
 ghost use Rattle.std.specs.VecDeque.{deque_capacity};
 ghost use Rattle.uac_host.specs.HostWorld as world;
 ghost use Rattle.uac_host.specs.Calls.{after_frames, next_frames};
-ghost use Rattle.uac_host.specs.Kept.{kept_track};
+ghost use Rattle.uac_host.specs.HostKept.{kept_track};
 
 use arrayvec::ArrayVec;
 use std::alloc::Global;
@@ -25,7 +25,7 @@ pub(crate) struct Track {
 }
 
 impl Model for Track {
-    ghost use Rattle.uac_host.specs.Fields.{TrackFields};
+    ghost use Rattle.uac_host.specs.HostFields.{TrackFields};
 
     ghost Value = { TrackFields };
 

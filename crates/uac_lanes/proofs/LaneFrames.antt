@@ -4,7 +4,7 @@ use Rattle.std.specs.Option.{option_map}
 use Rattle.std.proofs.lemmas.List.{take_all, take_more, map-append}
 use Rattle.std.proofs.lemmas.List.Sums.{fold-append}
 use Rattle.uac_graph.specs.Wiring.{Frames, frame_on, silence}
-use Rattle.uac_flow.specs.Streams.{InStream, OutStream, is_dry, next_taken, out_level}
+use Rattle.uac_flow.specs.FlowStreams.{InStream, OutStream, is_dry, next_taken, out_level}
 use Rattle.uac_lanes.specs.declared.lane.Port.{Port}
 use Rattle.uac_lanes.specs.declared.lane.Lane.{Lane}
 use Rattle.uac_lanes.specs.Lanes.{KeepsLane, KeepsStreams, frame_given, given_by, gives_to, ports}

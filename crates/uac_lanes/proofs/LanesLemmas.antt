@@ -10,17 +10,17 @@ use Rattle.std.proofs.lemmas.List.{get_or_default}
 use Rattle.std.proofs.lemmas.List.Quantifiers.{position-Some}
 use Rattle.std.proofs.lemmas.Map.Keys.{IsDistinct-tail, apart_from_distinct}
 use Rattle.std.proofs.lemmas.Option.{same_Some, slice_get-get_or, slice_get_past}
-use Rattle.uac_entities.specs.Streams.{named}
+use Rattle.uac_entities.specs.EntityStreams.{named}
 use Rattle.uac_entities.specs.declared.entity.Entity.{Entity}
 use Rattle.uac_entities.specs.declared.stream.StreamInterface.{StreamInterface}
 use Rattle.uac_topology_rules.specs.Table.{at, nothing, place_of}
 use Rattle.uac_topology.specs.Function.{FunctionFields}
-use Rattle.uac_topology.specs.Kept.{AreNumbered}
+use Rattle.uac_topology.specs.FunctionKept.{AreNumbered}
 use Rattle.uac_graph.specs.Meaning.{entity}
 use Rattle.uac_topology_rules.proofs.Found.{position_is, position_none}
-use Rattle.uac_alt.specs.Streams.{stream_fields}
+use Rattle.uac_alt.specs.AltStreams.{stream_fields}
 use Rattle.uac_alt.specs.declared.values.Stream.{Stream}
-use Rattle.uac_flow.specs.Streams.{InStream, OutStream}
+use Rattle.uac_flow.specs.FlowStreams.{InStream, OutStream}
 use Rattle.uac_lanes.specs.declared.lane.Port.{Port}
 use Rattle.uac_lanes.specs.declared.lane.Lane.{Lane}
 use Rattle.uac_lanes.specs.InterfaceStreams.{changed_at, replaced_at}

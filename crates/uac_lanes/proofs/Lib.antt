@@ -1,5 +1,5 @@
 pub mod Turning
-pub mod LaneLemmas
+pub mod OneLane
 pub mod LanesLemmas
 pub mod TurnedLanes
 pub mod LaneFrames

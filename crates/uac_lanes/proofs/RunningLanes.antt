@@ -3,7 +3,7 @@ use Rattle.std.proofs.Common.{◌≡◌, ◌∙◌, sym, refl, ap, ℕ, ◌||◌
 use Rattle.std.specs.List.{All, list_any}
 use Rattle.std.proofs.lemmas.Bool.{or_parts, true≢false}
 use Rattle.std.proofs.lemmas.List.Elements.{All-cons, All-head, All-nil, All-tail}
-use Rattle.uac_flow.specs.Streams.{InStream, OutStream}
+use Rattle.uac_flow.specs.FlowStreams.{InStream, OutStream}
 use Rattle.uac_lanes.specs.InterfaceStreams.{NoneRuns, runs_either}
 use Rattle.uac_lanes.specs.declared.lane.Flow.{Flow}
 use Rattle.uac_lanes.specs.declared.lane.Flow.TheVariants as flow

@@ -5,7 +5,7 @@ use Rattle.std.specs.Option.{option_map}
 use Rattle.std.proofs.lemmas.Bool.{cases_eq}
 use Rattle.std.proofs.lemmas.List.{get_or_default, get_or-map, get_or-set_other, get_or-set_same, length-map, length-set}
 use Rattle.uac_graph.specs.Wiring.{Frames, frame_on, samples_on}
-use Rattle.uac_flow.specs.Streams.{InStream, OutStream, after_putting, after_taking, after_ticks}
+use Rattle.uac_flow.specs.FlowStreams.{InStream, OutStream, after_putting, after_taking, after_ticks}
 use Rattle.uac_lanes.specs.declared.lane.Flow.{Flow}
 use Rattle.uac_lanes.specs.declared.lane.Flow.TheVariants as flow
 use Rattle.uac_lanes.specs.InterfaceStreams.{changed_where}

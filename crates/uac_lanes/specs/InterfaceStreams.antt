@@ -2,8 +2,8 @@
 use Rattle.std.specs.Prelude.{◌≡◌, ℕ, ◌+◌, ◌*◌, ◌==◌, ◌||◌, Bool, false, if◌then◌else◌, List, [], ◌∷◌, Option, Some}
 use Rattle.std.specs.Prelude.{None, is_some, unwrap_or}
 use Rattle.std.specs.Option.{option_map, option_map_or, option_or}
-use Rattle.uac_alt.specs.Streams.{StreamFields}
-use Rattle.uac_flow.specs.Streams.{InStream, OutStream, in_level, is_due, out_level, started_in, started_out}
+use Rattle.uac_alt.specs.AltStreams.{StreamFields}
+use Rattle.uac_flow.specs.FlowStreams.{InStream, OutStream, in_level, is_due, out_level, started_in, started_out}
 
 -- ---- of one interface
 

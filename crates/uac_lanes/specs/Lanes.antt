@@ -7,9 +7,9 @@ use Rattle.uac_entities.specs.declared.entity.Entity.{Entity}
 use Rattle.uac_entities.specs.declared.stream.StreamInterface.{StreamInterface}
 use Rattle.uac_graph.specs.Meaning.{entity}
 use Rattle.uac_graph.specs.Wiring.{Frames, frame_on, silence}
-use Rattle.uac_alt.specs.Streams.{StreamFields}
+use Rattle.uac_alt.specs.AltStreams.{StreamFields}
 use Rattle.uac_flow.specs.Flows.{CanRun, IsInFlow, IsOutFlow, KeepsIn, KeepsOut}
-use Rattle.uac_flow.specs.Streams.{InStream, OutStream, after_putting, after_taking, after_ticks, is_dry, is_full, next_taken}
+use Rattle.uac_flow.specs.FlowStreams.{InStream, OutStream, after_putting, after_taking, after_ticks, is_dry, is_full, next_taken}
 use Rattle.uac_lanes.specs.declared.lane.Port.{Port}
 use Rattle.uac_lanes.specs.declared.lane.Flow.{Flow}
 use Rattle.uac_lanes.specs.declared.lane.Flow.TheVariants as flow

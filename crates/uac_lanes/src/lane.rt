@@ -1,11 +1,11 @@
 // What the device keeps of a streaming interface.
 ghost use Rattle.std.specs.Prelude.{◌≡◌, ◌==◌, ◌&&◌, ℕ, Option, Some, [], false, if◌then◌else◌, length, unwrap_or, IfOk, IfSome};
 ghost use Rattle.std.specs.Option.{option_and_then, option_map, option_map_or};
-ghost use Rattle.uac_alt.specs.Streams.{stream_fields};
+ghost use Rattle.uac_alt.specs.AltStreams.{stream_fields};
 ghost use Rattle.uac_graph.specs.Wiring.{frame_on, samples_on, silence};
 ghost use Rattle.uac_flow.specs.Flows.{CanRun, IsOutFlow, KeepsOut, ZerosFit};
-ghost use Rattle.uac_flow.specs.Streams.{InStream, OutStream, after_packet, after_sending, after_taking, arrival_of, feedback_of};
-ghost use Rattle.uac_flow.specs.Streams.{is_dry, next_taken, sent_frames, sent_packet, settled_in, settled_out};
+ghost use Rattle.uac_flow.specs.FlowStreams.{InStream, OutStream, after_packet, after_sending, after_taking, arrival_of, feedback_of};
+ghost use Rattle.uac_flow.specs.FlowStreams.{is_dry, next_taken, sent_frames, sent_packet, settled_in, settled_out};
 ghost use Rattle.uac_flow.specs.declared.arrival.Arrival.TheVariants as arrival;
 ghost use Rattle.uac_lanes.specs.InterfaceStreams.{either_due, in_from, level_in, out_from};
 ghost use Rattle.uac_lanes.specs.Lanes.{FitsPort, IsFlow, IsLane, KeepsFlow, KeepsLane, Turns, WiredIn, WiredOut, counted_on, found_dry};

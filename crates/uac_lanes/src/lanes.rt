@@ -2,10 +2,10 @@
 ghost use Rattle.std.specs.Prelude.{◌≡◌, ◌==◌, ℕ, Option, Some, [], false, map, IfOk, IfSome};
 ghost use Rattle.std.specs.List.{find, list_any};
 ghost use Rattle.std.specs.Option.{option_and_then, option_map, option_map_or};
-ghost use Rattle.uac_alt.specs.Streams.{stream_fields};
+ghost use Rattle.uac_alt.specs.AltStreams.{stream_fields};
 ghost use Rattle.uac_flow.specs.Flows.{ZerosFit};
-ghost use Rattle.uac_flow.specs.Streams.{InStream, OutStream, after_packet, after_sending, arrival_of, feedback_of, sent_frames};
-ghost use Rattle.uac_flow.specs.Streams.{sent_packet, settled_in, settled_out};
+ghost use Rattle.uac_flow.specs.FlowStreams.{InStream, OutStream, after_packet, after_sending, arrival_of, feedback_of, sent_frames};
+ghost use Rattle.uac_flow.specs.FlowStreams.{sent_packet, settled_in, settled_out};
 ghost use Rattle.uac_flow.specs.declared.arrival.Arrival.TheVariants as arrival;
 ghost use Rattle.uac_lanes.specs.InterfaceStreams.{NoneRuns, changed_at, either_due, in_from, level_in, out_from, replaced_at, runs_either};
 ghost use Rattle.uac_lanes.specs.Lanes.{FitsPort, KeepsStreams, idle_lane, is_running, lane_at, port_of, port_with, ports};

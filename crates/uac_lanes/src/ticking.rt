@@ -3,7 +3,7 @@ ghost use Rattle.std.specs.Prelude.{◌≡◌, ◌≤◌, ◌+◌, ◌==◌, if�
 ghost use Rattle.std.specs.List.{All};
 ghost use Rattle.std.specs.Option.{option_map};
 ghost use Rattle.uac_graph.specs.Wiring.{frame_on};
-ghost use Rattle.uac_flow.specs.Streams.{InStream, OutStream, after_putting, after_taking, after_ticks};
+ghost use Rattle.uac_flow.specs.FlowStreams.{InStream, OutStream, after_putting, after_taking, after_ticks};
 ghost use Rattle.uac_lanes.specs.InterfaceStreams.{changed_where};
 ghost use Rattle.uac_lanes.specs.Lanes.{AreLanes, IsLane, KeepsStreams, WiredIn, WiredOut, given_by, met_by, ports};
 
@@ -100,7 +100,7 @@ fn begin(lanes: &mut [Lane], domain: u8, wires: &mut Wires) -> Ticked
         over = with_bit(over, bit, found.full);
         bit = 2 * bit;
     }
-    told(under, over)
+    bits_met(under, over)
 }
 
 // The bits of the lanes so far, and one above them that tells whether the next lane's ring was found so.
@@ -112,7 +112,7 @@ fn with_bit(bits: u16, bit: u16, found: bool) -> u16
 }
 
 // What a tick met, by a bit for each interface.
-fn told(under: u16, over: u16) -> Ticked
+fn bits_met(under: u16, over: u16) -> Ticked
     requires under { under ≤ 255 }
     requires over { over ≤ 255 }
     ensures { result ≡ record { under = under; over = over } }

@@ -3,7 +3,7 @@ ghost use Rattle.std.specs.Prelude.{◌≡◌, ◌≤◌, ◌+◌, ◌++◌, len
 ghost use Rattle.uac_descriptor.specs.Spelling.{spelling};
 ghost use Rattle.uac_edges.specs.Faults.{HasCause};
 ghost use Rattle.uac_edges.specs.Writing.{AppendsFront, Writes};
-ghost use Rattle.uac_listing.specs.Blocks.{block_line, block_lines, kind_of, line_of, BeginsWith, Gives};
+ghost use Rattle.uac_listing.specs.BlockLines.{block_line, block_lines, kind_of, line_of, BeginsWith, Gives};
 
 use uac_descriptor::Block;
 use uac_descriptor::laws::has_spelling;

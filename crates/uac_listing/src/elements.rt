@@ -2,7 +2,7 @@
 ghost use Rattle.std.specs.Prelude.{◌≡◌, ◌≤◌, length};
 ghost use Rattle.uac_edges.specs.Faults.{HasCause};
 ghost use Rattle.uac_edges.specs.Writing.{Writes};
-ghost use Rattle.uac_listing.specs.Elements.{access_text, element_line, element_lines};
+ghost use Rattle.uac_listing.specs.ElementLines.{access_text, element_line, element_lines};
 
 use uac_edges::{Failed, Sink, TextLine, give_all};
 use uac_mixer::Element;
@@ -19,7 +19,7 @@ pub fn write_elements<K: Sink>(sink: &mut K, elements: &[Element]) -> Result<(),
 }
 
 /// An element's line.
-#[tactic(auto, unfolding(crate::specs::Elements::element_line))]
+#[tactic(auto, unfolding(crate::specs::ElementLines::element_line))]
 fn element_line(element: &Element) -> TextLine<64>
     ensures { result ≡ element_line element.now }
 {

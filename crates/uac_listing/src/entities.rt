@@ -2,7 +2,8 @@
 ghost use Rattle.std.specs.Prelude.{◌≡◌, ◌≤◌, ◌++◌, length, flat_map, codes, decimal};
 ghost use Rattle.uac_edges.specs.Faults.{HasCause};
 ghost use Rattle.uac_edges.specs.Writing.{Writes};
-ghost use Rattle.uac_listing.specs.Entities.{name_of, ids_text, more_ids, entity_head, entity_tail, entity_line, channels_text, clock_text};
+ghost use Rattle.uac_listing.specs.EntityLines.{entity_kind_name, ids_text, more_ids, entity_head, entity_tail, entity_line, channels_text};
+ghost use Rattle.uac_listing.specs.EntityLines.{clock_text};
 
 use uac_edges::{Failed, Sink, TextLine, give_all};
 use uac_entities::{Entity, EntityKind};
@@ -19,7 +20,7 @@ pub fn write_entities<K: Sink>(sink: &mut K, entities: &[Entity]) -> Result<(), 
 }
 
 /// Writes an entity's line.
-#[tactic(auto, using(uac_edges::proofs::WritingLemmas::writings), unfolding(crate::specs::Entities::entity_line))]
+#[tactic(auto, using(uac_edges::proofs::WritingLemmas::writings), unfolding(crate::specs::EntityLines::entity_line))]
 fn write_entity<K: Sink>(sink: &mut K, entity: &Entity) -> Result<(), Failed>
     ensures written { Writes (K.written sink.old) (K.written sink.new) result (entity_line entity.now) }
     ensures cause { HasCause (K.faults sink.old) (K.faults sink.new) result }
@@ -82,7 +83,7 @@ fn next_number(id: u8) -> TextLine<32>
 }
 
 /// The line up to the sources.
-#[tactic(auto, unfolding(crate::specs::Entities::entity_head))]
+#[tactic(auto, unfolding(crate::specs::EntityLines::entity_head))]
 fn head(entity: &Entity) -> TextLine<128>
     ensures { result ≡ entity_head entity.now }
 {
@@ -90,7 +91,7 @@ fn head(entity: &Entity) -> TextLine<128>
     text.push(b"entity ");
     text.push_number(u64::from(entity.id));
     text.push(b" ");
-    text.push(name_of(entity.kind));
+    text.push(entity_kind_name(entity.kind));
     text.push(b" channels ");
     text.push(channels(entity.kind, entity.cluster.channels).as_bytes());
     text.push(b" sources ");
@@ -98,7 +99,7 @@ fn head(entity: &Entity) -> TextLine<128>
 }
 
 /// The line after the sources.
-#[tactic(auto, unfolding(crate::specs::Entities::entity_tail))]
+#[tactic(auto, unfolding(crate::specs::EntityLines::entity_tail))]
 fn tail(entity: &Entity) -> TextLine<64>
     ensures { result ≡ entity_tail entity.now }
 {
@@ -153,8 +154,8 @@ fn dash() -> TextLine<32>
 }
 
 /// A kind's name.
-fn name_of(kind: EntityKind) -> &'static [u8]
-    ensures name { result.now ≡ name_of kind }
+fn entity_kind_name(kind: EntityKind) -> &'static [u8]
+    ensures name { result.now ≡ entity_kind_name kind }
     ensures short { length result.now ≤ 16 }
 {
     match kind {

@@ -1,11 +1,11 @@
 // Printing the settings of streaming interfaces.
 ghost use Rattle.std.specs.Prelude.{◌≡◌, ◌≤◌, ◌++◌, length};
 ghost use Rattle.std.specs.Option.{option_map};
-ghost use Rattle.uac_alt.specs.Streams as streams;
+ghost use Rattle.uac_alt.specs.AltStreams as streams;
 ghost use Rattle.uac_edges.specs.Faults.{HasCause};
 ghost use Rattle.uac_edges.specs.Writing.{Writes};
-ghost use Rattle.uac_listing.specs.Settings.{direction_text, idle_line, interface_lines, number_text, running_line, setting_line};
-ghost use Rattle.uac_listing.specs.Settings.{setting_lines, terminal_text, valid_text};
+ghost use Rattle.uac_listing.specs.SettingLines.{direction_text, idle_line, interface_lines, number_text, running_line, setting_line};
+ghost use Rattle.uac_listing.specs.SettingLines.{setting_lines, terminal_text, valid_text};
 
 use uac_alt::packet_room;
 use uac_edges::{Failed, Sink, TextLine, give_all};
@@ -63,7 +63,7 @@ fn write_setting<K: Sink>(
 }
 
 /// The line of setting 0.
-#[tactic(auto, unfolding(crate::specs::Settings::idle_line))]
+#[tactic(auto, unfolding(crate::specs::SettingLines::idle_line))]
 fn idle_line(interface: u8) -> TextLine<64>
     ensures { result ≡ idle_line interface }
 {
@@ -75,7 +75,7 @@ fn idle_line(interface: u8) -> TextLine<64>
 }
 
 /// The line of a setting above 0.
-#[tactic(auto, unfolding(crate::specs::Settings::running_line))]
+#[tactic(auto, unfolding(crate::specs::SettingLines::running_line))]
 fn running_line(stream: &StreamInterface, setting: &Setting, valid: bool) -> TextLine<320>
     ensures { result ≡ running_line stream.now setting.now valid }
 {

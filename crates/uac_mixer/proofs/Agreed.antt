@@ -5,24 +5,24 @@ use Rattle.std.specs.Option.{option_map_or}
 use Rattle.std.proofs.lemmas.Bool.{and_parts, cases_lt, eqb-true, eq-eqb}
 use Rattle.std.proofs.lemmas.List.{take_all, length-take-le}
 use Rattle.std.proofs.lemmas.List.Elements.{All-map}
-use Rattle.uac_entities.specs.Streams.{named}
+use Rattle.uac_entities.specs.EntityStreams.{named}
 use Rattle.uac_entities.specs.declared.entity.Entity.{Entity}
 use Rattle.uac_topology.specs.Function.{FunctionFields}
 use Rattle.uac_topology.specs.Topology.{IsSoundFunction}
 use Rattle.uac_store.specs.declared.keys.Key.{Key}
-use Rattle.uac_store.specs.Controls.{IsKeyed, IsStoreOf, has_control, has_on, takes, takes_on}
+use Rattle.uac_store.specs.StoreControls.{IsKeyed, IsStoreOf, has_control, has_on, takes, takes_on}
 use Rattle.uac_store.specs.Keyed.{same_key, value_of}
 use Rattle.uac_store.proofs.Setting.{changed_alone, key_itself, one_key}
 use Rattle.uac_request.specs.Requests.{Held, Owner, AnswerFields, after_request, by_entity, cur_bytes, cur_named, entity_width, first_broken, high, is_done, is_signed, is_stalled, key_named, low, owner_of, reply_of, sent_value, value_bytes, value_from, with_bytes, with_descriptor}
 use Rattle.uac_request.specs.declared.setup.Setup.{Setup}
 use Rattle.uac_mixer.specs.declared.element.Element.{Element}
-use Rattle.uac_mixer.specs.Elements.{fits_element, is_gain, width_of}
-use Rattle.uac_mixer.specs.Transfers.{after_get, after_set, element_after, gets, is_for, sets, value_after, value_in, view_after}
+use Rattle.uac_mixer.specs.MixerElements.{fits_element, is_gain, width_of}
+use Rattle.uac_mixer.specs.ViewTransfers.{after_get, after_set, element_after, gets, is_for, sets, value_after, value_in, view_after}
 use Rattle.uac_mixer.specs.ViewWorld.{ViewWorld}
 use Rattle.uac_mixer.specs.Agreement.{IsAgreed, KnownValuesStay, StaysAgreed}
 use Rattle.uac_mixer.specs.Readable.{IsReadable}
-use Rattle.uac_mixer.proofs.ByteLemmas.{comes_back, few, whole}
-use Rattle.uac_mixer.proofs.KindLemmas.{Agrees, agrees, narrow}
+use Rattle.uac_mixer.proofs.ValueBytes.{comes_back, few, whole}
+use Rattle.uac_mixer.proofs.MixerElementsLemmas.{Agrees, agrees, narrow}
 use Rattle.uac_mixer.proofs.Members.{IsElementOf, members}
 use Rattle.uac_mixer.proofs.Stored.{stays}
 use Rattle.uac_mixer.proofs.Setting.{WasSet, changes, get_after, get_reply, on_control, owner_is}

@@ -9,15 +9,15 @@ use Rattle.std.proofs.lemmas.Option.{get_or_from_slice_get, slice_get_within}
 use Rattle.uac_entities.specs.declared.entity.Entity.{Entity}
 use Rattle.uac_store.specs.declared.keys.Key.{Key}
 use Rattle.uac_store.specs.ControlTable.{selectors_of}
-use Rattle.uac_store.specs.Controls.{count_of}
+use Rattle.uac_store.specs.StoreControls.{count_of}
 use Rattle.uac_store.specs.Keyed.{same_key}
 use Rattle.uac_store.proofs.Setting.{key_laws}
 use Rattle.uac_request.specs.Requests.{AnswerFields, key_named, low}
 use Rattle.uac_request.specs.declared.setup.Setup.{Setup}
 use Rattle.uac_mixer.specs.declared.element.Element.{Element}
-use Rattle.uac_mixer.specs.Elements.{control_elements, element_on, entity_elements, listed, unread}
+use Rattle.uac_mixer.specs.MixerElements.{control_elements, element_on, entity_elements, element_list, unread}
 use Rattle.uac_mixer.specs.Readable.{is_for_any}
-use Rattle.uac_mixer.specs.Transfers.{after_get, after_set, element_after, gets, is_for, sets, value_after, view_after}
+use Rattle.uac_mixer.specs.ViewTransfers.{after_get, after_set, element_after, gets, is_for, sets, value_after, view_after}
 use Rattle.uac_mixer.specs.ViewWorld.{IsViewOf, ViewWorld}
 use Rattle.uac_mixer.proofs.Calls.{all_left, view_left}
 use Rattle.uac_mixer.proofs.Members.{chosen, every, in_control, in_entity, joined, keyed_on, unmapped, weaker}
@@ -126,8 +126,8 @@ of_entity entities e =
     (every (λ s. IsDistinct share_key (control_elements entities e s)) (range_with_len 1 (selectors_of e.kind)) (of_control entities e))
     (numbers_apart 1 (selectors_of e.kind))
 
-pub all_apart : (entities : List Entity) → IsDistinct nat_eq (map (λ e. e.id) entities) → IsDistinct share_key (listed entities)
-unfolding listed
+pub all_apart : (entities : List Entity) → IsDistinct nat_eq (map (λ e. e.id) entities) → IsDistinct share_key (element_list entities)
+unfolding element_list
 all_apart entities distinct =
     flat_apart share_key (λ (e : Entity). e.id) (λ (y : Element). y.key.entity) other_entity (entity_elements entities) entities
     (every (λ (e : Entity). AllByRecursion (λ (y : Element). y.key.entity ≡ e.id) (entity_elements entities e)) entities

@@ -4,20 +4,20 @@ use Rattle.std.specs.List.{AllByRecursion}
 use Rattle.std.specs.Option.{option_map_or}
 use Rattle.std.proofs.lemmas.Bool.{eq-eqb}
 use Rattle.std.proofs.lemmas.List.{take_all}
-use Rattle.uac_entities.specs.Streams.{named}
+use Rattle.uac_entities.specs.EntityStreams.{named}
 use Rattle.uac_topology.specs.Function.{FunctionFields}
-use Rattle.uac_store.specs.Controls.{IsStoreOf, count_of}
+use Rattle.uac_store.specs.StoreControls.{IsStoreOf, count_of}
 use Rattle.uac_store.specs.Keyed.{same_key}
 use Rattle.uac_request.specs.Owners.{get_rules}
 use Rattle.uac_request.specs.Requests.{AnswerFields, Held, by_entity, cur_named, entity_width, first_broken, has_interface, high, is_declared_on, is_done, is_stalled, key_named, least, low, owner_of, reply_of, value_bytes, with_bytes}
 use Rattle.uac_request.specs.declared.setup.Setup.{Setup}
 use Rattle.uac_request.proofs.Asked.{first_cur}
 use Rattle.uac_mixer.specs.declared.element.Element.{Element}
-use Rattle.uac_mixer.specs.Elements.{fits_element, width_of}
-use Rattle.uac_mixer.specs.Transfers.{after_get, after_set, element_after, get_of, gets, is_for, set_of, sets, setup_of, value_after, value_in, view_after}
+use Rattle.uac_mixer.specs.MixerElements.{fits_element, width_of}
+use Rattle.uac_mixer.specs.ViewTransfers.{after_get, after_set, element_after, get_of, gets, is_for, set_of, sets, setup_of, value_after, value_in, view_after}
 use Rattle.uac_mixer.specs.ViewWorld.{ViewWorld}
-use Rattle.uac_mixer.proofs.ByteLemmas.{comes_back, whole}
-use Rattle.uac_mixer.proofs.KindLemmas.{Agrees, agrees}
+use Rattle.uac_mixer.proofs.ValueBytes.{comes_back, whole}
+use Rattle.uac_mixer.proofs.MixerElementsLemmas.{Agrees, agrees}
 use Rattle.uac_mixer.proofs.Members.{IsElementOf, every}
 use Rattle.uac_mixer.proofs.Setting.{get_reply, owner_is, set_reply}
 use Rattle.uac_mixer.proofs.Agreed.{IsHeldAs, control_bytes, held_as, is_request, same_keys, all_four}

@@ -1,6 +1,6 @@
 -- What the proofs of views rest on.
-pub mod ByteLemmas
-pub mod KindLemmas
+pub mod ValueBytes
+pub mod MixerElementsLemmas
 pub mod Members
 pub mod Setting
 pub mod Stored

@@ -5,16 +5,16 @@ use Rattle.uac_entities.specs.declared.entity.Entity.{Entity}
 use Rattle.uac_topology.specs.Function.{FunctionFields}
 use Rattle.uac_topology.specs.Topology.{IsSoundFunction}
 use Rattle.uac_store.specs.declared.keys.Key.{Key}
-use Rattle.uac_store.specs.Controls.{IsKeyed, IsStoreOf}
+use Rattle.uac_store.specs.StoreControls.{IsKeyed, IsStoreOf}
 use Rattle.uac_request.specs.Requests.{Held, AnswerFields, after_request, held_by, reply_of}
 use Rattle.uac_request.specs.declared.setup.Setup.{Setup}
-use Rattle.uac_device.specs.Kept.{DeviceFields, IsControlled}
+use Rattle.uac_device.specs.DeviceKept.{DeviceFields, IsControlled}
 use Rattle.uac_mixer.specs.declared.link.When.{When}
 use Rattle.uac_mixer.specs.declared.link.When.TheVariants as when
 use Rattle.uac_mixer.specs.declared.element.Element.{Element}
-use Rattle.uac_mixer.specs.Elements.{unread}
-use Rattle.uac_mixer.specs.Links.{BreaksAs, IsAnswered, IsTransferred, LinkFields}
-use Rattle.uac_mixer.specs.Transfers.{element_after, view_after}
+use Rattle.uac_mixer.specs.MixerElements.{unread}
+use Rattle.uac_mixer.specs.ViewLinks.{BreaksAs, IsAnswered, IsTransferred, LinkFields}
+use Rattle.uac_mixer.specs.ViewTransfers.{element_after, view_after}
 use Rattle.uac_mixer.specs.ViewWorld.{IsViewOf, ViewWorld}
 use Rattle.uac_mixer.specs.Agreement.{IsAgreed, IsMade}
 use Rattle.uac_mixer.specs.Readable.{IsReadable}

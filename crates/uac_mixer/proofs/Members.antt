@@ -4,15 +4,15 @@ use Rattle.std.specs.List.{All, AllByRecursion, IsDistinct, cons_option, filter_
 use Rattle.std.specs.Option.{option_and_then}
 use Rattle.std.proofs.lemmas.Bool.{eqb-true, eqb-false, eq-eqb}
 use Rattle.std.proofs.lemmas.List.Elements.{All-from_recursion, filter_map-append}
-use Rattle.uac_entities.specs.Streams.{named}
+use Rattle.uac_entities.specs.EntityStreams.{named}
 use Rattle.uac_entities.specs.declared.entity.Entity.{Entity}
 use Rattle.uac_store.specs.ControlTable.{IsSmall, selectors_of}
-use Rattle.uac_store.specs.Controls.{IsKeyed, count_of, pins_of}
+use Rattle.uac_store.specs.StoreControls.{IsKeyed, count_of, pins_of}
 use Rattle.uac_store.specs.Keyed.{key_of}
 use Rattle.uac_request.specs.Requests.{is_declared_on, is_writable_on}
 use Rattle.uac_mixer.specs.declared.kinds.ElementKind.{ElementKind}
 use Rattle.uac_mixer.specs.declared.element.Element.{Element}
-use Rattle.uac_mixer.specs.Elements.{control_elements, element_on, entity_elements, kind_at, listed, unread}
+use Rattle.uac_mixer.specs.MixerElements.{control_elements, element_on, entity_elements, kind_at, element_list, unread}
 use Rattle.uac_mixer.specs.ViewWorld.{IsViewOf, ViewWorld}
 
 -- a declared control of these entities
@@ -122,8 +122,8 @@ in_entity P entities e each =
 of_entity : (entities : List Entity) (e : Entity) → named entities e.id ≡ Some e → AllByRecursion (IsElementOf entities) (entity_elements entities e)
 of_entity entities e found = in_entity (IsElementOf entities) entities e (λ s c y below is. from_control entities e s c y found below is)
 
-pub all_listed : (entities : List Entity) → IsDistinct nat_eq (map (λ e. e.id) entities) → AllByRecursion (IsElementOf entities) (listed entities)
-unfolding listed
+pub all_listed : (entities : List Entity) → IsDistinct nat_eq (map (λ e. e.id) entities) → AllByRecursion (IsElementOf entities) (element_list entities)
+unfolding element_list
 all_listed entities distinct =
     flat (IsElementOf entities) (entity_elements entities) entities
     (weaker (λ e. named entities e.id ≡ Some e) (λ e. AllByRecursion (IsElementOf entities) (entity_elements entities e)) entities
@@ -145,8 +145,8 @@ pub keyed_on : (e : Entity) (s c : ℕ) (y : Element) → element_on e s c ≡ S
 keyed_on e s c y is = as_listed (λ (x : Element). x.key ≡ key_of e.id s c) e s c y (λ k. refl) is
 
 -- none of them is read
-pub none_read : (entities : List Entity) → AllByRecursion (λ (x : Element). x.value ≡ None) (listed entities)
-unfolding listed
+pub none_read : (entities : List Entity) → AllByRecursion (λ (x : Element). x.value ≡ None) (element_list entities)
+unfolding element_list
 none_read entities =
     flat (λ (x : Element). x.value ≡ None) (entity_elements entities) entities
     (every (λ (e : Entity). AllByRecursion (λ (x : Element). x.value ≡ None) (entity_elements entities e)) entities

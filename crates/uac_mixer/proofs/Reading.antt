@@ -11,15 +11,15 @@ use Rattle.uac_topology.specs.Function.{FunctionFields}
 use Rattle.uac_store.specs.declared.keys.Key.{Key}
 use Rattle.uac_store.specs.Keyed.{value_of}
 use Rattle.uac_request.specs.Requests.{AnswerFields, is_done, is_stalled, value_bytes, with_bytes, with_descriptor}
-use Rattle.uac_device.specs.Kept.{DeviceFields, IsControlled}
+use Rattle.uac_device.specs.DeviceKept.{DeviceFields, IsControlled}
 use Rattle.uac_mixer.specs.declared.element.Element.{Element}
 use Rattle.uac_mixer.specs.declared.link.When.{When}
 use Rattle.uac_mixer.specs.declared.link.When.TheVariants as when
-use Rattle.uac_mixer.specs.Elements.{listed, unread, width_of}
-use Rattle.uac_mixer.specs.Links.{AreAsked, BreaksAs, IsAsBefore, IsTransferred, LinkFields}
-use Rattle.uac_mixer.specs.Transfers.{after_get, after_set, element_after, get_of, gets, value_after, value_in, view_after}
+use Rattle.uac_mixer.specs.MixerElements.{element_list, unread, width_of}
+use Rattle.uac_mixer.specs.ViewLinks.{AreAsked, BreaksAs, IsAsBefore, IsTransferred, LinkFields}
+use Rattle.uac_mixer.specs.ViewTransfers.{after_get, after_set, element_after, get_of, gets, value_after, value_in, view_after}
 use Rattle.uac_mixer.specs.ViewWorld.{IsViewOf, ViewWorld, known_view, read_from}
-use Rattle.uac_mixer.specs.Agreement.{IsAgreed, IsMade, IsReading}
+use Rattle.uac_mixer.specs.Agreement.{IsAgreed, IsMade, IsElementRead}
 use Rattle.uac_mixer.proofs.Calls.{no_set}
 use Rattle.uac_mixer.proofs.Members.{none_read}
 
@@ -28,7 +28,7 @@ pub record HaveRead (at : ℕ) (now : ViewWorld) (old new : LinkFields) : Type 0
   pub of : IsViewOf old.device.function.entities now
   pub agreed : IsAgreed old.device.controls now
   pub known : (k : ℕ) (x : Element) → k < at → slice_get now.elements k ≡ Some x → IsSome x.value
-  pub asked : AreAsked old.device.function.control_interface (take at (listed old.device.function.entities)) old.device new.device
+  pub asked : AreAsked old.device.function.control_interface (take at (element_list old.device.function.entities)) old.device new.device
   pub before : IsAsBefore old.device new.device
   pub never_falls : old.breaks ≤ new.breaks
   pub told : old.fault ≡ Some None → new.fault ≡ Some None
@@ -40,11 +40,11 @@ one_more control [] x told a b c is acted = (c, told, subst (λ (d : DeviceField
 one_more control (y ∷ ys) x told a b c is acted = (is.0, is.1, is.2, one_more control ys x told is.0 b c is.3 acted)
 
 -- the element at an index, as it is listed
-listed_at : (entities : List Entity) (view : ViewWorld) (at : ℕ) (x : Element) → IsViewOf entities view → slice_get view.elements at ≡ Some x → take (at + 1) (listed entities) ≡ take at (listed entities) ++ unread x ∷ []
+listed_at : (entities : List Entity) (view : ViewWorld) (at : ℕ) (x : Element) → IsViewOf entities view → slice_get view.elements at ≡ Some x → take (at + 1) (element_list entities) ≡ take at (element_list entities) ++ unread x ∷ []
 listed_at entities view at x is there =
-    let mapped : slice_get (listed entities) at ≡ Some (unread x) = ap (λ (xs : List Element). slice_get xs at) (sym is) ∙ slice_get-map unread view.elements at ∙ ap (option_map unread) there in
-    let within : at < length (listed entities) = slice_get_within (listed entities) at (unread x) mapped in
-    take_more (listed entities) at (unread x) within ∙ ap (λ (y : Element). take at (listed entities) ++ y ∷ []) (get_or_from_slice_get (listed entities) at (unread x) (unread x) mapped)
+    let mapped : slice_get (element_list entities) at ≡ Some (unread x) = ap (λ (xs : List Element). slice_get xs at) (sym is) ∙ slice_get-map unread view.elements at ∙ ap (option_map unread) there in
+    let within : at < length (element_list entities) = slice_get_within (element_list entities) at (unread x) mapped in
+    take_more (element_list entities) at (unread x) within ∙ ap (λ (y : Element). take at (element_list entities) ++ y ∷ []) (get_or_from_slice_get (element_list entities) at (unread x) (unread x) mapped)
 
 -- ---- what is known
 
@@ -106,7 +106,7 @@ read_more at x v now after old between new so there made kept still =
             let some : z.value ≡ Some v = cc in subst IsSome (sym some) refl)
       ];
       asked = subst (λ (xs : List Element). AreAsked control xs old.device new.device) (sym (listed_at old.device.function.entities now at x so.of there))
-          (one_more control (take at (listed old.device.function.entities)) (unread x) told old.device between.device new.device so.asked own.transfer.answered.device);
+          (one_more control (take at (element_list old.device.function.entities)) (unread x) told old.device between.device new.device so.asked own.transfer.answered.device);
       before = same_controls old.device between.device new.device so.before still;
       never_falls = (let more = made.transfer.never_falls in let first = so.never_falls in omega arith);
       told = λ none. none_told between.device.function.control_interface x (Some told) between new made.transfer (so.told none);
@@ -115,7 +115,7 @@ read_more at x v now after old between new so there made kept still =
 -- ---- where it broke
 
 pub record HasBroken (old new : LinkFields) : Type 0 where
-  pub reading : IsReading false old new
+  pub reading : IsElementRead false old new
   pub broken : old.breaks < new.breaks
   pub told : (fault : Option When) → old.fault ≡ Some fault → IsSome fault
 
@@ -137,7 +137,7 @@ read_broke at x now after old between new so made still =
     record {
       reading = record {
         never_falls = (let first = so.never_falls in omega arith);
-        asked = asked_so_far control (take at (listed old.device.function.entities)) x transfer.answered.1.0 old between new so.asked transfer.answered.1.1;
+        asked = asked_so_far control (take at (element_list old.device.function.entities)) x transfer.answered.1.0 old between new so.asked transfer.answered.1.1;
         all = λ no. cc;
         as_before = same_controls old.device between.device new.device so.before still;
         told = λ none. none_told control x None between new transfer (so.told none);
@@ -156,7 +156,7 @@ unread_alone [] none = refl
 unread_alone (x ∷ xs) none = (λ j. record x { value = sym none.0 j } ∷ unread_alone xs none.1 j)
 
 -- at the start
-pub read_none : (view : ViewWorld) (link : LinkFields) → view.elements ≡ listed link.device.function.entities → HaveRead 0 view link link
+pub read_none : (view : ViewWorld) (link : LinkFields) → view.elements ≡ element_list link.device.function.entities → HaveRead 0 view link link
 read_none view link is =
     let none : AllByRecursion (λ (x : Element). x.value ≡ None) view.elements =
     subst (λ (xs : List Element). AllByRecursion (λ (x : Element). x.value ≡ None) xs) (sym is) (none_read link.device.function.entities) in
@@ -176,7 +176,7 @@ element_there (x ∷ xs) zero below = (x, refl)
 element_there (x ∷ xs) (suc at) below = element_there xs at (omega arith)
 
 -- the view has as many elements as at the start
-pub as_long : (at : ℕ) (first now : ViewWorld) (old new : LinkFields) → HaveRead at now old new → first.elements ≡ listed old.device.function.entities → length now.elements ≡ length first.elements
+pub as_long : (at : ℕ) (first now : ViewWorld) (old new : LinkFields) → HaveRead at now old new → first.elements ≡ element_list old.device.function.entities → length now.elements ≡ length first.elements
 as_long at first now old new so is = sym (length-map now.elements unread) ∙ ap length so.of ∙ ap length (sym is)
 
 each_read : (controls : List (Key × ℤ)) (x : Element) → IsSome x.value → IfSome x.value (λ v. value_of controls x.key ≡ Some v) → read_from controls (unread x) ≡ x
@@ -192,24 +192,24 @@ all_read controls (x ∷ xs) all = (λ j. all.0 j ∷ all_read controls xs all.1
 pub record HasFinished (now : ViewWorld) (old new : LinkFields) : Type 0 where
   pub view : now ≡ known_view old.device.function.entities old.device.controls
   pub of : IsViewOf new.device.function.entities now
-  pub reading : IsReading true old new
+  pub reading : IsElementRead true old new
 
 pub read_whole : (at : ℕ) (now : ViewWorld) (old new : LinkFields) → HaveRead at now old new → length now.elements ≤ at → HasFinished now old new
 unfolding known_view
 read_whole at now old new so past =
     let each : All (λ (x : Element). read_from old.device.controls (unread x) ≡ x) now.elements =
     (λ k d below. each_read old.device.controls (slice_index_or now.elements k d) (so.known k (slice_index_or now.elements k d) (omega arith) (slice_get-get_or now.elements k d below)) (so.agreed k d below)) in
-    let elements : now.elements ≡ map (read_from old.device.controls) (listed old.device.function.entities) =
+    let elements : now.elements ≡ map (read_from old.device.controls) (element_list old.device.function.entities) =
     sym (all_read old.device.controls now.elements (recursion_from_All (λ (x : Element). read_from old.device.controls (unread x) ≡ x) now.elements each)) ∙ ap (map (read_from old.device.controls)) so.of in
-    let long : length (listed old.device.function.entities) ≤ at = subst (λ (xs : List Element). length xs ≤ at) so.of (let l = length-map now.elements unread in omega arith) in
-    let whole : AreAsked old.device.function.control_interface (listed old.device.function.entities) old.device new.device =
-    subst (λ (xs : List Element). AreAsked old.device.function.control_interface xs old.device new.device) (take_all at (listed old.device.function.entities) long) so.asked in
+    let long : length (element_list old.device.function.entities) ≤ at = subst (λ (xs : List Element). length xs ≤ at) so.of (let l = length-map now.elements unread in omega arith) in
+    let whole : AreAsked old.device.function.control_interface (element_list old.device.function.entities) old.device new.device =
+    subst (λ (xs : List Element). AreAsked old.device.function.control_interface xs old.device new.device) (take_all at (element_list old.device.function.entities) long) so.asked in
     record {
       view = (λ j. record { elements = elements j });
       of = subst (λ (f : FunctionFields). IsViewOf f.entities now) (sym so.before.function) so.of;
       reading = record {
         never_falls = so.never_falls;
-        asked = (listed old.device.function.entities, whole);
+        asked = (element_list old.device.function.entities, whole);
         all = λ yes. whole;
         as_before = so.before;
         told = so.told;

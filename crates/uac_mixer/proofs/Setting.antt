@@ -2,15 +2,15 @@
 use Rattle.std.proofs.Common.{◌≡◌, ◌∙◌, refl, ap, sym, ℕ, ◌⊎◌, ◌==◌, Bool, true, false, if◌then◌else◌, List, Option, Some, None, is_some, inl, inr, take}
 use Rattle.std.specs.Option.{option_map, option_map_or}
 use Rattle.std.proofs.lemmas.Bool.{and_parts, cases_Bool, eqb-true}
-use Rattle.uac_entities.specs.Streams.{named}
+use Rattle.uac_entities.specs.EntityStreams.{named}
 use Rattle.uac_entities.specs.declared.entity.Entity.{Entity}
 use Rattle.uac_entities.specs.declared.stream.StreamInterface.{StreamInterface}
 use Rattle.uac_topology.specs.Function.{FunctionFields, interface_in}
-use Rattle.uac_store.specs.Controls.{IsStoreOf}
+use Rattle.uac_store.specs.StoreControls.{IsStoreOf}
 use Rattle.uac_store.specs.Keyed.{with_value}
 use Rattle.uac_request.specs.Requests.{Held, after_request, answered, by_entity, by_stream, controls_set, cur_named, first_broken, high, is_done, is_stalled, key_named, left_by, low, owner_of, reply_of, sent_value, sets_cur, sets_interface, with_bytes}
 use Rattle.uac_request.specs.declared.setup.Setup.{Setup}
-use Rattle.uac_alt.specs.Settings.{with_setting}
+use Rattle.uac_alt.specs.AltSettings.{with_setting}
 use Rattle.uac_request.proofs.Asked.{answered_cur, answered_set, left_cur, left_set}
 use Rattle.uac_request.proofs.Lasting.{IsSet, is_set, set_leaves}
 

@@ -3,20 +3,20 @@ use Rattle.std.proofs.Common.{◌≡◌, ◌∙◌, refl, ap, sym, subst, ℕ, �
 use Rattle.std.specs.Option.{option_map}
 use Rattle.std.proofs.lemmas.Option.{slice_get-map, slice_get_within, get_or_from_slice_get}
 use Rattle.uac_topology.specs.Function.{FunctionFields}
-use Rattle.uac_store.specs.Controls.{IsKeyed, IsStoreOf}
+use Rattle.uac_store.specs.StoreControls.{IsKeyed, IsStoreOf}
 use Rattle.uac_store.specs.Keyed.{value_of}
 use Rattle.uac_request.specs.Requests.{Held, AnswerFields, after_request, held_by, is_done, is_stalled, left_by, value_bytes, with_bytes}
 use Rattle.uac_request.specs.declared.setup.Setup.{Setup}
-use Rattle.uac_device.specs.Kept.{DeviceFields}
+use Rattle.uac_device.specs.DeviceKept.{DeviceFields}
 use Rattle.uac_mixer.specs.declared.element.Element.{Element}
-use Rattle.uac_mixer.specs.Elements.{fits_element, width_of}
-use Rattle.uac_mixer.specs.Links.{IsAsBefore, IsTransferred, LinkFields}
+use Rattle.uac_mixer.specs.MixerElements.{fits_element, width_of}
+use Rattle.uac_mixer.specs.ViewLinks.{IsAsBefore, IsTransferred, LinkFields}
 use Rattle.uac_mixer.specs.declared.faults.SetFault.{SetFault}
 use Rattle.uac_mixer.specs.declared.faults.SetFault.TheVariants as refusals
-use Rattle.uac_mixer.specs.Transfers.{came_of_set, element_after, get_of, set_of, setup_of, value_after, view_after}
+use Rattle.uac_mixer.specs.ViewTransfers.{came_of_set, element_after, get_of, set_of, setup_of, value_after, view_after}
 use Rattle.uac_mixer.specs.ViewWorld.{IsViewOf, ViewWorld}
 use Rattle.uac_mixer.specs.Agreement.{IsMade}
-use Rattle.uac_mixer.proofs.KindLemmas.{narrow}
+use Rattle.uac_mixer.proofs.MixerElementsLemmas.{narrow}
 use Rattle.uac_mixer.proofs.Members.{IsElementOf, members}
 use Rattle.uac_mixer.proofs.Agreed.{IsHeldAs}
 use Rattle.uac_mixer.proofs.Calls.{IsNarrow, get_broke, is_told, one_element, own_value, set_stalled, set_told, value_got, value_lost, value_set}

@@ -1,8 +1,8 @@
 -- Each control has a value that it takes, from the start on.
 use Rattle.uac_topology.specs.Function.{FunctionFields}
-use Rattle.uac_topology.specs.Kept.{HavePins}
+use Rattle.uac_topology.specs.FunctionKept.{HavePins}
 use Rattle.uac_topology.specs.Topology.{IsSoundFunction}
-use Rattle.uac_store.specs.Controls.{IsKeyed, IsStoreOf, initial_controls}
+use Rattle.uac_store.specs.StoreControls.{IsKeyed, IsStoreOf, initial_controls}
 use Rattle.uac_store.proofs.Initial.{initial_is_store}
 use Rattle.uac_request.proofs.Lasting.{store_stays}
 use Rattle.uac_mixer.specs.Agreement.{ControlsStay}

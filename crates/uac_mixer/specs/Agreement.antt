@@ -2,17 +2,17 @@
 use Rattle.std.specs.Prelude.{◌≡◌, ℕ, ◌≤◌, Bool, true, ℤ, List, Option, Some, None, IfSome}
 use Rattle.std.specs.List.{All}
 use Rattle.uac_store.specs.declared.keys.Key.{Key}
-use Rattle.uac_store.specs.Controls.{IsStoreOf, initial_controls}
+use Rattle.uac_store.specs.StoreControls.{IsStoreOf, initial_controls}
 use Rattle.uac_store.specs.Keyed.{value_of}
 use Rattle.uac_topology.specs.Function.{FunctionFields}
 use Rattle.uac_topology.specs.Topology.{IsSoundFunction}
 use Rattle.uac_request.specs.Requests.{Held, AnswerFields, after_request, reply_of}
 use Rattle.uac_request.specs.declared.setup.Setup.{Setup}
 use Rattle.uac_mixer.specs.declared.element.Element.{Element}
-use Rattle.uac_mixer.specs.Elements.{listed}
-use Rattle.uac_mixer.specs.Links.{AreAsked, IsAsBefore, IsTransferred, LinkFields}
+use Rattle.uac_mixer.specs.MixerElements.{element_list}
+use Rattle.uac_mixer.specs.ViewLinks.{AreAsked, IsAsBefore, IsTransferred, LinkFields}
 use Rattle.uac_mixer.specs.ViewWorld.{IsViewOf, ViewWorld}
-use Rattle.uac_mixer.specs.Transfers.{view_after}
+use Rattle.uac_mixer.specs.ViewTransfers.{view_after}
 
 -- each known value is that of the device, whose controls have these values
 abbrev pub IsAgreed : List (Key × ℤ) → ViewWorld → Type 0
@@ -54,9 +54,9 @@ pub record IsMade (p : Setup) (sent : List ℕ) (came : Option AnswerFields) (be
   pub agreed : IsAgreed old.device.controls before → IsAgreed new.device.controls after
 
 -- elements of the link's function were read, one after another: all of them, where that succeeded
-pub record IsReading (whole : Bool) (old new : LinkFields) : Type 0 where
+pub record IsElementRead (whole : Bool) (old new : LinkFields) : Type 0 where
   pub never_falls : old.breaks ≤ new.breaks
   pub asked : (xs : List Element) × AreAsked old.device.function.control_interface xs old.device new.device
-  pub all : whole ≡ true → AreAsked old.device.function.control_interface (listed old.device.function.entities) old.device new.device
+  pub all : whole ≡ true → AreAsked old.device.function.control_interface (element_list old.device.function.entities) old.device new.device
   pub as_before : IsAsBefore old.device new.device
   pub told : old.fault ≡ Some None → new.fault ≡ Some None

@@ -1,10 +1,10 @@
 -- The host's view of a device: the elements that it shows, what transfers make of it, and the link over which they go.
 -- What the program's theorem says: to be read and believed.
-pub mod Elements
+pub mod MixerElements
 pub mod ViewWorld
-pub mod Transfers
+pub mod ViewTransfers
 -- What the laws say besides.
 pub mod Agreement
 -- What the contracts below them cite: steps of the code, no part of what is promised.
-pub mod Links
+pub mod ViewLinks
 pub mod Readable

@@ -5,8 +5,8 @@ use Rattle.std.specs.Int.RustNames.{FitsSigned}
 use Rattle.uac_request.specs.Requests.{AnswerFields, is_done, low, with_bytes}
 use Rattle.uac_request.specs.declared.setup.Setup.{Setup}
 use Rattle.uac_mixer.specs.declared.element.Element.{Element}
-use Rattle.uac_mixer.specs.Elements.{width_of}
-use Rattle.uac_mixer.specs.Transfers.{gets, sets, value_in}
+use Rattle.uac_mixer.specs.MixerElements.{width_of}
+use Rattle.uac_mixer.specs.ViewTransfers.{gets, sets, value_in}
 
 -- a transfer sets or gets a control of the interface with this number, whichever it names
 unfoldable pub is_for_any : ℕ → Setup → Bool

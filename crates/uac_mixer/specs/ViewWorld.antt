@@ -4,7 +4,7 @@ use Rattle.uac_entities.specs.declared.entity.Entity.{Entity}
 use Rattle.uac_store.specs.declared.keys.Key.{Key}
 use Rattle.uac_store.specs.Keyed.{value_of}
 use Rattle.uac_mixer.specs.declared.element.Element.{Element}
-use Rattle.uac_mixer.specs.Elements.{listed, unread}
+use Rattle.uac_mixer.specs.MixerElements.{element_list, unread}
 
 -- the view: the elements of the device's function, each with its value, or none where that is unknown
 pub record ViewWorld : Type 0 where
@@ -16,8 +16,8 @@ read_from controls x = record x { value = value_of controls x.key }
 
 -- each element's value is the device's, which has these entities and these values of its controls
 unfoldable pub known_view : List Entity → List (Key × ℤ) → ViewWorld
-known_view entities controls = record { elements = map (read_from controls) (listed entities) }
+known_view entities controls = record { elements = map (read_from controls) (element_list entities) }
 
 -- the view's elements are those of these entities
 abbrev pub IsViewOf : List Entity → ViewWorld → Type 0
-IsViewOf entities view = map unread view.elements ≡ listed entities
+IsViewOf entities view = map unread view.elements ≡ element_list entities

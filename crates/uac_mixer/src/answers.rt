@@ -10,7 +10,7 @@ pub(crate) fn copy_of(answer: &Answer) -> Answer
     ensures { answer_fields result ≡ answer_fields answer.now }
 {
     match answer {
-        Answer::Bytes(reply) => Answer::Bytes(copied(reply)),
+        Answer::Bytes(reply) => Answer::Bytes(same_reply(reply)),
         Answer::Descriptor { from, to } => Answer::Descriptor {
             from: *from,
             to: *to,
@@ -20,7 +20,7 @@ pub(crate) fn copy_of(answer: &Answer) -> Answer
     }
 }
 
-fn copied(reply: &Reply) -> Reply
+fn same_reply(reply: &Reply) -> Reply
     ensures { result.items ≡ reply.now.items }
 {
     let mut copy = ArrayVec::new();

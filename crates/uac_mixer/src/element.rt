@@ -33,10 +33,10 @@ impl Model for ElementName {
 }
 
 impl Element {
-    ghost use Rattle.uac_mixer.specs.Elements.{name_of};
+    ghost use Rattle.uac_mixer.specs.MixerElements.{name_of};
 
     /// The name of an element.
-    #[tactic(auto, unfolding(crate::specs::Elements::name_of))]
+    #[tactic(auto, unfolding(crate::specs::MixerElements::name_of))]
     pub fn name(&self) -> ElementName
         ensures { result ≡ name_of self.now }
     {

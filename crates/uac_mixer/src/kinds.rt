@@ -1,6 +1,6 @@
 // What an element controls.
 ghost use Rattle.std.specs.Prelude.{◌≡◌, ◌≤◌, length};
-ghost use Rattle.uac_mixer.specs.Elements as spec;
+ghost use Rattle.uac_mixer.specs.MixerElements as spec;
 
 use uac_entities::EntityKind;
 use uac_store::controls::{Control, control_of, facts_of};
@@ -31,7 +31,7 @@ pub enum ElementKind {
 impl ElementKind {
     /// The word that names begin with.
     pub fn word(self) -> &'static [u8]
-        ensures text { result.now ≡ spec.word_of self }
+        ensures text { result.now ≡ spec.kind_word self }
         ensures short { length result.now ≤ 6 }
     {
         match self {
@@ -65,7 +65,7 @@ impl ElementKind {
     }
 
     /// The bytes of the control (Audio Class 2.0, 5.2.5.1 to 5.2.5.8).
-    #[tactic(auto, using(crate::proofs::ByteLemmas::few))]
+    #[tactic(auto, using(crate::proofs::ValueBytes::few))]
     pub fn width(self) -> u8
         ensures value { result ≡ spec.width_of self }
         ensures few { result ≤ 4 }

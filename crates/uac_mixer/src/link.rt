@@ -1,5 +1,5 @@
 // The link over which transfers go to a device.
-ghost use Rattle.uac_store.specs.Controls.{IsStoreOf};
+ghost use Rattle.uac_store.specs.StoreControls.{IsStoreOf};
 
 use crate::answers::copy_of;
 use uac_device::Device;
@@ -22,8 +22,8 @@ pub enum When {
 pub trait Link {
     ghost use Rattle.std.specs.Prelude.{◌≡◌};
     ghost use base.Fml.{GName};
-    ghost use Rattle.uac_mixer.specs.Links.{LinkFields, IsTransferred};
-    ghost use Rattle.uac_mixer.specs.Transfers.{came_of};
+    ghost use Rattle.uac_mixer.specs.ViewLinks.{LinkFields, IsTransferred};
+    ghost use Rattle.uac_mixer.specs.ViewTransfers.{came_of};
 
     // What it is seen as.
     ghost state: { Self → LinkFields };
@@ -57,7 +57,7 @@ impl<'a> DeviceLink<'a> {
     ghost use Rattle.std.specs.Prelude.{◌≡◌, None, Some};
     ghost use Rattle.std.specs.Option.{option_map};
     ghost use Rattle.uac_request.specs.Requests.{answer_fields};
-    ghost use Rattle.uac_device.specs.Kept.{IsControlled};
+    ghost use Rattle.uac_device.specs.DeviceKept.{IsControlled};
 
     /// A link to a device. It tells `fault` and has no last answer.
     pub fn new(device: &'a mut Device, fault: Option<When>) -> DeviceLink<'a>

@@ -2,8 +2,8 @@
 ghost use Rattle.std.specs.Prelude.{◌≡◌, ◌≤◌, ◌++◌, [], IfOk, OnOk, sum};
 ghost use Rattle.std.specs.List.{cons_option};
 ghost use Rattle.uac_store.specs.ControlTable.{IsSmall};
-ghost use Rattle.uac_store.specs.Controls as store;
-ghost use Rattle.uac_mixer.specs.Elements as spec;
+ghost use Rattle.uac_store.specs.StoreControls as store;
+ghost use Rattle.uac_mixer.specs.MixerElements as spec;
 
 use crate::element::Element;
 use crate::kinds::kind_at;
@@ -17,9 +17,9 @@ use uac_topology::laws::functions_are_sound;
 use uac_topology::{Entity, Function};
 
 /// The elements of a function, none of them read yet.
-#[tactic(auto, unfolding(crate::specs::Elements::listed))]
-pub(crate) fn listed(alloc: Global, function: &Function) -> Result<Vec<Element>, NoMemory>
-    ensures { IfOk result (λ elements. elements.items ≡ spec.listed function.now.entities) }
+#[tactic(auto, unfolding(crate::specs::MixerElements::element_list))]
+pub(crate) fn element_list(alloc: Global, function: &Function) -> Result<Vec<Element>, NoMemory>
+    ensures { IfOk result (λ elements. elements.items ≡ spec.element_list function.now.entities) }
 {
     functions_are_sound(function);
     sound_functions_have_keys_and_rates();
@@ -31,7 +31,7 @@ pub(crate) fn listed(alloc: Global, function: &Function) -> Result<Vec<Element>,
 }
 
 // Adds the elements of one entity.
-#[tactic(auto, unfolding(crate::specs::Elements::entity_elements))]
+#[tactic(auto, unfolding(crate::specs::MixerElements::entity_elements))]
 fn add_entity(
     function: &Function,
     entity: &Entity,
@@ -47,7 +47,7 @@ fn add_entity(
 }
 
 // Adds the elements of one control, for each of its channels that is declared.
-#[tactic(auto, unfolding(crate::specs::Elements::control_elements))]
+#[tactic(auto, unfolding(crate::specs::MixerElements::control_elements))]
 fn add_control(
     function: &Function,
     entity: &Entity,

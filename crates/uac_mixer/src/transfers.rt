@@ -4,9 +4,9 @@ ghost use Rattle.std.specs.List.{All};
 ghost use Rattle.std.specs.Int.{w32};
 ghost use Rattle.std.specs.Int.RustNames.{FitsSigned};
 ghost use Rattle.uac_request.specs.Requests.{is_done, with_bytes};
-ghost use Rattle.uac_mixer.specs.Transfers as spec;
-ghost use Rattle.uac_mixer.specs.Transfers.{came_of};
-ghost use Rattle.uac_mixer.specs.Elements.{width_of};
+ghost use Rattle.uac_mixer.specs.ViewTransfers as spec;
+ghost use Rattle.uac_mixer.specs.ViewTransfers.{came_of};
+ghost use Rattle.uac_mixer.specs.MixerElements.{width_of};
 ghost use Rattle.uac_mixer.specs.Readable as readable;
 ghost use Rattle.uac_mixer.specs.Readable.{IsReadable};
 
@@ -78,7 +78,7 @@ pub(crate) fn follow_one(
 }
 
 // The value of an element after a transfer.
-#[tactic(auto, unfolding(crate::specs::Transfers::value_after))]
+#[tactic(auto, unfolding(crate::specs::ViewTransfers::value_after))]
 fn value_after(
     control: u8,
     setup: &Setup,
@@ -99,7 +99,7 @@ fn value_after(
 }
 
 // Whether a transfer is a request of this type for the current value of an element.
-#[tactic(auto, unfolding(crate::specs::Transfers::is_for))]
+#[tactic(auto, unfolding(crate::specs::ViewTransfers::is_for))]
 fn is_for(request_type: u8, control: u8, setup: &Setup, element: &Element) -> bool
     ensures { result ≡ spec.is_for request_type control setup.now element.now }
 {

@@ -5,17 +5,17 @@ ghost use Rattle.std.specs.List.{All};
 ghost use Rattle.std.specs.Option.{option_map};
 ghost use Rattle.std.specs.Str.{bytes_eq};
 ghost use Rattle.uac_request.specs.Requests.{is_done, is_stalled, answer_fields, key_named, value_bytes};
-ghost use Rattle.uac_store.specs.Controls.{IsKeyed};
+ghost use Rattle.uac_store.specs.StoreControls.{IsKeyed};
 ghost use Rattle.uac_store.specs.Keyed.{value_of};
 ghost use Rattle.uac_mixer.specs.declared.element.Element.{Element};
 ghost use Rattle.uac_mixer.specs.declared.faults.SetFault.TheVariants as refusals;
 ghost use Rattle.uac_mixer.specs.declared.faults.ViewFault.TheVariants as faults;
 ghost use Rattle.uac_mixer.specs.declared.link.When.{When};
-ghost use Rattle.uac_mixer.specs.Agreement.{IsMade, IsReading};
-ghost use Rattle.uac_mixer.specs.Elements.{fits_element, listed, name_of, width_of};
-ghost use Rattle.uac_mixer.specs.Links.{IsAsBefore};
+ghost use Rattle.uac_mixer.specs.Agreement.{IsMade, IsElementRead};
+ghost use Rattle.uac_mixer.specs.MixerElements.{fits_element, element_list, name_of, width_of};
+ghost use Rattle.uac_mixer.specs.ViewLinks.{IsAsBefore};
 ghost use Rattle.uac_mixer.specs.Readable.{IsReadable};
-ghost use Rattle.uac_mixer.specs.Transfers.{came_of, came_of_get, came_of_set, element_after, get_of, set_of, view_after};
+ghost use Rattle.uac_mixer.specs.ViewTransfers.{came_of, came_of_get, came_of_set, element_after, get_of, set_of, view_after};
 ghost use Rattle.uac_mixer.specs.ViewWorld.{IsViewOf, ViewWorld, known_view};
 
 use crate::element::Element;
@@ -54,12 +54,12 @@ impl View {
         ensures view { IfOk result (λ view.
             view ≡ known_view (L.state link.old).device.function.entities (L.state link.old).device.controls) }
         ensures of_function { IfOk result (λ view. IsViewOf (L.state link.new).device.function.entities view) }
-        ensures asked { IsReading (is_ok result) (L.state link.old) (L.state link.new) }
+        ensures asked { IsElementRead (is_ok result) (L.state link.old) (L.state link.new) }
         ensures broken { result ≡ Err faults.Broken → (L.state link.old).breaks < (L.state link.new).breaks }
         ensures unread { result ≡ Err faults.NoMemory → L.state link.new ≡ L.state link.old }
         ensures told { (fault : Option When) → (L.state link.old).fault ≡ Some fault → result ≡ Err faults.Broken → IsSome fault }
     {
-        let elements = listing::listed(alloc, link.function())?;
+        let elements = listing::element_list(alloc, link.function())?;
         let mut view = View { elements };
         view.read_all(link)?;
         Ok(view)
@@ -67,12 +67,12 @@ impl View {
 
     // Reads each element in turn, where none is known yet.
     fn read_all<L: Link>(&mut self, link: &mut L) -> Result<(), Broken>
-        requires { self.old.elements ≡ listed (L.state link.old).device.function.entities }
+        requires { self.old.elements ≡ element_list (L.state link.old).device.function.entities }
         ensures place { L.place link.new ≡ L.place link.old }
         ensures view { OnOk result
             (self.new ≡ known_view (L.state link.old).device.function.entities (L.state link.old).device.controls) }
         ensures of_function { OnOk result (IsViewOf (L.state link.new).device.function.entities self.new) }
-        ensures asked { IsReading (is_ok result) (L.state link.old) (L.state link.new) }
+        ensures asked { IsElementRead (is_ok result) (L.state link.old) (L.state link.new) }
         ensures broken { OnErr result ((L.state link.old).breaks < (L.state link.new).breaks) }
         ensures told { (fault : Option When) → (L.state link.old).fault ≡ Some fault → OnErr result (IsSome fault) }
     {
@@ -201,7 +201,7 @@ impl View {
     }
 
     // What a transfer makes of each element.
-    #[tactic(auto, unfolding(crate::specs::Transfers::view_after))]
+    #[tactic(auto, unfolding(crate::specs::ViewTransfers::view_after))]
     fn follow(&mut self, control: u8, setup: &Setup, sent: &[u8], came: &Result<Answer, Broken>)
         requires { All (IsReadable control setup.now sent.now (came_of came.now)) self.old.elements }
         ensures { self.new ≡ view_after control setup.now sent.now (came_of came.now) self.old }

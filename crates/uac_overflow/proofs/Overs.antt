@@ -8,12 +8,12 @@ use Rattle.std.proofs.lemmas.List.Elements.{All-append, All-cons, All-nil}
 use Rattle.std.proofs.lemmas.Map.Keys.{IsDistinct-head, IsDistinct-tail}
 use Rattle.uac_clock.specs.Ticks.{ticks_in}
 use Rattle.uac_topology.specs.Function.{FunctionFields}
-use Rattle.uac_flow.specs.Streams.{InStream, OutStream, arrival_of, is_due, is_full}
+use Rattle.uac_flow.specs.FlowStreams.{InStream, OutStream, arrival_of, is_due, is_full}
 use Rattle.uac_flow.specs.declared.arrival.Arrival.{Arrival}
 use Rattle.uac_flow.specs.declared.arrival.Arrival.TheVariants as arrivals
 use Rattle.uac_host.specs.HostWorld.{Track}
 use Rattle.uac_lanes.specs.InterfaceStreams.{either_due}
-use Rattle.uac_device.specs.DeviceWorld.{DeviceWorld, Domain, advanced, arrival_in, is_due_in, is_on, next_ticks, received}
+use Rattle.uac_device.specs.DeviceWorld.{DeviceWorld, Domain, after_advance, arrival_in, is_due_in, is_on, next_ticks, after_receiving}
 use Rattle.uac_script.specs.Phrase.{SaidMark}
 use Rattle.uac_transcript.specs.Transcript.{Said, says_over, says_under}
 use Rattle.uac_streaming.specs.Telling.{at_rest}
@@ -21,7 +21,7 @@ use Rattle.uac_streaming.specs.StreamingWorld.{StreamingWorld, all_settled, find
 use Rattle.uac_running.specs.RunningWorld.{RunningWorld, streaming_of}
 use Rattle.uac_running.specs.Events.{all_given, domain_microframe, domain_microframes, tick, tick_times}
 use Rattle.uac_bands.specs.Life.{Life}
-use Rattle.uac_bands.specs.Run.{RunInBand, StreamInBand}
+use Rattle.uac_bands.specs.BandRun.{RunInBand, StreamInBand}
 use Rattle.uac_bands.proofs.Once.{Among, apart_from, first_or_later, numbers_differ, other_number}
 use Rattle.uac_bands.proofs.Shown.{IsPlace, Place, Shows, if_false, out_other, packet_at, packet_shown}
 use Rattle.uac_bands.proofs.Lived.{opened, place_in}
@@ -61,11 +61,11 @@ module _ (k : ℕ) where
   own_overs arrivals.Lost room = All-nil NotOver
   own_overs arrivals.Over room = absurd (room refl)
 
-  other_packets : (detail : ℕ) (losses : List SaidMark) (n : ℕ) (w : StreamingWorld) → (k == n) ≡ false
-      → All NotOver (out_turn detail losses n w).lines
-  other_packets detail losses n w other =
-      out_turn_says NotOver quiet detail losses n w
-      (λ due. other_overs n (arrival_in w.device n (packet_to (loses_out losses n) n w)) other)
+  other_packets : (detail : ℕ) (marks : List SaidMark) (n : ℕ) (w : StreamingWorld) → (k == n) ≡ false
+      → All NotOver (out_turn detail marks n w).lines
+  other_packets detail marks n w other =
+      out_turn_says NotOver quiet detail marks n w
+      (λ due. other_overs n (arrival_in w.device n (packet_to (loses_out marks n) n w)) other)
 
   -- ---- where it runs no stream to the device
 
@@ -74,25 +74,25 @@ module _ (k : ℕ) where
   no_arrival w packet none over =
       let lost : arrivals.Lost ≡ arrivals.Over = sym (ap (λ (o : Option OutStream). option_map_or (arrival_of packet) o arrivals.Lost) none) ∙ over in cc
 
-  out_none : (detail : ℕ) (losses : List SaidMark) (n : ℕ) (w : StreamingWorld) → (k == n) ≡ false → w.device.outs k ≡ None
-      → (out_turn detail losses n w).world.device.outs k ≡ None
-  unfolding out_turn packet_sent received
-  out_none detail losses n w other none = by (is_out_due w n)
+  out_none : (detail : ℕ) (marks : List SaidMark) (n : ℕ) (w : StreamingWorld) → (k == n) ≡ false → w.device.outs k ≡ None
+      → (out_turn detail marks n w).world.device.outs k ≡ None
+  unfolding out_turn packet_sent after_receiving
+  out_none detail marks n w other none = by (is_out_due w n)
     where
       by : (b : Bool)
-          → (if b then record { lines = sent_lines detail (loses_out losses n) n w; world = packet_sent (loses_out losses n) n w }
+          → (if b then record { lines = sent_lines detail (loses_out marks n) n w; world = packet_sent (loses_out marks n) n w }
           else at_rest w).world.device.outs k ≡ None
       by true = if_false (k == n) _ (w.device.outs k) other ∙ none
       by false = none
 
-  outs_none : (detail : ℕ) (losses : List SaidMark) (w : StreamingWorld) → w.device.outs k ≡ None → All NotOver (out_packets detail losses w).lines
+  outs_none : (detail : ℕ) (marks : List SaidMark) (w : StreamingWorld) → w.device.outs k ≡ None → All NotOver (out_packets detail marks w).lines
   unfolding out_packets
-  outs_none detail losses w none =
-      turns_once_say NotOver (out_turn detail losses) k (λ n v other. other_packets detail losses n v other) (λ v. v.device.outs k ≡ None)
-      (λ n v other rests. out_none detail losses n v other rests)
-      (λ v rests. out_turn_says NotOver quiet detail losses k v
-      (λ due. own_overs (arrival_in v.device k (packet_to (loses_out losses k) k v))
-      (no_arrival v.device (packet_to (loses_out losses k) k v) rests)))
+  outs_none detail marks w none =
+      turns_once_say NotOver (out_turn detail marks) k (λ n v other. other_packets detail marks n v other) (λ v. v.device.outs k ≡ None)
+      (λ n v other rests. out_none detail marks n v other rests)
+      (λ v rests. out_turn_says NotOver quiet detail marks k v
+      (λ due. own_overs (arrival_in v.device k (packet_to (loses_out marks k) k v))
+      (no_arrival v.device (packet_to (loses_out marks k) k v) rests)))
       (numbers w.device.function) w (numbers_differ w.device.function) none
 
   -- ---- ticks
@@ -120,16 +120,16 @@ module _ (k : ℕ) where
   unfolding domain_microframe
   none_domain c r none =
       ticks_say NotOver quiet (SendsNoneNow k) c (none_tick c) (tick_sends_none k c) (next_ticks c r.device)
-      (record r { device = advanced c r.device }) (advanced_sends_none k c r none)
+      (record r { device = after_advance c r.device }) (advanced_sends_none k c r none)
 
   pub none_domains : (clocks : List ℕ) (r : RunningWorld) → SendsNoneNow k r → All NotOver (domain_microframes clocks r).lines
   none_domains clocks r none = domains_say NotOver quiet (SendsNoneNow k) none_domain (domain_sends_none k) clocks r none
 
 -- ---- where it runs one to it
 
-module _ (p : Place) (is : IsPlace p) (detail : ℕ) (losses : List SaidMark) (l : Life) (t : Track) where
+module _ (p : Place) (is : IsPlace p) (detail : ℕ) (marks : List SaidMark) (l : Life) (t : Track) where
   abbrev packet : Option (List ℕ)
-  packet = if loses_out losses p.interface then None else Some (packet_at l.pace t)
+  packet = if loses_out marks p.interface then None else Some (packet_at l.pace t)
 
   due_here : (w : StreamingWorld) → Shows p w l t → is_out_due w p.interface ≡ is_due l.out.stream l.out.microframes
   unfolding is_due_in
@@ -139,43 +139,43 @@ module _ (p : Place) (is : IsPlace p) (detail : ℕ) (losses : List SaidMark) (l
       ∙ ap (λ (o : Option OutStream). either_due o (w.device.ins p.interface)) s.out
 
   arrives : (w : StreamingWorld) → Shows p w l t
-      → arrival_in w.device p.interface (packet_to (loses_out losses p.interface) p.interface w) ≡ arrival_of packet l.out
+      → arrival_in w.device p.interface (packet_to (loses_out marks p.interface) p.interface w) ≡ arrival_of packet l.out
   unfolding arrival_in
   arrives w s =
-      ap (λ (o : Option OutStream). option_map_or (arrival_of (packet_to (loses_out losses p.interface) p.interface w)) o arrivals.Lost) s.out
-      ∙ ap (λ (bytes : List ℕ). arrival_of (if loses_out losses p.interface then None else Some bytes) l.out) (packet_shown p w l t s)
+      ap (λ (o : Option OutStream). option_map_or (arrival_of (packet_to (loses_out marks p.interface) p.interface w)) o arrivals.Lost) s.out
+      ∙ ap (λ (bytes : List ℕ). arrival_of (if loses_out marks p.interface then None else Some bytes) l.out) (packet_shown p w l t s)
 
   outs_room : (is_due l.out.stream l.out.microframes ≡ true → arrival_of packet l.out ≡ arrivals.Over → ⊥) → (w : StreamingWorld) → Shows p w l t
-      → All (NotOver p.interface) (out_packets detail losses w).lines
+      → All (NotOver p.interface) (out_packets detail marks w).lines
   unfolding out_packets
   outs_room room w s =
-      turns_once_say (NotOver p.interface) (out_turn detail losses) p.interface (λ n v other. other_packets p.interface detail losses n v other)
-      (λ v. Shows p v l t) (λ n v other there. out_other p detail losses n v l t other there)
-      (λ v there. out_turn_says (NotOver p.interface) (quiet p.interface) detail losses p.interface v
-      (λ due. own_overs p.interface (arrival_in v.device p.interface (packet_to (loses_out losses p.interface) p.interface v))
+      turns_once_say (NotOver p.interface) (out_turn detail marks) p.interface (λ n v other. other_packets p.interface detail marks n v other)
+      (λ v. Shows p v l t) (λ n v other there. out_other p detail marks n v l t other there)
+      (λ v there. out_turn_says (NotOver p.interface) (quiet p.interface) detail marks p.interface v
+      (λ due. own_overs p.interface (arrival_in v.device p.interface (packet_to (loses_out marks p.interface) p.interface v))
       (λ over. room (sym (due_here v there) ∙ due) (sym (arrives v there) ∙ over))))
       (numbers w.device.function) w (numbers_differ w.device.function) s
 
-stream_room : (losses : List SaidMark) (r : RunningWorld) (k : ℕ) (l : Life) (d : Domain) → StreamInBand r k l d
-    → All (NotOver k) (out_packets r.detail losses (streaming_of (numbered r))).lines
-stream_room losses r k l d stream = opened r k l d stream.runs (λ clock place steps is s.
+stream_room : (marks : List SaidMark) (r : RunningWorld) (k : ℕ) (l : Life) (d : Domain) → StreamInBand r k l d
+    → All (NotOver k) (out_packets r.detail marks (streaming_of (numbered r))).lines
+stream_room marks r k l d stream = opened r k l d stream.runs (λ clock place steps is s.
     (let p : Place = place_in r k d clock place in
     let t : Track = r.host.tracks k in
-    outs_room p is r.detail losses l t
-    (λ due over. never_over_full l (packet_to (loses_out losses k) k (streaming_of r)) _ stream.band (steadily losses r k l d stream) due
-    (ap (λ (bytes : List ℕ). arrival_of (if loses_out losses k then None else Some bytes) l.out) (packet_shown p (streaming_of r) l t s) ∙ over))
+    outs_room p is r.detail marks l t
+    (λ due over. never_over_full l (packet_to (loses_out marks k) k (streaming_of r)) _ stream.band (steadily marks r k l d stream) due
+    (ap (λ (bytes : List ℕ). arrival_of (if loses_out marks k then None else Some bytes) l.out) (packet_shown p (streaming_of r) l t s) ∙ over))
     (streaming_of (numbered r)) s))
 
 -- no packet to the device is without room
-pub outs_have_room : (losses : List SaidMark) (r : RunningWorld) → RunInBand r → (k : ℕ)
-    → All (NotOver k) (out_packets r.detail losses (streaming_of (numbered r))).lines
-outs_have_room losses r band k = by (r.device.outs k) refl
+pub outs_have_room : (marks : List SaidMark) (r : RunningWorld) → RunInBand r → (k : ℕ)
+    → All (NotOver k) (out_packets r.detail marks (streaming_of (numbered r))).lines
+outs_have_room marks r band k = by (r.device.outs k) refl
   where
-    by : (o : Option OutStream) → r.device.outs k ≡ o → All (NotOver k) (out_packets r.detail losses (streaming_of (numbered r))).lines
-    by None none = outs_none k r.detail losses (streaming_of (numbered r)) none
+    by : (o : Option OutStream) → r.device.outs k ≡ o → All (NotOver k) (out_packets r.detail marks (streaming_of (numbered r))).lines
+    by None none = outs_none k r.detail marks (streaming_of (numbered r)) none
     by (Some o) there =
         let stream = band.streams k o there in
-        stream_room losses r k stream.0 stream.1 stream.3
+        stream_room marks r k stream.0 stream.1 stream.3
 
 -- ---- where it runs one from it
 
@@ -220,14 +220,14 @@ module _ (p : Spot) (spot : IsSpot p) (after : ℕ) where
   unfolding domain_microframe
   other_domain few steps c r other s =
       ticks_say Not (quiet p.interface) (λ v. Rings p after few steps v.device) c (λ v there. other_tick few steps c v other there)
-      (λ v there. tick_other p spot after few steps c v other there) (next_ticks c r.device) (record r { device = advanced c r.device })
+      (λ v there. tick_other p spot after few steps c v other there) (next_ticks c r.device) (record r { device = after_advance c r.device })
       (advanced_other p spot after few steps c r.device other s)
 
   module _ (few : ℕ) (steps : List ℕ) (room : few + ticks_in (steps_on p steps) ≤ 2048) where
     own_domain : (r : RunningWorld) → Rings p after few steps r.device → All Not (domain_microframe p.clock r).lines
     unfolding domain_microframe
     own_domain r s =
-        own_ticks few (steps_on p steps) (next_ticks p.clock r.device) (record r { device = advanced p.clock r.device })
+        own_ticks few (steps_on p steps) (next_ticks p.clock r.device) (record r { device = after_advance p.clock r.device })
         (subst (λ (n : ℕ). few + n ≤ 2048) (sym (so_many p spot after few steps r.device s)) room) (advanced_own p spot after few steps r.device s)
 
     apart_domains : (least : ℕ) (all : List ℕ) (clocks : List ℕ) (r : RunningWorld) → AllByRecursion (λ c. nat_eq p.clock c ≡ false) clocks

@@ -12,24 +12,24 @@ use Rattle.uac_clock.proofs.Listed.{has_room}
 use Rattle.uac_rate.specs.Levels.{IsInterval, Within}
 use Rattle.uac_rate.specs.Steadiness.{is_slight}
 use Rattle.uac_rate.proofs.LevelsLemmas.{interval_size, slight_step, whole_ticks}
-use Rattle.uac_rate.proofs.PacketsLemmas.{by_remainder}
+use Rattle.uac_rate.proofs.PacketSizesLemmas.{by_remainder}
 use Rattle.uac_entities.specs.declared.stream.StreamInterface.{StreamInterface}
 use Rattle.uac_topology.specs.Function.{FunctionFields, interface_in}
 use Rattle.uac_store.specs.declared.keys.Key.{Key}
 use Rattle.uac_store.specs.Rates.{rate_of}
 use Rattle.uac_graph.specs.Meaning.{entity}
-use Rattle.uac_alt.specs.Settings.{setting_of}
-use Rattle.uac_alt.specs.Streams.{StreamFields}
+use Rattle.uac_alt.specs.AltSettings.{setting_of}
+use Rattle.uac_alt.specs.AltStreams.{StreamFields}
 use Rattle.uac_alt.specs.declared.settings.InterfaceSetting.{InterfaceSetting}
-use Rattle.uac_flow.specs.Streams.{InStream, OutStream, in_level, is_due}
+use Rattle.uac_flow.specs.FlowStreams.{InStream, OutStream, in_level, is_due}
 use Rattle.uac_device.specs.DeviceWorld.{DeviceWorld, Domain}
 use Rattle.uac_script.specs.Phrase.{SaidMark}
 use Rattle.uac_streaming.specs.StreamingWorld.{all_settled, comes_in, goes_out, out_packets}
 use Rattle.uac_running.specs.RunningWorld.{RunningWorld, streaming_of, with_streaming}
 use Rattle.uac_running.specs.Events.{domain_microframes, ends_and_reports, microframe, packets_and_ticks}
 use Rattle.uac_bands.specs.Life.{clock_on, domain_on}
-use Rattle.uac_bands.specs.Run.{RunInBand}
-use Rattle.uac_bands.specs.Transfers.{IsSoundRun}
+use Rattle.uac_bands.specs.BandRun.{RunInBand}
+use Rattle.uac_bands.specs.BandTransfers.{IsSoundRun}
 use Rattle.uac_bands.proofs.Numbers.{placed_at, times_more}
 use Rattle.uac_bands.proofs.Once.{Among, clock_among}
 use Rattle.uac_bands.proofs.Quiet.{fetched, microframe_says, numbered, ticked_on}
@@ -107,7 +107,7 @@ one_way function k comes goes = by (interface_in function k) comes goes
 
 -- ---- one stream from the device
 
-module _ (losses : List SaidMark) (r : RunningWorld) (band : RunInBand r) (sound : IsSoundRun r) (k : ℕ) (i : InStream) (d : Domain) (clock : ℕ)
+module _ (marks : List SaidMark) (r : RunningWorld) (band : RunInBand r) (sound : IsSoundRun r) (k : ℕ) (i : InStream) (d : Domain) (clock : ℕ)
     (there : r.device.ins k ≡ Some i) (rec : IsRecorded r k i d) (on_clock : clock_on r k ≡ Some clock)
     (found : find (λ d. d.clock == clock) r.device.domains ≡ Some d) where
   abbrev p : Spot
@@ -171,40 +171,40 @@ module _ (losses : List SaidMark) (r : RunningWorld) (band : RunInBand r) (sound
       (has_room i.stream.nominal rec.nominal).most some_ticks
 
   -- after its packets
-  came : Rings p i.microframes less d.steps (fetched losses r).device
+  came : Rings p i.microframes less d.steps (fetched marks r).device
   came =
       let v : RunningWorld = numbered r in
-      let sent = with_streaming v (out_packets v.detail losses (streaming_of v)).world in
-      packets_in p spot band.ordered.numbers v.detail losses i.microframes few d.steps fits_packet (streaming_of sent)
-      (packets_out p spot band.ordered.numbers v.detail losses i.microframes few d.steps (streaming_of v) before)
+      let sent = with_streaming v (out_packets v.detail marks (streaming_of v)).world in
+      packets_in p spot band.ordered.numbers v.detail marks i.microframes few d.steps fits_packet (streaming_of sent)
+      (packets_out p spot band.ordered.numbers v.detail marks i.microframes few d.steps (streaming_of v) before)
 
-  once : IsDistinct nat_eq (fetched losses r).device.function.domains
+  once : IsDistinct nat_eq (fetched marks r).device.function.domains
   once = subst (λ (f : FunctionFields). IsDistinct nat_eq f.domains) (sym came.function) band.ordered.apart
 
-  clocked : Among clock (fetched losses r).device.function.domains
+  clocked : Among clock (fetched marks r).device.function.domains
   clocked =
       subst (λ (f : FunctionFields). Among clock f.domains) (sym came.function)
       (subst (Among clock) band.ordered.clocks (clock_among clock r.device.domains d found))
 
   -- after its ticks
-  ticked : Rings p i.microframes (less + ticks) (steps_on p d.steps) (ticked_on losses r).device
+  ticked : Rings p i.microframes (less + ticks) (steps_on p d.steps) (ticked_on marks r).device
   unfolding packets_and_ticks
   ticked =
-      domains_ring p spot i.microframes less d.steps (fetched losses r).device.function.domains (fetched losses r) once clocked came
+      domains_ring p spot i.microframes less d.steps (fetched marks r).device.function.domains (fetched marks r) once clocked came
 
   -- no tick found it full
-  pub ticks_quiet : All (NotOver k) (domain_microframes (fetched losses r).device.function.domains (fetched losses r)).lines
+  pub ticks_quiet : All (NotOver k) (domain_microframes (fetched marks r).device.function.domains (fetched marks r)).lines
   ticks_quiet =
-      ticks_have_room p spot i.microframes less d.steps room (fetched losses r).device.function.domains (fetched losses r) once clocked came
+      ticks_have_room p spot i.microframes less d.steps room (fetched marks r).device.function.domains (fetched marks r) once clocked came
 
   -- after the microframe
-  behind : Rings p (i.microframes + 1) (less + ticks) (steps_on p d.steps) (microframe losses r).world.device
+  following : Rings p (i.microframes + 1) (less + ticks) (steps_on p d.steps) (microframe marks r).world.device
   unfolding microframe ends_and_reports
-  behind =
-      let u : RunningWorld = ticked_on losses r in
-      reports p spot band.ordered.numbers u.detail losses (i.microframes + 1) (less + ticks) (steps_on p d.steps)
+  following =
+      let u : RunningWorld = ticked_on marks r in
+      reports p spot band.ordered.numbers u.detail marks (i.microframes + 1) (less + ticks) (steps_on p d.steps)
       (all_settled u.detail (streaming_of u)).world
-      (ends p spot band.ordered.numbers u.detail losses i.microframes (less + ticks) (steps_on p d.steps) (streaming_of u) ticked)
+      (ends p spot band.ordered.numbers u.detail marks i.microframes (less + ticks) (steps_on p d.steps) (streaming_of u) ticked)
 
   enough : (after : InStream) → after.stream ≡ i.stream → after.microframes ≡ i.microframes + 1 → in_level after ≤ less + ticks → HoldsFew after
   enough after same counted level =
@@ -213,14 +213,14 @@ module _ (losses : List SaidMark) (r : RunningWorld) (band : RunInBand r) (sound
       (at_most (in_level after) (less + ticks) (most_after i.stream.service i.stream.nominal.hi (i.microframes + 1)) level
       (after_ticks i.stream.service i.stream.nominal.hi i.microframes ticks (is_due i.stream i.microframes) rec.serves refl some_ticks)))
 
-  pub recorded_behind : (after : InStream) → (microframe losses r).world.device.ins k ≡ Some after
-      → (d : Domain) × IsRecorded (microframe losses r).world k after d
+  pub recorded_behind : (after : InStream) → (microframe marks r).world.device.ins k ≡ Some after
+      → (d : Domain) × IsRecorded (microframe marks r).world k after d
   recorded_behind after now =
-      let s = behind in
-      let w : DeviceWorld = (microframe losses r).world.device in
+      let s = following in
+      let w : DeviceWorld = (microframe marks r).world.device in
       let same : s.ring ≡ after = let both : Some s.ring ≡ Some after = sym s.in_ ∙ now in cc in (
         record d { steps = steps_on p d.steps },
-        subst (λ (j : InStream). IsRecorded (microframe losses r).world k j (record d { steps = steps_on p d.steps })) same (record {
+        subst (λ (j : InStream). IsRecorded (microframe marks r).world k j (record d { steps = steps_on p d.steps })) same (record {
           comes = ap (λ (f : FunctionFields). comes_in f k) s.function ∙ rec.comes;
           set = (rec.set.0, ap (λ (ss : List InterfaceSetting). setting_of ss k) s.settings ∙ rec.set.1, rec.set.2);
           domain =
@@ -247,29 +247,29 @@ opened_in : {R : Type 0} (r : RunningWorld) (k : ℕ) (d : Domain) → domain_on
 opened_in r k d on goes_on = option_and_then_some _ (clock_on r k) d on (λ clock on_clock found. goes_on clock on_clock found)
 
 pub microframes_stay_recorded : MicroframesStayRecorded
-microframes_stay_recorded losses r band sound recorded = record {
+microframes_stay_recorded marks r band sound recorded = record {
   stays = λ k after now. stays k after now (r.device.ins k) refl;
   no_over = λ j said below k.
-      microframe_says (NotOver k) (quiet k) losses r (outs_have_room losses r band k) (ticks_quiet_at k (r.device.ins k) refl)
-      (ends_not k (ticked_on losses r).detail (streaming_of (ticked_on losses r))) j said below;
+      microframe_says (NotOver k) (quiet k) marks r (outs_have_room marks r band k) (ticks_quiet_at k (r.device.ins k) refl)
+      (ends_not k (ticked_on marks r).detail (streaming_of (ticked_on marks r))) j said below;
 }
   where
-    stays : (k : ℕ) (after : InStream) → (microframe losses r).world.device.ins k ≡ Some after → (o : Option InStream) → r.device.ins k ≡ o
-        → (d : Domain) × IsRecorded (microframe losses r).world k after d
-    stays k after now None none = absurd (let nowhere = microframe_sends_none k losses r none in cc)
+    stays : (k : ℕ) (after : InStream) → (microframe marks r).world.device.ins k ≡ Some after → (o : Option InStream) → r.device.ins k ≡ o
+        → (d : Domain) × IsRecorded (microframe marks r).world k after d
+    stays k after now None none = absurd (let nowhere = microframe_sends_none k marks r none in cc)
     stays k after now (Some i) there =
         let rec = recorded k i there in
         opened_in r k rec.0 rec.1.domain (λ clock on_clock found.
-        recorded_behind losses r band sound k i rec.0 clock there rec.1 on_clock found after now)
+        recorded_behind marks r band sound k i rec.0 clock there rec.1 on_clock found after now)
 
     ticks_quiet_at : (k : ℕ) (o : Option InStream) → r.device.ins k ≡ o
-        → All (NotOver k) (domain_microframes (fetched losses r).device.function.domains (fetched losses r)).lines
+        → All (NotOver k) (domain_microframes (fetched marks r).device.function.domains (fetched marks r)).lines
     ticks_quiet_at k None none =
-        none_domains k (fetched losses r).device.function.domains (fetched losses r) (before_ticks_sends_none k losses (numbered r) none)
+        none_domains k (fetched marks r).device.function.domains (fetched marks r) (before_ticks_sends_none k marks (numbered r) none)
     ticks_quiet_at k (Some i) there =
         let rec = recorded k i there in
         opened_in r k rec.0 rec.1.domain (λ clock on_clock found.
-        ticks_quiet losses r band sound k i rec.0 clock there rec.1 on_clock found)
+        ticks_quiet marks r band sound k i rec.0 clock there rec.1 on_clock found)
 
 pub rings_hold_an_interval : RingsHoldAnInterval
 rings_hold_an_interval r k i recorded there =

@@ -1,11 +1,11 @@
 -- A microframe starts no stream: an interface that runs none from the device runs none after it.
 use Rattle.std.proofs.Common.{◌≡◌, ℕ, ℤ, if◌then◌else◌, List, None}
-use Rattle.uac_flow.specs.Streams.{InStream, after_putting, after_sending, settled_in}
-use Rattle.uac_graph.specs.Controls.{held_in}
+use Rattle.uac_flow.specs.FlowStreams.{InStream, after_putting, after_sending, settled_in}
+use Rattle.uac_graph.specs.GraphControls.{held_in}
 use Rattle.uac_graph.specs.Meaning.{meaning}
 use Rattle.uac_graph.specs.Needs.{is_end}
-use Rattle.uac_device.specs.DeviceWorld.{DeviceWorld, advanced, entity_in, input_of, is_on, played_to, received, set_jack, settled, ticked}
-use Rattle.uac_device.specs.DeviceWorld.{sent as device_sends}
+use Rattle.uac_device.specs.DeviceWorld.{DeviceWorld, after_advance, entity_in, input_of, is_on, played_to, after_receiving, set_jack, after_settling, after_tick}
+use Rattle.uac_device.specs.DeviceWorld.{after_sending_packet as device_sends}
 use Rattle.uac_script.specs.Phrase.{SaidMark}
 use Rattle.uac_streaming.specs.StreamingWorld.{StreamingWorld, in_packets, out_packets, packet_fetched, packet_sent, report_made}
 use Rattle.uac_running.specs.RunningWorld.{RunningWorld, streaming_of, with_streaming}
@@ -29,7 +29,7 @@ module _ (k : ℕ) where
   SendsNoneNow r = r.device.ins k ≡ None
 
   starts_none : IsKeptByEach SendsNone
-  unfolding packet_sent received packet_fetched device_sends settled report_made set_jack ticked advanced
+  unfolding packet_sent after_receiving packet_fetched device_sends after_settling report_made set_jack after_tick after_advance
   starts_none = record {
     sends = λ lost n w none. none;
     fetches = λ lost n w none. none_at n k after_sending w.device.ins none;
@@ -48,16 +48,16 @@ module _ (k : ℕ) where
   pub tick_sends_none : (c : ℕ) (r : RunningWorld) → SendsNoneNow r → SendsNoneNow (tick c r).world
   tick_sends_none = tick_keeps SendsNone starts_none
 
-  pub advanced_sends_none : (c : ℕ) (r : RunningWorld) → SendsNoneNow r → SendsNoneNow (record r { device = advanced c r.device })
+  pub advanced_sends_none : (c : ℕ) (r : RunningWorld) → SendsNoneNow r → SendsNoneNow (record r { device = after_advance c r.device })
   advanced_sends_none = advanced_keeps SendsNone starts_none
 
   pub domain_sends_none : (c : ℕ) (r : RunningWorld) → SendsNoneNow r → SendsNoneNow (domain_microframe c r).world
   domain_sends_none = domain_keeps SendsNone starts_none
 
-  pub before_ticks_sends_none : (losses : List SaidMark) (r : RunningWorld) → SendsNoneNow r
-      → (let sent = with_streaming r (out_packets r.detail losses (streaming_of r)).world in
-      SendsNoneNow (with_streaming sent (in_packets sent.detail losses (streaming_of sent)).world))
+  pub before_ticks_sends_none : (marks : List SaidMark) (r : RunningWorld) → SendsNoneNow r
+      → (let sent = with_streaming r (out_packets r.detail marks (streaming_of r)).world in
+      SendsNoneNow (with_streaming sent (in_packets sent.detail marks (streaming_of sent)).world))
   before_ticks_sends_none = before_ticks_keep SendsNone starts_none
 
-  pub microframe_sends_none : (losses : List SaidMark) (r : RunningWorld) → SendsNoneNow r → SendsNoneNow (microframe losses r).world
+  pub microframe_sends_none : (marks : List SaidMark) (r : RunningWorld) → SendsNoneNow r → SendsNoneNow (microframe marks r).world
   microframe_sends_none = microframe_keeps SendsNone starts_none

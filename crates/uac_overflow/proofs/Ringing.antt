@@ -9,12 +9,12 @@ use Rattle.uac_topology.specs.Function.{FunctionFields, interface_in}
 use Rattle.uac_store.specs.declared.keys.Key.{Key}
 use Rattle.uac_store.specs.Rates.{rate_of}
 use Rattle.uac_graph.specs.Meaning.{entity}
-use Rattle.uac_alt.specs.Streams.{StreamFields}
+use Rattle.uac_alt.specs.AltStreams.{StreamFields}
 use Rattle.uac_alt.specs.declared.settings.InterfaceSetting.{InterfaceSetting}
-use Rattle.uac_flow.specs.Streams.{InStream, OutStream, after_packet, after_putting, after_sending, after_taking, after_ticks, in_level, is_due, is_full, sent_frames, settled_in, settled_out}
+use Rattle.uac_flow.specs.FlowStreams.{InStream, OutStream, after_packet, after_putting, after_sending, after_taking, after_ticks, in_level, is_due, is_full, sent_frames, settled_in, settled_out}
 use Rattle.uac_lanes.specs.InterfaceStreams.{either_due}
-use Rattle.uac_device.specs.DeviceWorld.{DeviceWorld, Domain, advanced, feedback_in, is_due_in, is_on, next_ticks, received, set_jack, settled, step_in, steps_with_next, ticked}
-use Rattle.uac_device.specs.DeviceWorld.{sent as device_sends}
+use Rattle.uac_device.specs.DeviceWorld.{DeviceWorld, Domain, after_advance, feedback_in, is_due_in, is_on, next_ticks, after_receiving, set_jack, after_settling, step_in, steps_with_next, after_tick}
+use Rattle.uac_device.specs.DeviceWorld.{after_sending_packet as device_sends}
 use Rattle.uac_script.specs.Phrase.{SaidMark}
 use Rattle.uac_streaming.specs.Telling.{at_rest}
 use Rattle.uac_streaming.specs.StreamingWorld.{StreamingWorld, all_reported, all_settled, comes_in, fetched_lines, in_packet_turn, in_packets, is_in_due, is_out_due, loses_in, loses_out, loses_report, numbers, out_packets, out_turn, packet_fetched, packet_sent, packet_to, report_lines, report_made, report_turn, sent_lines, settled_turn}
@@ -119,19 +119,19 @@ on_clock_only p spot = clock_only p.function p.interface p.clock spot.on_clock
 
 -- ---- turns
 
-module _ (p : Spot) (detail : ℕ) (losses : List SaidMark) (after few : ℕ) (steps : List ℕ) where
-  out_any : (n : ℕ) (w : StreamingWorld) → Rings p after few steps w.device → Rings p after few steps (out_turn detail losses n w).world.device
-  unfolding out_turn packet_sent received
+module _ (p : Spot) (detail : ℕ) (marks : List SaidMark) (after few : ℕ) (steps : List ℕ) where
+  out_any : (n : ℕ) (w : StreamingWorld) → Rings p after few steps w.device → Rings p after few steps (out_turn detail marks n w).world.device
+  unfolding out_turn packet_sent after_receiving
   out_any n w s = by (is_out_due w n)
     where
       by : (b : Bool)
-          → Rings p after few steps (if b then record { lines = sent_lines detail (loses_out losses n) n w; world = packet_sent (loses_out losses n) n w }
+          → Rings p after few steps (if b then record { lines = sent_lines detail (loses_out marks n) n w; world = packet_sent (loses_out marks n) n w }
           else at_rest w).world.device
       by true = record {
         function = s.function;
         controls = s.controls;
         settings = s.settings;
-        out = none_at n p.interface (after_packet (packet_to (loses_out losses n) n w)) w.device.outs s.out;
+        out = none_at n p.interface (after_packet (packet_to (loses_out marks n) n w)) w.device.outs s.out;
         ring = s.ring;
         in_ = s.in_;
         is = s.is;
@@ -140,12 +140,12 @@ module _ (p : Spot) (detail : ℕ) (losses : List SaidMark) (after few : ℕ) (s
       by false = s
 
   in_other : (n : ℕ) (w : StreamingWorld) → (p.interface == n) ≡ false → Rings p after few steps w.device
-      → Rings p after few steps (in_packet_turn detail losses n w).world.device
+      → Rings p after few steps (in_packet_turn detail marks n w).world.device
   unfolding in_packet_turn packet_fetched device_sends
   in_other n w other s = by (is_in_due w n)
     where
       by : (b : Bool)
-          → Rings p after few steps (if b then record { lines = fetched_lines detail (loses_in losses n) n w; world = packet_fetched (loses_in losses n) n w }
+          → Rings p after few steps (if b then record { lines = fetched_lines detail (loses_in marks n) n w; world = packet_fetched (loses_in marks n) n w }
           else at_rest w).world.device
       by true = record {
         function = s.function;
@@ -160,10 +160,10 @@ module _ (p : Spot) (detail : ℕ) (losses : List SaidMark) (after few : ℕ) (s
       by false = s
 
   in_here : IsSpot p → few ≤ p.stream.most → (w : StreamingWorld) → Rings p after few steps w.device
-      → Rings p after (if is_due p.stream after then 0 else few) steps (in_packet_turn detail losses p.interface w).world.device
+      → Rings p after (if is_due p.stream after then 0 else few) steps (in_packet_turn detail marks p.interface w).world.device
   unfolding in_packet_turn packet_fetched device_sends is_due_in
   in_here spot fits w s =
-      subst (λ (b : Bool). Rings p after (if is_due p.stream after then 0 else few) steps (if b then record { lines = fetched_lines detail (loses_in losses p.interface) p.interface w; world = packet_fetched (loses_in losses p.interface) p.interface w } else at_rest w).world.device)
+      subst (λ (b : Bool). Rings p after (if is_due p.stream after then 0 else few) steps (if b then record { lines = fetched_lines detail (loses_in marks p.interface) p.interface w; world = packet_fetched (loses_in marks p.interface) p.interface w } else at_rest w).world.device)
       (sym due) (by (is_due p.stream after))
     where
       due : is_in_due w p.interface ≡ is_due p.stream after
@@ -176,7 +176,7 @@ module _ (p : Spot) (detail : ℕ) (losses : List SaidMark) (after few : ℕ) (s
           ∙ ap (λ (n : ℕ). is_due p.stream n) s.is.counted
 
       by : (b : Bool)
-          → Rings p after (if b then 0 else few) steps (if b then record { lines = fetched_lines detail (loses_in losses p.interface) p.interface w; world = packet_fetched (loses_in losses p.interface) p.interface w } else at_rest w).world.device
+          → Rings p after (if b then 0 else few) steps (if b then record { lines = fetched_lines detail (loses_in marks p.interface) p.interface w; world = packet_fetched (loses_in marks p.interface) p.interface w } else at_rest w).world.device
       by true = record {
         function = s.function;
         controls = s.controls;
@@ -193,7 +193,7 @@ module _ (p : Spot) (detail : ℕ) (losses : List SaidMark) (after few : ℕ) (s
 
   settled_other : (n : ℕ) (w : StreamingWorld) → (p.interface == n) ≡ false → Rings p after few steps w.device
       → Rings p after few steps (settled_turn detail n w).world.device
-  unfolding settled_turn settled
+  unfolding settled_turn after_settling
   settled_other n w other s = record {
     function = s.function;
     controls = s.controls;
@@ -207,7 +207,7 @@ module _ (p : Spot) (detail : ℕ) (losses : List SaidMark) (after few : ℕ) (s
 
   settled_here : (w : StreamingWorld) → Rings p after few steps w.device
       → Rings p (after + 1) few steps (settled_turn detail p.interface w).world.device
-  unfolding settled_turn settled
+  unfolding settled_turn after_settling
   settled_here w s = record {
     function = s.function;
     controls = s.controls;
@@ -219,51 +219,51 @@ module _ (p : Spot) (detail : ℕ) (losses : List SaidMark) (after few : ℕ) (s
     domain = s.domain;
   }
 
-  report_any : (n : ℕ) (w : StreamingWorld) → Rings p after few steps w.device → Rings p after few steps (report_turn detail losses n w).world.device
+  report_any : (n : ℕ) (w : StreamingWorld) → Rings p after few steps w.device → Rings p after few steps (report_turn detail marks n w).world.device
   unfolding report_turn report_made
   report_any n w s = by (feedback_in w.device n)
     where
       by : (o : Option ℕ)
-          → Rings p after few steps (option_map_or (λ value. record { lines = report_lines detail (loses_report losses n) value n; world = report_made (loses_report losses n) value n w })
+          → Rings p after few steps (option_map_or (λ value. record { lines = report_lines detail (loses_report marks n) value n; world = report_made (loses_report marks n) value n w })
           o (at_rest w)).world.device
       by None = s
       by (Some value) = s
 
 -- ---- all turns
 
-module _ (p : Spot) (spot : IsSpot p) (small : All (λ s. s.number < 256) p.function.streams) (detail : ℕ) (losses : List SaidMark) (after few : ℕ)
+module _ (p : Spot) (spot : IsSpot p) (small : All (λ s. s.number < 256) p.function.streams) (detail : ℕ) (marks : List SaidMark) (after few : ℕ)
     (steps : List ℕ) where
   among : (w : DeviceWorld) → Rings p after few steps w → Among p.interface (numbers w.function)
   among w s =
       let found = mapped _ (interface_in p.function p.interface) p.clock spot.on_clock in
       subst (λ (f : FunctionFields). Among p.interface (numbers f)) (sym s.function) (known_among p.function p.interface found.0 small found.1)
 
-  pub packets_out : (w : StreamingWorld) → Rings p after few steps w.device → Rings p after few steps (out_packets detail losses w).world.device
+  pub packets_out : (w : StreamingWorld) → Rings p after few steps w.device → Rings p after few steps (out_packets detail marks w).world.device
   unfolding out_packets
   packets_out w s =
-      turns_keep (λ v. Rings p after few steps v.device) (out_turn detail losses) (λ n v. out_any p detail losses after few steps n v)
+      turns_keep (λ v. Rings p after few steps v.device) (out_turn detail marks) (λ n v. out_any p detail marks after few steps n v)
       (numbers w.device.function) w s
 
   pub packets_in : few ≤ p.stream.most → (w : StreamingWorld) → Rings p after few steps w.device
-      → Rings p after (if is_due p.stream after then 0 else few) steps (in_packets detail losses w).world.device
+      → Rings p after (if is_due p.stream after then 0 else few) steps (in_packets detail marks w).world.device
   unfolding in_packets
   packets_in fits w s =
       let less : ℕ = if is_due p.stream after then 0 else few in
-      turns_once (in_packet_turn detail losses) p.interface (λ v. Rings p after few steps v.device) (λ v. Rings p after less steps v.device)
-      (λ n v other. in_other p detail losses after few steps n v other) (λ n v other. in_other p detail losses after less steps n v other)
-      (λ v. in_here p detail losses after few steps spot fits v) (numbers w.device.function) w (numbers_differ w.device.function) (among w.device s) s
+      turns_once (in_packet_turn detail marks) p.interface (λ v. Rings p after few steps v.device) (λ v. Rings p after less steps v.device)
+      (λ n v other. in_other p detail marks after few steps n v other) (λ n v other. in_other p detail marks after less steps n v other)
+      (λ v. in_here p detail marks after few steps spot fits v) (numbers w.device.function) w (numbers_differ w.device.function) (among w.device s) s
 
   pub ends : (w : StreamingWorld) → Rings p after few steps w.device → Rings p (after + 1) few steps (all_settled detail w).world.device
   unfolding all_settled
   ends w s =
       turns_once (settled_turn detail) p.interface (λ v. Rings p after few steps v.device) (λ v. Rings p (after + 1) few steps v.device)
-      (λ n v other. settled_other p detail losses after few steps n v other) (λ n v other. settled_other p detail losses (after + 1) few steps n v other)
-      (λ v. settled_here p detail losses after few steps v) (numbers w.device.function) w (numbers_differ w.device.function) (among w.device s) s
+      (λ n v other. settled_other p detail marks after few steps n v other) (λ n v other. settled_other p detail marks (after + 1) few steps n v other)
+      (λ v. settled_here p detail marks after few steps v) (numbers w.device.function) w (numbers_differ w.device.function) (among w.device s) s
 
-  pub reports : (w : StreamingWorld) → Rings p after few steps w.device → Rings p after few steps (all_reported detail losses w).world.device
+  pub reports : (w : StreamingWorld) → Rings p after few steps w.device → Rings p after few steps (all_reported detail marks w).world.device
   unfolding all_reported
   reports w s =
-      turns_keep (λ v. Rings p after few steps v.device) (report_turn detail losses) (λ n v. report_any p detail losses after few steps n v)
+      turns_keep (λ v. Rings p after few steps v.device) (report_turn detail marks) (λ n v. report_any p detail marks after few steps n v)
       (numbers w.device.function) w s
 
 -- ---- ticks
@@ -299,8 +299,8 @@ module _ (p : Spot) (spot : IsSpot p) (after : ℕ) where
   given_rings few steps c r s = jacks_ring few steps (filter (λ (j : Jack). j.clock == c) r.jacks) r.device s
 
   ticked_other : (few : ℕ) (steps : List ℕ) (c : ℕ) (w : DeviceWorld) → (p.clock == c) ≡ false → Rings p after few steps w
-      → Rings p after few steps (ticked c w)
-  unfolding ticked
+      → Rings p after few steps (after_tick c w)
+  unfolding after_tick
   ticked_other few steps c w other s = record {
     function = s.function;
     controls = s.controls;
@@ -312,8 +312,8 @@ module _ (p : Spot) (spot : IsSpot p) (after : ℕ) where
     domain = s.domain;
   }
 
-  ticked_own : (few : ℕ) (steps : List ℕ) (w : DeviceWorld) → Rings p after few steps w → Rings p after (suc few) steps (ticked p.clock w)
-  unfolding ticked
+  ticked_own : (few : ℕ) (steps : List ℕ) (w : DeviceWorld) → Rings p after few steps w → Rings p after (suc few) steps (after_tick p.clock w)
+  unfolding after_tick
   ticked_own few steps w s = record {
     function = s.function;
     controls = s.controls;
@@ -362,8 +362,8 @@ module _ (p : Spot) (spot : IsSpot p) (after : ℕ) where
       ∙ ap (λ (cs : List (Key × ℤ)). option_map_or (λ values. step_of values p.domain.deviation) (option_and_then nominal_of (rate_of p.function.entities cs p.domain.clock)) 0) s.controls
 
   pub advanced_other : (few : ℕ) (steps : List ℕ) (c : ℕ) (w : DeviceWorld) → (p.clock == c) ≡ false → Rings p after few steps w
-      → Rings p after few steps (advanced c w)
-  unfolding advanced
+      → Rings p after few steps (after_advance c w)
+  unfolding after_advance
   advanced_other few steps c w other s = record {
     function = s.function;
     controls = s.controls;
@@ -379,7 +379,7 @@ module _ (p : Spot) (spot : IsSpot p) (after : ℕ) where
       → Rings p after few steps (domain_microframe c r).world.device
   unfolding domain_microframe
   domain_elsewhere few steps c r other s =
-      ticks_other few steps (next_ticks c r.device) c (record r { device = advanced c r.device }) other (advanced_other few steps c r.device other s)
+      ticks_other few steps (next_ticks c r.device) c (record r { device = after_advance c r.device }) other (advanced_other few steps c r.device other s)
 
   module _ (few : ℕ) (steps : List ℕ) where
     -- what its own clock gives
@@ -389,8 +389,8 @@ module _ (p : Spot) (spot : IsSpot p) (after : ℕ) where
         ap (λ (o : Option Domain). option_map_or (λ d. ticks_in (steps_with_next w d)) o 0) s.domain
         ∙ ap (λ (n : ℕ). ticks_in (steps ++ n ∷ [])) (step_rings few steps w s)
 
-    pub advanced_own : (w : DeviceWorld) → Rings p after few steps w → Rings p after few (steps_on p steps) (advanced p.clock w)
-    unfolding advanced
+    pub advanced_own : (w : DeviceWorld) → Rings p after few steps w → Rings p after few (steps_on p steps) (after_advance p.clock w)
+    unfolding after_advance
     advanced_own w s = record {
       function = s.function;
       controls = s.controls;
@@ -408,7 +408,7 @@ module _ (p : Spot) (spot : IsSpot p) (after : ℕ) where
     unfolding domain_microframe
     domain_own r s =
         subst (λ (n : ℕ). Rings p after (few + n) (steps_on p steps) (domain_microframe p.clock r).world.device) (so_many r.device s)
-        (ticks_own few (steps_on p steps) (next_ticks p.clock r.device) (record r { device = advanced p.clock r.device }) (advanced_own r.device s))
+        (ticks_own few (steps_on p steps) (next_ticks p.clock r.device) (record r { device = after_advance p.clock r.device }) (advanced_own r.device s))
 
     -- all domains, of which one is its own
     pub domains_ring : (clocks : List ℕ) (r : RunningWorld) → IsDistinct nat_eq clocks → Among p.clock clocks → Rings p after few steps r.device

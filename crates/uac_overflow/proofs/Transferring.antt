@@ -11,24 +11,24 @@ use Rattle.uac_topology.specs.Function.{FunctionFields}
 use Rattle.uac_store.specs.declared.keys.Key.{Key}
 use Rattle.uac_store.specs.Rates.{rate_of}
 use Rattle.uac_graph.specs.Meaning.{entity}
-use Rattle.uac_alt.specs.Streams.{StreamFields}
-use Rattle.uac_alt.specs.Settings.{setting_of}
+use Rattle.uac_alt.specs.AltStreams.{StreamFields}
+use Rattle.uac_alt.specs.AltSettings.{setting_of}
 use Rattle.uac_alt.specs.declared.settings.InterfaceSetting.{InterfaceSetting}
 use Rattle.uac_alt.proofs.Fitting.{interval_fits}
 use Rattle.uac_request.specs.declared.setup.Setup.{Setup}
 use Rattle.uac_request.proofs.Lasting.{rates_stay}
-use Rattle.uac_flow.specs.Streams.{InStream, OutStream, started_in}
+use Rattle.uac_flow.specs.FlowStreams.{InStream, OutStream, started_in}
 use Rattle.uac_host.specs.Calls.{with_stream}
 use Rattle.uac_lanes.specs.InterfaceStreams.{in_from, out_from, replaced_at}
-use Rattle.uac_device.specs.DeviceWorld.{Domain, deviated, fresh, restarted, sets_interface, stream_in_setting}
+use Rattle.uac_device.specs.DeviceWorld.{Domain, after_deviation, fresh, after_restart, sets_interface, stream_in_setting}
 use Rattle.uac_device.specs.Linked.{IsOutput}
 use Rattle.uac_device.proofs.LinkedLemmas.{linked}
-use Rattle.uac_device.proofs.StreamsLemmas.{stream_fits}
+use Rattle.uac_device.proofs.SettingStreams.{stream_fits}
 use Rattle.uac_running.specs.RunningWorld.{RunningWorld, at_start, with_detail, with_deviation, with_samples_on, with_tone, with_track}
-use Rattle.uac_running.specs.Transfers.{with_break}
+use Rattle.uac_running.specs.RunningTransfers.{with_break}
 use Rattle.uac_bands.specs.Life.{clock_on, domain_on}
-use Rattle.uac_bands.specs.Run.{RunInBand}
-use Rattle.uac_bands.specs.Transfers.{IsInSetting, IsSoundRun}
+use Rattle.uac_bands.specs.BandRun.{RunInBand}
+use Rattle.uac_bands.specs.BandTransfers.{IsInSetting, IsSoundRun}
 use Rattle.uac_bands.proofs.Asked.{asked_of, parts_of}
 use Rattle.uac_bands.proofs.Begun.{found_off, off, off_clock}
 use Rattle.uac_bands.proofs.SoundRuns.{known_clock}
@@ -76,37 +76,37 @@ carried r other recorded k i there =
 
 -- ---- what is asked of it between microframes
 
-module _ (clock : ℕ) (millionths : ℤ) (r : RunningWorld) where
-  domain_off : (k : ℕ) → domain_on (with_deviation clock millionths r) k ≡ option_map (off clock millionths) (domain_on r k)
-  unfolding with_deviation deviated
+module _ (clock : ℕ) (ppm : ℤ) (r : RunningWorld) where
+  domain_off : (k : ℕ) → domain_on (with_deviation clock ppm r) k ≡ option_map (off clock ppm) (domain_on r k)
+  unfolding with_deviation after_deviation
   domain_off k = by (clock_on r k)
     where
       by : (o : Option ℕ)
-          → option_and_then (λ c. find (λ d. d.clock == c) (map (off clock millionths) r.device.domains)) o
-          ≡ option_map (off clock millionths) (option_and_then (λ c. find (λ d. d.clock == c) r.device.domains) o)
+          → option_and_then (λ c. find (λ d. d.clock == c) (map (off clock ppm) r.device.domains)) o
+          ≡ option_map (off clock ppm) (option_and_then (λ c. find (λ d. d.clock == c) r.device.domains) o)
       by None = refl
-      by (Some c) = found_off clock millionths c r.device.domains
+      by (Some c) = found_off clock ppm c r.device.domains
 
-  recorded_off : (k : ℕ) (i : InStream) (d : Domain) → IsRecorded r k i d → IsRecorded (with_deviation clock millionths r) k i (off clock millionths d)
-  unfolding with_deviation deviated
+  recorded_off : (k : ℕ) (i : InStream) (d : Domain) → IsRecorded r k i d → IsRecorded (with_deviation clock ppm r) k i (off clock ppm d)
+  unfolding with_deviation after_deviation
   recorded_off k i d rec = record {
     comes = rec.comes;
     set = rec.set;
-    domain = domain_off k ∙ ap (option_map (off clock millionths)) rec.domain;
+    domain = domain_off k ∙ ap (option_map (off clock ppm)) rec.domain;
     nominal = rec.nominal;
     rate =
-        ap (λ (n : ℕ). option_and_then nominal_of (rate_of r.device.function.entities r.device.controls n)) (off_clock clock millionths d) ∙ rec.rate;
+        ap (λ (n : ℕ). option_and_then nominal_of (rate_of r.device.function.entities r.device.controls n)) (off_clock clock ppm d) ∙ rec.rate;
     serves = rec.serves;
     fits = rec.fits;
     gone = rec.gone;
     few = rec.few;
   }
 
-  deviation_keeps : AreRecorded r → AreRecorded (with_deviation clock millionths r)
-  unfolding with_deviation deviated
+  deviation_keeps : AreRecorded r → AreRecorded (with_deviation clock ppm r)
+  unfolding with_deviation after_deviation
   deviation_keeps recorded k i there =
       let rec = recorded k i there in
-      (off clock millionths rec.0, recorded_off k i rec.0 rec.1)
+      (off clock ppm rec.0, recorded_off k i rec.0 rec.1)
 
 pub calls_stay_recorded : CallsStayRecorded
 unfolding with_tone with_detail with_break with_samples_on with_track
@@ -116,7 +116,7 @@ calls_stay_recorded r recorded = record {
   breaks = λ after. carried r (with_break after r) recorded;
   samples = λ interface samples. carried r (with_samples_on interface samples r) recorded;
   track = λ interface tone. carried r (with_track interface tone r) recorded;
-  deviation = λ clock millionths slight. deviation_keeps clock millionths r recorded;
+  deviation = λ clock ppm slight. deviation_keeps clock ppm r recorded;
 }
 
 -- ---- a stream that starts
@@ -124,20 +124,20 @@ calls_stay_recorded r recorded = record {
 module _ (r : RunningWorld) (band : RunInBand r) (sound : IsSoundRun r) (k number : ℕ) (s : StreamFields)
     (is : stream_in_setting r.device.function r.device.controls k number ≡ Some s) (comes : s.out ≡ false) where
   -- its domain
-  has_domain : (carrier : StreamInterface) → find (λ c. c.number == k) r.device.function.streams ≡ Some carrier
-      → (d : Domain) × (find (λ d. d.clock == (entity r.device.function.entities carrier.terminal).clock) r.device.domains ≡ Some d)
-  has_domain carrier there =
+  has_domain : (streaming_interface : StreamInterface) → find (λ c. c.number == k) r.device.function.streams ≡ Some streaming_interface
+      → (d : Domain) × (find (λ d. d.clock == (entity r.device.function.entities streaming_interface.terminal).clock) r.device.domains ≡ Some d)
+  has_domain streaming_interface there =
       let function : FunctionFields = r.device.function in
       let asked = asked_of function r.device.controls k number s is in
       let fits = stream_fits function sound.sound asked.rate k number s asked.of in
-      let same : fits.carrier ≡ carrier = let both : Some fits.carrier ≡ Some carrier = sym fits.there ∙ there in cc in
-      let goes : carrier.out ≡ false = ap (λ (c : StreamInterface). c.out) (sym same) ∙ sym fits.out ∙ comes in
-      let some : 1 ≤ (entity function.entities carrier.terminal).cluster.channels =
+      let same : fits.streaming_interface ≡ streaming_interface = let both : Some fits.streaming_interface ≡ Some streaming_interface = sym fits.there ∙ there in cc in
+      let goes : streaming_interface.out ≡ false = ap (λ (c : StreamInterface). c.out) (sym same) ∙ sym fits.out ∙ comes in
+      let some : 1 ≤ (entity function.entities streaming_interface.terminal).cluster.channels =
       subst (λ (c : StreamInterface). 1 ≤ (entity function.entities c.terminal).cluster.channels) same
       (subst (λ (n : ℕ). 1 ≤ n) fits.channels fits.some) in
-      let output = found_stream (λ c. c.out ≡ false → IsOutput (entity function.entities c.terminal)) k function.streams carrier (linked function sound.sound).outputs there in
-      let clock : ℕ = (entity function.entities carrier.terminal).clock in
-      let known = output_known function sound.sound carrier (output goes some) in
+      let output = found_stream (λ c. c.out ≡ false → IsOutput (entity function.entities c.terminal)) k function.streams streaming_interface (linked function sound.sound).outputs there in
+      let clock : ℕ = (entity function.entities streaming_interface.terminal).clock in
+      let known = output_known function sound.sound streaming_interface (output goes some) in
       some_of (find (λ (d : Domain). d.clock == clock) r.device.domains)
       (known_clock clock r.device.domains
       ∙ ap (list_any (λ (n : ℕ). n == clock)) band.ordered.clocks ∙ any_among clock function.domains known)
@@ -151,8 +151,8 @@ module _ (r : RunningWorld) (band : RunInBand r) (sound : IsSoundRun r) (k numbe
       let asked = asked_of function r.device.controls k number s is in
       let fits = stream_fits function sound.sound asked.rate k number s asked.of in
       let parts = parts_of function asked.rate k number s asked.of in
-      let clock : ℕ = (entity function.entities asked.carrier.terminal).clock in
-      let found = has_domain asked.carrier asked.there in
+      let clock : ℕ = (entity function.entities asked.streaming_interface.terminal).clock in
+      let found = has_domain asked.streaming_interface asked.there in
       let d : Domain = found.0 in
       let here = found_domain (λ d. is_slight d.deviation ≡ true) clock r.device.domains d sound.slight found.1 in
       let on_clock : clock_on r k ≡ Some clock = ap (option_map (λ (c : StreamInterface). (entity function.entities c.terminal).clock)) asked.there in (
@@ -218,14 +218,14 @@ module _ (p : Setup) (bytes : List ℕ) (r : RunningWorld) (band : RunInBand r) 
         by false comes some =
             let same : started_in s ≡ i = cc in
             let asked = asked_of r.device.function r.device.controls p.index p.value s is in
-            let setting = setting_is p bytes r set sound.settings asked.carrier asked.there in
+            let setting = setting_is p bytes r set sound.settings asked.streaming_interface asked.there in
             let controls = controls_same r.device.function (held p bytes r) p bytes (and_parts (sets_interface p) (done p bytes r) set).0 in
             subst (Then p.index) same
             (starts_there r band sound p.index p.value s is comes other (after p bytes r).controls (after p bytes r).settings outs_then ins_then setting
             (λ id. ap (λ (cs : List (Key × ℤ)). rate_of r.device.function.entities cs id) controls))
 
-    restarts : AreRecorded (record other { device = restarted p.index (begun p bytes r) (asked_device p bytes r) })
-    unfolding restarted
+    restarts : AreRecorded (record other { device = after_restart p.index (begun p bytes r) (asked_device p bytes r) })
+    unfolding after_restart
     restarts k i there = by k i (k == p.index) refl there
       where
         by : (k : ℕ) (i : InStream) (b : Bool) → (k == p.index) ≡ b

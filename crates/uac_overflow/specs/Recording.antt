@@ -11,17 +11,17 @@ use Rattle.uac_units.specs.Hearing.{Reading}
 use Rattle.uac_topology.specs.Function.{FunctionFields}
 use Rattle.uac_store.specs.Rates.{rate_of}
 use Rattle.uac_request.specs.declared.setup.Setup.{Setup}
-use Rattle.uac_flow.specs.Streams.{InStream, in_level}
+use Rattle.uac_flow.specs.FlowStreams.{InStream, in_level}
 use Rattle.uac_device.specs.DeviceWorld.{Domain}
 use Rattle.uac_script.specs.Phrase.{SaidMark}
 use Rattle.uac_streaming.specs.StreamingWorld.{comes_in}
 use Rattle.uac_transcript.specs.Transcript.{Said, says_over}
 use Rattle.uac_running.specs.RunningWorld.{RunningWorld, at_start, with_detail, with_deviation, with_samples_on, with_tone, with_track}
 use Rattle.uac_running.specs.Events.{microframe}
-use Rattle.uac_running.specs.Transfers.{transferred, with_break}
+use Rattle.uac_running.specs.RunningTransfers.{after_transfer, with_break}
 use Rattle.uac_bands.specs.Life.{domain_on}
-use Rattle.uac_bands.specs.Run.{RunInBand}
-use Rattle.uac_bands.specs.Transfers.{IsInSetting, IsSoundRun}
+use Rattle.uac_bands.specs.BandRun.{RunInBand}
+use Rattle.uac_bands.specs.BandTransfers.{IsInSetting, IsSoundRun}
 
 -- between two microframes a ring holds no more than its domain can have made since the last packet went: the greatest packet's frames for
 -- each microframe since then
@@ -63,13 +63,13 @@ RunsStartRecorded =
 
 -- a microframe of a sound run in its bands leaves it so, and tells of no ring that was full: neither of one from the device, nor of one
 -- to it that had no room for its packet
-pub record StaysRecorded (losses : List SaidMark) (r : RunningWorld) : Type 0 where
-  pub stays : AreRecorded (microframe losses r).world
-  pub no_over : All IsNoOver (microframe losses r).lines
+pub record StaysRecorded (marks : List SaidMark) (r : RunningWorld) : Type 0 where
+  pub stays : AreRecorded (microframe marks r).world
+  pub no_over : All IsNoOver (microframe marks r).lines
 
 abbrev pub MicroframesStayRecorded : Type 0
 MicroframesStayRecorded =
-    (losses : List SaidMark) (r : RunningWorld) → RunInBand r → IsSoundRun r → AreRecorded r → StaysRecorded losses r
+    (marks : List SaidMark) (r : RunningWorld) → RunInBand r → IsSoundRun r → AreRecorded r → StaysRecorded marks r
 
 -- what else is asked of a run leaves it so
 pub record StaysRecordedBetween (r : RunningWorld) : Type 0 where
@@ -78,7 +78,7 @@ pub record StaysRecordedBetween (r : RunningWorld) : Type 0 where
   pub breaks : (after : Bool) → AreRecorded (with_break after r)
   pub samples : (interface : ℕ) (samples : List ℤ) → AreRecorded (with_samples_on interface samples r)
   pub track : (interface : ℕ) (tone : Tone) → AreRecorded (with_track interface tone r)
-  pub deviation : (clock : ℕ) (millionths : ℤ) → is_slight millionths ≡ true → AreRecorded (with_deviation clock millionths r)
+  pub deviation : (clock : ℕ) (ppm : ℤ) → is_slight ppm ≡ true → AreRecorded (with_deviation clock ppm r)
 
 abbrev pub CallsStayRecorded : Type 0
 CallsStayRecorded = (r : RunningWorld) → AreRecorded r → StaysRecordedBetween r
@@ -86,4 +86,4 @@ CallsStayRecorded = (r : RunningWorld) → AreRecorded r → StaysRecordedBetwee
 -- so does a control transfer: a stream that it starts has an empty ring, and no other's rate changes
 abbrev pub TransfersStayRecorded : Type 0
 TransfersStayRecorded =
-    (p : Setup) (bytes : List ℕ) (r : RunningWorld) → RunInBand r → IsSoundRun r → AreRecorded r → AreRecorded (transferred p bytes r)
+    (p : Setup) (bytes : List ℕ) (r : RunningWorld) → RunInBand r → IsSoundRun r → AreRecorded r → AreRecorded (after_transfer p bytes r)

@@ -5,7 +5,7 @@ use Rattle.std.proofs.lemmas.List.{append-nil}
 use Rattle.std.proofs.lemmas.Nat.{pow_pos, pow-add}
 use Rattle.byteorder.specs.Endian.{little_bytes, little_number}
 use Rattle.byteorder.specs.Numbers.{little_number-reads_back}
-use Rattle.uac_pcm.specs.Words.{floor_of, modulo, wrap, cut, word_of, sample_of_word}
+use Rattle.uac_pcm.specs.SampleWords.{floor_of, modulo, wrap, cut, word_of, sample_of_word}
 use Rattle.uac_pcm.proofs.Wrapping.{int_wrap-pos}
 use Rattle.uac_pcm.proofs.Rounding.{fits-rounded, top_bits, finer_multiple, multiple_comes_back}
 

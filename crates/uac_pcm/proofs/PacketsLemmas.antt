@@ -8,7 +8,7 @@ use Rattle.std.specs.Simd.{first_chunks}
 use Rattle.std.proofs.lemmas.List.{append-nil, flat_map_more, length-map, length-take-le, take_at}
 use Rattle.std.proofs.lemmas.Nat.{div-mul-add}
 use Rattle.std.proofs.lemmas.Option.{slice_get-map}
-use Rattle.uac_pcm.specs.Words.{cut, sample_of_word}
+use Rattle.uac_pcm.specs.SampleWords.{cut, sample_of_word}
 use Rattle.uac_pcm.specs.Frames.{IsFormat, bytes_of_frame, frame_of_bytes}
 use Rattle.uac_pcm.specs.Packets.{IsFrame, packed, unpacked, whole_frames}
 use Rattle.uac_pcm.proofs.Packing.{length-bytes_of_frame, frame_of_bytes-bytes_of_frame}
@@ -83,7 +83,7 @@ frame_of_packed count size resolution (suc i) (f ∷ fs) d even inside =
     ∙ ap (λ (bs : List ℕ). take (count * size) (drop (i * (count * size)) bs)) (drop_front (count * size) (bytes_of_frame size resolution f) (packed size resolution fs) long)
     ∙ frame_of_packed count size resolution i fs d (λ k e below. even (suc k) e (omega arith)) (omega arith)
 
--- frames whose bytes are the front of a packet, and one more that is written behind them
+-- frames whose bytes are the front of a packet, and one more that is written after them
 pub one_written : (channels size bits start n : ℕ) (frames more : List (List ℤ)) (frame : List ℤ) (old new rest : List ℕ) → length frame ≡ channels
     → start ≡ n * (channels * size) → start ≤ length old → more ≡ frames ++ frame ∷ [] → take start old ≡ packed size bits frames
     → new ≡ take start old ++ (bytes_of_frame size bits frame ++ rest) → take ((n + 1) * (channels * size)) new ≡ packed size bits more

@@ -5,7 +5,7 @@ use Rattle.std.proofs.Math.Seq.{take-append_seam, drop-append_seam}
 use Rattle.std.specs.List.{All}
 use Rattle.std.proofs.lemmas.List.{append-nil, drop-drop, length-drop, take_all, take_more_set}
 use Rattle.byteorder.specs.Numbers.{length-bytes_low_first}
-use Rattle.uac_pcm.specs.Words.{cut, word_of, sample_of_word}
+use Rattle.uac_pcm.specs.SampleWords.{cut, word_of, sample_of_word}
 use Rattle.uac_pcm.proofs.Cutting.{sample_of_word-word_of}
 use Rattle.uac_pcm.specs.Frames.{bytes_of_frame, frame_of_bytes}
 

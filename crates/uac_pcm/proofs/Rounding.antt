@@ -4,7 +4,7 @@ use Rattle.std.proofs.Math.Nat.{add-mul, div-mul-le_self, div-add-mod', mod-eq_o
 use Rattle.std.proofs.lemmas.Int.{to_z_pos, to_z-of_z}
 use Rattle.std.proofs.lemmas.Nat.{div_below, div-mul-add}
 use lib.Signed.{shr_z}
-use Rattle.uac_pcm.specs.Words.{floor_of, modulo}
+use Rattle.uac_pcm.specs.SampleWords.{floor_of, modulo}
 
 -- the multiple above a number is at most a bound that is a multiple too
 multiple_above-le : (a unit parts bound : ℕ) → 0 < unit → parts * unit ≡ bound → a < bound → suc (a / unit) * unit ≤ bound

@@ -1,7 +1,7 @@
 -- Worked examples of the definitions.
 use Rattle.std.proofs.Common.{◌≡◌, pos, negsuc, [], ◌∷◌, refl}
 use Rattle.std.specs.Int.{int_wrap}
-use Rattle.uac_pcm.specs.Words.{cut, word_of, sample_of_word}
+use Rattle.uac_pcm.specs.SampleWords.{cut, word_of, sample_of_word}
 use Rattle.uac_pcm.specs.Frames.{bytes_of_frame, frame_of_bytes}
 use Rattle.uac_pcm.specs.Packets.{packed, unpacked}
 use Rattle.uac_pcm.specs.Tones.{tone_sample}

@@ -2,7 +2,7 @@
 use Rattle.std.specs.Prelude.{ℕ, ◌*◌, ◌≤◌, ℤ, List, map}
 use Rattle.std.specs.List.{flat_map}
 use Rattle.std.specs.Simd.{first_chunks}
-use Rattle.uac_pcm.specs.Words.{word_of, sample_of_word}
+use Rattle.uac_pcm.specs.SampleWords.{word_of, sample_of_word}
 
 -- 1 to 32 channels (profile), subslots of 1 to 4 bytes, and a resolution that a subslot holds
 abbrev pub IsFormat : ℕ → ℕ → ℕ → Type 0

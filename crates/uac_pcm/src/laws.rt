@@ -4,7 +4,7 @@ ghost use Rattle.std.specs.Int.{w32};
 ghost use Rattle.std.specs.List.{All};
 ghost use Rattle.uac_pcm.specs.Frames.{IsFormat, bytes_of_frame, frame_of_bytes};
 ghost use Rattle.uac_pcm.specs.Packets.{IsFrame, packed, bytes_of_frame_at, whole_frames, unpacked};
-ghost use Rattle.uac_pcm.specs.Words.{cut, word_of, sample_of_word};
+ghost use Rattle.uac_pcm.specs.SampleWords.{cut, word_of, sample_of_word};
 
 /// Reading the word of a sample gives the sample, cut to the resolution; and a sample that was cut stays as it is.
 pub fn word_is_read_back()

@@ -2,7 +2,7 @@
 ghost use Rattle.std.specs.Prelude.{◌≡◌, ◌≤◌, ◌<◌, ◌*◌, length, slice_index_or, pos};
 ghost use Rattle.byteorder.specs.Endian.{little_number};
 ghost use Rattle.uac_pcm.specs.Frames.{bytes_of_frame, frame_of_bytes};
-ghost use Rattle.uac_pcm.specs.Words.{cut, word_of, sample_of_word};
+ghost use Rattle.uac_pcm.specs.SampleWords.{cut, word_of, sample_of_word};
 
 use byteorder::{ByteOrder, LittleEndian};
 

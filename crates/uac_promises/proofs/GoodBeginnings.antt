@@ -1,12 +1,12 @@
 -- The lines of a descriptor: the device that its bytes describe starts good.
 use Rattle.std.proofs.Common.{◌≡◌, refl, ℕ, List, [], ◌∷◌}
 use Rattle.std.proofs.lemmas.List.Elements.{All-nil}
-use Rattle.uac_descriptor.specs.Reading.{AreBytes}
+use Rattle.uac_descriptor.specs.BlockReading.{AreBytes}
 use Rattle.uac_script.specs.Phrase.{Phrase, feeds}
 use Rattle.uac_units.specs.Hearing.{Reading}
 use Rattle.uac_running.specs.RunningWorld.{at_start}
-use Rattle.uac_running.specs.Lines.{ready_line}
-use Rattle.uac_bus.specs.World.{World, describing, running, step_describing}
+use Rattle.uac_running.specs.RunningLines.{ready_line}
+use Rattle.uac_bus.specs.BusWorld.{World, describing, running, step_describing}
 use Rattle.uac_bands.proofs.Begun.{runs_start_in_band}
 use Rattle.uac_bands.proofs.SoundStart.{runs_start_sound}
 use Rattle.uac_homing.specs.Past.{Pasts}

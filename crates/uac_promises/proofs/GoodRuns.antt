@@ -3,14 +3,14 @@
 use Rattle.std.proofs.Common.{◌≡◌, ℕ, zero, suc, true, List, map}
 use Rattle.std.specs.List.{All}
 use Rattle.std.proofs.lemmas.List.Elements.{All-append, All-map, All-nil}
-use Rattle.uac_descriptor.specs.Reading.{AreBytes}
+use Rattle.uac_descriptor.specs.BlockReading.{AreBytes}
 use Rattle.uac_rate.specs.Steadiness.{is_steady}
 use Rattle.uac_script.specs.Phrase.{SaidMark}
 use Rattle.uac_running.specs.RunningWorld.{RunningWorld}
 use Rattle.uac_running.specs.Events.{microframe, microframes}
-use Rattle.uac_bus.specs.World.{World, describing, running}
-use Rattle.uac_bands.specs.Run.{RunInBand}
-use Rattle.uac_bands.specs.Transfers.{IsSoundRun}
+use Rattle.uac_bus.specs.BusWorld.{World, describing, running}
+use Rattle.uac_bands.specs.BandRun.{RunInBand}
+use Rattle.uac_bands.specs.BandTransfers.{IsSoundRun}
 use Rattle.uac_bands.proofs.NearLevels.{tell_near}
 use Rattle.uac_bands.proofs.NoneEmpty.{find_none_empty}
 use Rattle.uac_bands.proofs.SoundRuns.{microframes_keep_sound}
@@ -20,7 +20,7 @@ use Rattle.uac_homing.specs.Past.{Pasts, pasts_after}
 use Rattle.uac_homing.specs.Homing.{CallsStayTrailed, HaveTrails, MicroframesStayTrailed, RunsStartTrailed, TransfersStayTrailed}
 use Rattle.uac_steady.proofs.Steps.{microframes_before}
 use Rattle.uac_promises.specs.Watched.{Seen, microframes_seen, watched_in}
-use Rattle.uac_promises.specs.Promises.{IsKept}
+use Rattle.uac_promises.specs.Promises.{IsKeptPromise}
 
 -- what is said of one microframe, transfer or call: of rings that have room, and of streams that come home
 pub record LawsOfSteps : Type 0 where
@@ -47,48 +47,48 @@ IsGoodIn (running r) pasts = IsGoodRun r pasts
 -- so it is after what was seen, and all that was seen is as promised
 pub record LeavesKept (next : World) (seen : Seen) : Type 0 where
   pub good : IsGoodIn next seen.pasts
-  pub kept : All IsKept seen.lines
+  pub kept : All IsKeptPromise seen.lines
 
 -- ---- microframes
 
 module _ (laws : LawsOfSteps) where
   -- what is seen of one microframe
   abbrev microframe_seen : List SaidMark → RunningWorld → Pasts → Seen
-  microframe_seen losses r pasts = record {
-    lines = map (watched_in (running (microframe losses r).world) (pasts_after losses r pasts)) (microframe losses r).lines;
-    pasts = pasts_after losses r pasts;
+  microframe_seen marks r pasts = record {
+    lines = map (watched_in (running (microframe marks r).world) (pasts_after marks r pasts)) (microframe marks r).lines;
+    pasts = pasts_after marks r pasts;
   }
 
-  microframe_keeps : (losses : List SaidMark) (r : RunningWorld) (pasts : Pasts) → IsGoodRun r pasts
-      → is_steady (microframe losses r).world.given ≡ true
-      → LeavesKept (running (microframe losses r).world) (microframe_seen losses r pasts)
-  microframe_keeps losses r pasts good steady =
-      let records = laws.microframes_recorded losses r good.band good.sound good.recorded in
-      let trails = laws.microframes_trailed losses r pasts good.band steady good.trails in
-      let full = find_none_empty losses r good.band in
-      let near = tell_near losses r good.band steady in
+  microframe_keeps : (marks : List SaidMark) (r : RunningWorld) (pasts : Pasts) → IsGoodRun r pasts
+      → is_steady (microframe marks r).world.given ≡ true
+      → LeavesKept (running (microframe marks r).world) (microframe_seen marks r pasts)
+  microframe_keeps marks r pasts good steady =
+      let records = laws.microframes_recorded marks r good.band good.sound good.recorded in
+      let trails = laws.microframes_trailed marks r pasts good.band steady good.trails in
+      let full = find_none_empty marks r good.band in
+      let near = tell_near marks r good.band steady in
       record {
         good = record {
-          band = keep_bands losses r good.band steady;
-          sound = microframes_keep_sound losses r good.sound;
+          band = keep_bands marks r good.band steady;
+          sound = microframes_keep_sound marks r good.sound;
           recorded = records.stays;
           trails = trails.stays;
         };
-        kept = All-map IsKept (watched_in (running (microframe losses r).world) (pasts_after losses r pasts)) (microframe losses r).lines
+        kept = All-map IsKeptPromise (watched_in (running (microframe marks r).world) (pasts_after marks r pasts)) (microframe marks r).lines
             (λ k d h. record { no_under = full k d h; no_over = records.no_over k d h; near = near k d h; close = trails.close k d h });
       }
 
-  pub microframes_keep : (losses : List SaidMark) (count : ℕ) (r : RunningWorld) (pasts : Pasts) → IsGoodRun r pasts
-      → is_steady (microframes losses count r).world.given ≡ true
-      → LeavesKept (running (microframes losses count r).world) (microframes_seen losses count r pasts)
+  pub microframes_keep : (marks : List SaidMark) (count : ℕ) (r : RunningWorld) (pasts : Pasts) → IsGoodRun r pasts
+      → is_steady (microframes marks count r).world.given ≡ true
+      → LeavesKept (running (microframes marks count r).world) (microframes_seen marks count r pasts)
   unfolding microframes microframes_seen
-  microframes_keep losses zero r pasts good steady = record { good = good; kept = All-nil IsKept }
-  microframes_keep losses (suc count) r pasts good steady =
-      let next : RunningWorld = (microframe losses r).world in
-      let first = microframe_keeps losses r pasts good (microframes_before losses count next steady) in
-      let rest = microframes_keep losses count next (pasts_after losses r pasts) first.good steady in
+  microframes_keep marks zero r pasts good steady = record { good = good; kept = All-nil IsKeptPromise }
+  microframes_keep marks (suc count) r pasts good steady =
+      let next : RunningWorld = (microframe marks r).world in
+      let first = microframe_keeps marks r pasts good (microframes_before marks count next steady) in
+      let rest = microframes_keep marks count next (pasts_after marks r pasts) first.good steady in
       record {
         good = rest.good;
-        kept = All-append IsKept (microframe_seen losses r pasts).lines
-            (microframes_seen losses count next (pasts_after losses r pasts)).lines first.kept rest.kept;
+        kept = All-append IsKeptPromise (microframe_seen marks r pasts).lines
+            (microframes_seen marks count next (pasts_after marks r pasts)).lines first.kept rest.kept;
       }

@@ -2,24 +2,24 @@
 use Rattle.std.proofs.Common.{◌≡◌, ◌∙◌, ◌+◌, sym, refl, subst, ℕ, true, List, [], ◌∷◌, ◌++◌, None, Result, Ok, Err, rules}
 use Rattle.std.specs.List.{All, AllByRecursion, AllZip}
 use Rattle.std.proofs.lemmas.List.Elements.{All-append, All-from_recursion, All-map, All-nil, All-weaker, recursion_from_All}
-use Rattle.uac_descriptor.specs.Reading.{AreBytes}
+use Rattle.uac_descriptor.specs.BlockReading.{AreBytes}
 use Rattle.uac_units.specs.Hearing.{Reading}
 use Rattle.uac_script.specs.Phrase.{Phrase, feeds}
 use Rattle.uac_script.specs.Line.{Says}
-use Rattle.uac_script.specs.Reading.{answer}
+use Rattle.uac_script.specs.LineReading.{answer}
 use Rattle.uac_script.proofs.Answered.{says_only}
 use Rattle.uac_transcript.specs.Transcript.{Said}
-use Rattle.uac_bus.specs.World.{Step, World, describing, done, refused, running, start, step}
+use Rattle.uac_bus.specs.BusWorld.{Step, World, describing, done, refused, running, start, step}
 use Rattle.uac_bus.specs.After.{After, after, and_then, said_step, with_one_more}
 use Rattle.uac_bus.proofs.AfterLemmas.{after_one_more}
-use Rattle.uac_bands.specs.Run.{IsNearLevel, IsNoUnder}
+use Rattle.uac_bands.specs.BandRun.{IsNearLevel, IsNoUnder}
 use Rattle.uac_overflow.specs.Recording.{IsNoOver}
 use Rattle.uac_homing.specs.Past.{Pasts, no_pasts}
 use Rattle.uac_steady.specs.Scripts.{IsInBand, is_steady_in}
-use Rattle.uac_steady.proofs.Behind.{lines_look_back}
+use Rattle.uac_steady.proofs.LookingBackwards.{lines_look_back}
 use Rattle.uac_steady.proofs.Beginning.{feeds_bytes}
-use Rattle.uac_promises.specs.Watched.{Watch, and_then_seen, line_seen, microframes_of, watched}
-use Rattle.uac_promises.specs.Promises.{IsKept, IsRecordedIn, KeepsPromises, OneMoreLineIsKept, SteadyScriptsKeepPromises}
+use Rattle.uac_promises.specs.Watched.{Watch, and_then_seen, line_seen, microframes_of, seen_after}
+use Rattle.uac_promises.specs.Promises.{IsKeptPromise, IsRecordedIn, KeepsPromises, OneMoreLineIsKept, SteadyScriptsKeepPromises}
 use Rattle.uac_promises.proofs.SeenLines.{lines_are_seen, said_in}
 use Rattle.uac_promises.proofs.GoodRuns.{IsGoodIn, LawsOfSteps}
 use Rattle.uac_promises.proofs.OneByOne.{KeepsAll, running_keeps_all}
@@ -31,7 +31,7 @@ use Rattle.uac_promises.proofs.GoodBeginnings.{describing_keeps_all}
 record LeavesAll (next : World) (seen : List Watch) : Type 0 where
   band : IsInBand next
   recorded : IsRecordedIn next
-  kept : All IsKept seen
+  kept : All IsKeptPromise seen
 
 in_band : (w : World) (pasts : Pasts) → IsGoodIn w pasts → IsInBand w
 in_band (describing bytes meters) pasts good = tt
@@ -42,19 +42,19 @@ in_rings (describing bytes meters) pasts good = tt
 in_rings (running r) pasts good = good.recorded
 
 none_more : (w : World) (pasts : Pasts) → IsGoodIn w pasts → LeavesAll w []
-none_more w pasts good = record { band = in_band w pasts good; recorded = in_rings w pasts good; kept = All-nil IsKept }
+none_more w pasts good = record { band = in_band w pasts good; recorded = in_rings w pasts good; kept = All-nil IsKeptPromise }
 
 -- what these lines leave, from whatever good world
 abbrev TheRest : List (Result Phrase ℕ) → Type 0
 TheRest saids =
     (next : World) (later : Pasts) → IsGoodIn next later → is_steady_in (after saids next).world ≡ true
-    → LeavesAll (after saids next).world (watched saids next later).lines
+    → LeavesAll (after saids next).world (seen_after saids next later).lines
 
 -- a line, and those after it
 with_first : (saids : List (Result Phrase ℕ)) (w : World) (pasts : Pasts) → IsGoodIn w pasts
     → (phrase : Phrase) (s : Step) → KeepsAll (microframes_of phrase) w pasts s → TheRest saids
     → is_steady_in (and_then s w (after saids)).world ≡ true
-    → LeavesAll (and_then s w (after saids)).world (and_then_seen s (microframes_of phrase) w pasts (watched saids)).lines
+    → LeavesAll (and_then s w (after saids)).world (and_then_seen s (microframes_of phrase) w pasts (seen_after saids)).lines
 with_first saids w pasts good phrase (done next lines) keeps rest h =
     let seen = line_seen (microframes_of phrase) w next lines pasts in
     let leaves = keeps (lines_look_back saids next h) in
@@ -62,7 +62,7 @@ with_first saids w pasts good phrase (done next lines) keeps rest h =
     record {
       band = later.band;
       recorded = later.recorded;
-      kept = All-append IsKept seen.lines (watched saids next seen.pasts).lines leaves.kept later.kept;
+      kept = All-append IsKeptPromise seen.lines (seen_after saids next seen.pasts).lines leaves.kept later.kept;
     }
 with_first saids w pasts good phrase (refused fault) keeps rest h = none_more w pasts good
 
@@ -74,14 +74,14 @@ module _ (laws : LawsOfSteps) where
   step_keeps_all phrase (running r) pasts good feed = running_keeps_all laws r pasts good phrase
 
   lines_keep_all : (texts : List (List ℕ)) (saids : List (Result Phrase ℕ)) → AllZip Says texts saids → TheRest saids
-  unfolding after watched
+  unfolding after seen_after
   lines_keep_all [] [] say w pasts good steady = none_more w pasts good
   lines_keep_all [] (said ∷ saids) say w pasts good steady = absurd say
   lines_keep_all (text ∷ texts) [] say w pasts good steady = absurd say
   lines_keep_all (text ∷ texts) (said ∷ saids) say w pasts good steady = by said (says_only text said say.0) (lines_keep_all texts saids say.1) steady
     where
       by : (one : Result Phrase ℕ) → one ≡ answer text → TheRest saids → is_steady_in (after (one ∷ saids) w).world ≡ true
-          → LeavesAll (after (one ∷ saids) w).world (watched (one ∷ saids) w pasts).lines
+          → LeavesAll (after (one ∷ saids) w).world (seen_after (one ∷ saids) w pasts).lines
       by (Ok phrase) is rest h =
           with_first saids w pasts good phrase (step phrase w)
           (step_keeps_all phrase w pasts good
@@ -99,12 +99,12 @@ module _ (laws : LawsOfSteps) where
 -- ---- one line more
 
 -- what holds of all lines that are seen holds of all that are printed
-all_printed : (P : Said → Type 0) → ((watch : Watch) → IsKept watch → P watch.said)
+all_printed : (P : Said → Type 0) → ((watch : Watch) → IsKeptPromise watch → P watch.said)
     → (saids : List (Result Phrase ℕ)) (shown : List Reading) → KeepsPromises saids shown → All P (after saids (start shown)).lines
 all_printed P each saids shown keeps =
     subst (All P) (lines_are_seen saids (start shown) no_pasts)
-    (All-map P said_in (watched saids (start shown) no_pasts).lines
-    (All-weaker IsKept (λ watch. P watch.said) each (watched saids (start shown) no_pasts).lines keeps.kept))
+    (All-map P said_in (seen_after saids (start shown) no_pasts).lines
+    (All-weaker IsKeptPromise (λ watch. P watch.said) each (seen_after saids (start shown) no_pasts).lines keeps.kept))
 
 -- what holds of lines one after the other holds of the later
 latter : (P : Said → Type 0) (front back : List Said) → All P (front ++ back) → All P back

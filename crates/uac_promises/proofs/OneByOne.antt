@@ -7,15 +7,15 @@ use Rattle.uac_pcm.specs.declared.tones.Tone.{Tone}
 use Rattle.uac_rate.specs.Steadiness.{is_slight}
 use Rattle.uac_request.specs.Requests.{setup_of}
 use Rattle.uac_request.specs.declared.setup.Setup.{Setup}
-use Rattle.uac_mixer.specs.Elements.{fits_element}
+use Rattle.uac_mixer.specs.MixerElements.{fits_element}
 use Rattle.uac_script.specs.Phrase.{Phrase, idle, feeds, goes, controls, gets, sets, shows, breaks, appends, tracks, jacks, deviates, runs, details, reports}
 use Rattle.uac_transcript.specs.Transcript.{Said, says_answer, says_view}
 use Rattle.uac_running.specs.RunningWorld.{RunningWorld, with_detail, with_deviation, with_samples_on, with_tone, with_track}
 use Rattle.uac_running.specs.Naming.{size_of}
-use Rattle.uac_running.specs.Lines.{report_lines}
-use Rattle.uac_running.specs.Transfers.{element_named, read_element, set_element, show_element, transfer, transferred, with_break}
+use Rattle.uac_running.specs.RunningLines.{report_lines}
+use Rattle.uac_running.specs.RunningTransfers.{element_named, read_element, set_element, show_element, transfer, after_transfer, with_break}
 use Rattle.uac_bus.specs.declared.fault.BusFault.{BusFault}
-use Rattle.uac_bus.specs.World.{Step, World, done, refused, running, step_running, told, tone_of}
+use Rattle.uac_bus.specs.BusWorld.{Step, World, done, refused, running, step_running, step_telling, tone_of}
 use Rattle.uac_bands.proofs.Begun.{calls_keep_bands}
 use Rattle.uac_bands.proofs.LookingBack.{calls_look_back}
 use Rattle.uac_bands.proofs.Transferred.{transfers_keep_bands}
@@ -53,7 +53,7 @@ module _ (laws : LawsOfSteps) (r : RunningWorld) (pasts : Pasts) (good : IsGoodR
   silent : (next : RunningWorld) → IsGoodRun next pasts → LeavesKept (running next) (line_seen None (running r) (running next) [] pasts)
   silent next goes_on = printing [] next goes_on (All-nil IsPlain)
 
-  behind_transfer : (p : Setup) (bytes : List ℕ) → IsGoodRun (transferred p bytes r) pasts
+  behind_transfer : (p : Setup) (bytes : List ℕ) → IsGoodRun (after_transfer p bytes r) pasts
   behind_transfer p bytes = record {
     band = transfers_keep_bands p bytes r good.band good.sound;
     sound = transfers_keep_sound p bytes r good.sound;
@@ -101,12 +101,12 @@ module _ (laws : LawsOfSteps) (r : RunningWorld) (pasts : Pasts) (good : IsGoodR
     trails = (laws.calls_trailed r pasts good.trails).track interface tone;
   }
 
-  behind_deviation : (clock : ℕ) (millionths : ℤ) → is_slight millionths ≡ true → IsGoodRun (with_deviation clock millionths r) pasts
-  behind_deviation clock millionths slight = record {
-    band = (calls_keep_bands r good.band).deviation clock millionths slight;
-    sound = (calls_keep_sound r good.sound).deviation clock millionths slight;
-    recorded = (laws.calls_recorded r good.recorded).deviation clock millionths slight;
-    trails = (laws.calls_trailed r pasts good.trails).deviation clock millionths;
+  behind_deviation : (clock : ℕ) (ppm : ℤ) → is_slight ppm ≡ true → IsGoodRun (with_deviation clock ppm r) pasts
+  behind_deviation clock ppm slight = record {
+    band = (calls_keep_bands r good.band).deviation clock ppm slight;
+    sound = (calls_keep_sound r good.sound).deviation clock ppm slight;
+    recorded = (laws.calls_recorded r good.recorded).deviation clock ppm slight;
+    trails = (laws.calls_trailed r pasts good.trails).deviation clock ppm;
   }
 
   pub running_keeps_all : (phrase : Phrase) → KeepsAll (microframes_of phrase) (running r) pasts (step_running r phrase)
@@ -121,7 +121,7 @@ module _ (laws : LawsOfSteps) (r : RunningWorld) (pasts : Pasts) (good : IsGoodR
       (λ x h. printing (says_view _ ∷ []) _ (behind_transfer _ _) (one_plain (says_view _) refl))
   running_keeps_all (sets name value) =
       on_element_is Keeps no_step (element_named r name) (set_to r value)
-      (λ x. unless_is Keeps no_step (fits_element x.kind value) 7 (told (set_element x value r))
+      (λ x. unless_is Keeps no_step (fits_element x.kind value) 7 (step_telling (set_element x value r))
       (λ h. printing (says_view _ ∷ []) _ (behind_transfer _ _) (one_plain (says_view _) refl)))
   running_keeps_all (shows name) =
       on_element_is Keeps no_step (element_named r name) (shown r)
@@ -134,11 +134,11 @@ module _ (laws : LawsOfSteps) (r : RunningWorld) (pasts : Pasts) (good : IsGoodR
       unless_is Keeps no_step _ 6 (tracked r number voice) (λ h. silent _ (behind_track (size_of number) (tone_of voice)))
   running_keeps_all (jacks terminal voice) =
       unless_is Keeps no_step _ 6 (toned r terminal voice) (λ h. silent _ (behind_tone (size_of terminal) (tone_of voice)))
-  running_keeps_all (deviates clock millionths) =
-      unless_is Keeps no_step _ 6 (off r clock millionths)
-      (λ h. silent _ (behind_deviation (size_of clock) millionths ((calls_look_back r).deviation (size_of clock) millionths h).0))
-  running_keeps_all (runs count losses) =
-      unless_is (KeepsAll (microframes_of (runs count losses)) (running r) pasts) (λ fault. tt) _ 6 (gone_on r count losses)
-      (microframes_keep laws losses (size_of count) r pasts good)
+  running_keeps_all (deviates clock ppm) =
+      unless_is Keeps no_step _ 6 (off r clock ppm)
+      (λ h. silent _ (behind_deviation (size_of clock) ppm ((calls_look_back r).deviation (size_of clock) ppm h).0))
+  running_keeps_all (runs count marks) =
+      unless_is (KeepsAll (microframes_of (runs count marks)) (running r) pasts) (λ fault. tt) _ 6 (gone_on r count marks)
+      (microframes_keep laws marks (size_of count) r pasts good)
   running_keeps_all (details level) = λ h. silent _ (behind_detail (size_of level))
   running_keeps_all reports = λ h. printing (report_lines r) r good (report_plain r)

@@ -7,11 +7,11 @@ use Rattle.uac_transcript.specs.Transcript.{Said}
 use Rattle.uac_running.specs.RunningWorld.{RunningWorld}
 use Rattle.uac_running.specs.Naming.{size_of}
 use Rattle.uac_running.specs.Events.{microframe, microframes}
-use Rattle.uac_bus.specs.World.{Step, World, describing, done, refused, running, step, step_describing, step_running}
+use Rattle.uac_bus.specs.BusWorld.{Step, World, describing, done, refused, running, step, step_describing, step_running}
 use Rattle.uac_bus.specs.After.{after, and_then}
 use Rattle.uac_homing.specs.Past.{Pasts, pasts_after}
 use Rattle.uac_steady.proofs.Steps.{gone_on, unless_is}
-use Rattle.uac_promises.specs.Watched.{Microframes, Watch, and_then_seen, line_seen, microframes_of, microframes_seen, watched, watched_in}
+use Rattle.uac_promises.specs.Watched.{Microframes, Watch, and_then_seen, line_seen, microframes_of, microframes_seen, seen_after, watched_in}
 use Rattle.uac_promises.specs.Promises.{LinesAreSeen}
 
 abbrev pub said_in : Watch → Said
@@ -29,15 +29,15 @@ both_seen front back xs ys e f = rw map-append (cc)
 
 -- ---- one line
 
-microframes_are_seen : (losses : List SaidMark) (count : ℕ) (r : RunningWorld) (pasts : Pasts)
-    → map said_in (microframes_seen losses count r pasts).lines ≡ (microframes losses count r).lines
+microframes_are_seen : (marks : List SaidMark) (count : ℕ) (r : RunningWorld) (pasts : Pasts)
+    → map said_in (microframes_seen marks count r pasts).lines ≡ (microframes marks count r).lines
 unfolding microframes_seen microframes
-microframes_are_seen losses zero r pasts = refl
-microframes_are_seen losses (suc count) r pasts =
-    let next : RunningWorld = (microframe losses r).world in
-    let later : Pasts = pasts_after losses r pasts in
-    both_seen (map (watched_in (running next) later) (microframe losses r).lines) (microframes_seen losses count next later).lines _ _
-    (each_seen (running next) later (microframe losses r).lines) (microframes_are_seen losses count next later)
+microframes_are_seen marks zero r pasts = refl
+microframes_are_seen marks (suc count) r pasts =
+    let next : RunningWorld = (microframe marks r).world in
+    let later : Pasts = pasts_after marks r pasts in
+    both_seen (map (watched_in (running next) later) (microframe marks r).lines) (microframes_seen marks count next later).lines _ _
+    (each_seen (running next) later (microframe marks r).lines) (microframes_are_seen marks count next later)
 
 -- what is seen of a line that was done is what it printed
 abbrev IsSeen : Option Microframes → World → Pasts → Step → Type 0
@@ -59,9 +59,9 @@ line_of_describing (Some m) bytes meters pasts (refused fault) = tt
 line_of_running : (phrase : Phrase) (r : RunningWorld) (pasts : Pasts)
     → IsSeen (microframes_of phrase) (running r) pasts (step_running r phrase)
 unfolding line_seen
-line_of_running (runs count losses) r pasts =
-    unless_is (IsSeen (microframes_of (runs count losses)) (running r) pasts) (λ fault. tt) _ 6 (gone_on r count losses)
-    (microframes_are_seen losses (size_of count) r pasts)
+line_of_running (runs count marks) r pasts =
+    unless_is (IsSeen (microframes_of (runs count marks)) (running r) pasts) (λ fault. tt) _ 6 (gone_on r count marks)
+    (microframes_are_seen marks (size_of count) r pasts)
 line_of_running phrase r pasts = whole_line (running r) pasts (step_running r phrase)
 
 line_is_seen : (phrase : Phrase) (w : World) (pasts : Pasts) → IsSeen (microframes_of phrase) w pasts (step phrase w)
@@ -73,15 +73,15 @@ line_is_seen phrase (running r) pasts = line_of_running phrase r pasts
 -- ---- lines in a row
 
 pub lines_are_seen : LinesAreSeen
-unfolding watched after
+unfolding seen_after after
 lines_are_seen [] w pasts = refl
 lines_are_seen (Ok phrase ∷ saids) w pasts = by (step phrase w) (line_is_seen phrase w pasts) (lines_are_seen saids)
   where
     by : (s : Step) → IsSeen (microframes_of phrase) w pasts s
-        → ((next : World) (later : Pasts) → map said_in (watched saids next later).lines ≡ (after saids next).lines)
-        → map said_in (and_then_seen s (microframes_of phrase) w pasts (watched saids)).lines ≡ (and_then s w (after saids)).lines
+        → ((next : World) (later : Pasts) → map said_in (seen_after saids next later).lines ≡ (after saids next).lines)
+        → map said_in (and_then_seen s (microframes_of phrase) w pasts (seen_after saids)).lines ≡ (and_then s w (after saids)).lines
     by (done next lines) first rest =
         let seen = line_seen (microframes_of phrase) w next lines pasts in
-        both_seen seen.lines (watched saids next seen.pasts).lines lines (after saids next).lines first (rest next seen.pasts)
+        both_seen seen.lines (seen_after saids next seen.pasts).lines lines (after saids next).lines first (rest next seen.pasts)
     by (refused fault) first rest = refl
 lines_are_seen (Err rule ∷ saids) w pasts = refl

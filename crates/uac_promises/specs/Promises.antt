@@ -5,14 +5,14 @@ use Rattle.uac_units.specs.Hearing.{Reading}
 use Rattle.uac_script.specs.Line.{Says}
 use Rattle.uac_script.specs.Phrase.{Phrase}
 use Rattle.uac_transcript.specs.Transcript.{Said}
-use Rattle.uac_bus.specs.World.{World, describing, done, running, start}
+use Rattle.uac_bus.specs.BusWorld.{World, describing, done, running, start}
 use Rattle.uac_bus.specs.After.{after, said_step}
-use Rattle.uac_bands.specs.Run.{IsNearLevel, IsNoUnder}
+use Rattle.uac_bands.specs.BandRun.{IsNearLevel, IsNoUnder}
 use Rattle.uac_overflow.specs.Recording.{AreRecorded, IsNoOver}
 use Rattle.uac_homing.specs.Past.{Pasts, no_pasts}
 use Rattle.uac_homing.specs.Homing.{IsClose}
 use Rattle.uac_steady.specs.Scripts.{IsInBand, is_steady_in}
-use Rattle.uac_promises.specs.Watched.{Watch, watched}
+use Rattle.uac_promises.specs.Watched.{Watch, seen_after}
 
 -- a level is close in a world
 abbrev pub IsCloseIn : World → Pasts → Said → Type 0
@@ -22,7 +22,7 @@ IsCloseIn (running r) pasts said = IsClose r pasts said
 -- a printed line tells of no ring that was found empty, and of none that had no room; and if it tells a level of a primed stream, that is
 -- within 130 frames of its target, within 4 once the stream has settled after its last lost packet, and within 3 where it lost none since
 -- it was primed
-pub record IsKept (w : Watch) : Type 0 where
+pub record IsKeptPromise (w : Watch) : Type 0 where
   pub no_under : IsNoUnder w.said
   pub no_over : IsNoOver w.said
   pub near : IsNearLevel w.said
@@ -37,14 +37,14 @@ IsRecordedIn (running r) = AreRecorded r
 abbrev pub LinesAreSeen : Type 0
 LinesAreSeen =
     (saids : List (Result Phrase ℕ)) (w : World) (pasts : Pasts)
-    → map (λ watch. watch.said) (watched saids w pasts).lines ≡ (after saids w).lines
+    → map (λ watch. watch.said) (seen_after saids w pasts).lines ≡ (after saids w).lines
 
 -- what the lines of a script said, which leave a steady world: each stream is in its band there, and every line that they printed is as
 -- promised
 pub record KeepsPromises (saids : List (Result Phrase ℕ)) (shown : List Reading) : Type 0 where
   pub band : IsInBand (after saids (start shown)).world
   pub recorded : IsRecordedIn (after saids (start shown)).world
-  pub kept : All IsKept (watched saids (start shown) no_pasts).lines
+  pub kept : All IsKeptPromise (seen_after saids (start shown) no_pasts).lines
 
 -- so it is for every list of lines, by what each says
 abbrev pub SteadyScriptsKeepPromises : Type 0

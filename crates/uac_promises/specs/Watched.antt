@@ -7,7 +7,7 @@ use Rattle.uac_transcript.specs.Transcript.{Said}
 use Rattle.uac_running.specs.RunningWorld.{RunningWorld}
 use Rattle.uac_running.specs.Naming.{size_of}
 use Rattle.uac_running.specs.Events.{microframe}
-use Rattle.uac_bus.specs.World.{Step, World, describing, done, refused, running, step}
+use Rattle.uac_bus.specs.BusWorld.{Step, World, describing, done, refused, running, step}
 use Rattle.uac_homing.specs.Past.{Pasts, pasts_after}
 
 -- a printed line, the world after the microframe or the line of the script that printed it, and the pasts of its streams there
@@ -29,16 +29,16 @@ seen_first lines rest = record rest { lines = lines ++ rest.lines }
 
 -- so many microframes with these losses: the lines of each with the world after it
 unfoldable pub microframes_seen : List SaidMark → ℕ → RunningWorld → Pasts → Seen
-microframes_seen losses zero r pasts = record { lines = []; pasts = pasts }
-microframes_seen losses (suc n) r pasts =
-    let next = (microframe losses r).world in
-    let later = pasts_after losses r pasts in
-    seen_first (map (watched_in (running next) later) (microframe losses r).lines) (microframes_seen losses n next later)
+microframes_seen marks zero r pasts = record { lines = []; pasts = pasts }
+microframes_seen marks (suc n) r pasts =
+    let next = (microframe marks r).world in
+    let later = pasts_after marks r pasts in
+    seen_first (map (watched_in (running next) later) (microframe marks r).lines) (microframes_seen marks n next later)
 
 -- the microframes for which a line of a script asks
 pub record Microframes : Type 0 where
   pub count : ℕ
-  pub losses : List SaidMark
+  pub marks : List SaidMark
 
 abbrev pub microframes_of : Phrase → Option Microframes
 microframes_of idle = None
@@ -52,8 +52,8 @@ microframes_of (breaks after) = None
 microframes_of (appends number samples) = None
 microframes_of (tracks number voice) = None
 microframes_of (jacks terminal voice) = None
-microframes_of (deviates clock millionths) = None
-microframes_of (runs count losses) = Some (record { count = size_of count; losses = losses })
+microframes_of (deviates clock ppm) = None
+microframes_of (runs count marks) = Some (record { count = size_of count; marks = marks })
 microframes_of (details level) = None
 microframes_of reports = None
 
@@ -62,7 +62,7 @@ microframes_of reports = None
 unfoldable pub line_seen : Option Microframes → World → World → List Said → Pasts → Seen
 line_seen None w next lines pasts = record { lines = map (watched_in next pasts) lines; pasts = pasts }
 line_seen (Some m) (describing bytes meters) next lines pasts = record { lines = map (watched_in next pasts) lines; pasts = pasts }
-line_seen (Some m) (running r) next lines pasts = microframes_seen m.losses m.count r pasts
+line_seen (Some m) (running r) next lines pasts = microframes_seen m.marks m.count r pasts
 
 -- one line after the other, up to the first that is refused
 abbrev pub and_then_seen : Step → Option Microframes → World → Pasts → (World → Pasts → Seen) → Seen
@@ -71,7 +71,7 @@ and_then_seen (done next lines) m w pasts go =
     seen_first first.lines (go next first.pasts)
 and_then_seen (refused fault) m w pasts go = record { lines = []; pasts = pasts }
 
-unfoldable pub watched : List (Result Phrase ℕ) → World → Pasts → Seen
-watched [] w pasts = record { lines = []; pasts = pasts }
-watched (Ok phrase ∷ saids) w pasts = and_then_seen (step phrase w) (microframes_of phrase) w pasts (watched saids)
-watched (Err rule ∷ saids) w pasts = record { lines = []; pasts = pasts }
+unfoldable pub seen_after : List (Result Phrase ℕ) → World → Pasts → Seen
+seen_after [] w pasts = record { lines = []; pasts = pasts }
+seen_after (Ok phrase ∷ saids) w pasts = and_then_seen (step phrase w) (microframes_of phrase) w pasts (seen_after saids)
+seen_after (Err rule ∷ saids) w pasts = record { lines = []; pasts = pasts }

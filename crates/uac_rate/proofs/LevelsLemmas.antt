@@ -486,8 +486,8 @@ part_of : (f e n : ℕ) → e ≡ f / 1000 → n ≤ 1000 → f * n / 1000000 �
 part_of f e n h few = let less : f * n ≤ f * 1000 = mul-le-mul_left f few in omega arith
 
 -- a steady clock's step
-pub slight_step : (values : Nominal) (millionths : ℤ) → IsNominal values → is_slight millionths ≡ true
-    → Within values.e (step_of values millionths) values.f
+pub slight_step : (values : Nominal) (ppm : ℤ) → IsNominal values → is_slight ppm ≡ true
+    → Within values.e (step_of values ppm) values.f
 slight_step values (pos n) h slight =
     let part = part_of values.f values.e n (by_formula values h).e (few n slight) in (omega arith, omega arith) where
       few : (n : ℕ) → is_slight (pos n) ≡ true → n ≤ 1000

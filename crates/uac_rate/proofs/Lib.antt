@@ -1,5 +1,5 @@
 pub mod LevelsLemmas
-pub mod PacketsLemmas
+pub mod PacketSizesLemmas
 pub mod ReportsLemmas
 pub mod SteadinessLemmas
 mod Worked

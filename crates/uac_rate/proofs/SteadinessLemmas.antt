@@ -4,7 +4,7 @@ use Rattle.std.proofs.lemmas.Bool.{eqb-true, eqb-false, eq-eqb, false≢true}
 use Rattle.std.proofs.lemmas.Grind.{common_steps, get_or-set_at}
 use Rattle.std.proofs.lemmas.List.{get_or-set_other}
 use Rattle.std.specs.List.{list_all, list_any}
-use Rattle.uac_rate.specs.Steadiness.{Given, SteadyFields, KeepsGiven, one_more, reported, is_slight, run, has_four_lost, keeps_feedback, eight_streams, is_steady, latest_run, HasFourInARow}
+use Rattle.uac_rate.specs.Steadiness.{Given, SteadyFields, KeepsGiven, one_more, with_report_given, is_slight, run, has_four_lost, keeps_feedback, eight_streams, is_steady, latest_run, HasFourInARow}
 
 here : (p ok a n : Bool) → ((p && ok) && (a && (if n then ok else true))) ≡ ((p && a) && ok)
 here false ok a n = refl
@@ -71,17 +71,17 @@ and_last false b c = refl
 and_last true b c = refl
 
 steady_after : (given : Given) (stream : ℕ) (lost : Bool) → stream < 8
-    → is_steady (reported stream lost given) ≡ (is_steady given && nat_lt (latest_run (one_more lost (given.feedback stream))) 4)
+    → is_steady (with_report_given stream lost given) ≡ (is_steady given && nat_lt (latest_run (one_more lost (given.feedback stream))) 4)
 unfolding keeps
 steady_after given stream lost below =
     let now = one_more lost (given.feedback stream) in
     let others : (k : ℕ) → (k == stream) ≡ false
-    → keeps ((reported stream lost given).feedback k) ≡ keeps (given.feedback k) =
+    → keeps ((with_report_given stream lost given).feedback k) ≡ keeps (given.feedback k) =
     λ k other. ap (λ b. keeps (if b then one_more lost (given.feedback k) else given.feedback k)) other in
-    let here_is : keeps ((reported stream lost given).feedback stream) ≡ (keeps (given.feedback stream) && nat_lt (latest_run now) 4) =
+    let here_is : keeps ((with_report_given stream lost given).feedback stream) ≡ (keeps (given.feedback stream) && nat_lt (latest_run now) 4) =
     ap (λ b. keeps (if b then one_more lost (given.feedback stream) else given.feedback stream)) (eq-eqb stream stream refl)
     ∙ keeps_one_more lost (given.feedback stream) in
-    let all = all_with (λ k. keeps (given.feedback k)) (λ k. keeps ((reported stream lost given).feedback k)) stream
+    let all = all_with (λ k. keeps (given.feedback k)) (λ k. keeps ((with_report_given stream lost given).feedback k)) stream
     (nat_lt (latest_run now) 4) eight_streams here_is others in
     let found : (if list_any (λ k. k == stream) eight_streams then nat_lt (latest_run now) 4 else true) ≡ nat_lt (latest_run now) 4 =
     ap (λ b. if b then nat_lt (latest_run now) 4 else true) (is_below_eight stream below) in
@@ -98,7 +98,7 @@ held_at_four (suc (suc (suc (suc n)))) = grind (arith, common_steps)
 pub report_stands : (kept : SteadyFields) (given : Given) (stream : ℕ) (lost : Bool) (kept_run : ℕ) (holds : Bool) → stream < 8 → KeepsGiven kept given
     → kept_run ≡ min (latest_run (one_more lost (given.feedback stream))) 4
     → holds ≡ (kept.holds && nat_lt kept_run 4)
-    → KeepsGiven (record { holds = holds; runs = slice_set kept.runs stream kept_run }) (reported stream lost given)
+    → KeepsGiven (record { holds = holds; runs = slice_set kept.runs stream kept_run }) (with_report_given stream lost given)
 report_stands kept given stream lost kept_run holds below stood run_is holds_is =
     let r = latest_run (one_more lost (given.feedback stream)) in
     let short : nat_lt kept_run 4 ≡ nat_lt r 4 = ap (λ (n : ℕ). nat_lt n 4) run_is ∙ held_at_four r in

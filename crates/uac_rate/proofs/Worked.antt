@@ -1,9 +1,9 @@
 -- Worked examples of the definitions.
 use Rattle.std.proofs.Common.{◌≡◌, ℕ, pos, negsuc, true, false, [], ◌∷◌, refl}
 use Rattle.uac_clock.specs.Nominal.{values_of}
-use Rattle.uac_rate.specs.Packets.{frames_in_packet}
+use Rattle.uac_rate.specs.PacketSizes.{frames_in_packet}
 use Rattle.uac_rate.specs.Reports.{report_of}
-use Rattle.uac_rate.specs.Steadiness.{Given, nothing_given, deviated, reported, restarted, is_steady}
+use Rattle.uac_rate.specs.Steadiness.{Given, nothing_given, with_deviation_given, with_report_given, with_restart_given, is_steady}
 
 -- at 44,100 Hz packets have five frames and six in turn, since the first leaves half a frame
 first_of_44100 : frames_in_packet 1 (361267 ∷ []) ≡ 5
@@ -45,39 +45,39 @@ unfolding values_of
 far_above = refl
 
 -- deviations of a thousandth, and of more
-a_thousandth : is_steady (deviated (negsuc 999) (deviated (pos 1000) nothing_given)) ≡ true
+a_thousandth : is_steady (with_deviation_given (negsuc 999) (with_deviation_given (pos 1000) nothing_given)) ≡ true
 a_thousandth = refl
 
-fast : is_steady (deviated (pos 0) (deviated (pos 1001) nothing_given)) ≡ false
+fast : is_steady (with_deviation_given (pos 0) (with_deviation_given (pos 1001) nothing_given)) ≡ false
 fast = refl
 
-slow : is_steady (deviated (pos 0) (deviated (negsuc 1000) nothing_given)) ≡ false
+slow : is_steady (with_deviation_given (pos 0) (with_deviation_given (negsuc 1000) nothing_given)) ≡ false
 slow = refl
 
 -- reports of a stream that were lost, in succession
 abbrev lost_one : ℕ → Given → Given
-lost_one stream given = reported stream true given
+lost_one stream given = with_report_given stream true given
 
 abbrev lost_three : ℕ → Given → Given
 lost_three stream given = lost_one stream (lost_one stream (lost_one stream given))
 
-three_lost : is_steady (lost_three 1 (restarted 1 nothing_given)) ≡ true
+three_lost : is_steady (lost_three 1 (with_restart_given 1 nothing_given)) ≡ true
 three_lost = refl
 
-four_lost : is_steady (lost_one 1 (lost_three 1 (restarted 1 nothing_given))) ≡ false
+four_lost : is_steady (lost_one 1 (lost_three 1 (with_restart_given 1 nothing_given))) ≡ false
 four_lost = refl
 
-four_lost_once : is_steady (restarted 1 (reported 1 false (lost_one 1 (lost_three 1 nothing_given)))) ≡ false
+four_lost_once : is_steady (with_restart_given 1 (with_report_given 1 false (lost_one 1 (lost_three 1 nothing_given)))) ≡ false
 four_lost_once = refl
 
 -- one that came between, and a start between, of this stream or of another
-one_came : is_steady (lost_three 1 (reported 1 false (lost_three 1 nothing_given))) ≡ true
+one_came : is_steady (lost_three 1 (with_report_given 1 false (lost_three 1 nothing_given))) ≡ true
 one_came = refl
 
-restart_between : is_steady (lost_three 1 (restarted 1 (lost_three 1 nothing_given))) ≡ true
+restart_between : is_steady (lost_three 1 (with_restart_given 1 (lost_three 1 nothing_given))) ≡ true
 restart_between = refl
 
-other_restart_between : is_steady (lost_one 1 (restarted 2 (lost_three 1 nothing_given))) ≡ false
+other_restart_between : is_steady (lost_one 1 (with_restart_given 2 (lost_three 1 nothing_given))) ≡ false
 other_restart_between = refl
 
 -- four that were lost by two streams

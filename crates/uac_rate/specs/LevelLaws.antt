@@ -3,7 +3,7 @@ use Rattle.std.specs.Prelude.{◌≡◌, ℕ, suc, ◌+◌, ◌-◌, ◌*◌, �
 use Rattle.std.specs.List.{AllByRecursion}
 use Rattle.uac_clock.specs.declared.values.Nominal.{Nominal}
 use Rattle.uac_clock.specs.Nominal.{IsNominal, HasRoom, step_of}
-use Rattle.uac_rate.specs.Packets.{frames_in_packet}
+use Rattle.uac_rate.specs.PacketSizes.{frames_in_packet}
 use Rattle.uac_rate.specs.Steadiness.{is_slight}
 use Rattle.uac_rate.specs.Levels.{HasBand, AreIntervals, Point, Within, stored, owed, Interval, Reported}
 use Rattle.uac_rate.specs.Levels.{IsTarget, IsRobust, Anchor, anchor_of}
@@ -29,8 +29,8 @@ PacketsFollowRemainders =
 -- a clock that is steady is off by at most a thousandth of its rate, and so are the steps of an interval in sum
 abbrev pub SteadyClocksAreSlight : Type 0
 SteadyClocksAreSlight =
-    (values : Nominal) (millionths : ℤ) → IsNominal values → is_slight millionths ≡ true
-    → Within values.e (step_of values millionths) values.f
+    (values : Nominal) (ppm : ℤ) → IsNominal values → is_slight ppm ≡ true
+    → Within values.e (step_of values ppm) values.f
 
 abbrev pub SlightStepsAddUp : Type 0
 SlightStepsAddUp =

@@ -1,7 +1,7 @@
 -- The pace of packets, feedback reports, steadiness, and the bands in which levels stay.
 -- What the program's theorem says: to be read and believed.
 pub mod Levels
-pub mod Packets
+pub mod PacketSizes
 pub mod Reports
 pub mod Steadiness
 -- What the laws say besides.

@@ -3,7 +3,7 @@ use Rattle.std.specs.Prelude.{◌≡◌, ◌↔◌, ℕ, suc, ◌<◌, ◌==◌,
 use Rattle.std.specs.Prelude.{int_le, List, [], ◌∷◌, ◌++◌, length, get_or}
 use Rattle.std.specs.List.{list_all}
 
--- what was given: the deviations, in millionths, the latest first; and by stream a list for each start, the latest first, of whether
+-- what was given: the deviations, in ppm, the latest first; and by stream a list for each start, the latest first, of whether
 -- each feedback report since then was lost, the latest first
 pub record Given : Type 0 where
   pub deviations : List ℤ
@@ -17,19 +17,19 @@ abbrev pub one_more : Bool → List (List Bool) → List (List Bool)
 one_more lost [] = (lost ∷ []) ∷ []
 one_more lost (latest ∷ earlier) = (lost ∷ latest) ∷ earlier
 
-abbrev pub deviated : ℤ → Given → Given
-deviated millionths given = record given { deviations = millionths ∷ given.deviations }
+abbrev pub with_deviation_given : ℤ → Given → Given
+with_deviation_given ppm given = record given { deviations = ppm ∷ given.deviations }
 
-abbrev pub reported : ℕ → Bool → Given → Given
-reported stream lost given =
+abbrev pub with_report_given : ℕ → Bool → Given → Given
+with_report_given stream lost given =
     record given { feedback = λ k. if k == stream then one_more lost (given.feedback k) else given.feedback k }
 
-abbrev pub restarted : ℕ → Given → Given
-restarted stream given = record given { feedback = λ k. if k == stream then [] ∷ given.feedback k else given.feedback k }
+abbrev pub with_restart_given : ℕ → Given → Given
+with_restart_given stream given = record given { feedback = λ k. if k == stream then [] ∷ given.feedback k else given.feedback k }
 
 -- a clock is off by at most a thousandth
 abbrev pub is_slight : ℤ → Bool
-is_slight millionths = int_le (negsuc 999) millionths && int_le millionths (pos 1000)
+is_slight ppm = int_le (negsuc 999) ppm && int_le ppm (pos 1000)
 
 -- how many reports were lost since one came
 abbrev pub run : List Bool → ℕ

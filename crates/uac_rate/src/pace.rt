@@ -21,7 +21,7 @@ impl Model for Pacer {
 impl Pacer {
     ghost use Rattle.std.specs.Prelude.{◌≡◌, ◌+◌, ◌/◌, ◌%◌, ◌++◌, ◌∷◌, [], List, ℕ};
     ghost use Rattle.uac_clock.specs.Ticks.{IsPhaseAfter};
-    ghost use Rattle.uac_rate.specs.Packets.{frames_in_packet};
+    ghost use Rattle.uac_rate.specs.PacketSizes.{frames_in_packet};
 
     /// A pace at a whole frame.
     pub fn new() -> Pacer

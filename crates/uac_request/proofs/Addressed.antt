@@ -3,7 +3,7 @@ use Rattle.std.proofs.Common.{◌≡◌, ◌∙◌, sym, ap, refl, ℕ, ◌+◌,
 use Rattle.std.specs.Option.{option_map_or}
 use Rattle.std.proofs.Math.Seq.{take-length}
 use Rattle.std.proofs.lemmas.Bool.{cases_Bool}
-use Rattle.uac_entities.specs.Streams.{named}
+use Rattle.uac_entities.specs.EntityStreams.{named}
 use Rattle.uac_entities.specs.declared.entity.Entity.{Entity}
 use Rattle.uac_entities.specs.declared.entity.EntityKind.{EntityKind}
 use Rattle.uac_entities.specs.declared.entity.EntityKind.TheVariants as kind
@@ -12,11 +12,11 @@ use Rattle.uac_topology.specs.Topology.{IsSoundFunction}
 use Rattle.uac_alt.specs.declared.settings.InterfaceSetting.{InterfaceSetting}
 use Rattle.uac_store.specs.declared.keys.Key.{Key}
 use Rattle.uac_store.specs.ControlTable.{selectors_of}
-use Rattle.uac_store.specs.Controls.{IsStoreOf}
+use Rattle.uac_store.specs.StoreControls.{IsStoreOf}
 use Rattle.uac_store.specs.Keyed.{value_of, with_value}
 use Rattle.uac_store.proofs.Tabled.{at_each}
 use Rattle.uac_request.specs.declared.setup.Setup.{Setup}
-use Rattle.uac_request.specs.Elements.{get_of, is_present, set_of, signed_at, width_at}
+use Rattle.uac_request.specs.RequestElements.{get_of, is_present, set_of, signed_at, width_at}
 use Rattle.uac_request.specs.Requests.{after_request, answered, by_entity, controls_set, cur_bytes, cur_named, entity_bytes, entity_width, first_broken, has_interface, Held, held_by, high, is_declared_on, is_done, is_signed, is_stalled, kept_bytes, key_named, left_by, low, Owner, owner_of, reply_of, sent_value, value_bytes, value_from, with_bytes}
 use Rattle.uac_request.proofs.Asked.{answered_cur, answered_set, first_cur, left_cur, left_set}
 use Rattle.uac_request.proofs.Answering.{few_channels, IsKept, kept_in}

@@ -5,21 +5,21 @@ use Rattle.std.specs.Option.{option_map_or}
 use Rattle.std.proofs.lemmas.Bool.{and_parts, ltb-true}
 use Rattle.std.proofs.lemmas.List.Folds.{find_at}
 use Rattle.std.proofs.lemmas.Option.{get_or_from_slice_get, slice_get_within}
-use Rattle.uac_entities.specs.Streams.{named}
+use Rattle.uac_entities.specs.EntityStreams.{named}
 use Rattle.uac_entities.specs.declared.entity.Entity.{Entity}
 use Rattle.uac_entities.specs.declared.entity.EntityKind.{EntityKind}
 use Rattle.uac_entities.specs.declared.entity.EntityKind.TheVariants as kind
 use Rattle.uac_topology_rules.specs.Links.{is_clock}
 use Rattle.uac_topology.specs.Function.{FunctionFields}
 use Rattle.uac_topology.specs.Topology.{IsSoundFunction}
-use Rattle.uac_topology.proofs.ChannelLemmas.{have_channels}
+use Rattle.uac_topology.proofs.Channels.{have_channels}
 use Rattle.uac_store.specs.declared.keys.Key.{Key}
 use Rattle.uac_store.specs.ControlTable.{IsSmall, count_by, selectors_of, takes_by}
-use Rattle.uac_store.specs.Controls.{count_of, has_control, has_on, IsStoreOf, nodes_of, pins_of, takes, takes_on}
+use Rattle.uac_store.specs.StoreControls.{count_of, has_control, has_on, IsStoreOf, nodes_of, pins_of, takes, takes_on}
 use Rattle.uac_store.specs.Keyed.{value_of}
 use Rattle.uac_store.proofs.Small.{small_named}
 use Rattle.uac_store.proofs.Soundness.{keyed}
-use Rattle.uac_request.specs.Elements.{signed_at, width_at}
+use Rattle.uac_request.specs.RequestElements.{signed_at, width_at}
 use Rattle.uac_request.specs.Requests.{entity_width, is_signed, IsWithin, value_bytes, value_from}
 use Rattle.uac_request.proofs.Coming.{taken_within, value_back, width_of_kept}
 

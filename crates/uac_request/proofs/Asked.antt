@@ -2,7 +2,7 @@
 use Rattle.std.proofs.Common.{◌≡◌, refl, ℕ, ◌==◌, ◌&&◌, not, nat_le, Bool, true, false, if◌then◌else◌, List, [], ◌∷◌, take, Some, None, unwrap_or, arith}
 use Rattle.std.proofs.Math.Bool.{or-false}
 use Rattle.uac_topology.specs.Function.{FunctionFields}
-use Rattle.uac_alt.specs.Settings.{setting_of, with_setting}
+use Rattle.uac_alt.specs.AltSettings.{setting_of, with_setting}
 use Rattle.uac_request.specs.declared.setup.Setup.{Setup}
 use Rattle.uac_request.specs.Owners.{get_rules, set_rules}
 use Rattle.uac_request.specs.Requests.{answered, breaks_q1, breaks_q2, breaks_q3, breaks_q4, breaks_q5, breaks_q6, breaks_q7, breaks_q8, breaks_q9, breaks_q10, breaks_q11, breaks_q12, can_hold, controls_set, cur_named, first_broken, has_interface, has_setting, Held, is_done, is_empty, is_to_control, is_to_interface, least, left_by, low, owner_of, Owner, ranges_named, with_bytes, with_descriptor}

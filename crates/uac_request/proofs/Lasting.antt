@@ -3,7 +3,7 @@ use Rattle.std.proofs.Common.{◌≡◌, ◌∙◌, sym, ap, subst, refl, ℕ, �
 use Rattle.std.specs.List.{list_any}
 use Rattle.std.specs.Option.{option_map, option_map_or}
 use Rattle.std.proofs.lemmas.Bool.{and_parts, cases_Bool, cases_eq}
-use Rattle.uac_entities.specs.Streams.{named}
+use Rattle.uac_entities.specs.EntityStreams.{named}
 use Rattle.uac_entities.specs.declared.entity.Entity.{Entity}
 use Rattle.uac_entities.specs.declared.entity.EntityKind.{EntityKind}
 use Rattle.uac_entities.specs.declared.stream.Setting.{Setting}
@@ -11,12 +11,12 @@ use Rattle.uac_entities.specs.declared.stream.StreamInterface.{StreamInterface}
 use Rattle.uac_topology_rules.specs.Links.{is_clock}
 use Rattle.uac_topology.specs.Function.{FunctionFields, interface_in}
 use Rattle.uac_store.specs.declared.keys.Key.{Key}
-use Rattle.uac_store.specs.Controls.{IsStoreOf, takes}
+use Rattle.uac_store.specs.StoreControls.{IsStoreOf, takes}
 use Rattle.uac_store.specs.Keyed.{value_of, with_value}
 use Rattle.uac_store.specs.Rates.{rate_of}
-use Rattle.uac_store.specs.Values.{is_legal}
+use Rattle.uac_store.specs.StoreValues.{is_legal}
 use Rattle.uac_store.proofs.Setting.{kept_by_set}
-use Rattle.uac_alt.specs.Settings.{in_first, initial_settings, is_running, setting_of, with_setting}
+use Rattle.uac_alt.specs.AltSettings.{in_first, initial_settings, is_running, setting_of, with_setting}
 use Rattle.uac_alt.specs.declared.settings.InterfaceSetting.{InterfaceSetting}
 use Rattle.uac_alt.proofs.Changed.{setting_of_changed}
 use Rattle.uac_store.specs.declared.controls.Control.{Control}

@@ -2,7 +2,7 @@
 use Rattle.std.proofs.Common.{◌≡◌, ◌∙◌, sym, ℕ, ◌==◌, nat_lt, nat_le, true, false, List, Option, Some, None, is_some, refl, inl, inr, ℤ, rules}
 use Rattle.std.proofs.lemmas.Bool.{cases_Bool}
 use Rattle.std.specs.Option.{option_map}
-use Rattle.uac_entities.specs.Streams.{named}
+use Rattle.uac_entities.specs.EntityStreams.{named}
 use Rattle.uac_entities.specs.declared.entity.Entity.{Entity}
 use Rattle.uac_entities.specs.declared.entity.EntityKind.{EntityKind}
 use Rattle.uac_entities.specs.declared.entity.EntityKind.TheVariants as kind
@@ -10,7 +10,7 @@ use Rattle.uac_entities.specs.declared.stream.StreamInterface.{StreamInterface}
 use Rattle.uac_topology.specs.Function.{FunctionFields, interface_in}
 use Rattle.uac_store.specs.declared.keys.Key.{Key}
 use Rattle.uac_store.specs.ControlTable.{count_by, selectors_of}
-use Rattle.uac_store.specs.Controls.{IsStoreOf, count_of, nodes_of, has_control, has_on}
+use Rattle.uac_store.specs.StoreControls.{IsStoreOf, count_of, nodes_of, has_control, has_on}
 use Rattle.uac_store.specs.Keyed.{key_of, value_of}
 use Rattle.uac_request.specs.Requests.{by_entity, by_stream, high, low, owner_of}
 

@@ -1,14 +1,14 @@
 -- Values that are sent to controls which a host may set.
 use Rattle.std.proofs.Common.{◌≡◌, ◌∙◌, ℕ, ◌==◌, ◌≤◌, nat_lt, nat_le, Bool, true, false, List, Option, Some, None, IsSome, is_some, ℤ, pos, negsuc, refl, subst, inl, inr, rules, arith, length, w32, FitsSigned, ◌%◌, if◌then◌else◌}
 use Rattle.std.proofs.lemmas.Bool.{cases_Bool, cases_lt}
-use Rattle.uac_entities.specs.Streams.{named}
+use Rattle.uac_entities.specs.EntityStreams.{named}
 use Rattle.uac_entities.specs.declared.entity.Entity.{Entity}
 use Rattle.uac_entities.specs.declared.entity.EntityKind.{EntityKind}
 use Rattle.uac_entities.specs.declared.entity.EntityKind.TheVariants as kind
 use Rattle.uac_store.specs.declared.keys.Key.{Key}
 use Rattle.uac_store.specs.ControlTable.{is_frequency, selectors_of, takes_by}
-use Rattle.uac_store.specs.Controls.{IsStoreOf, count_of, has_control, has_on, takes, takes_on}
-use Rattle.uac_store.specs.Values.{is_legal}
+use Rattle.uac_store.specs.StoreControls.{IsStoreOf, count_of, has_control, has_on, takes, takes_on}
+use Rattle.uac_store.specs.StoreValues.{is_legal}
 use Rattle.uac_clock.specs.Nominal.{is_listed}
 use Rattle.uac_store.specs.Keyed.{value_of}
 use Rattle.uac_request.specs.Requests.{entity_width, is_writable_on}

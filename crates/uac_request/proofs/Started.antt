@@ -4,7 +4,7 @@ use Rattle.std.proofs.lemmas.Bool.{cases_Bool}
 use Rattle.std.specs.List.{find}
 use Rattle.uac_entities.specs.declared.stream.StreamInterface.{StreamInterface}
 use Rattle.uac_topology.specs.Function.{FunctionFields}
-use Rattle.uac_alt.specs.Settings.{in_first, initial_settings, setting_of}
+use Rattle.uac_alt.specs.AltSettings.{in_first, initial_settings, setting_of}
 use Rattle.uac_request.specs.Requests.{AreSettingsOf}
 
 -- of the streaming interfaces

@@ -5,7 +5,7 @@ use Rattle.std.specs.Map.{lookup}
 use Rattle.std.specs.Option.{option_and_then, option_map_or}
 use Rattle.std.specs.Ordering.{int_eq}
 use Rattle.std.proofs.lemmas.Bool.{cases_Bool, cases_eq}
-use Rattle.uac_entities.specs.Streams.{named}
+use Rattle.uac_entities.specs.EntityStreams.{named}
 use Rattle.uac_entities.specs.declared.entity.Entity.{Entity}
 use Rattle.uac_entities.specs.declared.entity.EntityKind.{EntityKind}
 use Rattle.uac_entities.specs.declared.entity.EntityKind.TheVariants as kind
@@ -14,9 +14,9 @@ use Rattle.uac_topology_rules.specs.Links.{is_clock}
 use Rattle.uac_topology.specs.Function.{FunctionFields}
 use Rattle.uac_store.specs.declared.keys.Key.{Key}
 use Rattle.uac_store.specs.Keyed.{key_of, same_key, value_of, with_value}
-use Rattle.uac_store.specs.Rates.{chosen, multiplied, of_frequency, rate_by, rate_of, rate_step, rate_within, source_rate, chosen_source, multiplier_rate, value_at}
+use Rattle.uac_store.specs.Rates.{source_on_pin, rate_times, of_frequency, rate_by, rate_of, rate_step, rate_within, source_rate, chosen_source, multiplier_rate, value_at}
 use Rattle.uac_store.proofs.Setting.{changed_alone, key_laws}
-use Rattle.uac_alt.specs.Streams.{stream_of}
+use Rattle.uac_alt.specs.AltStreams.{stream_of}
 use Rattle.uac_request.specs.Requests.{is_valid}
 
 -- an entity that was found has the id
@@ -39,9 +39,9 @@ module _ (entities : List Entity) (before after : List (Key × ℤ)) (same : Sam
   unfolding source_rate chosen_source multiplier_rate
   by_kind id e is below below' under kind.ClockSource of = ap (option_and_then of_frequency) (same.at id e is (ap is_clock of) 1)
   by_kind id e is below below' under kind.ClockSelector of =
-      λ j. option_and_then (λ n. under n j) (option_and_then (chosen e.sources) (same.at id e is (ap is_clock of) 1 j))
+      λ j. option_and_then (λ n. under n j) (option_and_then (source_on_pin e.sources) (same.at id e is (ap is_clock of) 1 j))
   by_kind id e is below below' under kind.ClockMultiplier of =
-      λ j. option_and_then (λ rate. option_and_then (λ n. option_and_then (multiplied rate n) (same.at id e is (ap is_clock of) 2 j)) (same.at id e is (ap is_clock of) 1 j))
+      λ j. option_and_then (λ rate. option_and_then (λ n. option_and_then (rate_times rate n) (same.at id e is (ap is_clock of) 2 j)) (same.at id e is (ap is_clock of) 1 j))
       (option_and_then (λ n. under n j) (slice_get e.sources 0))
   by_kind id e is below below' under kind.InputTerminal of = refl
   by_kind id e is below below' under kind.OutputTerminal of = refl

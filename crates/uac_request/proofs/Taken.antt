@@ -2,8 +2,8 @@
 use Rattle.std.proofs.Common.{◌≡◌, ◌∙◌, sym, refl, ℕ, ◌&&◌, not, Bool, true, false, List, [], ◌∷◌, length, Some, None, is_some, unwrap_or, eqb-true}
 use Rattle.std.proofs.lemmas.Bool.{and_parts}
 use Rattle.uac_topology.specs.Function.{FunctionFields}
-use Rattle.uac_store.specs.Values.{is_legal}
-use Rattle.uac_alt.specs.Settings.{is_running}
+use Rattle.uac_store.specs.StoreValues.{is_legal}
+use Rattle.uac_alt.specs.AltSettings.{is_running}
 use Rattle.uac_request.specs.declared.setup.Setup.{Setup}
 use Rattle.uac_request.specs.Requests.{first_broken, has_interface, has_value, Held, high, is_clock_control, is_in_range, is_writable, key_named, least, low, Owner, owner_of, sent_value, width_of}
 use Rattle.uac_request.specs.Owners.{set_rules}

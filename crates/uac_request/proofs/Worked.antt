@@ -7,17 +7,17 @@ use Rattle.uac_entities.specs.declared.entity.EntityKind.{EntityKind}
 use Rattle.uac_entities.specs.declared.entity.EntityKind.TheVariants as kind
 use Rattle.uac_entities.specs.declared.stream.Setting.{Setting}
 use Rattle.uac_entities.specs.declared.stream.StreamInterface.{StreamInterface}
-use Rattle.uac_entities.specs.Streams.{channels_of, named}
+use Rattle.uac_entities.specs.EntityStreams.{channels_of, named}
 use Rattle.uac_clock.specs.Nominal.{nominal_of, values_of}
 use Rattle.uac_gain.specs.Gain.{decibel_gain, raised_gain}
 use Rattle.uac_topology.specs.Function.{FunctionFields}
 use Rattle.uac_store.specs.Keyed.{key_of, value_of, with_value}
-use Rattle.uac_store.specs.Controls.{channels_at, controls_of, count_of, first_channels, has_on, initial_controls, start_of, takes, takes_on}
+use Rattle.uac_store.specs.StoreControls.{channels_at, controls_of, count_of, first_channels, has_on, initial_controls, start_of, takes, takes_on}
 use Rattle.uac_store.specs.Rates.{rate_of, rate_step, rate_within, source_rate}
 use Rattle.uac_store.specs.Selectors.{CS_SAM_FREQ_CONTROL, CS_CLOCK_VALID_CONTROL, CX_CLOCK_SELECTOR_CONTROL, CM_NUMERATOR_CONTROL, CM_DENOMINATOR_CONTROL, TE_CONNECTOR_CONTROL, MU_MIXER_CONTROL, SU_SELECTOR_CONTROL, FU_MUTE_CONTROL, FU_VOLUME_CONTROL, EU_ENABLE_CONTROL}
-use Rattle.uac_store.specs.Values.{are_clocked, is_legal, ranges_of}
-use Rattle.uac_alt.specs.Settings.{initial_settings, setting_of, with_setting}
-use Rattle.uac_alt.specs.Streams.{can_run, linked_channels, stream_at, stream_of}
+use Rattle.uac_store.specs.StoreValues.{are_clocked, is_legal, ranges_of}
+use Rattle.uac_alt.specs.AltSettings.{initial_settings, setting_of, with_setting}
+use Rattle.uac_alt.specs.AltStreams.{can_run, linked_channels, stream_at, stream_of}
 use Rattle.uac_request.specs.Requests.{Held, AnswerFields, with_bytes, with_descriptor, is_done, is_stalled, after_request, answered, breaks_q1, breaks_q2, breaks_q3, breaks_q4, breaks_q5, breaks_q6, breaks_q7, breaks_q8, breaks_q9, breaks_q10, breaks_q11, breaks_q12, cur_bytes, entity_bytes, entity_width, first_broken, has_setting, is_signed, is_valid, left_by, node_bit, owner_of, range_bytes, reply_of, setup_of, valid_bytes, value_bytes, value_from}
 
 abbrev with : ℕ → EntityKind → ℕ → List ℕ → ℕ → ℕ → ℕ → List ℕ → Entity

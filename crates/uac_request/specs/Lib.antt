@@ -2,6 +2,6 @@
 -- What the program's theorem says: to be read and believed.
 pub mod Requests
 -- What the laws say besides.
-pub mod Elements
+pub mod RequestElements
 -- What the contracts below them cite: steps of the code, no part of what is promised.
 pub mod Owners

@@ -2,8 +2,8 @@
 -- where the control that it names is kept by something.
 use Rattle.std.specs.Prelude.{◌≡◌, ℕ, ◌==◌, ◌&&◌, ◌||◌, not, Bool, List, [], ◌∷◌, length, is_some}
 use Rattle.uac_topology.specs.Function.{FunctionFields}
-use Rattle.uac_store.specs.Values.{is_legal}
-use Rattle.uac_alt.specs.Settings.{is_running}
+use Rattle.uac_store.specs.StoreValues.{is_legal}
+use Rattle.uac_alt.specs.AltSettings.{is_running}
 use Rattle.uac_request.specs.declared.owner.Owner as declared
 use Rattle.uac_request.specs.declared.owner.Owner.TheVariants as owner
 use Rattle.uac_request.specs.declared.request.Request.{Request}

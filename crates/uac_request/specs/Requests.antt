@@ -8,7 +8,7 @@ use Rattle.std.specs.Option.{option_and_then, option_map, option_map_or}
 use Rattle.std.specs.Ordering.{int_eq}
 use Rattle.byteorder.specs.Endian.{little_bytes, little_number}
 pub use Rattle.uac_sentence.specs.Grammar.{least}
-use Rattle.uac_entities.specs.Streams.{named}
+use Rattle.uac_entities.specs.EntityStreams.{named}
 use Rattle.uac_entities.specs.declared.entity.Entity.{Entity}
 use Rattle.uac_entities.specs.declared.entity.EntityKind.{EntityKind}
 use Rattle.uac_entities.specs.declared.entity.EntityKind.TheVariants as kind
@@ -21,17 +21,17 @@ use Rattle.uac_store.specs.declared.keys.Range.{Range}
 use Rattle.uac_store.specs.declared.controls.Spread.{Spread}
 use Rattle.uac_store.specs.declared.controls.Spread.TheVariants as spread
 use Rattle.uac_store.specs.ControlTable.{at_selector, facts_at, is_settable, spread_of}
-use Rattle.uac_store.specs.Controls.{count_of}
+use Rattle.uac_store.specs.StoreControls.{count_of}
 use Rattle.uac_store.specs.Keyed.{key_of, value_of, with_value}
 use Rattle.uac_store.specs.Rates.{rate_of}
 use Rattle.uac_store.specs.Selectors.{AS_ACT_ALT_SETTING_CONTROL, AS_VAL_ALT_SETTINGS_CONTROL, CS_CLOCK_VALID_CONTROL}
-use Rattle.uac_store.specs.Values.{ranges_of, is_legal}
+use Rattle.uac_store.specs.StoreValues.{ranges_of, is_legal}
 use Rattle.uac_request.specs.declared.setup.Setup.{Setup}
 use Rattle.uac_request.specs.declared.told.Answer.{Answer}
 use Rattle.uac_request.specs.declared.told.Answer.TheVariants as told
 use Rattle.uac_alt.specs.declared.settings.InterfaceSetting.{InterfaceSetting}
-use Rattle.uac_alt.specs.Settings.{setting_of, with_setting, is_running}
-use Rattle.uac_alt.specs.Streams.{stream_of}
+use Rattle.uac_alt.specs.AltSettings.{setting_of, with_setting, is_running}
+use Rattle.uac_alt.specs.AltStreams.{stream_of}
 
 -- ---- the request
 
@@ -130,14 +130,14 @@ has_range (by_stream s) selector = false
 
 -- which control word holds a channel's control: a feature and an effect have one for each channel, the master's first
 -- (4.7.2.8, 4.7.2.10)
-abbrev pub word_of : Spread → ℕ → ℕ
-word_of spread.Whole channel = 0
-word_of spread.Channels channel = channel
-word_of spread.Nodes channel = 0
+abbrev pub controls_word_of : Spread → ℕ → ℕ
+controls_word_of spread.Whole channel = 0
+controls_word_of spread.Channels channel = channel
+controls_word_of spread.Nodes channel = 0
 
 -- the place of a control's two bits in its word: by selector, but for a terminal's connector, which stands second (4.7.2)
 abbrev pub entity_bits : Entity → ℕ → ℕ → ℕ
-entity_bits e selector channel = get_or e.controls (word_of (spread_of e.kind) channel) 0 / 4 ^ (selector - 1) % 4
+entity_bits e selector channel = get_or e.controls (controls_word_of (spread_of e.kind) channel) 0 / 4 ^ (selector - 1) % 4
 
 -- the presence of an interface's controls is told by its first general block; without one both are absent
 abbrev pub stream_bits : StreamInterface → ℕ → ℕ

@@ -42,15 +42,15 @@ fn entity_bits(entity: &Entity, selector: u8, channel: u8) -> u32
     requires { selector ≤ 2 }
     ensures { result ≡ spec.entity_bits entity.now selector channel }
 {
-    let place = word_of(spread_of(entity.kind), channel);
+    let place = controls_word_of(spread_of(entity.kind), channel);
     match entity.controls.as_slice().get(usize::from(place)) {
         Some(word) => two_bits(*word, selector),
         None => two_bits(0, selector),
     }
 }
 
-fn word_of(spread: Spread, channel: u8) -> u8
-    ensures { result ≡ spec.word_of spread channel }
+fn controls_word_of(spread: Spread, channel: u8) -> u8
+    ensures { result ≡ spec.controls_word_of spread channel }
 {
     match spread {
         Spread::Channels => channel,

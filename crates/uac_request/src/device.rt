@@ -1,6 +1,6 @@
 // What a device answers.
 ghost use Rattle.std.specs.Prelude.{◌≡◌};
-ghost use Rattle.uac_store.specs.Controls.{IsStoreOf};
+ghost use Rattle.uac_store.specs.StoreControls.{IsStoreOf};
 ghost use Rattle.uac_request.specs.Requests.{AreSettingsOf, after_request, held_by, reply_of, answer_fields};
 
 use crate::request::{Request, request_of};

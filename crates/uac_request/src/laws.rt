@@ -1,15 +1,15 @@
 // What holds of requests.
 ghost use Rattle.std.specs.Prelude.{◌≡◌, ◌⊎◌, ◌<◌, ◌≤◌, ℕ, ℤ, Bool, List, Some, [], length, true};
-ghost use Rattle.uac_alt.specs.Settings.{initial_settings, is_running};
+ghost use Rattle.uac_alt.specs.AltSettings.{initial_settings, is_running};
 ghost use Rattle.uac_alt.specs.declared.settings.InterfaceSetting.{InterfaceSetting};
 ghost use Rattle.uac_entities.specs.declared.entity.Entity.{Entity};
 ghost use Rattle.uac_topology.specs.Function.{FunctionFields};
 ghost use Rattle.uac_topology.specs.Topology.{IsSoundFunction};
-ghost use Rattle.uac_store.specs.Controls.{IsStoreOf};
+ghost use Rattle.uac_store.specs.StoreControls.{IsStoreOf};
 ghost use Rattle.uac_store.specs.Keyed.{value_of, with_value};
 ghost use Rattle.uac_store.specs.Rates.{rate_of};
 ghost use Rattle.uac_store.specs.declared.keys.Key.{Key};
-ghost use Rattle.uac_request.specs.Elements.{get_of, is_present, set_of, signed_at, width_at};
+ghost use Rattle.uac_request.specs.RequestElements.{get_of, is_present, set_of, signed_at, width_at};
 ghost use Rattle.uac_request.specs.Requests.{AreSettingsOf, AreValidSettings, Held, IsWithin, after_request, held_by, is_done, is_stalled};
 ghost use Rattle.uac_request.specs.Requests.{reply_of, value_bytes, value_from, with_bytes, with_descriptor};
 ghost use Rattle.uac_request.specs.declared.setup.Setup.{Setup};

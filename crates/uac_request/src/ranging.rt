@@ -1,7 +1,7 @@
 // The bytes of a control's ranges.
 ghost use Rattle.std.specs.Prelude.{◌≡◌, ◌≤◌, ◌+◌, ◌*◌, ◌++◌, true, length, unwrap_or, []};
 ghost use Rattle.arrayvec.specs.ArrayVec.{array_vec_len};
-ghost use Rattle.uac_store.specs.Values.{ranges_of};
+ghost use Rattle.uac_store.specs.StoreValues.{ranges_of};
 ghost use Rattle.uac_request.specs.Owners.{owned};
 ghost use Rattle.uac_request.specs.Requests as spec;
 ghost use Rattle.uac_request.specs.Requests.{key_named};

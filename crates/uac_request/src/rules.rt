@@ -3,13 +3,13 @@ ghost use Rattle.std.specs.Prelude.{◌≡◌, ◌≤◌, ◌==◌, IfOk, IfErr,
 ghost use Rattle.std.specs.Prelude.{nat_lt};
 ghost use Rattle.std.specs.Int.{w32};
 ghost use Rattle.std.specs.Int.RustNames.{FitsSigned};
-ghost use Rattle.uac_entities.specs.Streams.{named};
+ghost use Rattle.uac_entities.specs.EntityStreams.{named};
 ghost use Rattle.uac_entities.specs.declared.entity.Entity.{Entity};
 ghost use Rattle.uac_topology.specs.Function.{FunctionFields};
 ghost use Rattle.uac_alt.specs.declared.settings.InterfaceSetting.{InterfaceSetting};
-ghost use Rattle.uac_store.specs.Controls.{IsStoreOf, count_of, takes};
+ghost use Rattle.uac_store.specs.StoreControls.{IsStoreOf, count_of, takes};
 ghost use Rattle.uac_store.specs.Keyed.{value_of};
-ghost use Rattle.uac_store.specs.Values.{is_legal};
+ghost use Rattle.uac_store.specs.StoreValues.{is_legal};
 ghost use Rattle.uac_request.specs.Owners.{get_rules, owned, set_rules};
 ghost use Rattle.uac_request.specs.Requests as spec;
 ghost use Rattle.uac_request.specs.Requests.{by_entity, first_broken, held_by, key_named, least, owner_of, sent_value};
@@ -172,7 +172,7 @@ fn value_sent(
 }
 
 // The value that bytes are, where it is legal for a control that a host may set.
-#[tactic(auto, unfolding(uac_store::specs::Values::is_legal), using(crate::proofs::Sent::is_held, crate::proofs::Sent::at_most_four))]
+#[tactic(auto, unfolding(uac_store::specs::StoreValues::is_legal), using(crate::proofs::Sent::is_held, crate::proofs::Sent::at_most_four))]
 fn legal_value(
     function: &Function,
     store: &Store,
@@ -193,7 +193,7 @@ fn legal_value(
     ensures kept { IsSome (value_of store.now key) }
 {
     let number = value_from(is_signed(entity.kind, key.selector), sent);
-    let Some(value) = narrowed(number) else {
+    let Some(value) = in_32_bits(number) else {
         return None;
     };
     if store.legal(function, key, value) {
@@ -204,7 +204,7 @@ fn legal_value(
 }
 
 // A value as one of 32 bits, None where it is none.
-fn narrowed(value: i64) -> Option<i32>
+fn in_32_bits(value: i64) -> Option<i32>
     ensures kept { IfSome result (λ narrow. narrow ≡ value) }
     ensures fits { FitsSigned w32 value → IsSome result }
 {

@@ -1,7 +1,7 @@
 // The settings of a streaming interface that are valid.
 ghost use Rattle.std.specs.Prelude.{◌≡◌, ◌==◌, ◌<◌, ◌%◌, ◌^◌, is_some, false};
 ghost use Rattle.std.specs.Option.{option_map_or};
-ghost use Rattle.uac_alt.specs.Streams.{stream_of};
+ghost use Rattle.uac_alt.specs.AltStreams.{stream_of};
 ghost use Rattle.uac_request.specs.Requests as spec;
 
 use uac_store::Store;

@@ -10,19 +10,19 @@ use Rattle.uac_clock.specs.Ticks.{ticks_in}
 use Rattle.uac_device.specs.DeviceWorld.{Domain}
 use Rattle.uac_running.specs.declared.counts.TickCount.{TickCount}
 use Rattle.uac_topology.specs.Function.{FunctionFields}
-use Rattle.uac_running.specs.Kept.{HasItsDomains, RunningFields, counted, more_counted}
+use Rattle.uac_running.specs.RunningKept.{HasItsDomains, RunningFields, counted, more_counted}
 
--- a domain that is off by other millionths
+-- a domain that is off by another deviation
 abbrev pub off_by : ℕ → ℤ → Domain → Domain
-off_by clock millionths d = if d.clock == clock then record d { deviation = millionths } else d
+off_by clock ppm d = if d.clock == clock then record d { deviation = ppm } else d
 
 -- ticks count steps alone
-pub counted-off : (clock : ℕ) (millionths : ℤ) (ds : List Domain) → map counted (map (off_by clock millionths) ds) ≡ map counted ds
-counted-off clock millionths [] = refl
-counted-off clock millionths (d ∷ ds) =
+pub counted-off : (clock : ℕ) (ppm : ℤ) (ds : List Domain) → map counted (map (off_by clock ppm) ds) ≡ map counted ds
+counted-off clock ppm [] = refl
+counted-off clock ppm (d ∷ ds) =
     elim (cases_Bool (d.clock == clock)) [
-      | inl same ↦ rw same (ap (λ (cs : List TickCount). counted d ∷ cs) (counted-off clock millionths ds))
-      | inr other ↦ rw other (ap (λ (cs : List TickCount). counted d ∷ cs) (counted-off clock millionths ds))
+      | inl same ↦ rw same (ap (λ (cs : List TickCount). counted d ∷ cs) (counted-off clock ppm ds))
+      | inr other ↦ rw other (ap (λ (cs : List TickCount). counted d ∷ cs) (counted-off clock ppm ds))
     ]
 
 sum-push : (steps : List ℕ) (s : ℕ) → sum (steps ++ s ∷ []) ≡ sum steps + s

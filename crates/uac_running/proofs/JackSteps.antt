@@ -7,17 +7,17 @@ use Rattle.std.proofs.lemmas.List.Sums.{fold-append}
 use Rattle.uac_pcm.specs.Tones.{tone_sample}
 use Rattle.uac_pcm.specs.declared.tones.Tone.{Tone}
 use Rattle.uac_pcm.specs.declared.tones.Tone.TheVariants as tones
-use Rattle.uac_device.specs.Kept.{DeviceFields, Stands}
+use Rattle.uac_device.specs.DeviceKept.{DeviceFields, Stands}
 use Rattle.uac_device.specs.DeviceWorld.{DeviceWorld, is_input_jack, set_jack}
 use Rattle.uac_topology.specs.Function.{FunctionFields}
 use Rattle.uac_graph.specs.Meaning.{entity}
 use Rattle.uac_graph.specs.Wiring.{tone_frame}
 use Rattle.uac_running.specs.declared.jacks.Jack.{Jack}
 use Rattle.uac_running.specs.Events.{after_one, given, given_one, gone_on, next_frame}
-use Rattle.uac_running.specs.RunningWorld.{toned}
-use Rattle.uac_device.proofs.Kept.{all_changed}
+use Rattle.uac_running.specs.RunningWorld.{jack_with_tone}
+use Rattle.uac_device.proofs.DeviceKeptLemmas.{all_changed}
 use Rattle.uac_lanes.proofs.Turning.{IsTurnedBelow, untouched}
-use Rattle.uac_running.specs.Kept.{HasItsJacks, RunningFields}
+use Rattle.uac_running.specs.RunningKept.{HasItsJacks, RunningFields}
 
 -- one jack more
 pub given_more : (clock : ℕ) (jacks : List Jack) (i : ℕ) (d : Jack) (w : DeviceWorld) → i < length jacks
@@ -33,7 +33,7 @@ given_more clock jacks i d w below =
 kept_after : (P : ℕ → ℕ → Type 0) (clock : ℕ) (j : Jack) → P j.terminal j.channels → P (after_one clock j).terminal (after_one clock j).channels
 kept_after P clock j holds = elim (cases_Bool (j.clock == clock)) [ inl same ↦ rw same holds | inr other ↦ rw other holds ]
 
-kept_toned : (P : ℕ → ℕ → Type 0) (terminal : ℕ) (tone : Tone) (j : Jack) → P j.terminal j.channels → P (toned terminal tone j).terminal (toned terminal tone j).channels
+kept_toned : (P : ℕ → ℕ → Type 0) (terminal : ℕ) (tone : Tone) (j : Jack) → P j.terminal j.channels → P (jack_with_tone terminal tone j).terminal (jack_with_tone terminal tone j).channels
 kept_toned P terminal tone j holds = elim (cases_Bool (j.terminal == terminal)) [ inl same ↦ rw same holds | inr other ↦ rw other holds ]
 
 -- the input jacks stay what they are, whatever their tones and places are
@@ -54,8 +54,8 @@ kept_jacks f p q keeps function is h =
 pub jacks_gone_on : (clock : ℕ) (p q : RunningFields) → q.device.function ≡ p.device.function → q.jacks ≡ gone_on clock p.jacks → HasItsJacks p → HasItsJacks q
 jacks_gone_on clock p q = kept_jacks (after_one clock) p q (λ P j holds. kept_after P clock j holds)
 
-pub jacks_toned : (terminal : ℕ) (tone : Tone) (p q : RunningFields) → q.device.function ≡ p.device.function → q.jacks ≡ map (toned terminal tone) p.jacks → HasItsJacks p → HasItsJacks q
-jacks_toned terminal tone p q = kept_jacks (toned terminal tone) p q (λ P j holds. kept_toned P terminal tone j holds)
+pub jacks_toned : (terminal : ℕ) (tone : Tone) (p q : RunningFields) → q.device.function ≡ p.device.function → q.jacks ≡ map (jack_with_tone terminal tone) p.jacks → HasItsJacks p → HasItsJacks q
+jacks_toned terminal tone p q = kept_jacks (jack_with_tone terminal tone) p q (λ P j holds. kept_toned P terminal tone j holds)
 
 -- the next jack gives its frame
 pub gives_next : (clock : ℕ) (old now : List Jack) (i : ℕ) (d : Jack) (w : DeviceWorld) (new : DeviceFields) → i < length old → IsTurnedBelow (after_one clock) now old i

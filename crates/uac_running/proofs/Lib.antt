@@ -8,9 +8,9 @@ pub mod Steps
 pub mod StreamSteps
 pub mod Quiet
 pub mod RoomSteps
-pub mod TransferLemmas
-pub mod OutcomeLemmas
-pub mod ReadLemmas
+pub mod RunningTransfersLemmas
+pub mod PrintedOutcomes
+pub mod ReadAtStart
 pub mod Reporting
 pub mod Printed
 pub mod Worked

@@ -15,7 +15,7 @@ use Rattle.uac_topology.specs.Function.{FunctionFields}
 use Rattle.uac_topology.specs.Topology.{IsSoundFunction}
 use Rattle.uac_store.specs.declared.keys.Key.{Key}
 use Rattle.uac_store.specs.Rates.{rate_of}
-use Rattle.uac_alt.specs.Settings.{setting_of}
+use Rattle.uac_alt.specs.AltSettings.{setting_of}
 use Rattle.uac_alt.specs.declared.settings.InterfaceSetting.{InterfaceSetting}
 use Rattle.uac_units.specs.Hearing.{Reading}
 use Rattle.uac_units.specs.declared.hearing.MeterKind.{MeterKind}
@@ -27,11 +27,11 @@ use Rattle.uac_transcript.specs.declared.report.StreamCounts.{StreamCounts}
 use Rattle.uac_transcript.specs.Transcript.{Said, says_domain, says_meter, says_played, spelled}
 use Rattle.uac_streaming.specs.StreamingWorld as streams
 use Rattle.uac_topology_rules.proofs.Found.{position-below}
-use Rattle.uac_device.specs.Kept.{DeviceFields, Stands}
+use Rattle.uac_device.specs.DeviceKept.{DeviceFields, Stands}
 use Rattle.uac_device.specs.DeviceWorld.{Domain, DeviceWorld, is_jack, is_output_jack, level_of, played_at, target_of}
 use Rattle.uac_running.specs.declared.counts.TickCount.{TickCount}
-use Rattle.uac_running.specs.Kept.{counted}
-use Rattle.uac_running.specs.Lines.{domain_line, played_line, played_lines, says_stream, stream_line}
+use Rattle.uac_running.specs.RunningKept.{counted}
+use Rattle.uac_running.specs.RunningLines.{domain_line, played_line, played_lines, says_stream, stream_line}
 
 -- a line for each of the items that a test keeps
 pub kept_only : {X : Type 0} (f : X → Said) (p : X → Bool) (xs : List X) → map f (filter p xs) ≡ flat_map (λ x. if p x then f x ∷ [] else []) xs

@@ -12,18 +12,18 @@ use Rattle.uac_streaming.specs.StreamingWorld.{StreamingWorld, all_reported, all
 use Rattle.uac_streaming.proofs.Quiet.{IsQuiet, Quietly, quiet_ends, quiet_in, quiet_out, quiet_reports}
 use Rattle.uac_running.specs.RunningWorld.{RunningWorld, streaming_of, with_streaming}
 use Rattle.uac_running.specs.Events.{Told, all_domains, ends_and_reports, followed_by, of_streams, packets_and_ticks, still, with_lines_first}
-use Rattle.uac_running.specs.Kept.{RunningFields, Stands, Tells}
+use Rattle.uac_running.specs.RunningKept.{RunningFields, Stands, Tells}
 use Rattle.uac_running.specs.Silence.{packets}
 use Rattle.uac_running.proofs.SoFar.{Appends-nothing, tells_then, with_lines_first-with_lines_first}
 use Rattle.uac_running.proofs.Steps.{streams_told}
 use Rattle.uac_running.proofs.StreamSteps.{all_settled-keep}
 
 -- the packets come first
-pub packets_first : (losses : List SaidMark) (r : RunningWorld) → followed_by (packets losses) all_domains r ≡ packets_and_ticks losses r
+pub packets_first : (marks : List SaidMark) (r : RunningWorld) → followed_by (packets marks) all_domains r ≡ packets_and_ticks marks r
 unfolding packets_and_ticks
-packets_first losses r =
-    let out = of_streams (out_packets r.detail losses) r in
-    let coming = of_streams (in_packets r.detail losses) out.world in
+packets_first marks r =
+    let out = of_streams (out_packets r.detail marks) r in
+    let coming = of_streams (in_packets r.detail marks) out.world in
     sym (with_lines_first-with_lines_first out.lines coming.lines (all_domains coming.world))
 
 abbrev told_with : RunningWorld → Telling StreamingWorld → Told
@@ -36,25 +36,25 @@ still_told : (told : Told) (p : RunningFields) (meters : List Reading) (r : Runn
     → Tells {E = Failed} told p meters old old (Ok tt)
 still_told told p meters r old is stands = subst (λ (t : Told). Tells {E = Failed} t p meters old old (Ok tt)) (sym is) (Appends-nothing old, stands)
 
-pub quiet_packets_told : (losses : List SaidMark) (p : RunningFields) (meters : List Reading) (r : RunningWorld) (old : Option (List ℕ)) → IsQuiet (streaming_of r) → Stands p meters r
-    → Tells {E = Failed} (packets losses r) p meters old old (Ok tt)
-quiet_packets_told losses p meters r old none stands =
-    still_told (packets losses r) p meters r old
-    (ap (λ (t : Told). with_lines_first t.lines (of_streams (in_packets r.detail losses) t.world))
-    (still_streams (out_packets r.detail losses) r (quiet_out r.detail losses (streaming_of r) none))
-    ∙ still_streams (in_packets r.detail losses) r (quiet_in r.detail losses (streaming_of r) none))
+pub quiet_packets_told : (marks : List SaidMark) (p : RunningFields) (meters : List Reading) (r : RunningWorld) (old : Option (List ℕ)) → IsQuiet (streaming_of r) → Stands p meters r
+    → Tells {E = Failed} (packets marks r) p meters old old (Ok tt)
+quiet_packets_told marks p meters r old none stands =
+    still_told (packets marks r) p meters r old
+    (ap (λ (t : Told). with_lines_first t.lines (of_streams (in_packets r.detail marks) t.world))
+    (still_streams (out_packets r.detail marks) r (quiet_out r.detail marks (streaming_of r) none))
+    ∙ still_streams (in_packets r.detail marks) r (quiet_in r.detail marks (streaming_of r) none))
     stands
 
-pub quiet_ends_told : (losses : List SaidMark) (p : RunningFields) (meters : List Reading) (r : RunningWorld) (old : Option (List ℕ)) → IsQuiet (streaming_of r) → Stands p meters r
-    → Tells {E = Failed} (ends_and_reports losses r) p meters old old (Ok tt)
+pub quiet_ends_told : (marks : List SaidMark) (p : RunningFields) (meters : List Reading) (r : RunningWorld) (old : Option (List ℕ)) → IsQuiet (streaming_of r) → Stands p meters r
+    → Tells {E = Failed} (ends_and_reports marks r) p meters old old (Ok tt)
 unfolding ends_and_reports
-quiet_ends_told losses p meters r old none stands =
+quiet_ends_told marks p meters r old none stands =
     let ended : Quietly p.streaming p.device (all_settled r.detail (streaming_of r)) = quiet_ends r.detail p.streaming p.device (streaming_of r) none stands.streaming in
     let after = (of_streams (all_settled r.detail) r).world in
     let first : Tells {E = Failed} (of_streams (all_settled r.detail) r) p meters old old (Ok tt) =
     streams_told meters r p p stands {E = Failed} (all_settled r.detail) old old (Ok tt)
     (subst (λ (ls : List Said). Appends old old (text_of ls)) (sym ended.lines) (Appends-nothing old), ended.stands)
     (all_settled-keep r.detail (streaming_of r)) refl refl refl refl refl (record { view = refl; configuration = refl; breaks = refl }) in
-    tells_then {E = Failed} (of_streams (all_settled r.detail)) (of_streams (all_reported r.detail losses)) r p meters old old old (Ok tt) first.0
-    (still_told (of_streams (all_reported r.detail losses) after) p meters after old
-    (still_streams (all_reported r.detail losses) after (quiet_reports r.detail losses (streaming_of after) ended.quiet)) first.1)
+    tells_then {E = Failed} (of_streams (all_settled r.detail)) (of_streams (all_reported r.detail marks)) r p meters old old old (Ok tt) first.0
+    (still_told (of_streams (all_reported r.detail marks) after) p meters after old
+    (still_streams (all_reported r.detail marks) after (quiet_reports r.detail marks (streaming_of after) ended.quiet)) first.1)

@@ -11,15 +11,15 @@ use Rattle.uac_graph.specs.Meaning.{entity}
 use Rattle.uac_graph.specs.Wiring.{silence}
 use Rattle.uac_units.specs.Hearing.{Reading}
 use Rattle.uac_lanes.specs.InterfaceStreams.{NoneRuns}
-use Rattle.uac_device.specs.Kept as device
-use Rattle.uac_device.specs.DeviceWorld.{DeviceWorld, entity_in, input_of, is_input_jack, is_jack, is_streamed, set_jack, streamed, ticked}
+use Rattle.uac_device.specs.DeviceKept as device
+use Rattle.uac_device.specs.DeviceWorld.{DeviceWorld, entity_in, input_of, is_input_jack, is_jack, is_streamed, set_jack, streamed_frame, after_tick}
 use Rattle.uac_device.specs.Stillness.{IsStill}
-use Rattle.uac_device.proofs.Kept.{all_changed}
+use Rattle.uac_device.proofs.DeviceKeptLemmas.{all_changed}
 use Rattle.uac_running.specs.declared.jacks.Jack.{Jack}
 use Rattle.uac_running.specs.RunningWorld.{RunningWorld}
 use Rattle.uac_running.specs.Events.{after_one, all_given, given, given_one, gone_on, next_frame, tick}
 use Rattle.uac_running.specs.Silence.{AreAtRest, GaveSilence, one_sounds, sounds}
-use Rattle.uac_running.specs.Kept.{HasItsJacks, RunningFields, Stands}
+use Rattle.uac_running.specs.RunningKept.{HasItsJacks, RunningFields, Stands}
 use Rattle.uac_running.proofs.JackSteps.{silent_frame}
 use Rattle.uac_running.proofs.Steps.{given-kept}
 use Rattle.uac_running.proofs.Stillness.{stills_after}
@@ -150,7 +150,7 @@ jack_stays clock w id jack =
     let parts = and_parts (is_input e.kind) (is_jack e) jack in
     let aside : is_streamed clock e ≡ false =
     ap (λ (b : Bool). b && (not (is_jack e) && e.clock == clock)) parts.0 ∙ ap (λ (b : Bool). not b && e.clock == clock) parts.1 in
-    ap (λ (b : Bool). if b then streamed w id else w.given id) aside
+    ap (λ (b : Bool). if b then streamed_frame w id else w.given id) aside
 
 clock_on : (clock : ℕ) (j : Jack) → (after_one clock j).clock ≡ j.clock
 clock_on clock j = elim (cases_Bool (j.clock == clock)) [ inl same ↦ rw same refl | inr other ↦ rw other refl ]
@@ -171,7 +171,7 @@ gone_so P clock j holds = elim (cases_Bool (j.clock == clock)) [ inl same ↦ rw
 
 pub rests_after : (clock : ℕ) (meters : List Reading) (r : RunningWorld) (p : RunningFields) → Stands p meters r → HasItsJacks p → one_sounds clock r.jacks ≡ false
     → AreAtRest clock (tick clock r).world.jacks (tick clock r).world.device
-unfolding tick ticked all_given set_jack
+unfolding tick after_tick all_given set_jack
 rests_after clock meters r p stands jacks quiet =
     let f = r.device.function in
     let w = given clock r.jacks r.device in
@@ -181,7 +181,7 @@ rests_after clock meters r p stands jacks quiet =
     let kinds : All (λ (j : Jack). is_input_jack (entity w.function.entities j.terminal) ≡ true) r.jacks =
     subst (λ (js : List Jack). All (λ (j : Jack). is_input_jack (entity w.function.entities j.terminal) ≡ true) js) stands.jacks
     (subst (λ (g : FunctionFields). All (λ (j : Jack). is_input_jack (entity g.entities j.terminal) ≡ true) p.jacks) (same ∙ sym of) jacks.kinds) in
-    let after : DeviceWorld = ticked clock w in
+    let after : DeviceWorld = after_tick clock w in
     let gave : All (GaveSilence clock after) r.jacks =
     λ k x below here.
     jack_stays clock w (get_or r.jacks k x).terminal (kinds k x below) ∙ all_gave f clock r.jacks r.device quiet fits k x below here
@@ -218,11 +218,11 @@ begun_to_tick sounding running clock p jacks meters r stands heard own none = re
   stills = λ e. absurd (true≢false (sym e));
 }
 
-pub after_tick : (silent still jacks lanes : Bool) (clock : ℕ) (p q : RunningFields) (shown showing : List Reading) (r : RunningWorld) → RestsSo silent still jacks lanes clock p shown r
+pub after_one_tick : (silent still jacks lanes : Bool) (clock : ℕ) (p q : RunningFields) (shown showing : List Reading) (r : RunningWorld) → RestsSo silent still jacks lanes clock p shown r
     → Stands q showing (tick clock r).world
     → (one_sounds clock r.jacks ≡ false → AreAtRest clock (tick clock r).world.jacks (tick clock r).world.device)
     → RestsSo silent still silent still clock q showing (tick clock r).world
-after_tick silent still jacks lanes clock p q shown showing r s stands rests = record {
+after_one_tick silent still jacks lanes clock p q shown showing r s stands rests = record {
   now = stands;
   quiet = λ e. (rests (s.quiet e)).silent;
   none = λ e. (stills_after clock r (s.none e)).none;

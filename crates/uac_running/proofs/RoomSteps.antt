@@ -6,12 +6,12 @@ use Rattle.uac_pcm.specs.declared.tones.Tone.{Tone}
 use Rattle.uac_topology.specs.Function.{FunctionFields}
 use Rattle.uac_units.specs.Hearing.{at_most_u64}
 use Rattle.uac_request.specs.declared.setup.Setup.{Setup}
-use Rattle.uac_device.specs.DeviceWorld.{DeviceWorld, ZerosFitIn, advanced, controlled, next_ticks, set_jack, stream_in_setting}
-use Rattle.uac_device.specs.Kept.{IsInRange}
+use Rattle.uac_device.specs.DeviceWorld.{DeviceWorld, ZerosFitIn, after_advance, after_control, next_ticks, set_jack, stream_in_setting}
+use Rattle.uac_device.specs.DeviceKept.{IsInRange}
 use Rattle.uac_script.specs.Phrase.{SaidMark}
 use Rattle.uac_mixer.specs.declared.link.When.{When}
 use Rattle.uac_mixer.specs.declared.link.When.TheVariants as when
-use Rattle.uac_streaming.specs.StreamingWorld.{followed, in_packets, loses_out, out_packets}
+use Rattle.uac_streaming.specs.StreamingWorld.{after_following, in_packets, loses_out, out_packets}
 use Rattle.uac_streaming.specs.Room.{HaveRoom}
 use Rattle.uac_streaming.proofs.RoomOfDevices.{AreWithin, HaveSmallNumbers, advanced_within, all_fit, all_opened, any_clock, jack_within, ticked_within}
 use Rattle.uac_streaming.proofs.RoomKept.{controlled_room, deviated_room}
@@ -19,7 +19,7 @@ use Rattle.uac_streaming.proofs.RoomTurns.{IsRoomy, all_reported_keeps, all_sett
 use Rattle.uac_running.specs.declared.jacks.Jack.{Jack}
 use Rattle.uac_running.specs.RunningWorld.{RunningWorld, streaming_of, with_detail, with_deviation, with_samples_on, with_streaming, with_tone, with_track}
 use Rattle.uac_running.specs.Events.{all_given, domain_microframe, domain_microframes, ends_and_reports, given, microframe, microframes, next_frame, packets_and_ticks, tick, tick_times}
-use Rattle.uac_running.specs.Transfers.{acts, holds_setting, transferred, with_break}
+use Rattle.uac_running.specs.RunningTransfers.{acts, holds_setting, after_transfer, with_break}
 
 -- ---- ticks
 
@@ -48,8 +48,8 @@ module _ (about : FunctionFields → Type 0) (loses : ℕ → Bool) where
       → AreWithin about loses ahead 0 0 (domain_microframe clock r).world.device
   unfolding domain_microframe
   domain_within clock ahead r once is =
-      any_clock about loses ahead clock 0 (tick_times (next_ticks clock r.device) clock (record r { device = advanced clock r.device })).world.device
-      (tick_times_within (next_ticks clock r.device) ahead clock (record r { device = advanced clock r.device })
+      any_clock about loses ahead clock 0 (tick_times (next_ticks clock r.device) clock (record r { device = after_advance clock r.device })).world.device
+      (tick_times_within (next_ticks clock r.device) ahead clock (record r { device = after_advance clock r.device })
       (advanced_within about loses clock 0 ahead r.device once is))
 
   domains_within : (clocks : List ℕ) (r : RunningWorld) → IsDistinct nat_eq clocks → AreWithin about loses clocks 0 0 r.device
@@ -62,70 +62,70 @@ module _ (about : FunctionFields → Type 0) (loses : ℕ → Bool) where
 -- ---- a microframe
 
 -- before its ends
-pub ticks_within : (about : FunctionFields → Type 0) (losses : List SaidMark) (r : RunningWorld) → about r.device.function → HaveRoom r.device
-    → AreWithin about (loses_out losses) [] 0 0 (packets_and_ticks losses r).world.device
+pub ticks_within : (about : FunctionFields → Type 0) (marks : List SaidMark) (r : RunningWorld) → about r.device.function → HaveRoom r.device
+    → AreWithin about (loses_out marks) [] 0 0 (packets_and_ticks marks r).world.device
 unfolding packets_and_ticks
-ticks_within about losses r holds room =
-    let sent = with_streaming r (out_packets r.detail losses (streaming_of r)).world in
-    let fetched = with_streaming sent (in_packets r.detail losses (streaming_of sent)).world in
-    let behind_packets = in_packets_within about r.detail losses fetched.device.function.domains 0 (streaming_of sent)
-    (out_packets_within about r.detail losses fetched.device.function.domains 0 (streaming_of r)
-    (all_opened about (loses_out losses) fetched.device.function.domains r.device holds room)) in
-    domains_within about (loses_out losses) fetched.device.function.domains fetched behind_packets.apart behind_packets
+ticks_within about marks r holds room =
+    let sent = with_streaming r (out_packets r.detail marks (streaming_of r)).world in
+    let fetched = with_streaming sent (in_packets r.detail marks (streaming_of sent)).world in
+    let behind_packets = in_packets_within about r.detail marks fetched.device.function.domains 0 (streaming_of sent)
+    (out_packets_within about r.detail marks fetched.device.function.domains 0 (streaming_of r)
+    (all_opened about (loses_out marks) fetched.device.function.domains r.device holds room)) in
+    domains_within about (loses_out marks) fetched.device.function.domains fetched behind_packets.apart behind_packets
 
 -- the zeros fit
-pub zeros_fit_in : (losses : List SaidMark) (r : RunningWorld) → HaveRoom r.device → (interface : ℕ)
-    → ZerosFitIn (packets_and_ticks losses r).world.device interface
-zeros_fit_in losses r room interface =
-    all_fit (λ function. Unit {0}) (loses_out losses) [] 0 (packets_and_ticks losses r).world.device interface (ticks_within (λ function. Unit {0}) losses r tt room)
+pub zeros_fit_in : (marks : List SaidMark) (r : RunningWorld) → HaveRoom r.device → (interface : ℕ)
+    → ZerosFitIn (packets_and_ticks marks r).world.device interface
+zeros_fit_in marks r room interface =
+    all_fit (λ function. Unit {0}) (loses_out marks) [] 0 (packets_and_ticks marks r).world.device interface (ticks_within (λ function. Unit {0}) marks r tt room)
 
-ends_room : (about : FunctionFields → Type 0) (losses : List SaidMark) (r : RunningWorld) → HaveSmallNumbers r.device.function
-    → AreWithin about (loses_out losses) [] 0 0 r.device → IsRoomy about (ends_and_reports losses r).world.device
+ends_room : (about : FunctionFields → Type 0) (marks : List SaidMark) (r : RunningWorld) → HaveSmallNumbers r.device.function
+    → AreWithin about (loses_out marks) [] 0 0 r.device → IsRoomy about (ends_and_reports marks r).world.device
 unfolding ends_and_reports
-ends_room about losses r small is =
-    all_reported_keeps (IsRoomy about) r.detail losses _ (all_settled_room about r.detail (loses_out losses) 0 (streaming_of r) small is)
+ends_room about marks r small is =
+    all_reported_keeps (IsRoomy about) r.detail marks _ (all_settled_room about r.detail (loses_out marks) 0 (streaming_of r) small is)
 
 -- after it there is room, if the numbers of interfaces are bytes; what is so of the device's function stays so
 pub microframe_room : (about : FunctionFields → Type 0) → ((function : FunctionFields) → about function → HaveSmallNumbers function)
-    → (losses : List SaidMark) (r : RunningWorld) → IsRoomy about r.device → IsRoomy about (microframe losses r).world.device
+    → (marks : List SaidMark) (r : RunningWorld) → IsRoomy about r.device → IsRoomy about (microframe marks r).world.device
 unfolding microframe
-microframe_room about small losses r is =
+microframe_room about small marks r is =
     let numbered : RunningWorld = record r { time = at_most_u64 (r.time + 1) } in
-    let within = ticks_within about losses numbered is.function is.room in
-    ends_room about losses (packets_and_ticks losses numbered).world (small _ within.function) within
+    let within = ticks_within about marks numbered is.function is.room in
+    ends_room about marks (packets_and_ticks marks numbered).world (small _ within.function) within
 
 pub microframes_room : (about : FunctionFields → Type 0) → ((function : FunctionFields) → about function → HaveSmallNumbers function)
-    → (losses : List SaidMark) (count : ℕ) (r : RunningWorld) → IsRoomy about r.device
-    → IsRoomy about (microframes losses count r).world.device
+    → (marks : List SaidMark) (count : ℕ) (r : RunningWorld) → IsRoomy about r.device
+    → IsRoomy about (microframes marks count r).world.device
 unfolding microframes
-microframes_room about small losses zero r is = is
-microframes_room about small losses (suc count) r is =
-    microframes_room about small losses count (microframe losses r).world (microframe_room about small losses r is)
+microframes_room about small marks zero r is = is
+microframes_room about small marks (suc count) r is =
+    microframes_room about small marks count (microframe marks r).world (microframe_room about small marks r is)
 
-pub one_microframe : (losses : List SaidMark) (r : RunningWorld) → HaveSmallNumbers r.device.function → HaveRoom r.device
-    → HaveRoom (microframe losses r).world.device
-one_microframe losses r small room =
-    (microframe_room HaveSmallNumbers (λ function is. is) losses r (record { room = room; function = small })).room
+pub one_microframe : (marks : List SaidMark) (r : RunningWorld) → HaveSmallNumbers r.device.function → HaveRoom r.device
+    → HaveRoom (microframe marks r).world.device
+one_microframe marks r small room =
+    (microframe_room HaveSmallNumbers (λ function is. is) marks r (record { room = room; function = small })).room
 
-pub many_microframes : (losses : List SaidMark) (count : ℕ) (r : RunningWorld) → HaveSmallNumbers r.device.function → HaveRoom r.device
-    → HaveRoom (microframes losses count r).world.device
-many_microframes losses count r small room =
-    (microframes_room HaveSmallNumbers (λ function is. is) losses count r (record { room = room; function = small })).room
+pub many_microframes : (marks : List SaidMark) (count : ℕ) (r : RunningWorld) → HaveSmallNumbers r.device.function → HaveRoom r.device
+    → HaveRoom (microframes marks count r).world.device
+many_microframes marks count r small room =
+    (microframes_room HaveSmallNumbers (λ function is. is) marks count r (record { room = room; function = small })).room
 
 -- ---- what else changes the device
 
-pub deviation_room : (clock : ℕ) (millionths : ℤ) (r : RunningWorld) → IsInRange millionths → HaveRoom r.device
-    → HaveRoom (with_deviation clock millionths r).device
+pub deviation_room : (clock : ℕ) (ppm : ℤ) (r : RunningWorld) → IsInRange ppm → HaveRoom r.device
+    → HaveRoom (with_deviation clock ppm r).device
 unfolding with_deviation
-deviation_room clock millionths r range room = deviated_room clock millionths r.device range room
+deviation_room clock ppm r range room = deviated_room clock ppm r.device range room
 
-pub transferred_room : (p : Setup) (bytes : List ℕ) (r : RunningWorld) → HaveRoom r.device → HaveRoom (transferred p bytes r).device
-unfolding transferred followed
+pub transferred_room : (p : Setup) (bytes : List ℕ) (r : RunningWorld) → HaveRoom r.device → HaveRoom (after_transfer p bytes r).device
+unfolding after_transfer after_following
 transferred_room p bytes r room = by (holds_setting p bytes r) r.breaks
   where
     by : (b : Bool) (breaks : Option When)
-        → HaveRoom (let s = record (streaming_of r) { device = acts breaks r.device (controlled p bytes r.device) } in
-        if b then followed p.index (stream_in_setting r.device.function r.device.controls p.index p.value) s else s).device
+        → HaveRoom (let s = record (streaming_of r) { device = acts breaks r.device (after_control p bytes r.device) } in
+        if b then after_following p.index (stream_in_setting r.device.function r.device.controls p.index p.value) s else s).device
     by true None = controlled_room r.device room p bytes
     by true (Some when.Before) = room
     by true (Some when.After) = controlled_room r.device room p bytes

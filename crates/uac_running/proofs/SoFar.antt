@@ -9,7 +9,7 @@ use Rattle.uac_transcript.specs.Printing.{text_of}
 use Rattle.uac_transcript.proofs.PrintingLemmas.{Appends-lines, Prints-after, front_after, front_of_more}
 use Rattle.uac_running.specs.RunningWorld.{RunningWorld}
 use Rattle.uac_running.specs.Events.{Told, with_lines_first, followed_by, still}
-use Rattle.uac_running.specs.Kept.{RunningFields, Tells}
+use Rattle.uac_running.specs.RunningKept.{RunningFields, Tells}
 
 abbrev told_of : RunningWorld → List Said → Told
 told_of r lines = record { lines = lines; world = r }

@@ -19,16 +19,16 @@ use Rattle.uac_graph.proofs.FromRules.{sound_graph}
 use Rattle.uac_units.specs.Hearing.{Reading}
 use Rattle.uac_graph.specs.Fitness.{IsSignalGraph}
 use Rattle.uac_graph.specs.Meaning.{entity}
-use Rattle.uac_device.specs.Kept as device
+use Rattle.uac_device.specs.DeviceKept as device
 use Rattle.uac_device.specs.DeviceWorld.{at_rest, fresh, is_input_jack, is_jack}
-use Rattle.uac_streaming.specs.Kept as streaming
+use Rattle.uac_streaming.specs.StreamingKept as streaming
 use Rattle.uac_streaming.specs.StreamingWorld.{streaming_start}
 use Rattle.uac_mixer.specs.ViewWorld.{known_view}
-use Rattle.uac_store.specs.Controls.{initial_controls}
+use Rattle.uac_store.specs.StoreControls.{initial_controls}
 use Rattle.uac_configuration.specs.Configuration.{configuration_of}
 use Rattle.uac_running.specs.declared.counts.TickCount.{TickCount}
 use Rattle.uac_running.specs.declared.jacks.Jack.{Jack}
-use Rattle.uac_running.specs.Kept.{HasItsDomains, HasItsJacks, RunningFields, StandsBetween, counted, none_counted}
+use Rattle.uac_running.specs.RunningKept.{HasItsDomains, HasItsJacks, RunningFields, StandsBetween, counted, none_counted}
 use Rattle.uac_running.specs.RunningWorld.{at_start, silent_jack}
 use Rattle.uac_running.proofs.Counting.{clocks_of}
 use Rattle.uac_streaming.proofs.RoomKept.{fresh_room}

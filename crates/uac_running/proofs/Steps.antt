@@ -6,8 +6,8 @@ use Rattle.std.proofs.lemmas.List.{drop_all}
 use Rattle.uac_pcm.specs.declared.tones.Tone.{Tone}
 use Rattle.uac_units.specs.Hearing.{Reading, at_most_u64}
 use Rattle.uac_rate.specs.Steadiness as steadiness
-use Rattle.uac_device.specs.Kept as device
-use Rattle.uac_device.specs.DeviceWorld.{DeviceWorld, advanced, after_frames, deviated, heard_of, met_of, next_ticks, renders_of, set_jack, step_in, ticked}
+use Rattle.uac_device.specs.DeviceKept as device
+use Rattle.uac_device.specs.DeviceWorld.{DeviceWorld, after_advance, after_frames, after_deviation, heard_of, met_of, next_ticks, renders_of, set_jack, step_in, after_tick}
 use Rattle.uac_lanes.specs.declared.ticking.Ticked.{Ticked}
 use Rattle.uac_script.specs.Phrase.{SaidMark}
 use Rattle.uac_transcript.specs.Printing.{Prints, text_of}
@@ -15,20 +15,20 @@ use Rattle.uac_transcript.proofs.PrintingLemmas.{front_after, front_of_more}
 use Rattle.uac_edges.specs.Writing.{AppendsFront}
 use Rattle.std.specs.Io.KnownBytes.{Appends}
 use Rattle.uac_streaming.specs.Room.{HaveRoom}
-use Rattle.uac_streaming.specs.Kept as streaming
+use Rattle.uac_streaming.specs.StreamingKept as streaming
 use Rattle.uac_streaming.specs.Telling.{Telling}
 use Rattle.uac_host.specs.HostWorld.{HostWorld}
-use Rattle.uac_streaming.specs.Kept.{StreamingFields}
+use Rattle.uac_streaming.specs.StreamingKept.{StreamingFields}
 use Rattle.uac_streaming.specs.StreamingWorld.{StreamingWorld, found_counts, found_lines, met_in, numbers, numbers_in, numbers_out}
 use Rattle.uac_running.specs.declared.counts.TickCount.{TickCount}
 use Rattle.uac_running.specs.declared.jacks.Jack.{Jack}
 use Rattle.uac_topology.specs.Function.{FunctionFields}
 use Rattle.uac_mixer.specs.ViewWorld.{IsViewOf, ViewWorld}
-use Rattle.uac_running.specs.RunningWorld.{RunningWorld, streaming_of, toned, with_detail, with_deviation, with_streaming, with_tone}
-use Rattle.uac_running.specs.Lines.{played_lines}
+use Rattle.uac_running.specs.RunningWorld.{RunningWorld, streaming_of, jack_with_tone, with_detail, with_deviation, with_streaming, with_tone}
+use Rattle.uac_running.specs.RunningLines.{played_lines}
 use Rattle.uac_running.specs.Events.{Told, all_given, with_lines_first, domain_microframe, domain_microframes, ends_and_reports, followed_by, given, gone_on, microframe, microframes, next_frame, number_said, of_streams, packets_and_ticks, still, tick, tick_times}
-use Rattle.uac_running.specs.Transfers.{break_at, with_break}
-use Rattle.uac_running.specs.Kept.{RunningFields, Stands, StandsBetween, Tells, TellsBetween, counted, more_counted}
+use Rattle.uac_running.specs.RunningTransfers.{break_at, with_break}
+use Rattle.uac_running.specs.RunningKept.{RunningFields, Stands, StandsBetween, Tells, TellsBetween, counted, more_counted}
 use Rattle.uac_running.specs.Silence.{AreAtRest}
 use Rattle.uac_running.proofs.Counting.{clocks_of, counted-off, counted-stepped}
 use Rattle.uac_running.proofs.SoFar.{at_ok, front_then, ok_then, tells_behind, tells_then}
@@ -43,14 +43,14 @@ pub ticks_end : (count i clock : ℕ) (w : RunningWorld) → count ≤ i → tic
 unfolding tick_times
 ticks_end count i clock w past = let left : count - i ≡ 0 = omega arith in ap (λ n. tick_times n clock w) left
 
-pub microframes_split : (losses : List SaidMark) (count i : ℕ) (w : RunningWorld) → i < count
-    → microframes losses (count - i) w ≡ with_lines_first (microframe losses w).lines (microframes losses (count - (i + 1)) (microframe losses w).world)
+pub microframes_split : (marks : List SaidMark) (count i : ℕ) (w : RunningWorld) → i < count
+    → microframes marks (count - i) w ≡ with_lines_first (microframe marks w).lines (microframes marks (count - (i + 1)) (microframe marks w).world)
 unfolding microframes
-microframes_split losses count i w below = let left : count - i ≡ suc (count - (i + 1)) = omega arith in ap (λ n. microframes losses n w) left
+microframes_split marks count i w below = let left : count - i ≡ suc (count - (i + 1)) = omega arith in ap (λ n. microframes marks n w) left
 
-pub microframes_end : (losses : List SaidMark) (count i : ℕ) (w : RunningWorld) → count ≤ i → microframes losses (count - i) w ≡ still w
+pub microframes_end : (marks : List SaidMark) (count i : ℕ) (w : RunningWorld) → count ≤ i → microframes marks (count - i) w ≡ still w
 unfolding microframes
-microframes_end losses count i w past = let left : count - i ≡ 0 = omega arith in ap (λ n. microframes losses n w) left
+microframes_end marks count i w past = let left : count - i ≡ 0 = omega arith in ap (λ n. microframes marks n w) left
 
 pub domains_split : (clocks : List ℕ) (i : ℕ) (w : RunningWorld) → i < length clocks
     → domain_microframes (drop i clocks) w ≡ with_lines_first (domain_microframe (get_or clocks i 0) w).lines (domain_microframes (drop (i + 1) clocks) (domain_microframe (get_or clocks i 0) w).world)
@@ -141,7 +141,7 @@ module _ (meters : List Reading) (r : RunningWorld) (p q : RunningFields) (stand
         renders = stands.renders;
       })
 
-  pub toned_on : (terminal : ℕ) (tone : Tone) (jacks : List Jack) → jacks ≡ map (toned terminal tone) p.jacks → q ≡ record p { jacks = jacks } → Stands q meters (with_tone terminal tone r)
+  pub toned_on : (terminal : ℕ) (tone : Tone) (jacks : List Jack) → jacks ≡ map (jack_with_tone terminal tone) p.jacks → q ≡ record p { jacks = jacks } → Stands q meters (with_tone terminal tone r)
   unfolding with_tone
   toned_on terminal tone jacks changed is =
       let P : RunningFields → Type 0 = λ x. Stands x meters (with_tone terminal tone r) in
@@ -151,7 +151,7 @@ module _ (meters : List Reading) (r : RunningWorld) (p q : RunningFields) (stand
         view = stands.view;
         configuration = stands.configuration;
         breaks = stands.breaks;
-        jacks = changed ∙ ap (map (toned terminal tone)) stands.jacks;
+        jacks = changed ∙ ap (map (jack_with_tone terminal tone)) stands.jacks;
         counts = stands.counts;
         time = stands.time;
         detail = stands.detail;
@@ -159,30 +159,30 @@ module _ (meters : List Reading) (r : RunningWorld) (p q : RunningFields) (stand
         renders = stands.renders;
       })
 
-  pub off : (clock : ℕ) (millionths : ℤ) → device.Stands q.device (deviated clock millionths r.device)
-      → ((w : StreamingWorld) → streaming.Stands p.streaming q.device w → streaming.Stands q.streaming q.device (record w { given = steadiness.deviated millionths w.given }))
-      → q.jacks ≡ p.jacks → q.counts ≡ p.counts → q.time ≡ p.time → q.detail ≡ p.detail → q.renders ≡ p.renders → IsBeside p q → Stands q meters (with_deviation clock millionths r)
-  unfolding with_deviation deviated
-  off clock millionths kept gives jacks counts time detail renders beside = record {
-    streaming = gives (record (streaming_of r) { device = deviated clock millionths r.device }) (stands_beside p.streaming p.device q.device (streaming_of r) (deviated clock millionths r.device) stands.streaming kept refl);
+  pub off : (clock : ℕ) (ppm : ℤ) → device.Stands q.device (after_deviation clock ppm r.device)
+      → ((w : StreamingWorld) → streaming.Stands p.streaming q.device w → streaming.Stands q.streaming q.device (record w { given = steadiness.with_deviation_given ppm w.given }))
+      → q.jacks ≡ p.jacks → q.counts ≡ p.counts → q.time ≡ p.time → q.detail ≡ p.detail → q.renders ≡ p.renders → IsBeside p q → Stands q meters (with_deviation clock ppm r)
+  unfolding with_deviation after_deviation
+  off clock ppm kept gives jacks counts time detail renders beside = record {
+    streaming = gives (record (streaming_of r) { device = after_deviation clock ppm r.device }) (stands_beside p.streaming p.device q.device (streaming_of r) (after_deviation clock ppm r.device) stands.streaming kept refl);
     view = beside.view ∙ stands.view;
     configuration = beside.configuration ∙ stands.configuration;
     breaks = beside.breaks ∙ stands.breaks;
     jacks = jacks ∙ stands.jacks;
-    counts = counts ∙ stands.counts ∙ sym (counted-off clock millionths r.device.domains);
+    counts = counts ∙ stands.counts ∙ sym (counted-off clock ppm r.device.domains);
     time = time ∙ stands.time;
     detail = detail ∙ stands.detail;
     meters = stands.meters;
     renders = renders ∙ stands.renders;
   }
 
-  pub advanced_on : (clock n : ℕ) → device.Stands q.device (advanced clock r.device) → n ≡ next_ticks clock r.device → IsDistinct eqb (clocks_of p.counts)
+  pub advanced_on : (clock n : ℕ) → device.Stands q.device (after_advance clock r.device) → n ≡ next_ticks clock r.device → IsDistinct eqb (clocks_of p.counts)
       → q.streaming ≡ p.streaming → q.counts ≡ map (more_counted clock n) p.counts → q.jacks ≡ p.jacks → q.time ≡ p.time → q.detail ≡ p.detail → q.renders ≡ p.renders → IsBeside p q
-      → Stands q meters (record r { device = advanced clock r.device })
-  unfolding advanced next_ticks
+      → Stands q meters (record r { device = after_advance clock r.device })
+  unfolding after_advance next_ticks
   advanced_on clock n kept is once same counts jacks time detail renders beside = record {
-    streaming = subst (λ (s : StreamingFields). streaming.Stands s q.device (record (streaming_of r) { device = advanced clock r.device })) (sym same)
-        (stands_beside p.streaming p.device q.device (streaming_of r) (advanced clock r.device) stands.streaming kept refl);
+    streaming = subst (λ (s : StreamingFields). streaming.Stands s q.device (record (streaming_of r) { device = after_advance clock r.device })) (sym same)
+        (stands_beside p.streaming p.device q.device (streaming_of r) (after_advance clock r.device) stands.streaming kept refl);
     view = beside.view ∙ stands.view;
     configuration = beside.configuration ∙ stands.configuration;
     breaks = beside.breaks ∙ stands.breaks;
@@ -260,24 +260,24 @@ jacks_gave rest clock r jacks mid are rests gives =
 pub sounded : (rest : Bool) (clock count : ℕ) (shown showing : List Reading) (r : RunningWorld) (p q : RunningFields) (jacks : List Jack) (mid : device.DeviceFields) (found : Ticked) (f : FunctionFields)
     → Stands p shown r → (rest ≡ true → AreAtRest clock r.jacks r.device) → jacks ≡ p.jacks → f ≡ q.device.function
     → ((w : DeviceWorld) → device.Stands p.device w → (rest ≡ true → AreAtRest clock jacks w) → device.Stands mid (given clock jacks w))
-    → (device.Stands mid (gave clock r) → device.Stands q.device (ticked clock (gave clock r)))
-    → (device.Stands mid (gave clock r) → showing ≡ after_frames (heard_of clock (ticked clock (gave clock r))) shown)
+    → (device.Stands mid (gave clock r) → device.Stands q.device (after_tick clock (gave clock r)))
+    → (device.Stands mid (gave clock r) → showing ≡ after_frames (heard_of clock (after_tick clock (gave clock r))) shown)
     → (device.Stands mid (gave clock r) → count ≡ renders_of clock (gave clock r))
     → (device.Stands mid (gave clock r) → found ≡ met_of clock (gave clock r))
     → ((w : StreamingWorld) (before : DeviceWorld) → streaming.Stands p.streaming q.device w → w.device.function ≡ f → before.function ≡ f → found ≡ met_of clock before
     → streaming.Stands q.streaming q.device (record w { met = found_counts clock before w.met }))
     → q.jacks ≡ gone_on clock jacks → q.counts ≡ p.counts → q.time ≡ p.time → q.detail ≡ p.detail → q.renders ≡ at_most_u64 (p.renders + count)
     → IsBeside p q → Stands q showing (tick clock r).world
-unfolding tick all_given ticked set_jack
+unfolding tick all_given after_tick set_jack
 sounded rest clock count shown showing r p q jacks mid found f stands rests own is_f gives ticks hears rendered meets finds gone counts time detail renders beside =
     let all : jacks ≡ r.jacks = own ∙ stands.jacks in
     let before = jacks_gave rest clock r jacks mid all rests (gives r.device stands.streaming.device) in
     let after = ticks before in
     let same : (all_given clock r).function ≡ r.device.function = given-kept (λ w. w.function) (λ t frame w. refl) clock r.jacks r.device in
     let here : (all_given clock r).function ≡ f = sym after.function ∙ sym is_f in
-    let there = stands_beside p.streaming p.device q.device (streaming_of r) (ticked clock (all_given clock r)) stands.streaming after same in
+    let there = stands_beside p.streaming p.device q.device (streaming_of r) (after_tick clock (all_given clock r)) stands.streaming after same in
     record {
-      streaming = finds (record (streaming_of r) { device = ticked clock (all_given clock r) }) (all_given clock r) there here here (meets before);
+      streaming = finds (record (streaming_of r) { device = after_tick clock (all_given clock r) }) (all_given clock r) there here here (meets before);
       view = beside.view ∙ stands.view;
       configuration = beside.configuration ∙ stands.configuration;
       breaks = beside.breaks ∙ stands.breaks;
@@ -285,7 +285,7 @@ sounded rest clock count shown showing r p q jacks mid found f stands rests own 
       counts = counts ∙ stands.counts ∙ ap (map counted) (sym (given-kept (λ w. w.domains) (λ t frame w. refl) clock r.jacks r.device));
       time = time ∙ stands.time;
       detail = detail ∙ stands.detail;
-      meters = hears before ∙ ap (after_frames (heard_of clock (ticked clock (all_given clock r)))) stands.meters;
+      meters = hears before ∙ ap (after_frames (heard_of clock (after_tick clock (all_given clock r)))) stands.meters;
       renders =
           renders ∙ ap (λ n. at_most_u64 (n + count)) stands.renders ∙ ap (λ n. at_most_u64 (r.renders + n)) (rendered before);
     }
@@ -306,16 +306,16 @@ pub tick_told : {E : Type 0} (clock : ℕ) (meters : List Reading) (r : RunningW
     → ((before after : DeviceWorld) → before.function ≡ p.device.function → found ≡ met_of clock before → device.Stands p.device after
     → Prints old new result (found_lines clock before ++ (if nat_le 1 p.detail then played_lines clock after else [])))
     → Tells (tick clock r) p meters old new result
-unfolding tick ticked
+unfolding tick after_tick
 tick_told {E = E} clock meters r p found old new result stands is shows = (
   subst (λ (n : ℕ). Prints old new result (found_lines clock (all_given clock r) ++ (if nat_le 1 n then played_lines clock (tick clock r).world.device else []))) stands.detail
       (shows (all_given clock r) (tick clock r).world.device (sym stands.streaming.device.function) is stands.streaming.device),
   at_ok (Stands p meters (tick clock r).world) result stands,
 )
 
-pub domain_told : (clock n : ℕ) (r : RunningWorld) → n ≡ next_ticks clock r.device → tick_times n clock (record r { device = advanced clock r.device }) ≡ domain_microframe clock r
+pub domain_told : (clock n : ℕ) (r : RunningWorld) → n ≡ next_ticks clock r.device → tick_times n clock (record r { device = after_advance clock r.device }) ≡ domain_microframe clock r
 unfolding domain_microframe
-domain_told clock n r is = ap (λ k. tick_times k clock (record r { device = advanced clock r.device })) is
+domain_told clock n r is = ap (λ k. tick_times k clock (record r { device = after_advance clock r.device })) is
 
 -- the line of a microframe's number
 pub number_line : (r : RunningWorld) (p : RunningFields) (meters : List Reading) → Stands p meters (record r { time = at_most_u64 (r.time + 1) })
@@ -326,35 +326,35 @@ number_line r p meters stands = ap (λ n. number_said n p.time) stands.detail �
 abbrev pub numbered : RunningWorld → RunningWorld
 numbered r = record r { time = at_most_u64 (r.time + 1) }
 
-module _ (losses : List SaidMark) (r : RunningWorld) where
+module _ (marks : List SaidMark) (r : RunningWorld) where
   abbrev all_of_it : Told
-  all_of_it = followed_by (packets_and_ticks losses) (ends_and_reports losses) (numbered r)
+  all_of_it = followed_by (packets_and_ticks marks) (ends_and_reports marks) (numbered r)
 
-  microframe_is : with_lines_first (number_said r.detail (at_most_u64 (r.time + 1))) all_of_it ≡ microframe losses r
+  microframe_is : with_lines_first (number_said r.detail (at_most_u64 (r.time + 1))) all_of_it ≡ microframe marks r
   unfolding microframe
   microframe_is = refl
 
   -- its number was not printed whole
-  pub microframe_front : (old new : Option (List ℕ)) → AppendsFront old new (text_of (number_said r.detail (at_most_u64 (r.time + 1)))) → AppendsFront old new (text_of (microframe losses r).lines)
+  pub microframe_front : (old new : Option (List ℕ)) → AppendsFront old new (text_of (number_said r.detail (at_most_u64 (r.time + 1)))) → AppendsFront old new (text_of (microframe marks r).lines)
   microframe_front old new front =
       subst (λ (told : Told). AppendsFront old new (text_of told.lines)) microframe_is
       (front_of_more old new (number_said r.detail (at_most_u64 (r.time + 1))) all_of_it.lines front)
 
   -- its packets and ticks were not
   pub microframe_next_front : (old mid new : Option (List ℕ)) → Appends old mid (text_of (number_said r.detail (at_most_u64 (r.time + 1))))
-      → AppendsFront mid new (text_of (packets_and_ticks losses (numbered r)).lines) → AppendsFront old new (text_of (microframe losses r).lines)
+      → AppendsFront mid new (text_of (packets_and_ticks marks (numbered r)).lines) → AppendsFront old new (text_of (microframe marks r).lines)
   microframe_next_front old mid new number front =
       subst (λ (told : Told). AppendsFront old new (text_of told.lines)) microframe_is
       (front_after old mid new (number_said r.detail (at_most_u64 (r.time + 1))) all_of_it.lines number
-      (front_then (packets_and_ticks losses) (ends_and_reports losses) (numbered r) mid new front))
+      (front_then (packets_and_ticks marks) (ends_and_reports marks) (numbered r) mid new front))
 
   -- all of it, or what lies after these
   pub microframe_told : {E : Type 0} (p : RunningFields) (meters : List Reading) (old mid later new : Option (List ℕ)) (result : Result (Unit {0}) E)
-      → HaveRoom (microframe losses r).world.device → Appends old mid (text_of (number_said r.detail (at_most_u64 (r.time + 1))))
-      → Appends mid later (text_of (packets_and_ticks losses (numbered r)).lines)
-      → Tells (ends_and_reports losses (packets_and_ticks losses (numbered r)).world) p meters later new result → TellsBetween (microframe losses r) p meters old new result
+      → HaveRoom (microframe marks r).world.device → Appends old mid (text_of (number_said r.detail (at_most_u64 (r.time + 1))))
+      → Appends mid later (text_of (packets_and_ticks marks (numbered r)).lines)
+      → Tells (ends_and_reports marks (packets_and_ticks marks (numbered r)).world) p meters later new result → TellsBetween (microframe marks r) p meters old new result
   microframe_told {E = E} p meters old mid later new result room number first next =
       let whole = subst (λ (told : Told). Tells told p meters old new result) microframe_is
       (tells_behind (number_said r.detail (at_most_u64 (r.time + 1))) all_of_it p meters old mid new result number
-      (tells_then (packets_and_ticks losses) (ends_and_reports losses) (numbered r) p meters mid later new result first next)) in
-      (whole.0, ok_then (Stands p meters (microframe losses r).world) (StandsBetween p meters (microframe losses r).world) result (λ stands. record { now = stands; room = room }) whole.1)
+      (tells_then (packets_and_ticks marks) (ends_and_reports marks) (numbered r) p meters mid later new result first next)) in
+      (whole.0, ok_then (Stands p meters (microframe marks r).world) (StandsBetween p meters (microframe marks r).world) result (λ stands. record { now = stands; room = room }) whole.1)

@@ -6,7 +6,7 @@ use Rattle.std.proofs.lemmas.List.Elements.{All-head, All-tail}
 use Rattle.uac_topology.specs.Function.{FunctionFields}
 use Rattle.uac_graph.specs.Meaning.{entity}
 use Rattle.uac_units.specs.Hearing.{Reading}
-use Rattle.uac_flow.specs.Streams.{InStream, OutStream}
+use Rattle.uac_flow.specs.FlowStreams.{InStream, OutStream}
 use Rattle.uac_lanes.specs.InterfaceStreams.{NoneRuns}
 use Rattle.uac_device.specs.DeviceWorld.{DeviceWorld, is_input_jack, set_jack}
 use Rattle.uac_device.specs.Stillness.{IsStill}
@@ -14,7 +14,7 @@ use Rattle.uac_device.proofs.Stillness.{still_after, still_given}
 use Rattle.uac_running.specs.declared.jacks.Jack.{Jack}
 use Rattle.uac_running.specs.RunningWorld.{RunningWorld}
 use Rattle.uac_running.specs.Events.{all_given, given, next_frame, tick}
-use Rattle.uac_running.specs.Kept.{HasItsJacks, RunningFields, Stands}
+use Rattle.uac_running.specs.RunningKept.{HasItsJacks, RunningFields, Stands}
 use Rattle.uac_running.proofs.Steps.{gave, given-kept}
 
 -- ---- the jacks give

@@ -3,7 +3,7 @@
 use Rattle.std.specs.Prelude.{ℕ, zero, suc, ◌+◌, ◌==◌, nat_le, if◌then◌else◌, ℤ, List, [], ◌∷◌, ◌++◌, map, filter}
 use Rattle.std.specs.List.{fold}
 use Rattle.uac_graph.specs.Wiring.{tone_frame}
-use Rattle.uac_device.specs.DeviceWorld.{DeviceWorld, advanced, next_ticks, renders_of, set_jack, ticked, heard_of, after_frames}
+use Rattle.uac_device.specs.DeviceWorld.{DeviceWorld, after_advance, next_ticks, renders_of, set_jack, after_tick, heard_of, after_frames}
 use Rattle.uac_units.specs.Hearing.{at_most_u64}
 use Rattle.uac_script.specs.Phrase.{SaidMark}
 use Rattle.uac_transcript.specs.Transcript.{Said, says_time}
@@ -12,7 +12,7 @@ use Rattle.uac_streaming.specs.Telling.{Telling}
 use Rattle.uac_streaming.specs.StreamingWorld.{StreamingWorld, all_reported, all_settled, found_counts, found_lines, in_packets}
 use Rattle.uac_streaming.specs.StreamingWorld.{out_packets}
 use Rattle.uac_running.specs.RunningWorld.{RunningWorld, streaming_of, with_streaming}
-use Rattle.uac_running.specs.Lines.{played_lines}
+use Rattle.uac_running.specs.RunningLines.{played_lines}
 
 -- a world, and the lines that were said on the way to it
 pub record Told : Type 0 where
@@ -56,7 +56,7 @@ gone_on clock jacks = map (after_one clock) jacks
 unfoldable pub tick : ℕ → RunningWorld → Told
 tick clock r =
     let given = all_given clock r in
-    let device = ticked clock given in
+    let device = after_tick clock given in
     record {
       lines = found_lines clock given ++ (if nat_le 1 r.detail then played_lines clock device else []);
       world = record r {
@@ -75,7 +75,7 @@ tick_times (suc n) clock r = with_lines_first (tick clock r).lines (tick_times n
 
 -- a domain's part of a microframe: its clock goes on, and it ticks as often as that gives
 unfoldable pub domain_microframe : ℕ → RunningWorld → Told
-domain_microframe clock r = tick_times (next_ticks clock r.device) clock (record r { device = advanced clock r.device })
+domain_microframe clock r = tick_times (next_ticks clock r.device) clock (record r { device = after_advance clock r.device })
 
 -- a microframe of several domains, one after the other
 unfoldable pub domain_microframes : List ℕ → RunningWorld → Told
@@ -104,20 +104,20 @@ all_domains r = domain_microframes r.device.function.domains r
 -- a microframe after its number, in which these packets and feedback reports are lost: the packets to the device, and those from it; the
 -- ticks of each domain, in order; the end of the microframe for each stream; and the feedback reports
 unfoldable pub packets_and_ticks : List SaidMark → RunningWorld → Told
-packets_and_ticks losses r =
-    followed_by (of_streams (out_packets r.detail losses)) (followed_by (of_streams (in_packets r.detail losses)) all_domains) r
+packets_and_ticks marks r =
+    followed_by (of_streams (out_packets r.detail marks)) (followed_by (of_streams (in_packets r.detail marks)) all_domains) r
 
 unfoldable pub ends_and_reports : List SaidMark → RunningWorld → Told
-ends_and_reports losses r = followed_by (of_streams (all_settled r.detail)) (of_streams (all_reported r.detail losses)) r
+ends_and_reports marks r = followed_by (of_streams (all_settled r.detail)) (of_streams (all_reported r.detail marks)) r
 
 -- one microframe: from detail 2 on its number is said first
 unfoldable pub microframe : List SaidMark → RunningWorld → Told
-microframe losses r =
+microframe marks r =
     let time = at_most_u64 (r.time + 1) in
     with_lines_first (number_said r.detail time)
-    (followed_by (packets_and_ticks losses) (ends_and_reports losses) (record r { time = time }))
+    (followed_by (packets_and_ticks marks) (ends_and_reports marks) (record r { time = time }))
 
 -- so many microframes, with these losses in each
 unfoldable pub microframes : List SaidMark → ℕ → RunningWorld → Told
-microframes losses zero r = still r
-microframes losses (suc n) r = with_lines_first (microframe losses r).lines (microframes losses n (microframe losses r).world)
+microframes marks zero r = still r
+microframes marks (suc n) r = with_lines_first (microframe marks r).lines (microframes marks n (microframe marks r).world)

@@ -2,9 +2,9 @@
 -- What the program's theorem says: to be read and believed.
 pub mod RunningWorld
 pub mod Naming
-pub mod Lines
-pub mod Transfers
+pub mod RunningLines
+pub mod RunningTransfers
 pub mod Events
 -- What the contracts below them cite: steps of the code, no part of what is promised.
-pub mod Kept
+pub mod RunningKept
 pub mod Silence

@@ -5,7 +5,7 @@ use Rattle.uac_pcm.specs.declared.tones.Tone.TheVariants.{Silent}
 use Rattle.uac_entities.specs.declared.entity.Entity.{Entity}
 use Rattle.uac_topology.specs.Function.{FunctionFields}
 use Rattle.uac_units.specs.Hearing.{Reading}
-use Rattle.uac_device.specs.DeviceWorld.{DeviceWorld, fresh, deviated, is_input_jack}
+use Rattle.uac_device.specs.DeviceWorld.{DeviceWorld, fresh, after_deviation, is_input_jack}
 use Rattle.uac_host.specs.HostWorld.{HostWorld, fresh_host}
 use Rattle.uac_host.specs.Calls as calls
 use Rattle.uac_host.specs.Calls.{with_samples}
@@ -64,17 +64,17 @@ at_start descriptor function meters =
     }
 
 -- a jack, and with this tone from its first frame where it is the one with this id
-abbrev pub toned : ℕ → Tone → Jack → Jack
-toned terminal tone j = if j.terminal == terminal then record j { tone = tone; place = 0 } else j
+abbrev pub jack_with_tone : ℕ → Tone → Jack → Jack
+jack_with_tone terminal tone j = if j.terminal == terminal then record j { tone = tone; place = 0 } else j
 
 -- an input jack has this tone from now on, from its first frame
 unfoldable pub with_tone : ℕ → Tone → RunningWorld → RunningWorld
-with_tone terminal tone r = record r { jacks = map (toned terminal tone) r.jacks }
+with_tone terminal tone r = record r { jacks = map (jack_with_tone terminal tone) r.jacks }
 
--- a domain's clock is off by so many millionths from now on
+-- a domain's clock is off by so many ppm from now on
 unfoldable pub with_deviation : ℕ → ℤ → RunningWorld → RunningWorld
-with_deviation clock millionths r =
-    record r { device = deviated clock millionths r.device; given = steadiness.deviated millionths r.given }
+with_deviation clock ppm r =
+    record r { device = after_deviation clock ppm r.device; given = steadiness.with_deviation_given ppm r.given }
 
 -- so much is printed from now on
 unfoldable pub with_detail : ℕ → RunningWorld → RunningWorld

@@ -32,4 +32,4 @@ pub record AreAtRest (clock : ℕ) (jacks : List Jack) (w : DeviceWorld) : Type 
 
 -- the packets of a microframe: those to the device, and those from it
 abbrev pub packets : List SaidMark → RunningWorld → Told
-packets losses r = followed_by (of_streams (out_packets r.detail losses)) (of_streams (in_packets r.detail losses)) r
+packets marks r = followed_by (of_streams (out_packets r.detail marks)) (of_streams (in_packets r.detail marks)) r

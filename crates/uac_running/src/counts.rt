@@ -1,6 +1,6 @@
 // What is counted for the report: the ticks of each domain.
 ghost use Rattle.std.specs.Prelude.{◌≡◌, IfOk, map};
-ghost use Rattle.uac_running.specs.Kept.{none_counted, more_counted};
+ghost use Rattle.uac_running.specs.RunningKept.{none_counted, more_counted};
 
 use std::alloc::Global;
 use uac_descriptor::NoMemory;
@@ -28,18 +28,18 @@ pub(crate) fn no_ticks(alloc: Global, domains: &[u8]) -> Result<Vec<TickCount>, 
 }
 
 /// A domain ticked so often.
-pub(crate) fn count_ticks(counts: &mut [TickCount], clock: u8, ticks: u32)
-    ensures { counts.new ≡ map (more_counted clock ticks) counts.old }
+pub(crate) fn count_ticks(counts: &mut [TickCount], domain: u8, ticks: u32)
+    ensures { counts.new ≡ map (more_counted domain ticks) counts.old }
 {
     for count in counts.iter_mut() {
-        *count = after_ticks(*count, clock, ticks);
+        *count = after_ticks(*count, domain, ticks);
     }
 }
 
-fn after_ticks(count: TickCount, clock: u8, ticks: u32) -> TickCount
-    ensures { result ≡ more_counted clock ticks count }
+fn after_ticks(count: TickCount, domain: u8, ticks: u32) -> TickCount
+    ensures { result ≡ more_counted domain ticks count }
 {
-    if count.clock == clock {
+    if count.clock == domain {
         TickCount {
             ticks: count.ticks.saturating_add(u64::from(ticks)),
             ..count

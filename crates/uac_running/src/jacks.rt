@@ -2,7 +2,7 @@
 ghost use Rattle.std.specs.Prelude.{◌≡◌, ◌≤◌, true, IfOk, map, filter};
 ghost use Rattle.std.specs.List.{All};
 ghost use Rattle.uac_graph.specs.Meaning.{entity};
-ghost use Rattle.uac_device.specs.Kept.{Stands};
+ghost use Rattle.uac_device.specs.DeviceKept.{Stands};
 ghost use Rattle.uac_device.specs.DeviceWorld.{DeviceWorld};
 ghost use Rattle.uac_device.specs.DeviceWorld as world;
 ghost use Rattle.uac_running.specs.Events.{after_one, given, given_one, gone_on};
@@ -55,7 +55,7 @@ fn silent_jack(entity: &Entity) -> Jack
 
 /// A jack gives this tone from now on, from its first frame.
 pub(crate) fn set_tone(jacks: &mut [Jack], terminal: u8, tone: Tone)
-    ensures { jacks.new ≡ map (spec.toned terminal tone) jacks.old }
+    ensures { jacks.new ≡ map (spec.jack_with_tone terminal tone) jacks.old }
 {
     for jack in jacks.iter_mut() {
         *jack = with_tone(*jack, terminal, tone);
@@ -63,7 +63,7 @@ pub(crate) fn set_tone(jacks: &mut [Jack], terminal: u8, tone: Tone)
 }
 
 fn with_tone(jack: Jack, terminal: u8, tone: Tone) -> Jack
-    ensures { result ≡ spec.toned terminal tone jack }
+    ensures { result ≡ spec.jack_with_tone terminal tone jack }
 {
     if jack.terminal == terminal {
         Jack {
@@ -77,12 +77,12 @@ fn with_tone(jack: Jack, terminal: u8, tone: Tone) -> Jack
 }
 
 /// Whether a jack of a domain gives more than silence.
-pub(crate) fn one_sounds(jacks: &[Jack], clock: u8) -> bool
-    ensures { result ≡ silence.one_sounds clock jacks.now }
+pub(crate) fn one_sounds(jacks: &[Jack], domain: u8) -> bool
+    ensures { result ≡ silence.one_sounds domain jacks.now }
 {
     jacks
         .iter()
-        .any(|jack| jack.clock == clock && sounds(jack.tone))
+        .any(|jack| jack.clock == domain && sounds(jack.tone))
 }
 
 fn sounds(tone: Tone) -> bool
@@ -96,62 +96,62 @@ fn sounds(tone: Tone) -> bool
 
 /// The jacks of a domain give the device the next frames of their tones. Where they rest, the device has these frames: each is silence, and
 /// so was the last.
-pub(crate) fn next_frames(device: &mut Device, jacks: &mut [Jack], clock: u8, rest: bool)
+pub(crate) fn next_frames(device: &mut Device, jacks: &mut [Jack], domain: u8, rest: bool)
     requires kinds { All (λ j. world.is_input_jack (entity device.old.function.entities j.terminal) ≡ true) jacks.old }
     requires channels { All (λ j. (entity device.old.function.entities j.terminal).cluster.channels ≡ j.channels) jacks.old }
-    ensures stands { (w : DeviceWorld) → Stands device.old w → (rest ≡ true → AreAtRest clock jacks.old w)
-        → Stands device.new (given clock jacks.old w) }
-    ensures jacks { jacks.new ≡ gone_on clock jacks.old }
+    ensures stands { (w : DeviceWorld) → Stands device.old w → (rest ≡ true → AreAtRest domain jacks.old w)
+        → Stands device.new (given domain jacks.old w) }
+    ensures jacks { jacks.new ≡ gone_on domain jacks.old }
     ensures function { device.new.function ≡ device.old.function }
 {
     if rest {
-        pass_frames(jacks, clock);
+        pass_frames(jacks, domain);
     } else {
-        give_jacks(device, jacks, clock);
+        give_jacks(device, jacks, domain);
     }
 }
 
 /// The jacks of a domain gave one frame more.
-fn pass_frames(jacks: &mut [Jack], clock: u8)
-    ensures { jacks.new ≡ gone_on clock jacks.old }
+fn pass_frames(jacks: &mut [Jack], domain: u8)
+    ensures { jacks.new ≡ gone_on domain jacks.old }
 {
     for passed in jacks.iter_mut() {
-        pass_frame(passed, clock);
+        pass_frame(passed, domain);
     }
 }
 
 /// A jack of the domain gave one frame more.
-fn pass_frame(jack: &mut Jack, clock: u8)
-    ensures { jack.new ≡ after_one clock jack.old }
+fn pass_frame(jack: &mut Jack, domain: u8)
+    ensures { jack.new ≡ after_one domain jack.old }
 {
-    if jack.clock == clock {
+    if jack.clock == domain {
         jack.place = jack.place.saturating_add(1);
     }
 }
 
 /// The jacks of a domain give the device the next frames of their tones.
-fn give_jacks(device: &mut Device, jacks: &mut [Jack], clock: u8)
+fn give_jacks(device: &mut Device, jacks: &mut [Jack], domain: u8)
     requires kinds { All (λ j. world.is_input_jack (entity device.old.function.entities j.terminal) ≡ true) jacks.old }
     requires channels { All (λ j. (entity device.old.function.entities j.terminal).cluster.channels ≡ j.channels) jacks.old }
-    ensures stands { (w : DeviceWorld) → Stands device.old w → Stands device.new (given clock jacks.old w) }
-    ensures jacks { jacks.new ≡ gone_on clock jacks.old }
+    ensures stands { (w : DeviceWorld) → Stands device.old w → Stands device.new (given domain jacks.old w) }
+    ensures jacks { jacks.new ≡ gone_on domain jacks.old }
     ensures function { device.new.function ≡ device.old.function }
 {
     for jack in jacks.iter_mut() {
-        give_jack(device, jack, clock);
+        give_jack(device, jack, domain);
     }
 }
 
 /// A jack of the domain gives the device the next frame of its tone, and has given one more.
-fn give_jack(device: &mut Device, jack: &mut Jack, clock: u8)
+fn give_jack(device: &mut Device, jack: &mut Jack, domain: u8)
     requires kind { world.is_input_jack (entity device.old.function.entities jack.old.terminal) ≡ true }
     requires channels { (entity device.old.function.entities jack.old.terminal).cluster.channels ≡ jack.old.channels }
     ensures stands { (w : DeviceWorld) → Stands device.old w
-        → Stands device.new (given_one clock jack.old w) }
-    ensures jack { jack.new ≡ after_one clock jack.old }
+        → Stands device.new (given_one domain jack.old w) }
+    ensures jack { jack.new ≡ after_one domain jack.old }
     ensures function { device.new.function ≡ device.old.function }
 {
-    if jack.clock == clock {
+    if jack.clock == domain {
         device.sound(jack.terminal, jack.tone, jack.place);
         jack.place = jack.place.saturating_add(1);
     }

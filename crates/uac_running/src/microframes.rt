@@ -6,16 +6,16 @@ ghost use Rattle.uac_units.specs.Hearing.{Reading, at_most_u64};
 ghost use Rattle.uac_units.specs.Panel.{readings};
 ghost use Rattle.uac_edges.specs.Faults.{HasCause};
 ghost use Rattle.uac_script.specs.Line.{said_mark};
-ghost use Rattle.uac_device.specs.Kept as device;
-ghost use Rattle.uac_device.specs.DeviceWorld.{DeviceWorld, ZerosFitIn, advanced, met_of, next_ticks};
+ghost use Rattle.uac_device.specs.DeviceKept as device;
+ghost use Rattle.uac_device.specs.DeviceWorld.{DeviceWorld, ZerosFitIn, after_advance, met_of, next_ticks};
 ghost use Rattle.uac_device.specs.Stillness.{IsStill};
 ghost use Rattle.uac_transcript.specs.Printing.{Prints};
 ghost use Rattle.uac_streaming.specs.StreamingWorld.{all_reported, all_settled, found_lines, in_packets, out_packets};
 ghost use Rattle.uac_running.specs.RunningWorld.{RunningWorld};
-ghost use Rattle.uac_running.specs.Lines.{played_lines};
+ghost use Rattle.uac_running.specs.RunningLines.{played_lines};
 ghost use Rattle.uac_running.specs.Events.{all_given, domain_microframe, domain_microframes, ends_and_reports, microframe, microframes};
 ghost use Rattle.uac_running.specs.Events.{number_said, of_streams, packets_and_ticks, tick, tick_times};
-ghost use Rattle.uac_running.specs.Kept.{Stands, StandsBetween, Tells, TellsBetween};
+ghost use Rattle.uac_running.specs.RunningKept.{Stands, StandsBetween, Tells, TellsBetween};
 ghost use Rattle.uac_running.specs.Silence.{AreAtRest, packets};
 ghost use Rattle.uac_running.specs.Silence as silence;
 
@@ -243,31 +243,31 @@ impl Running {
     /// A domain's part of a microframe.
     fn domain_microframe<K: Sink>(
         &mut self,
-        clock: u8,
+        domain: u8,
         rack: &Rack,
         meters: &mut Meters,
         sink: &mut K,
     ) -> Result<(), Failed>
         requires rack { IsFitted (λ v x. (⟦<dyn Unit as Unit>⟧ v).kind_of x) rack.now }
         ensures tells { (r : RunningWorld) → Stands self.old (readings (λ v x. (⟦<dyn Meter as Meter>⟧ v).reading_of x) meters.old) r
-            → Tells (domain_microframe clock r) self.new (readings (λ v x. (⟦<dyn Meter as Meter>⟧ v).reading_of x) meters.new)
+            → Tells (domain_microframe domain r) self.new (readings (λ v x. (⟦<dyn Meter as Meter>⟧ v).reading_of x) meters.new)
             (K.written sink.old) (K.written sink.new) result }
         ensures cause { HasCause (K.faults sink.old) (K.faults sink.new) result }
         ensures function { self.new.device.function ≡ self.old.device.function }
     {
-        let ticks = self.advance(clock);
-        self.ticks(ticks, clock, rack, meters, sink)
+        let ticks = self.advance(domain);
+        self.ticks(ticks, domain, rack, meters, sink)
     }
 
     /// A domain's clock goes on by one microframe; answers how often it ticks. These ticks are counted.
-    fn advance(&mut self, clock: u8) -> u32
+    fn advance(&mut self, domain: u8) -> u32
         ensures stands { (meters : List Reading) (r : RunningWorld) → Stands self.old meters r
-            → Stands self.new meters (record r { device = advanced clock r.device }) }
-        ensures ticks { (meters : List Reading) (r : RunningWorld) → Stands self.old meters r → result ≡ next_ticks clock r.device }
+            → Stands self.new meters (record r { device = after_advance domain r.device }) }
+        ensures ticks { (meters : List Reading) (r : RunningWorld) → Stands self.old meters r → result ≡ next_ticks domain r.device }
         ensures function { self.new.device.function ≡ self.old.device.function }
     {
-        let ticks = self.device.ticks(clock);
-        count_ticks(&mut self.counts, clock, ticks);
+        let ticks = self.device.ticks(domain);
+        count_ticks(&mut self.counts, domain, ticks);
         ticks
     }
 
@@ -276,26 +276,26 @@ impl Running {
     fn ticks<K: Sink>(
         &mut self,
         count: u32,
-        clock: u8,
+        domain: u8,
         rack: &Rack,
         meters: &mut Meters,
         sink: &mut K,
     ) -> Result<(), Failed>
         requires rack { IsFitted (λ v x. (⟦<dyn Unit as Unit>⟧ v).kind_of x) rack.now }
         ensures tells { (r : RunningWorld) → Stands self.old (readings (λ v x. (⟦<dyn Meter as Meter>⟧ v).reading_of x) meters.old) r
-            → Tells (tick_times count clock r) self.new (readings (λ v x. (⟦<dyn Meter as Meter>⟧ v).reading_of x) meters.new)
+            → Tells (tick_times count domain r) self.new (readings (λ v x. (⟦<dyn Meter as Meter>⟧ v).reading_of x) meters.new)
             (K.written sink.old) (K.written sink.new) result }
         ensures cause { HasCause (K.faults sink.old) (K.faults sink.new) result }
         ensures function { self.new.device.function ≡ self.old.device.function }
     {
-        let silent = !one_sounds(&self.jacks, clock);
+        let silent = !one_sounds(&self.jacks, domain);
         let still = !self.device.runs();
         let mut rest = Rest {
             jacks: false,
             lanes: false,
         };
         for _ticked in 0..count {
-            self.tick(rest, clock, rack, meters, sink)?;
+            self.tick(rest, domain, rack, meters, sink)?;
             rest = Rest {
                 jacks: silent,
                 lanes: still,
@@ -308,71 +308,71 @@ impl Running {
     fn tick<K: Sink>(
         &mut self,
         rest: Rest,
-        clock: u8,
+        domain: u8,
         rack: &Rack,
         meters: &mut Meters,
         sink: &mut K,
     ) -> Result<(), Failed>
         requires rack { IsFitted (λ v x. (⟦<dyn Unit as Unit>⟧ v).kind_of x) rack.now }
         ensures tells { (r : RunningWorld) → Stands self.old (readings (λ v x. (⟦<dyn Meter as Meter>⟧ v).reading_of x) meters.old) r
-            → (rest.jacks ≡ true → AreAtRest clock r.jacks r.device) → (rest.lanes ≡ true → IsStill clock r.device)
-            → Tells (tick clock r) self.new (readings (λ v x. (⟦<dyn Meter as Meter>⟧ v).reading_of x) meters.new)
+            → (rest.jacks ≡ true → AreAtRest domain r.jacks r.device) → (rest.lanes ≡ true → IsStill domain r.device)
+            → Tells (tick domain r) self.new (readings (λ v x. (⟦<dyn Meter as Meter>⟧ v).reading_of x) meters.new)
             (K.written sink.old) (K.written sink.new) result }
-        ensures rests { (meters : List Reading) (r : RunningWorld) → Stands self.old meters r → silence.one_sounds clock r.jacks ≡ false
-            → AreAtRest clock (tick clock r).world.jacks (tick clock r).world.device }
+        ensures rests { (meters : List Reading) (r : RunningWorld) → Stands self.old meters r → silence.one_sounds domain r.jacks ≡ false
+            → AreAtRest domain (tick domain r).world.jacks (tick domain r).world.device }
         ensures cause { HasCause (K.faults sink.old) (K.faults sink.new) result }
         ensures function { self.new.device.function ≡ self.old.device.function }
     {
-        let found = self.sound(rest, clock, rack, meters);
-        self.show(clock, found, sink)
+        let found = self.sound(rest, domain, rack, meters);
+        self.show(domain, found, sink)
     }
 
     /// The jacks of a domain give their next frames, unless they rest, the device ticks, and the meters hear its output jacks. The renders
     /// are counted, and what rings were found empty and full. Answers which: none where the lanes rest.
-    fn sound(&mut self, rest: Rest, clock: u8, rack: &Rack, meters: &mut Meters) -> Ticked
+    fn sound(&mut self, rest: Rest, domain: u8, rack: &Rack, meters: &mut Meters) -> Ticked
         requires rack { IsFitted (λ v x. (⟦<dyn Unit as Unit>⟧ v).kind_of x) rack.now }
         ensures stands { (r : RunningWorld) → Stands self.old (readings (λ v x. (⟦<dyn Meter as Meter>⟧ v).reading_of x) meters.old) r
-            → (rest.jacks ≡ true → AreAtRest clock r.jacks r.device) → (rest.lanes ≡ true → IsStill clock r.device)
-            → Stands self.new (readings (λ v x. (⟦<dyn Meter as Meter>⟧ v).reading_of x) meters.new) (tick clock r).world }
+            → (rest.jacks ≡ true → AreAtRest domain r.jacks r.device) → (rest.lanes ≡ true → IsStill domain r.device)
+            → Stands self.new (readings (λ v x. (⟦<dyn Meter as Meter>⟧ v).reading_of x) meters.new) (tick domain r).world }
         ensures found { (r : RunningWorld) → Stands self.old (readings (λ v x. (⟦<dyn Meter as Meter>⟧ v).reading_of x) meters.old) r
-            → (rest.jacks ≡ true → AreAtRest clock r.jacks r.device) → (rest.lanes ≡ true → IsStill clock r.device)
-            → result ≡ met_of clock (all_given clock r) }
-        ensures rests { (meters : List Reading) (r : RunningWorld) → Stands self.old meters r → silence.one_sounds clock r.jacks ≡ false
-            → AreAtRest clock (tick clock r).world.jacks (tick clock r).world.device }
+            → (rest.jacks ≡ true → AreAtRest domain r.jacks r.device) → (rest.lanes ≡ true → IsStill domain r.device)
+            → result ≡ met_of domain (all_given domain r) }
+        ensures rests { (meters : List Reading) (r : RunningWorld) → Stands self.old meters r → silence.one_sounds domain r.jacks ≡ false
+            → AreAtRest domain (tick domain r).world.jacks (tick domain r).world.device }
         ensures function { self.new.device.function ≡ self.old.device.function }
         ensures detail { self.new.detail ≡ self.old.detail }
     {
-        next_frames(&mut self.device, &mut self.jacks, clock, rest.jacks);
+        next_frames(&mut self.device, &mut self.jacks, domain, rest.jacks);
         fresh_steps_have_room(self.device.function());
         let mut steps = Steps::new();
         let found = self
             .device
-            .tick_where(rest.lanes, clock, rack, meters, &mut steps);
+            .tick_where(rest.lanes, domain, rack, meters, &mut steps);
         self.renders = self.renders.saturating_add(steps.count());
         self.streaming.find(self.device.function(), found);
         found
     }
 
     /// Prints what a tick of a domain found, and from detail 1 on what its output jacks played.
-    fn show<K: Sink>(&self, clock: u8, found: Ticked, sink: &mut K) -> Result<(), Failed>
-        ensures printed { (before after : DeviceWorld) → before.function ≡ self.now.device.function → found ≡ met_of clock before
+    fn show<K: Sink>(&self, domain: u8, found: Ticked, sink: &mut K) -> Result<(), Failed>
+        ensures printed { (before after : DeviceWorld) → before.function ≡ self.now.device.function → found ≡ met_of domain before
             → device.Stands self.now.device after
             → Prints (K.written sink.old) (K.written sink.new) result
-            (found_lines clock before ++ (if nat_le 1 self.now.detail then played_lines clock after else [])) }
+            (found_lines domain before ++ (if nat_le 1 self.now.detail then played_lines domain after else [])) }
         ensures cause { HasCause (K.faults sink.old) (K.faults sink.new) result }
     {
         write_found(sink, self.device.function().streams(), found)?;
-        self.show_played(clock, sink)
+        self.show_played(domain, sink)
     }
 
     /// Prints what a domain's output jacks played, from detail 1 on.
-    fn show_played<K: Sink>(&self, clock: u8, sink: &mut K) -> Result<(), Failed>
+    fn show_played<K: Sink>(&self, domain: u8, sink: &mut K) -> Result<(), Failed>
         ensures printed { (w : DeviceWorld) → device.Stands self.now.device w
-            → Prints (K.written sink.old) (K.written sink.new) result (if nat_le 1 self.now.detail then played_lines clock w else []) }
+            → Prints (K.written sink.old) (K.written sink.new) result (if nat_le 1 self.now.detail then played_lines domain w else []) }
         ensures cause { HasCause (K.faults sink.old) (K.faults sink.new) result }
     {
         if self.detail >= 1 {
-            return write_jacks(sink, &self.device, clock);
+            return write_jacks(sink, &self.device, domain);
         }
         Ok(())
     }

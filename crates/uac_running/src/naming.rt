@@ -4,7 +4,7 @@ ghost use Rattle.std.specs.List.{list_all, list_any, find};
 ghost use Rattle.std.specs.Option.{option_map};
 ghost use Rattle.uac_script.specs.Line.{said_mark};
 ghost use Rattle.uac_units.specs.Hearing.{Reading};
-ghost use Rattle.uac_running.specs.Kept.{StandsBetween};
+ghost use Rattle.uac_running.specs.RunningKept.{StandsBetween};
 ghost use Rattle.uac_running.specs.Naming as spec;
 ghost use Rattle.uac_running.specs.RunningWorld.{RunningWorld};
 
@@ -22,10 +22,10 @@ impl Running {
     }
 
     /// Whether there is a domain with this clock.
-    pub fn has_domain(&self, clock: u8) -> bool
-        ensures { (meters : List Reading) (r : RunningWorld) → StandsBetween self.now meters r → result ≡ spec.has_domain r clock }
+    pub fn has_domain(&self, domain: u8) -> bool
+        ensures { (meters : List Reading) (r : RunningWorld) → StandsBetween self.now meters r → result ≡ spec.has_domain r domain }
     {
-        self.device.function().domains().contains(&clock)
+        self.device.function().domains().contains(&domain)
     }
 }
 

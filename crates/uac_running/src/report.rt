@@ -4,12 +4,12 @@ ghost use Rattle.uac_edges.specs.Faults.{HasCause};
 ghost use Rattle.uac_edges.specs.Writing.{Writes};
 ghost use Rattle.uac_store.specs.Rates.{rate_of};
 ghost use Rattle.uac_units.specs.Panel.{readings};
-ghost use Rattle.uac_device.specs.Kept.{Stands};
+ghost use Rattle.uac_device.specs.DeviceKept.{Stands};
 ghost use Rattle.uac_device.specs.DeviceWorld.{DeviceWorld};
 ghost use Rattle.uac_transcript.specs.Printing.{Prints};
 ghost use Rattle.uac_transcript.specs.Transcript.{says_meter, says_passed, says_renders, says_steady, spelled};
-ghost use Rattle.uac_running.specs.Kept.{counted};
-ghost use Rattle.uac_running.specs.Lines.{domain_line, stream_line};
+ghost use Rattle.uac_running.specs.RunningKept.{counted};
+ghost use Rattle.uac_running.specs.RunningLines.{domain_line, stream_line};
 ghost use Rattle.uac_streaming.specs.StreamingWorld.{met_in, place_of};
 
 use crate::counts::TickCount;
@@ -80,10 +80,10 @@ fn write_domains<K: Sink>(sink: &mut K, device: &Device, counts: &[TickCount]) -
 }
 
 /// The rate of a domain, if it has one.
-fn domain_rate(device: &Device, clock: u8) -> Option<u32>
-    ensures { result ≡ rate_of device.now.function.entities device.now.controls clock }
+fn domain_rate(device: &Device, domain: u8) -> Option<u32>
+    ensures { result ≡ rate_of device.now.function.entities device.now.controls domain }
 {
-    device.store().rate(device.function(), clock)
+    device.store().rate(device.function(), domain)
 }
 
 /// Prints the streams of each interface.

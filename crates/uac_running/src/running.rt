@@ -10,12 +10,12 @@ ghost use Rattle.uac_running.specs.RunningWorld.{with_detail, with_deviation, wi
 ghost use Rattle.uac_running.specs.RunningWorld as spec;
 ghost use Rattle.uac_transcript.specs.Printing.{Prints};
 ghost use Rattle.uac_transcript.specs.Transcript.{spelled};
-ghost use Rattle.uac_running.specs.Lines.{ready_line, report_lines};
+ghost use Rattle.uac_running.specs.RunningLines.{ready_line, report_lines};
 ghost use Rattle.uac_configuration.specs.Configuration.{configuration_of};
-ghost use Rattle.uac_running.specs.Kept.{StandsBetween, none_counted};
-ghost use Rattle.uac_device.specs.Kept as kept;
+ghost use Rattle.uac_running.specs.RunningKept.{StandsBetween, none_counted};
+ghost use Rattle.uac_device.specs.DeviceKept as kept;
 ghost use Rattle.uac_device.specs.DeviceWorld.{fresh, is_input_jack};
-ghost use Rattle.uac_streaming.specs.Kept as streams;
+ghost use Rattle.uac_streaming.specs.StreamingKept as streams;
 ghost use Rattle.uac_streaming.specs.StreamingWorld.{streaming_start};
 
 use crate::counts::{TickCount, no_ticks};
@@ -54,7 +54,7 @@ pub struct Running {
 
 impl Model for Running {
     ghost use Rattle.uac_mixer.specs.ViewWorld.{IsViewOf};
-    ghost use Rattle.uac_running.specs.Kept.{RunningFields, HasItsDomains, HasItsJacks};
+    ghost use Rattle.uac_running.specs.RunningKept.{RunningFields, HasItsDomains, HasItsJacks};
 
     ghost Value = { RunningFields };
 
@@ -144,15 +144,15 @@ impl Running {
         set_tone(&mut self.jacks, terminal, tone);
     }
 
-    /// A domain's clock is off by `ppm` millionths (-100,000 to 100,000) from now on.
-    pub fn deviate(&mut self, clock: u8, ppm: i32)
+    /// A domain's clock is off by so many ppm (-100,000 to 100,000) from now on.
+    pub fn deviate(&mut self, domain: u8, ppm: i32)
         requires low { negsuc 99999 ≤ℤ ppm }
         requires high { ppm ≤ℤ pos 100000 }
         ensures stands { (meters : List Reading) (r : RunningWorld) → StandsBetween self.old meters r
-            → StandsBetween self.new meters (with_deviation clock ppm r) }
+            → StandsBetween self.new meters (with_deviation domain ppm r) }
         ensures function { self.new.device.function ≡ self.old.device.function }
     {
-        self.device.deviate(clock, ppm);
+        self.device.deviate(domain, ppm);
         self.streaming.deviate(ppm);
     }
 

@@ -2,24 +2,25 @@
 ghost use Rattle.std.specs.Prelude.{◌≡◌, ◌&&◌, ◌≤◌, ◌<◌, ◌∷◌, [], ℕ, List, length, slice_get, position, true, false, Some, None, IfOk};
 ghost use Rattle.std.specs.Prelude.{IfSome};
 ghost use Rattle.std.specs.Option.{option_and_then, option_map, option_map_or};
-ghost use Rattle.uac_store.specs.Controls.{initial_controls};
+ghost use Rattle.uac_store.specs.StoreControls.{initial_controls};
 ghost use Rattle.uac_store.specs.Keyed.{value_of};
 ghost use Rattle.uac_request.specs.Requests.{answer_fields, value_bytes};
 ghost use Rattle.uac_units.specs.Hearing.{Reading};
 ghost use Rattle.uac_edges.specs.Faults.{HasCause};
 ghost use Rattle.uac_device.specs.DeviceWorld.{DeviceWorld, fresh, sets_interface, tells_done};
-ghost use Rattle.uac_device.specs.Kept as kept;
+ghost use Rattle.uac_device.specs.DeviceKept as kept;
 ghost use Rattle.uac_mixer.specs.declared.element.Element.{Element};
-ghost use Rattle.uac_mixer.specs.Elements.{fits_element, name_of, width_of};
-ghost use Rattle.uac_mixer.specs.Transfers.{came_of, came_of_set, get_of, set_of};
+ghost use Rattle.uac_mixer.specs.MixerElements.{fits_element, name_of, width_of};
+ghost use Rattle.uac_mixer.specs.ViewTransfers.{came_of, came_of_set, get_of, set_of};
 ghost use Rattle.uac_mixer.specs.ViewWorld.{IsViewOf, known_view};
 ghost use Rattle.uac_transcript.specs.Printing.{Prints};
 ghost use Rattle.uac_transcript.specs.Transcript.{says_answer, says_view};
 ghost use Rattle.uac_running.specs.RunningWorld.{RunningWorld};
-ghost use Rattle.uac_running.specs.Transfers.{comes_back, element_named, outcome_of, set_sight, shown_sight, transfer, transferred};
-ghost use Rattle.uac_running.specs.Transfers.{with_break};
-ghost use Rattle.uac_running.specs.Transfers as spec;
-ghost use Rattle.uac_running.specs.Kept.{Stands, StandsBetween, TellsBetween};
+ghost use Rattle.uac_running.specs.RunningTransfers.{comes_back, element_named, outcome_of, set_sight, shown_sight, transfer};
+ghost use Rattle.uac_running.specs.RunningTransfers.{after_transfer};
+ghost use Rattle.uac_running.specs.RunningTransfers.{with_break};
+ghost use Rattle.uac_running.specs.RunningTransfers as spec;
+ghost use Rattle.uac_running.specs.RunningKept.{Stands, StandsBetween, TellsBetween};
 
 use crate::running::Running;
 use std::alloc::Global;
@@ -126,7 +127,7 @@ impl Running {
     #[inline(always)]
     fn transfer(&mut self, setup: &Setup, sent: &[u8]) -> Result<Answer, Broken>
         ensures stands { (meters : List Reading) (r : RunningWorld) → Stands self.old meters r
-            → Stands self.new meters (transferred setup.now sent.now r) }
+            → Stands self.new meters (after_transfer setup.now sent.now r) }
         ensures came { (meters : List Reading) (r : RunningWorld) → Stands self.old meters r
             → came_of result ≡ comes_back setup.now sent.now r }
     {
@@ -232,7 +233,7 @@ impl Running {
         requires { at < length self.old.view.elements }
         ensures stands { (meters : List Reading) (r : RunningWorld) (x : Element) → Stands self.old meters r
             → slice_get r.view.elements at ≡ Some x
-            → Stands self.new meters (transferred (get_of r.device.function.control_interface x) [] r) }
+            → Stands self.new meters (after_transfer (get_of r.device.function.control_interface x) [] r) }
         ensures value { (meters : List Reading) (r : RunningWorld) (x : Element) → Stands self.old meters r
             → slice_get r.view.elements at ≡ Some x
             → spec.IsRead x r result }
@@ -270,7 +271,8 @@ impl Running {
         requires fits { (x : Element) → slice_get self.old.view.elements at ≡ Some x → fits_element x.kind value ≡ true }
         ensures stands { (meters : List Reading) (r : RunningWorld) (x : Element) → Stands self.old meters r
             → slice_get r.view.elements at ≡ Some x
-            → Stands self.new meters (transferred (set_of r.device.function.control_interface x) (value_bytes (width_of x.kind) value) r) }
+            → Stands self.new meters (after_transfer (set_of r.device.function.control_interface x) (value_bytes (width_of x.kind) value)
+            r) }
         ensures came { (meters : List Reading) (r : RunningWorld) (x : Element) → Stands self.old meters r
             → slice_get r.view.elements at ≡ Some x
             → came_of_set result ≡ comes_back (set_of r.device.function.control_interface x) (value_bytes (width_of x.kind) value) r }

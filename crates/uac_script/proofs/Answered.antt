@@ -14,7 +14,7 @@ use Rattle.uac_script.specs.Words.{Word, words_of, is_idle, hex_of}
 use Rattle.uac_script.specs.Phrase.{Phrase, idle, feeds, goes, controls, gets, sets, shows, breaks, appends, tracks, jacks, deviates, runs, details, reports, is_in_range}
 use Rattle.uac_script.specs.Line.{IsRow, Spells, begins_known, phrase_of, HasNoEmptyPart, IsLineInRange, Says, IsOutOfRange, IsMisspelt, IsUnknown}
 use Rattle.uac_script.specs.Lent.{lent_phrase, lent_said, LentKeeps}
-use Rattle.uac_script.specs.Reading.{row_of, judged, judged_row, answer_of, answer, said}
+use Rattle.uac_script.specs.LineReading.{row_of, judged, judged_row, answer_of, answer, said}
 use Rattle.uac_script.proofs.Grammar.{row_sound, row_complete, row_of-letter}
 
 -- ---- the first byte of a text, by its first word
@@ -42,10 +42,10 @@ pub answers : (text : List ℕ) (p : Phrase) → IsRow (words_of text) p → Ans
 unfolding answer
 answers text p h =
     let r = row_complete (words_of text) p h in
-    let quiet : is_idle text ≡ false = first_byte text r.letter r.behind r.words-is ∙ ne_eqb r.letter 35 (not_a_letter r.letter r.behind p r.row-is) in
+    let quiet : is_idle text ≡ false = first_byte text r.letter r.following r.words-is ∙ ne_eqb r.letter 35 (not_a_letter r.letter r.following p r.row-is) in
     record {
       not_idle = quiet;
-      known = ap begins_known r.words-is ∙ sym (row_of-letter r.letter r.behind) ∙ ap is_some r.row-is;
+      known = ap begins_known r.words-is ∙ sym (row_of-letter r.letter r.following) ∙ ap is_some r.row-is;
       answered = cond-false _ _ _ quiet ∙ ap answer_of r.words-is ∙ ap judged_row r.row-is;
     }
 

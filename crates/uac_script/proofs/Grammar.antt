@@ -10,10 +10,10 @@ use Rattle.uac_script.specs.declared.line.MarkKind.{MarkKind}
 use Rattle.uac_script.specs.declared.line.MarkKind.TheVariants.{Out, In, Feedback}
 use Rattle.uac_script.specs.Words.{Word, hex_of}
 use Rattle.uac_edges.specs.Numerals.{numeral}
-use Rattle.uac_script.specs.Numerals.{is_number, value_of}
+use Rattle.uac_script.specs.ScriptNumerals.{is_number, value_of}
 use Rattle.uac_script.specs.Phrase.{SaidTone, silent, ramps, hisses, SaidMark, Phrase, idle, feeds, goes, controls, gets, sets, shows, breaks, appends, tracks, jacks, deviates, runs, details, reports}
 use Rattle.uac_script.specs.Line.{IsRow, tone_words, letter_of, mark_word, letters}
-use Rattle.uac_script.specs.Reading.{when_empty, only_of, pair_of, then_of, name_of, numbered, feeds_of, setup_of, sent_of, controls_of, sets_of, element_of, break_at, breaks_of, appends_of, ramp_of, tone_read, signal_of, tracks_of, jacks_of, deviation_of, deviates_of, kind_of, is_mark, mark_of, runs_of, details_of, row_of}
+use Rattle.uac_script.specs.LineReading.{when_empty, only_of, pair_of, then_of, name_in, numbered, feeds_of, setup_of, sent_of, controls_of, sets_of, element_of, break_at, breaks_of, appends_of, ramp_of, tone_read, signal_of, tracks_of, jacks_of, deviation_of, deviates_of, kind_of, is_mark, mark_of, runs_of, details_of, row_of}
 use Rattle.uac_script.proofs.Numerals.{is_number-numeral, value_of-numeral, numeral-value_of}
 
 -- ---- what a step of reading needs to give something
@@ -41,7 +41,7 @@ pair_some (first ∷ []) pair h = cc
 pair_some (first ∷ next ∷ []) pair h = ap (λ (p : Word × Word). p.0 ∷ p.1 ∷ []) (same_Some _ _ h)
 pair_some (first ∷ next ∷ third ∷ words) pair h = cc
 
-name_some : (word name : Word) → name_of word ≡ Some name → (word ≡ name) × (name ≢ [])
+name_some : (word name : Word) → name_in word ≡ Some name → (word ≡ name) × (name ≢ [])
 name_some [] name h = cc
 name_some (c ∷ word) name h = let e = same_Some _ _ h in (e, λ empty. cc)
 
@@ -117,23 +117,23 @@ details_sound words p h =
     let parts = cond_some (is_number t.0) (details (value_of t.0)) p t.2 in
     subst (λ q. IsRow ((118 ∷ []) ∷ words) q) parts.1 (ap (λ ws. (118 ∷ []) ∷ ws) (only_some words t.0 t.1 ∙ ap (λ w. w ∷ []) (numeral-value_of t.0 parts.0)))
 
-named_some : (words : List Word) (name : Word) → then_of name_of (only_of words) ≡ Some name → (words ≡ name ∷ []) × (name ≢ [])
+named_some : (words : List Word) (name : Word) → then_of name_in (only_of words) ≡ Some name → (words ≡ name ∷ []) × (name ≢ [])
 named_some words name h =
-    let t = then_some name_of (only_of words) name h in
+    let t = then_some name_in (only_of words) name h in
     let n = name_some t.0 name t.2 in
     (only_some words t.0 t.1 ∙ ap (λ w. w ∷ []) n.0, n.1)
 
-gets_sound : (verb : Word) (words : List Word) (p : Phrase) → verb ≡ codes "get" → option_map gets (then_of name_of (only_of words)) ≡ Some p → Allows 104 (verb ∷ words) p
+gets_sound : (verb : Word) (words : List Word) (p : Phrase) → verb ≡ codes "get" → option_map gets (then_of name_in (only_of words)) ≡ Some p → Allows 104 (verb ∷ words) p
 unfolding Allows
 gets_sound verb words p same h =
-    let m = map_some gets (then_of name_of (only_of words)) p h in
+    let m = map_some gets (then_of name_in (only_of words)) p h in
     let n = named_some words m.0 m.1 in
     subst (λ q. IsRow ((104 ∷ []) ∷ verb ∷ words) q) m.2 (ap (λ w. (104 ∷ []) ∷ w ∷ words) same ∙ ap (λ ws. (104 ∷ []) ∷ codes "get" ∷ ws) n.0, n.1)
 
-shows_sound : (verb : Word) (words : List Word) (p : Phrase) → verb ≡ codes "show" → option_map shows (then_of name_of (only_of words)) ≡ Some p → Allows 104 (verb ∷ words) p
+shows_sound : (verb : Word) (words : List Word) (p : Phrase) → verb ≡ codes "show" → option_map shows (then_of name_in (only_of words)) ≡ Some p → Allows 104 (verb ∷ words) p
 unfolding Allows
 shows_sound verb words p same h =
-    let m = map_some shows (then_of name_of (only_of words)) p h in
+    let m = map_some shows (then_of name_in (only_of words)) p h in
     let n = named_some words m.0 m.1 in
     subst (λ q. IsRow ((104 ∷ []) ∷ verb ∷ words) q) m.2 (ap (λ w. (104 ∷ []) ∷ w ∷ words) same ∙ ap (λ ws. (104 ∷ []) ∷ codes "show" ∷ ws) n.0, n.1)
 
@@ -141,9 +141,9 @@ sets_sound : (verb : Word) (words : List Word) (p : Phrase) → verb ≡ codes "
 unfolding Allows
 sets_sound verb words p same h =
     let t = then_some sets_of (pair_of words) p h in
-    chosen (is_number t.0.1) (option_map (λ word. sets word (value_of t.0.1)) (name_of t.0.0)) None (Some p) t.2
+    chosen (is_number t.0.1) (option_map (λ word. sets word (value_of t.0.1)) (name_in t.0.0)) None (Some p) t.2
     (λ number x.
-    let m = map_some (λ word. sets word (value_of t.0.1)) (name_of t.0.0) p x in
+    let m = map_some (λ word. sets word (value_of t.0.1)) (name_in t.0.0) p x in
     let n = name_some t.0.0 m.0 m.1 in
     subst (λ q. IsRow ((104 ∷ []) ∷ verb ∷ words) q) m.2 (
       ap (λ w. (104 ∷ []) ∷ w ∷ words) same
@@ -155,11 +155,11 @@ sets_sound verb words p same h =
 element_sound : (words : List Word) (p : Phrase) → element_of words ≡ Some p → Allows 104 words p
 element_sound [] p h = cc
 element_sound (verb ∷ words) p h =
-    chosen (bytes_eq verb (codes "get")) (option_map gets (then_of name_of (only_of words))) _ (Some p) h
+    chosen (bytes_eq verb (codes "get")) (option_map gets (then_of name_in (only_of words))) _ (Some p) h
     (λ t x. gets_sound verb words p (same_word verb _ t) x)
     (λ _ g. chosen (bytes_eq verb (codes "set")) (then_of sets_of (pair_of words)) _ (Some p) g
     (λ t x. sets_sound verb words p (same_word verb _ t) x)
-    (λ _ g. chosen (bytes_eq verb (codes "show")) (option_map shows (then_of name_of (only_of words))) None (Some p) g
+    (λ _ g. chosen (bytes_eq verb (codes "show")) (option_map shows (then_of name_in (only_of words))) None (Some p) g
     (λ t x. shows_sound verb words p (same_word verb _ t) x)
     (λ _ x. cc)))
 
@@ -296,9 +296,9 @@ row_sound letter words p h =
 -- the row of these words, read
 pub record IsRead (words : List Word) (p : Phrase) : Type 0 where
   pub letter : ℕ
-  pub behind : List Word
-  pub words-is : words ≡ (letter ∷ []) ∷ behind
-  pub row-is : row_of letter behind ≡ Some (Some p)
+  pub following : List Word
+  pub words-is : words ≡ (letter ∷ []) ∷ following
+  pub row-is : row_of letter following ≡ Some (Some p)
 
 numbers_read : (zs : List ℤ) → list_all is_number (map numeral zs) ≡ true
 numbers_read [] = refl
@@ -331,7 +331,7 @@ losses_read : (losses : List SaidMark) → map mark_of (map mark_word losses) �
 losses_read [] = refl
 losses_read (loss ∷ losses) = ap (λ x. x ∷ map mark_of (map mark_word losses)) (mark_read loss).1 ∙ ap (λ xs. loss ∷ xs) (losses_read losses)
 
-name_read : (name : Word) → name ≢ [] → name_of name ≡ Some name
+name_read : (name : Word) → name ≢ [] → name_in name ≡ Some name
 name_read [] h = absurd (h refl)
 name_read (c ∷ name) h = refl
 
@@ -363,26 +363,26 @@ controls_sending head digits setup sent h bytes = ap (then_of (λ setup. option_
 
 pub row_complete : (words : List Word) (p : Phrase) → IsRow words p → IsRead words p
 row_complete words idle h = absurd h
-row_complete words (feeds bytes) h = record { letter = 100; behind = h.0 ∷ []; words-is = h.1; row-is = ap (λ o. Some (option_map feeds o)) h.2 }
-row_complete words goes h = record { letter = 103; behind = []; words-is = h; row-is = refl }
+row_complete words (feeds bytes) h = record { letter = 100; following = h.0 ∷ []; words-is = h.1; row-is = ap (λ o. Some (option_map feeds o)) h.2 }
+row_complete words goes h = record { letter = 103; following = []; words-is = h; row-is = refl }
 row_complete words (controls setup sent) h =
     let head = setup_read h.0 setup h.1 h.2 in
     elim h.3 [
-      | inl alone ↦ record { letter = 99; behind = h.0 ∷ []; words-is = alone.0; row-is = ap (λ o. Some o) (controls_alone h.0 setup sent head alone.1) }
-      | inr sending ↦ record { letter = 99; behind = h.0 ∷ sending.0 ∷ []; words-is = sending.1; row-is = ap (λ o. Some o) (controls_sending h.0 sending.0 setup sent head sending.2) }
+      | inl alone ↦ record { letter = 99; following = h.0 ∷ []; words-is = alone.0; row-is = ap (λ o. Some o) (controls_alone h.0 setup sent head alone.1) }
+      | inr sending ↦ record { letter = 99; following = h.0 ∷ sending.0 ∷ []; words-is = sending.1; row-is = ap (λ o. Some o) (controls_sending h.0 sending.0 setup sent head sending.2) }
     ]
-row_complete words (gets name) h = record { letter = 104; behind = codes "get" ∷ name ∷ []; words-is = h.0; row-is = ap (λ o. Some (option_map gets o)) (name_read name h.1) }
-row_complete words (sets name value) h = record { letter = 104; behind = codes "set" ∷ name ∷ numeral value ∷ []; words-is = h.0; row-is = simp (is_number-numeral, value_of-numeral) (ap (λ o. Some (option_map (λ word. sets word value) o)) (name_read name h.1)) }
-row_complete words (shows name) h = record { letter = 104; behind = codes "show" ∷ name ∷ []; words-is = h.0; row-is = ap (λ o. Some (option_map shows o)) (name_read name h.1) }
-row_complete words (breaks true) h = record { letter = 98; behind = codes "after" ∷ []; words-is = h; row-is = refl }
-row_complete words (breaks false) h = record { letter = 98; behind = codes "before" ∷ []; words-is = h; row-is = refl }
-row_complete words (appends z samples) h = record { letter = 97; behind = numeral z ∷ map numeral samples; words-is = h.0; row-is = ap (λ o. Some o) (appends_read z samples h.1) }
-row_complete words (tracks z v) h = record { letter = 116; behind = numeral z ∷ tone_words v; words-is = h; row-is = ap (λ o. Some (option_map (λ (signal : ℤ × SaidTone). tracks signal.0 signal.1) o)) (signal_read z v) }
-row_complete words (jacks z v) h = record { letter = 106; behind = numeral z ∷ tone_words v; words-is = h; row-is = ap (λ o. Some (option_map (λ (signal : ℤ × SaidTone). jacks signal.0 signal.1) o)) (signal_read z v) }
-row_complete words (deviates y z) h = record { letter = 107; behind = numeral y ∷ numeral z ∷ []; words-is = h; row-is = simp (is_number-numeral, value_of-numeral) }
-row_complete words (runs z losses) h = record { letter = 109; behind = numeral z ∷ map mark_word losses; words-is = h; row-is = ap (λ o. Some o) (runs_read z losses) }
-row_complete words (details z) h = record { letter = 118; behind = numeral z ∷ []; words-is = h; row-is = simp (is_number-numeral, value_of-numeral) }
-row_complete words reports h = record { letter = 113; behind = []; words-is = h; row-is = refl }
+row_complete words (gets name) h = record { letter = 104; following = codes "get" ∷ name ∷ []; words-is = h.0; row-is = ap (λ o. Some (option_map gets o)) (name_read name h.1) }
+row_complete words (sets name value) h = record { letter = 104; following = codes "set" ∷ name ∷ numeral value ∷ []; words-is = h.0; row-is = simp (is_number-numeral, value_of-numeral) (ap (λ o. Some (option_map (λ word. sets word value) o)) (name_read name h.1)) }
+row_complete words (shows name) h = record { letter = 104; following = codes "show" ∷ name ∷ []; words-is = h.0; row-is = ap (λ o. Some (option_map shows o)) (name_read name h.1) }
+row_complete words (breaks true) h = record { letter = 98; following = codes "after" ∷ []; words-is = h; row-is = refl }
+row_complete words (breaks false) h = record { letter = 98; following = codes "before" ∷ []; words-is = h; row-is = refl }
+row_complete words (appends z samples) h = record { letter = 97; following = numeral z ∷ map numeral samples; words-is = h.0; row-is = ap (λ o. Some o) (appends_read z samples h.1) }
+row_complete words (tracks z v) h = record { letter = 116; following = numeral z ∷ tone_words v; words-is = h; row-is = ap (λ o. Some (option_map (λ (signal : ℤ × SaidTone). tracks signal.0 signal.1) o)) (signal_read z v) }
+row_complete words (jacks z v) h = record { letter = 106; following = numeral z ∷ tone_words v; words-is = h; row-is = ap (λ o. Some (option_map (λ (signal : ℤ × SaidTone). jacks signal.0 signal.1) o)) (signal_read z v) }
+row_complete words (deviates y z) h = record { letter = 107; following = numeral y ∷ numeral z ∷ []; words-is = h; row-is = simp (is_number-numeral, value_of-numeral) }
+row_complete words (runs z losses) h = record { letter = 109; following = numeral z ∷ map mark_word losses; words-is = h; row-is = ap (λ o. Some o) (runs_read z losses) }
+row_complete words (details z) h = record { letter = 118; following = numeral z ∷ []; words-is = h; row-is = simp (is_number-numeral, value_of-numeral) }
+row_complete words reports h = record { letter = 113; following = []; words-is = h; row-is = refl }
 
 -- ---- letters
 

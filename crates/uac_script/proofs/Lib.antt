@@ -1,10 +1,10 @@
-pub mod UnreadLemmas
-pub mod HeadLemmas
-pub mod SplittingLemmas
+pub mod UnreadBytes
+pub mod Heads
+pub mod Splittings
 pub mod WordsLemmas
-pub mod NumeralLemmas
-pub mod HexLemmas
-pub mod ListLemmas
+pub mod ScriptNumeralsLemmas
+pub mod SetupBytes
+pub mod GrowingLists
 pub mod Numerals
 pub mod Grammar
 pub mod Answered

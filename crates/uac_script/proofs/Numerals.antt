@@ -8,10 +8,10 @@ use Rattle.std.specs.Int.Digits.{digits_of, number_from_digits, number_from_digi
 use Rattle.std.proofs.lemmas.Int.Digits.{digits_value_is, digits_of_step, all_below_base_digits_of, first_digits_of, number_digits_of, number_after_ge}
 use Rattle.std.proofs.lemmas.Bool.{and_parts, and_from, le-leb, lt-ltb, ne_eqb, eqb-true, eqb-false, cond-true, cond-false, cases_eq, false≢true, or_left, or_cases, not-true}
 use Rattle.std.proofs.lemmas.Option.{cond_some}
-use Rattle.uac_script.proofs.NumeralLemmas.{value_of_digit, digit_in}
+use Rattle.uac_script.proofs.ScriptNumeralsLemmas.{value_of_digit, digit_in}
 use Rattle.uac_script.specs.Words.{Word}
 use Rattle.uac_edges.specs.Numerals.{natural, numeral}
-use Rattle.uac_script.specs.Numerals.{is_natural, natural_of, number_of, is_number, value_of, negated}
+use Rattle.uac_script.specs.ScriptNumerals.{is_natural, natural_of, number_of, is_number, value_of, negated}
 
 -- ---- digits and their characters
 

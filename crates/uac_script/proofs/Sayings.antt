@@ -3,7 +3,7 @@ use Rattle.std.proofs.Common.{◌≡◌, ℕ, List, [], ◌∷◌, map, Result, 
 use Rattle.std.specs.List.{AllZip}
 use Rattle.uac_script.specs.Phrase.{Phrase}
 use Rattle.uac_script.specs.Line.{Says}
-use Rattle.uac_script.specs.Reading.{answer}
+use Rattle.uac_script.specs.LineReading.{answer}
 use Rattle.uac_script.specs.Saying.{SaysOnce, EachSaysOnce}
 use Rattle.uac_script.proofs.Answered.{answer_says, says_only}
 

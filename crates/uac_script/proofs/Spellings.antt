@@ -15,7 +15,7 @@ use Rattle.uac_script.specs.declared.line.Line.TheVariants.{Nothing, Bytes, Go, 
 use Rattle.uac_script.specs.Words.{Word, words_of, hex_of}
 use Rattle.uac_script.specs.Phrase.{SaidTone, silent, ramps, hisses, SaidMark, Phrase, idle, feeds, goes, controls, gets, sets, shows, breaks, appends, tracks, jacks, deviates, runs, details, reports}
 use Rattle.uac_script.specs.Line.{Spells, phrase_of, said_tone_of, said_mark}
-use Rattle.uac_script.specs.Reading.{row_of}
+use Rattle.uac_script.specs.LineReading.{row_of}
 use Rattle.uac_script.proofs.Grammar.{IsRead, row_complete}
 use Rattle.uac_script.proofs.Answered.{answers}
 
@@ -70,8 +70,8 @@ read_once : (words : List Word) (p q : Phrase) → IsRead words p → IsRead wor
 read_once words p q a b =
     let same = sym a.words-is ∙ b.words-is in
     let letter : a.letter ≡ b.letter = cc in
-    let behind : a.behind ≡ b.behind = cc in
-    same_Some _ _ (same_Some _ _ (sym a.row-is ∙ ap (λ l. row_of l a.behind) letter ∙ ap (row_of b.letter) behind ∙ b.row-is))
+    let following : a.following ≡ b.following = cc in
+    same_Some _ _ (same_Some _ _ (sym a.row-is ∙ ap (λ l. row_of l a.following) letter ∙ ap (row_of b.letter) following ∙ b.row-is))
 
 pub one_line : (text : List ℕ) (p q : Phrase) → Spells text p → Spells text q → p ≡ q
 one_line text p q (inl a) (inl b) = a.1 ∙ sym b.1

@@ -3,10 +3,10 @@ use Rattle.std.proofs.Common.{◌≡◌, true, false, [], ◌∷◌, Err, pos, n
 use Rattle.hex.proofs.OnLiterals.{hex_on_literals}
 use Rattle.uac_script.specs.declared.line.MarkKind.TheVariants.{Out, In, Feedback}
 use Rattle.uac_edges.specs.Numerals.{natural, numeral}
-use Rattle.uac_script.specs.Numerals.{is_natural, natural_of, number_of, is_number, value_of}
+use Rattle.uac_script.specs.ScriptNumerals.{is_natural, natural_of, number_of, is_number, value_of}
 use Rattle.uac_script.specs.Phrase.{silent, ramps, hisses, idle, feeds, goes, controls, gets, sets, shows, breaks, appends, tracks, jacks, deviates, runs, details, reports}
 use Rattle.uac_script.specs.Line.{Spells}
-use Rattle.uac_script.specs.Reading.{answer}
+use Rattle.uac_script.specs.LineReading.{answer}
 
 -- ---- a line of each row
 

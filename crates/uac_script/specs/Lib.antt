@@ -2,11 +2,11 @@
 -- What the program's theorem says: to be read and believed.
 pub mod Words
 pub mod Phrase
-pub mod Lines
+pub mod ScriptLines
 pub mod Line
 -- What the laws say besides.
-pub mod Numerals
-pub mod Reading
+pub mod ScriptNumerals
+pub mod LineReading
 pub mod Saying
 -- What the contracts below them cite: steps of the code, no part of what is promised.
 pub mod Lent

@@ -1,7 +1,7 @@
 -- Profile: what a look at the unread bytes answers, in the words of the lines.
 use Rattle.std.specs.Prelude.{◌≡◌, ℕ, ◌+◌, ◌<◌, ◌≤◌, ◌==◌, List, length, take, drop}
 use Rattle.std.specs.List.{position_or_len}
-use Rattle.uac_script.specs.Lines.{head_of, line, long, past, unended, most_of_line}
+use Rattle.uac_script.specs.ScriptLines.{head_of, line, long, past, unended, most_of_line}
 use Rattle.uac_script.specs.declared.lines.front.Front.{Front}
 use Rattle.uac_script.specs.declared.lines.front.Front.TheVariants as front
 

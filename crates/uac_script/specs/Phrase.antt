@@ -52,7 +52,7 @@ is_tone_in_range (hisses seed) = is_within (pos 0) (pos 4294967295) seed
 
 -- each interface of the marks is an id, and there are at most 24 of them
 abbrev pub are_marks_in_range : List SaidMark → Bool
-are_marks_in_range losses = list_all (λ loss. is_id loss.place) losses && nat_le (length losses) 24
+are_marks_in_range marks = list_all (λ mark. is_id mark.place) marks && nat_le (length marks) 24
 
 -- each number of the line lies in its range, and there are at most 24 marks
 abbrev pub is_in_range : Phrase → Bool

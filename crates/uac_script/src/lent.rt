@@ -61,7 +61,7 @@ impl LineRoom {
 
 impl<'a> LentLine<'a> {
     ghost use Rattle.std.specs.Prelude.{◌≡◌, ◌≤◌, length, IfOk, IfErr};
-    ghost use Rattle.uac_script.specs.Reading.{answer};
+    ghost use Rattle.uac_script.specs.LineReading.{answer};
     ghost use Rattle.uac_script.specs.Lent.{lent_said, LentKeeps};
 
     /// The line that a text of at most 4,096 bytes spells, as `Line::read` reads it. `room` holds its long parts, but for a name.

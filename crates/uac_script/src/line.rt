@@ -80,7 +80,7 @@ pub enum Line {
 
 impl Line {
     ghost use Rattle.std.specs.Prelude.{◌≡◌, ◌≤◌, length, IfOk, IfErr};
-    ghost use Rattle.uac_script.specs.Reading.{said, answer};
+    ghost use Rattle.uac_script.specs.LineReading.{said, answer};
     ghost use Rattle.uac_script.specs.Line.{Says, IsLineInRange};
 
     /// The line that a text of at most 4,096 bytes spells.

@@ -2,7 +2,7 @@
 ghost use Rattle.std.specs.Prelude.{◌≡◌, ◌≢◌, ◌+◌, ◌-◌, ◌≤◌, ◌<◌, true, false, [], None, Some, Ok, Err, IfOk, OnErr, length, take, drop};
 ghost use Rattle.std.specs.Io.KnownBytes.{Keeps};
 ghost use Rattle.uac_edges.specs.Faults.{HasCause};
-ghost use Rattle.uac_script.specs.Lines.{Splits, Goes, Stops, IsTold, head_of, most_of_input, most_of_line, piece_size};
+ghost use Rattle.uac_script.specs.ScriptLines.{Splits, Goes, Stops, IsTold, head_of, most_of_input, most_of_line, piece_size};
 ghost use Rattle.uac_script.specs.Looking.{Shows, line_end};
 ghost use Rattle.uac_script.specs.Taking.{Grows};
 
@@ -53,7 +53,7 @@ pub struct Lines {
 
 impl Model for Lines {
     ghost use Rattle.std.specs.Prelude.{◌≡◌, ◌+◌, ◌≤◌, length, None};
-    ghost use Rattle.uac_script.specs.Lines.{Splitting, most_of_input};
+    ghost use Rattle.uac_script.specs.ScriptLines.{Splitting, most_of_input};
 
     ghost Value = { Splitting };
 

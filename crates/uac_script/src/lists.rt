@@ -3,8 +3,8 @@ ghost use Rattle.std.specs.Prelude.{◌≡◌, ◌≤◌, ◌&&◌, true, false,
 ghost use Rattle.std.specs.Option.{option_copied};
 ghost use Rattle.std.specs.List.{list_all};
 ghost use Rattle.uac_script.specs.Words.{words_left, bytes_left};
-ghost use Rattle.uac_script.specs.Numerals.{is_number};
-ghost use Rattle.uac_script.specs.Reading.{judged, appends_of, runs_of, samples_of, kind_of, is_mark, mark_of};
+ghost use Rattle.uac_script.specs.ScriptNumerals.{is_number};
+ghost use Rattle.uac_script.specs.LineReading.{judged, appends_of, runs_of, samples_of, kind_of, is_mark, mark_of};
 ghost use Rattle.uac_script.specs.Phrase.{is_id, are_marks_in_range};
 ghost use Rattle.uac_script.specs.Line.{said_mark};
 ghost use Rattle.uac_script.specs.Lent.{lent_said, Fits};

@@ -3,7 +3,7 @@ ghost use Rattle.std.specs.Prelude.{◌≡◌, ◌+◌, ◌*◌, ◌<◌, ◌≤
 ghost use Rattle.std.specs.Option.{option_map};
 ghost use Rattle.std.specs.List.{list_all};
 ghost use Rattle.std.specs.Char.{is_ascii_digit};
-ghost use Rattle.uac_script.specs.Numerals.{is_natural, natural_of, number_of, is_number, value_of, far, clamped};
+ghost use Rattle.uac_script.specs.ScriptNumerals.{is_natural, natural_of, number_of, is_number, value_of, far, clamped};
 ghost use Rattle.uac_script.specs.Phrase.{is_within, is_id, is_signed};
 
 /// Above the greatest number of every range: what a longer numeral spells is held here.
@@ -17,7 +17,7 @@ fn are_digits(word: &[u8]) -> bool
 }
 
 // Whether a word is the numeral of a natural number: a 0 stands in front only where it stands alone.
-#[tactic(auto, unfolding(crate::specs::Numerals::is_natural))]
+#[tactic(auto, unfolding(crate::specs::ScriptNumerals::is_natural))]
 fn is_natural(word: &[u8]) -> bool
     ensures { result ≡ is_natural word.now }
 {
@@ -28,7 +28,7 @@ fn is_natural(word: &[u8]) -> bool
 }
 
 // The number that such a word spells, held at `FAR`.
-#[tactic(auto, unfolding(crate::specs::Numerals::natural_of))]
+#[tactic(auto, unfolding(crate::specs::ScriptNumerals::natural_of))]
 fn natural(word: &[u8]) -> Option<u64>
     ensures { result ≡ option_map (λ n. min n far) (natural_of word.now) }
 {
@@ -43,7 +43,7 @@ fn natural(word: &[u8]) -> Option<u64>
 }
 
 /// The number that a word spells, held at `FAR` on either side of 0; none where it is no numeral.
-#[tactic(auto, unfolding(crate::specs::Numerals::number_of))]
+#[tactic(auto, unfolding(crate::specs::ScriptNumerals::number_of))]
 fn number(word: &[u8]) -> Option<i64>
     ensures { result ≡ option_map clamped (number_of word.now) }
 {
@@ -58,7 +58,7 @@ fn number(word: &[u8]) -> Option<i64>
 }
 
 /// Whether a word is a numeral, of whatever length.
-#[tactic(auto, unfolding(crate::specs::Numerals::is_number))]
+#[tactic(auto, unfolding(crate::specs::ScriptNumerals::is_number))]
 pub fn is_number(word: &[u8]) -> bool
     ensures { result ≡ is_number word.now }
 {
@@ -66,7 +66,7 @@ pub fn is_number(word: &[u8]) -> bool
 }
 
 // The number that a numeral spells, held at `FAR` on either side of 0.
-#[tactic(auto, unfolding(crate::specs::Numerals::value_of))]
+#[tactic(auto, unfolding(crate::specs::ScriptNumerals::value_of))]
 fn value(word: &[u8]) -> i64
     ensures { result ≡ clamped (value_of word.now) }
 {

@@ -8,7 +8,7 @@ use crate::line::Line;
 use arrayvec::ArrayVec;
 
 // The items, copied.
-fn copied<T: Copy + Default, const N: usize>(items: &[T]) -> ArrayVec<T, N>
+fn array_with<T: Copy + Default, const N: usize>(items: &[T]) -> ArrayVec<T, N>
     requires { length items.now ≤ N }
     ensures { result.items ≡ items.now }
 {
@@ -25,26 +25,26 @@ pub fn owned(line: LentLine<'_>) -> Line
 {
     match line {
         LentLine::Nothing => Line::Nothing,
-        LentLine::Bytes(bytes) => Line::Bytes(copied(bytes)),
+        LentLine::Bytes(bytes) => Line::Bytes(array_with(bytes)),
         LentLine::Go => Line::Go,
         LentLine::Control { setup, sent } => Line::Control {
             setup,
-            sent: copied(sent),
+            sent: array_with(sent),
         },
-        LentLine::Get(name) => Line::Get(copied(name)),
-        LentLine::Set(name, value) => Line::Set(copied(name), value),
-        LentLine::Show(name) => Line::Show(copied(name)),
+        LentLine::Get(name) => Line::Get(array_with(name)),
+        LentLine::Set(name, value) => Line::Set(array_with(name), value),
+        LentLine::Show(name) => Line::Show(array_with(name)),
         LentLine::Break { after } => Line::Break { after },
         LentLine::Append { interface, samples } => Line::Append {
             interface,
-            samples: copied(samples),
+            samples: array_with(samples),
         },
         LentLine::Track { interface, tone } => Line::Track { interface, tone },
         LentLine::Jack { terminal, tone } => Line::Jack { terminal, tone },
         LentLine::Deviate { domain, ppm } => Line::Deviate { domain, ppm },
         LentLine::Run { count, marks } => Line::Run {
             count,
-            marks: copied(marks),
+            marks: array_with(marks),
         },
         LentLine::Detail(level) => Line::Detail(level),
         LentLine::Report => Line::Report,

@@ -1,7 +1,7 @@
 // A whole line: its first word names the row.
 ghost use Rattle.std.specs.Prelude.{◌≡◌, ◌≤◌, ◌==◌, length, Ok, Err, IfOk};
 ghost use Rattle.uac_script.specs.Words.{words_left, bytes_left, is_idle};
-ghost use Rattle.uac_script.specs.Reading.{said, judged_row, row_of, answer};
+ghost use Rattle.uac_script.specs.LineReading.{said, judged_row, row_of, answer};
 ghost use Rattle.uac_script.specs.Lent.{lent_said, Fits};
 
 use crate::lent::{LentLine, LineRoom};
@@ -48,7 +48,7 @@ fn row<'a>(letter: u8, words: Words<'a>, room: &'a mut LineRoom) -> Result<LentL
 }
 
 /// The line that a text spells, with its long parts in `room`, or the first of rules S2 to S4 that it breaks.
-#[tactic(auto, unfolding(crate::specs::Reading::answer))]
+#[tactic(auto, unfolding(crate::specs::LineReading::answer))]
 pub fn read_into<'a>(text: &'a [u8], room: &'a mut LineRoom) -> Result<LentLine<'a>, u8>
     requires { length text.now ≤ 4096 }
     ensures says { lent_said result ≡ answer text.now }

@@ -2,10 +2,10 @@
 ghost use Rattle.std.specs.Prelude.{◌≡◌, ◌≤◌, ◌==◌, length, Option, Some, None, IsTrue, IfSome, IfOk};
 ghost use Rattle.std.specs.Option.{option_copied};
 ghost use Rattle.uac_script.specs.Words.{words_left, bytes_left};
-ghost use Rattle.uac_script.specs.Numerals.{is_number};
-ghost use Rattle.uac_script.specs.Reading.{said_tone, said_signal, judged, judged_tone, judged_signal, name_of, only_of, then_of};
-ghost use Rattle.uac_script.specs.Reading.{when_empty, feeds_of, controls_of, element_of, breaks_of, tone_read, signal_of, tracks_of};
-ghost use Rattle.uac_script.specs.Reading.{jacks_of, deviates_of, details_of, sets_of, pair_of, sent_of, ramp_of, numbered};
+ghost use Rattle.uac_script.specs.ScriptNumerals.{is_number};
+ghost use Rattle.uac_script.specs.LineReading.{said_tone, said_signal, judged, judged_tone, judged_signal, name_in, only_of, then_of};
+ghost use Rattle.uac_script.specs.LineReading.{when_empty, feeds_of, controls_of, element_of, breaks_of, tone_read, signal_of, tracks_of};
+ghost use Rattle.uac_script.specs.LineReading.{jacks_of, deviates_of, details_of, sets_of, pair_of, sent_of, ramp_of, numbered};
 ghost use Rattle.uac_script.specs.Phrase.{silent, hisses, is_in_range};
 ghost use Rattle.uac_script.specs.Lent.{lent_phrase, lent_said, Fits};
 
@@ -83,7 +83,7 @@ pub fn control<'a>(mut words: Words<'_>, room: &'a mut [u8; 2048]) -> Result<Len
 
 // A name: any word but the empty one.
 fn name(word: &[u8]) -> Option<&[u8]>
-    ensures name { option_copied result ≡ name_of word.now }
+    ensures name { option_copied result ≡ name_in word.now }
     ensures same { IfSome result (λ name. length name.now ≡ length word.now) }
 {
     if word.is_empty() {
@@ -95,7 +95,7 @@ fn name(word: &[u8]) -> Option<&[u8]>
 // The last word, as a name.
 fn last_name(words: Words<'_>) -> Option<&[u8]>
     requires { bytes_left words.rest ≤ 4097 }
-    ensures name { option_copied result ≡ then_of name_of (only_of (words_left words.entry.rest)) }
+    ensures name { option_copied result ≡ then_of name_in (only_of (words_left words.entry.rest)) }
     ensures fits { IfSome result (λ name. length name.now ≤ 4096) }
 {
     let word = words.only()?;

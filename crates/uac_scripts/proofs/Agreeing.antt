@@ -2,16 +2,16 @@
 use Rattle.std.proofs.Common.{◌≡◌, ℕ, zero, suc, ◌+◌, ◌-◌, List, [], ◌∷◌, length, map, Result, refl, sym, ap, ◌∙◌}
 use Rattle.std.specs.List.{AllZip}
 use Rattle.uac_units.specs.Hearing.{Reading}
-use Rattle.uac_script.specs.Lines.{Head, line, long, past, unended, head_of, most_of_input}
+use Rattle.uac_script.specs.ScriptLines.{Head, line, long, past, unended, head_of, most_of_input}
 use Rattle.uac_script.specs.Line.{Says}
 use Rattle.uac_script.specs.Phrase.{Phrase}
-use Rattle.uac_script.specs.Reading.{answer}
+use Rattle.uac_script.specs.LineReading.{answer}
 use Rattle.uac_script.proofs.Answered.{answer_says, says_only}
 use Rattle.uac_script.proofs.Sayings.{each_says_once}
-use Rattle.uac_bus.specs.World.{World, start}
+use Rattle.uac_bus.specs.BusWorld.{World, start}
 use Rattle.uac_bus.specs.After.{said_step}
 use Rattle.uac_describe.specs.Outcome.{End, at_end, read_failed, stopped}
-use Rattle.uac_scripts.specs.Transcript.{Ending, IsTranscript, Sayings, after_step, finished, rest_by, head_by, lines_by, transcript_by}
+use Rattle.uac_scripts.specs.ScriptTranscript.{Ending, IsTranscript, Sayings, after_step, ending_at, rest_by, head_by, lines_by, transcript_by}
 use Rattle.uac_scripts.specs.Computed.{HasOneTranscript, rest_done, by_head, goes_within, goes, transcript}
 use Rattle.uac_scripts.proofs.Going.{after_step_same}
 
@@ -22,7 +22,7 @@ all_say texts = (each_says_once texts (map answer texts)).1 refl
 module _ (says : Sayings) (same : (text : List ℕ) → says text ≡ answer text) where
   rest_same : (rest : List ℕ) (end : End) (number : ℕ) (w : World) → rest_by says rest end number w ≡ rest_done rest end number w
   rest_same [] at_end number w = refl
-  rest_same (b ∷ rest) at_end number w = ap (λ (s : Result Phrase ℕ). after_step (said_step s w) number w (λ next. finished (number + 1) next)) (same (b ∷ rest))
+  rest_same (b ∷ rest) at_end number w = ap (λ (s : Result Phrase ℕ). after_step (said_step s w) number w (λ next. ending_at (number + 1) next)) (same (b ∷ rest))
   rest_same [] read_failed number w = refl
   rest_same (b ∷ rest) read_failed number w = refl
   rest_same [] stopped number w = refl

@@ -2,15 +2,15 @@
 use Rattle.std.proofs.Common.{◌≡◌, ◌≢◌, ℕ, zero, suc, ◌+◌, ◌-◌, ◌<◌, ◌⊎◌, inl, inr, List, [], ◌∷◌, ◌++◌, length, Option, Some, refl, sym, ap, ◌∙◌, arith}
 use Rattle.std.specs.Io.KnownBytes.{Consumes}
 use Rattle.uac_units.specs.Hearing.{Reading}
-use Rattle.uac_script.specs.Lines.{Head, line, long, past, unended, head_of, most_of_input}
-use Rattle.uac_script.specs.Reading.{answer}
-use Rattle.uac_script.proofs.HeadLemmas.{head_line-more, head_long-more, head_past-more}
+use Rattle.uac_script.specs.ScriptLines.{Head, line, long, past, unended, head_of, most_of_input}
+use Rattle.uac_script.specs.LineReading.{answer}
+use Rattle.uac_script.proofs.Heads.{head_line-more, head_long-more, head_past-more}
 use Rattle.uac_transcript.specs.Printing.{text_of}
-use Rattle.uac_bus.specs.World.{World, Step, done, refused, start}
+use Rattle.uac_bus.specs.BusWorld.{World, Step, done, refused, start}
 use Rattle.uac_bus.specs.After.{said_step}
 use Rattle.uac_describe.specs.declared.status.Status.TheVariants as statuses
 use Rattle.uac_describe.specs.Outcome.{End, at_end, read_failed, stopped}
-use Rattle.uac_scripts.specs.Transcript.{Ending, after_step, with_text_first}
+use Rattle.uac_scripts.specs.ScriptTranscript.{Ending, after_step, with_text_first}
 use Rattle.uac_scripts.specs.Computed.{goes, transcript}
 use Rattle.uac_describe.specs.Closing.{HasEnded, Rests}
 use Rattle.uac_describe.proofs.Completing.{front_of}

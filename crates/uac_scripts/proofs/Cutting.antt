@@ -6,17 +6,17 @@ use Rattle.std.proofs.lemmas.List.{append-nil, map-append, length-take, take_all
 use Rattle.std.proofs.lemmas.List.Sums.{split_at_first, passes_at_first, fails_before_first}
 use Rattle.std.proofs.ByRecursion.{All-push}
 use Rattle.uac_units.specs.Hearing.{Reading}
-use Rattle.uac_script.specs.Lines.{line, unended, head_of}
+use Rattle.uac_script.specs.ScriptLines.{line, unended, head_of}
 use Rattle.uac_script.specs.Looking.{line_end}
 use Rattle.uac_script.specs.Phrase.{Phrase}
-use Rattle.uac_script.specs.Reading.{answer}
-use Rattle.uac_script.proofs.HeadLemmas.{Cases, is_long, is_line, is_past, is_unended, cases_of, line_end_in}
+use Rattle.uac_script.specs.LineReading.{answer}
+use Rattle.uac_script.proofs.Heads.{Cases, is_long, is_line, is_past, is_unended, cases_of, line_end_in}
 use Rattle.uac_transcript.specs.Transcript.{Said}
 use Rattle.uac_transcript.specs.Printing.{text_of}
 use Rattle.uac_transcript.proofs.PrintingLemmas.{text_of-append}
 use Rattle.uac_bus.specs.declared.fault.BusFault.{BusFault}
-use Rattle.uac_bus.specs.World.{World, Step, done, start}
-use Rattle.uac_bus.specs.After.{After, after, if_refused, said_step, stepped, with_one_more}
+use Rattle.uac_bus.specs.BusWorld.{World, Step, done, start}
+use Rattle.uac_bus.specs.After.{After, after, if_refused, said_step, step_added, with_one_more}
 use Rattle.uac_bus.proofs.AfterLemmas.{after_one_more}
 use Rattle.uac_scripts.specs.Script.{IsLine, with_newlines}
 
@@ -112,16 +112,16 @@ with_one (text ∷ texts) told rest =
     ∙ sym (append_assoc (text ++ 10 ∷ []) (with_newlines texts) (told ++ 10 ∷ rest))
 
 -- one line more that is done, after lines that were
-done_behind : (said : Result Phrase ℕ) (a : After) (next : World) (more : List Said) → a.refusal ≡ None → said_step said a.world ≡ done next more → with_one_more said a ≡ stepped (done next more) a
+done_behind : (said : Result Phrase ℕ) (a : After) (next : World) (more : List Said) → a.refusal ≡ None → said_step said a.world ≡ done next more → with_one_more said a ≡ step_added (done next more) a
 done_behind said a next more none is =
-    ap (λ (o : Option BusFault). if_refused o a (stepped (said_step said a.world) a)) none ∙ ap (λ (s : Step). stepped s a) is
+    ap (λ (o : Option BusFault). if_refused o a (step_added (said_step said a.world) a)) none ∙ ap (λ (s : Step). step_added s a) is
 
 pub one_more_done : (shown : List Reading) (taken text told rest : List ℕ) (w next : World) (more : List Said) → HasDone shown taken text (told ++ 10 ∷ rest) w → IsLine told
     → said_step (answer told) w ≡ done next more → HasDone shown taken (text ++ text_of more) rest next
 one_more_done shown taken text told rest w next more d is_told is =
     let a : After = after (map answer d.texts) (start shown) in
     let now : After = after (map answer (d.texts ++ told ∷ [])) (start shown) in
-    let same : now ≡ stepped (done next more) a =
+    let same : now ≡ step_added (done next more) a =
     ap (λ (saids : List (Result Phrase ℕ)). after saids (start shown)) (map-append answer d.texts (told ∷ []))
     ∙ after_one_more (map answer d.texts) (answer told) (start shown)
     ∙ done_behind (answer told) a next more d.accepted (ap (said_step (answer told)) (sym d.reached) ∙ is) in

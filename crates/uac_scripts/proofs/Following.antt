@@ -5,36 +5,36 @@ use Rattle.std.specs.Io.KnownBytes.{Appends, Consumes, IsAtEnd, Keeps}
 use Rattle.uac_units.specs.Hearing.{Reading}
 use Rattle.uac_edges.specs.Faults.{Rose}
 use Rattle.uac_edges.specs.Writing.{AppendsFront}
-use Rattle.uac_script.specs.Lines.{line, long, past, unended, head_of, most_of_input, Splitting, Splits, StopsAtLine, Goes}
-use Rattle.uac_script.specs.Reading.{answer}
+use Rattle.uac_script.specs.ScriptLines.{line, long, past, unended, head_of, most_of_input, Splitting, Splits, StopsAtLine, Goes}
+use Rattle.uac_script.specs.LineReading.{answer}
 use Rattle.uac_script.specs.declared.lines.Next.{Next}
 use Rattle.uac_script.specs.declared.lines.Next.TheVariants as next
 use Rattle.uac_script.specs.declared.lines.LineStop.{LineStop}
 use Rattle.uac_script.specs.declared.lines.LineStop.TheVariants as stops
 use Rattle.uac_edges.proofs.Consuming.{Consumes-none, Consumes-Consumes}
 use Rattle.uac_script.proofs.Answered.{answer_says}
-use Rattle.uac_script.proofs.HeadLemmas.{head_line-more}
+use Rattle.uac_script.proofs.Heads.{head_line-more}
 use Rattle.uac_edges.proofs.WritingLemmas.{Appends-twice, Appends-none, AppendsFront-after, AppendsFront-longer}
 use Rattle.uac_bus.specs.declared.fault.BusFault.{BusFault}
 use Rattle.uac_bus.specs.declared.fault.BusFault.TheVariants as faults
-use Rattle.uac_bus.specs.World.{World, describing, running, Step, done, refused, start, finish_of, meters_in}
+use Rattle.uac_bus.specs.BusWorld.{World, describing, running, Step, done, refused, start, finish_of, meters_in}
 use Rattle.uac_bus.specs.After.{after, said_step}
 use Rattle.uac_transcript.specs.Transcript.{Said}
 use Rattle.uac_transcript.specs.Printing.{text_of}
 use Rattle.uac_bus.specs.declared.bus.BusStage.{BusStage}
 use Rattle.uac_bus.specs.declared.bus.BusStage.TheVariants as stages
-use Rattle.uac_bus.specs.Kept.{BusFields, Stands, StandsFor, Reaches, IsCut, Prevents}
+use Rattle.uac_bus.specs.BusKept.{BusFields, Stands, StandsFor, Reaches, IsCut, Prevents}
 use Rattle.uac_scripts.specs.declared.jobs.Job.TheVariants.{Run}
 use Rattle.uac_describe.specs.declared.status.Status.{Status}
 use Rattle.uac_describe.specs.declared.status.Status.TheVariants as statuses
 use Rattle.uac_describe.specs.Outcome.{End, at_end, read_failed, stopped, Outcome, no_memory, read_fault}
 use Rattle.uac_describe.specs.Closing.{HasEnded, Closes}
-use Rattle.uac_scripts.specs.Run.{IsPrompt, IsRun, StopsAtRefusal}
+use Rattle.uac_scripts.specs.ScriptRun.{IsPrompt, IsRun, StopsAtRefusal}
 use Rattle.uac_scripts.specs.Running.{IsSilent, Leaves, stop_outcome}
-use Rattle.uac_scripts.specs.Script.{IsLine, IsWanted, StandsBehind, wants}
+use Rattle.uac_scripts.specs.Script.{IsLine, IsWanted, EndsLine, wants}
 use Rattle.uac_scripts.specs.Lived.{IsLived}
 use Rattle.uac_scripts.proofs.LivedLemmas.{transcript_is_lived, wanted_is_lived}
-use Rattle.uac_scripts.specs.Transcript.{Ending, misread, too_long, last_line, ends, with_text_first, after_step, closed_by, finished, unfinished}
+use Rattle.uac_scripts.specs.ScriptTranscript.{Ending, misread, too_long, last_line, ends, with_text_first, after_step, closed_by, ending_at, unfinished}
 use Rattle.uac_scripts.specs.Computed.{goes, transcript}
 use Rattle.uac_describe.proofs.Answering.{told_status}
 use Rattle.uac_scripts.proofs.Agreeing.{all_say, is_transcript}
@@ -46,7 +46,7 @@ use Rattle.uac_scripts.proofs.Going.{line_size, goes_at, head_nothing, rest_is_d
 abbrev pub ToCome : List Reading → List ℕ → List ℕ → Splitting → Option (List ℕ) → World → Bool → Type 0
 ToCome shown taken text lines left w false =
     (more : List ℕ) (end : End) → transcript shown (taken ++ more) end ≡ with_text_first text (goes lines.spare (lines.unread ++ more) end (lines.number + 1) w)
-ToCome shown taken text lines left w true = IsAtEnd left × (transcript shown taken at_end ≡ with_text_first text (finished (lines.number + 1) w))
+ToCome shown taken text lines left w true = IsAtEnd left × (transcript shown taken at_end ≡ with_text_first text (ending_at (lines.number + 1) w))
 
 -- how far a run is: the bytes that were taken, which are the lines done and those unread while another line may come, the text that was
 -- written, and a world for which the bus and the meters stand
@@ -143,7 +143,7 @@ pub record HasLine (shown : List Reading) (text : List ℕ) (w : World) (left le
   pub rest : List ℕ
   pub cut : HasDone shown taken text (lines.text ++ rest) w
   pub fits : IsLine lines.text
-  pub whole : StandsBehind rest
+  pub whole : EndsLine rest
   pub newline : lines.ended ≡ false → rest ≡ 10 ∷ lines.unread
   pub on : (next : World) (more : List Said) → said_step (answer lines.text) w ≡ done next more → ToCome shown taken (text ++ text_of more) lines left' next lines.ended
 
@@ -217,7 +217,7 @@ has_rest : (shown : List Reading) (taken text got : List ℕ) (old new : Splitti
     → HasLine shown text w left left' old.number new reads reads'
 has_rest shown taken text got old new w left left' reads reads' law size consumed prompt isdone over some head g still =
     let number-is : old.number + 1 ≡ new.number = sym g.number in
-    let go : World → Ending = λ next. finished (old.number + 1 + 1) next in
+    let go : World → Ending = λ next. ending_at (old.number + 1 + 1) next in
     let at : transcript shown (taken ++ got) at_end ≡ with_text_first text (after_step (said_step (answer (old.unread ++ got)) w) (old.number + 1) w go) =
     law got at_end
     ∙ ap (with_text_first text) (goes_at (unended (old.unread ++ got)) old.spare (old.unread ++ got) at_end (old.number + 1) w head ∙ rest_is_done (old.unread ++ got) (old.number + 1) w some) in
@@ -242,7 +242,7 @@ has_rest shown taken text got old new w left left' reads reads' law size consume
       on = (λ next more is. subst (λ (b : Bool). ToCome shown (taken ++ got) (text ++ text_of more) new left' next b) (sym g.ended) (
         over,
         past_done shown (taken ++ got) text (old.unread ++ got) (old.number + 1) w next more at_end go at (ap (λ (t : List ℕ). said_step (answer t) w) (sym g.text) ∙ is)
-            ∙ ap (λ (n : ℕ). with_text_first (text ++ text_of more) (finished (n + 1) next)) number-is,
+            ∙ ap (λ (n : ℕ). with_text_first (text ++ text_of more) (ending_at (n + 1) next)) number-is,
       ));
     }
 
@@ -324,7 +324,7 @@ closes_after o text old mid new before between after status front still (inr cut
     inr (cut.0, subst (λ (n : ℕ). Rose n after) still cut.1, AppendsFront-after old mid new text o.text front cut.2)
 
 -- memory may be wanted at the line after those that were done
-is_wanted : (shown : List Reading) (taken text told rest : List ℕ) (w : World) → HasDone shown taken text (told ++ rest) w → IsLine told → StandsBehind rest → wants (answer told) w ≡ true
+is_wanted : (shown : List Reading) (taken text told rest : List ℕ) (w : World) → HasDone shown taken text (told ++ rest) w → IsLine told → EndsLine rest → wants (answer told) w ≡ true
     → IsWanted shown taken (with_text_first text (ends no_memory w))
 is_wanted shown taken text told rest w isdone is_line whole takes = record {
   texts = isdone.texts;
@@ -366,7 +366,7 @@ module _ (shown shown' : List Reading) (left left' : Option (List ℕ)) (reads r
 
   -- memory was wanted at a line, after others that were done
   pub memory_run : (taken text told rest : List ℕ) (w : World) (end : End) → Consumes left left' taken → HasEnded end left' reads reads' → IsPrompt (Some Run) shown taken
-      → HasDone shown taken text (told ++ rest) w → IsLine told → StandsBehind rest → wants (answer told) w ≡ true
+      → HasDone shown taken text (told ++ rest) w → IsLine told → EndsLine rest → wants (answer told) w ≡ true
       → Appends written mid text → writes' ≡ writes → Closes no_memory mid written' writes' writes'' status → shown' ≡ meters_in w
       → IsRun (Some Run) shown shown' left left' reads reads' written written' writes writes'' status
   memory_run taken text told rest w end consumed ended prompt isdone is_line whole takes front still closed heard = record {
@@ -493,8 +493,8 @@ module _ (shown shown' : List Reading) (left mid left' : Option (List ℕ)) (wri
   stopped_run why number number-is open_yet splits got got-is calm closed =
       stopped_by why open_yet splits (λ other. calm (λ e. other (cc (got-is, e)))) (subst (λ (n : ℕ). Closes (stop_outcome why n) written' written'' before last status) number-is closed)
 
-finished_meters : (number : ℕ) (w : World) → (finished number w).meters ≡ meters_in w
-unfolding finished
+finished_meters : (number : ℕ) (w : World) → (ending_at number w).meters ≡ meters_in w
+unfolding ending_at
 finished_meters number (describing bytes meters) = refl
 finished_meters number (running r) = refl
 
@@ -508,7 +508,7 @@ module _ (shown shown' : List Reading) (left mid left' : Option (List ℕ)) (wri
     pub consumed : Consumes left left' taken
     pub over : IsAtEnd left'
     pub same : new ≡ old
-    pub law : transcript shown taken at_end ≡ with_text_first far.text (finished (old.number + 1) far.world)
+    pub law : transcript shown taken at_end ≡ with_text_first far.text (ending_at (old.number + 1) far.world)
     pub prompt : IsPrompt (Some Run) shown taken
 
   is_over : (ended : Bool) → old.ended ≡ ended → (ended ≡ false → Splits old new mid left' reads reads' (Ok next.End))
@@ -545,14 +545,14 @@ module _ (shown shown' : List Reading) (left mid left' : Option (List ℕ)) (wri
       }
 
   pub finished_run : (got : Next) → got ≡ next.End → (old.ended ≡ false → Splits old new mid left' reads reads' (Ok got)) → (old.ended ≡ true → (new ≡ old) × (left' ≡ mid)) → length new.unread ≤ new.spare + 1
-      → (number : ℕ) → number ≡ new.number → Closes (finished (number + 1) far.world).outcome written' written'' before last status
+      → (number : ℕ) → number ≡ new.number → Closes (ending_at (number + 1) far.world).outcome written' written'' before last status
       → IsRun (Some Run) shown shown' left left' first reads' written written'' writes last status × IsAtEnd left'
   finished_run got got-is splits same within number is closed =
       let o = is_over old.ended refl (λ e. subst (λ (n : Next). Splits old new mid left' reads reads' (Ok n)) got-is (splits e)) same within in
       let number-is : number ≡ old.number = is ∙ ap (λ (l : Splitting). l.number) o.same in (
-        ends_run shown shown' left left' first reads' written written' written'' writes before last status o.taken far.text at_end (finished (old.number + 1) far.world)
+        ends_run shown shown' left left' first reads' written written' written'' writes before last status o.taken far.text at_end (ending_at (old.number + 1) far.world)
             o.consumed (o.over, still) o.prompt o.law far.appended first-writes
-            (subst (λ (n : ℕ). Closes (finished (n + 1) far.world).outcome written' written'' before last status) number-is closed)
+            (subst (λ (n : ℕ). Closes (ending_at (n + 1) far.world).outcome written' written'' before last status) number-is closed)
             (λ _. Stands-meters bus shown' far.world far.stands ∙ sym (finished_meters (old.number + 1) far.world)),
         o.over,
       )
@@ -567,15 +567,15 @@ closes_last fault is number text old new before after status same told closed =
     (subst (λ (t : List ℕ). Closes (record { text = t; status = (last_line is number).status }) old new before after status) told closed)
 
 -- the script is at its end, and nothing is printed
-pub closes_finished : (number : ℕ) (w : World) (u : Unit {0}) (a : Option (List ℕ)) (f : ℕ) → finish_of w ≡ Ok u → Closes (finished number w).outcome a a f f statuses.Ok
-unfolding finished
+pub closes_finished : (number : ℕ) (w : World) (u : Unit {0}) (a : Option (List ℕ)) (f : ℕ) → finish_of w ≡ Ok u → Closes (ending_at number w).outcome a a f f statuses.Ok
+unfolding ending_at
 closes_finished number w u a f is =
     subst (λ (r : Result (Unit {0}) BusFault). Closes (closed_by r number w).outcome a a f f statuses.Ok) (sym is) (inl (refl, Appends-none a a (kept_here a), refl))
 
 -- the script may not end here
 pub closes_unfinished : (number : ℕ) (w : World) (fault : BusFault) (old new : Option (List ℕ)) (before after : ℕ) (status : Status) → finish_of w ≡ Err fault
-    → Closes (last_line fault number) old new before after status → Closes (finished number w).outcome old new before after status
-unfolding finished
+    → Closes (last_line fault number) old new before after status → Closes (ending_at number w).outcome old new before after status
+unfolding ending_at
 closes_unfinished number w fault old new before after status is closed =
     subst (λ (r : Result (Unit {0}) BusFault). Closes (closed_by r number w).outcome old new before after status) (sym is) closed
 

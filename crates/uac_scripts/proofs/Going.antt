@@ -1,15 +1,15 @@
 -- The lines of a script: what stands first in the bytes decides, and more fuel changes nothing.
 use Rattle.std.proofs.Common.{◌≡◌, ◌≢◌, ℕ, zero, suc, ◌+◌, ◌-◌, ◌<◌, List, [], ◌∷◌, ◌++◌, length, take, drop, refl, sym, ap, ◌∙◌, arith, add-one, append_assoc}
 use Rattle.std.proofs.lemmas.List.{length-take, length-drop}
-use Rattle.uac_script.specs.Lines.{Head, line, long, past, unended, head_of}
+use Rattle.uac_script.specs.ScriptLines.{Head, line, long, past, unended, head_of}
 use Rattle.uac_script.specs.Looking.{line_end}
-use Rattle.uac_script.specs.Reading.{answer}
-use Rattle.uac_script.proofs.HeadLemmas.{Cases, is_long, is_line, is_past, is_unended, cases_of, line_end_within}
-use Rattle.uac_bus.specs.World.{World, Step, done, refused}
+use Rattle.uac_script.specs.LineReading.{answer}
+use Rattle.uac_script.proofs.Heads.{Cases, is_long, is_line, is_past, is_unended, cases_of, line_end_within}
+use Rattle.uac_bus.specs.BusWorld.{World, Step, done, refused}
 use Rattle.uac_describe.specs.Outcome.{End, at_end, read_failed, read_fault, stopped}
 use Rattle.uac_transcript.specs.Printing.{text_of}
 use Rattle.uac_bus.specs.After.{said_step}
-use Rattle.uac_scripts.specs.Transcript.{Ending, ends, with_text_first, after_step, finished, unfinished, lines_by}
+use Rattle.uac_scripts.specs.ScriptTranscript.{Ending, ends, with_text_first, after_step, ending_at, unfinished, lines_by}
 use Rattle.uac_scripts.specs.Computed.{rest_done, by_head, goes_within, goes}
 
 -- a line and its newline are some of the bytes, and the rest stands after them
@@ -86,7 +86,7 @@ head_nothing spare = go (cases_of spare [])
     go (is_line few some e) = absurd (omega (arith, length-take {A = ℕ} spare []))
 
 -- a rest that isn't empty is a line at the end
-pub rest_is_done : (rest : List ℕ) (number : ℕ) (w : World) → rest ≢ [] → rest_done rest at_end number w ≡ after_step (said_step (answer rest) w) number w (λ next. finished (number + 1) next)
+pub rest_is_done : (rest : List ℕ) (number : ℕ) (w : World) → rest ≢ [] → rest_done rest at_end number w ≡ after_step (said_step (answer rest) w) number w (λ next. ending_at (number + 1) next)
 rest_is_done [] number w some = absurd (some refl)
 rest_is_done (b ∷ rest) number w some = refl
 

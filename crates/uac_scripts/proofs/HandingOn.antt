@@ -11,9 +11,9 @@ use Rattle.uac_script.specs.Lent.{lent_phrase, lent_said}
 use Rattle.uac_transcript.specs.Printing.{text_of}
 use Rattle.uac_bus.specs.declared.fault.BusFault.{BusFault}
 use Rattle.uac_bus.specs.declared.fault.BusFault.TheVariants as faults
-use Rattle.uac_bus.specs.World.{World, Step, done, refused, step}
+use Rattle.uac_bus.specs.BusWorld.{World, Step, done, refused, step}
 use Rattle.uac_bus.specs.After.{said_step}
-use Rattle.uac_bus.specs.Kept.{Answers, BusFields, Stands, may_want}
+use Rattle.uac_bus.specs.BusKept.{Answers, BusFields, Stands, may_want}
 use Rattle.uac_scripts.specs.Running.{Does, Leaves}
 use Rattle.uac_scripts.specs.Script.{wants}
 

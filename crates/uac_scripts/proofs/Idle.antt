@@ -4,10 +4,10 @@ use Rattle.std.proofs.KnownBytes.{Appends-nil}
 use Rattle.uac_units.specs.Hearing.{Reading}
 use Rattle.uac_script.specs.Words.{is_idle}
 use Rattle.uac_script.specs.Phrase.{Phrase, idle}
-use Rattle.uac_script.specs.Reading.{answer}
-use Rattle.uac_bus.specs.World.{World, describing, running, step}
+use Rattle.uac_script.specs.LineReading.{answer}
+use Rattle.uac_bus.specs.BusWorld.{World, describing, running, step}
 use Rattle.uac_bus.specs.After.{said_step}
-use Rattle.uac_bus.specs.Kept.{BusFields, Stands}
+use Rattle.uac_bus.specs.BusKept.{BusFields, Stands}
 use Rattle.uac_scripts.specs.Running.{Does}
 use Rattle.uac_scripts.specs.Script.{wants}
 

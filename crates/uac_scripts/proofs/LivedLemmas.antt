@@ -3,21 +3,21 @@ use Rattle.std.proofs.Common.{◌≡◌, ◌∙◌, sym, refl, ap, subst, ℕ, z
 use Rattle.std.specs.List.{AllByRecursion}
 use Rattle.std.proofs.lemmas.List.{append-nil}
 use Rattle.uac_units.specs.Hearing.{Reading}
-use Rattle.uac_script.specs.Lines.{Head, line, long, past, unended, head_of, most_of_input}
-use Rattle.uac_script.specs.Reading.{answer}
-use Rattle.uac_script.proofs.HeadLemmas.{head_unended-all}
+use Rattle.uac_script.specs.ScriptLines.{Head, line, long, past, unended, head_of, most_of_input}
+use Rattle.uac_script.specs.LineReading.{answer}
+use Rattle.uac_script.proofs.Heads.{head_unended-all}
 use Rattle.uac_transcript.specs.Printing.{text_of}
 use Rattle.uac_transcript.specs.Transcript.{Said}
 use Rattle.uac_transcript.proofs.PrintingLemmas.{text_of-append}
 use Rattle.uac_bus.specs.declared.fault.BusFault.TheVariants as faults
-use Rattle.uac_bus.specs.World.{World, Step, describing, done, refused, running, start}
+use Rattle.uac_bus.specs.BusWorld.{World, Step, describing, done, refused, running, start}
 use Rattle.uac_bus.specs.After.{After, after, and_then, said_step}
 use Rattle.uac_promises.proofs.AllScripts.{all_scripts_keep_promises}
 use Rattle.uac_describe.specs.Outcome.{End, Outcome, at_end, no_memory, read_failed, stopped}
 use Rattle.uac_scripts.specs.Script.{IsLine, IsWanted, with_newlines}
-use Rattle.uac_scripts.specs.Transcript.{Ending, after_step, with_text_first, ends, finished, lines_by}
+use Rattle.uac_scripts.specs.ScriptTranscript.{Ending, after_step, with_text_first, ends, ending_at, lines_by}
 use Rattle.uac_scripts.specs.Computed.{by_head, goes, goes_within, rest_done, transcript}
-use Rattle.uac_scripts.specs.Lived.{AreFirst, IsLast, IsLived, at_the_end, at_a_refusal, at_a_long_line, behind_the_limit, at_a_failed_read, at_a_failed_write, without_memory}
+use Rattle.uac_scripts.specs.Lived.{AreFirst, IsLast, IsLived, at_the_end, at_a_refusal, at_a_long_line, past_the_limit, at_a_failed_read, at_a_failed_write, without_memory}
 use Rattle.uac_scripts.proofs.Agreeing.{all_say}
 use Rattle.uac_scripts.proofs.Cutting.{front_cut, rest_cut}
 use Rattle.uac_scripts.proofs.Going.{with_text_first-with_text_first}
@@ -84,21 +84,21 @@ one_first text rest w next lines ending is_line step lived =
 record HasFinished (number : ℕ) (w : World) : Type 0 where
   last : Outcome
   is_last : IsLast last
-  is : finished number w ≡ ends last w
+  is : ending_at number w ≡ ends last w
 
 finished_is : (number : ℕ) (w : World) → HasFinished number w
-unfolding finished
+unfolding ending_at
 finished_is number (describing bytes meters) = record { last = _; is_last = at_a_refusal (faults.Script 8) number; is = refl }
 finished_is number (running r) = record { last = _; is_last = at_the_end; is = refl }
 
-none_then_end : (number : ℕ) (w : World) (bytes : List ℕ) → IsLivedFrom w bytes (finished number w)
+none_then_end : (number : ℕ) (w : World) (bytes : List ℕ) → IsLivedFrom w bytes (ending_at number w)
 none_then_end number w bytes =
     let is = finished_is number w in
     subst (IsLivedFrom w bytes) (sym is.is) (none_done w bytes is.last is.is_last)
 
 -- the last line, which no newline ends
 last_done : (text : List ℕ) (number : ℕ) (w next : World) (lines : List Said) → IsLine text → said_step (answer text) w ≡ done next lines
-    → IsLivedFrom w text (with_text_first (text_of lines) (finished number next))
+    → IsLivedFrom w text (with_text_first (text_of lines) (ending_at number next))
 unfolding after
 last_done text number w next lines is_line step =
     let is = finished_is number next in
@@ -117,7 +117,7 @@ last_done text number w next lines is_line step =
     }
 
 last_by : (s : Step) (text : List ℕ) (number : ℕ) (w : World) → IsLine text → said_step (answer text) w ≡ s
-    → IsLivedFrom w text (after_step s number w (λ next. finished (number + 1) next))
+    → IsLivedFrom w text (after_step s number w (λ next. ending_at (number + 1) next))
 last_by (done next lines) text number w is_line step = last_done text (number + 1) w next lines is_line step
 last_by (refused fault) text number w is_line step = none_done w text _ (at_a_refusal fault number)
 
@@ -153,7 +153,7 @@ goes_lived (suc n) spare bytes end number w =
         (λ next. goes_within n (spare - (length text + 1)) rest end (number + 1) next))) (sym cut.1)
         (step_lived (said_step (answer text) w) text rest number w _ cut.0 refl (later text rest))
     by later long is = none_done w bytes _ (at_a_long_line number)
-    by later past is = none_done w bytes _ behind_the_limit
+    by later past is = none_done w bytes _ past_the_limit
     by later (unended text) is =
         let same : text ≡ bytes = (head_unended-all spare bytes text is).0 in
         subst (λ (t : List ℕ). IsLivedFrom w bytes (rest_done t end number w)) (sym same)

@@ -6,21 +6,21 @@ use Rattle.std.proofs.lemmas.Bool.{ne_eqb}
 use Rattle.std.proofs.lemmas.List.{length-take}
 use Rattle.std.proofs.lemmas.List.Sums.{position_or_len_is}
 use Rattle.uac_units.specs.Hearing.{Reading}
-use Rattle.uac_script.specs.Lines.{line, head_of, most_of_input}
+use Rattle.uac_script.specs.ScriptLines.{line, head_of, most_of_input}
 use Rattle.uac_script.specs.Line.{Says}
 use Rattle.uac_script.specs.Looking.{line_end}
 use Rattle.uac_script.specs.Phrase.{Phrase}
-use Rattle.uac_script.specs.Reading.{answer}
-use Rattle.uac_script.proofs.HeadLemmas.{head_line, line_end_in}
+use Rattle.uac_script.specs.LineReading.{answer}
+use Rattle.uac_script.proofs.Heads.{head_line, line_end_in}
 use Rattle.uac_script.proofs.Sayings.{each_says_once}
 use Rattle.uac_transcript.specs.Printing.{text_of}
 use Rattle.uac_transcript.proofs.PrintingLemmas.{text_of-append}
 use Rattle.uac_bus.specs.declared.fault.BusFault.{BusFault}
-use Rattle.uac_bus.specs.World.{World, Step, done, refused, start}
+use Rattle.uac_bus.specs.BusWorld.{World, Step, done, refused, start}
 use Rattle.uac_bus.specs.After.{After, after, and_then, said_step}
 use Rattle.uac_describe.specs.Outcome.{End}
-use Rattle.uac_scripts.specs.Script.{IsLine, behind_lines, come_to, with_newlines}
-use Rattle.uac_scripts.specs.Transcript.{Ending, after_step, with_text_first, ends, last_line}
+use Rattle.uac_scripts.specs.Script.{IsLine, go_unless_refused, come_to, with_newlines}
+use Rattle.uac_scripts.specs.ScriptTranscript.{Ending, after_step, with_text_first, ends, last_line}
 use Rattle.uac_scripts.specs.Computed.{goes, transcript}
 use Rattle.uac_scripts.proofs.Going.{with_text_first-with_text_first, goes_at}
 
@@ -57,9 +57,9 @@ line_first spare text rest is fits =
 -- ---- lines in order
 
 -- what follows matters only where it is reached
-behind_lines_same : (o : Option BusFault) (number : ℕ) (w : World) (go go' : World → Ending) → ((v : World) → go v ≡ go' v) → behind_lines o number w go ≡ behind_lines o number w go'
-behind_lines_same None number w go go' same = same w
-behind_lines_same (Some fault) number w go go' same = refl
+go_unless_refused_same : (o : Option BusFault) (number : ℕ) (w : World) (go go' : World → Ending) → ((v : World) → go v ≡ go' v) → go_unless_refused o number w go ≡ go_unless_refused o number w go'
+go_unless_refused_same None number w go go' same = same w
+go_unless_refused_same (Some fault) number w go go' same = refl
 
 -- a line, and then others
 come_to-step : (s : Step) (w : World) (number : ℕ) (others : World → After) (go : World → Ending) (on : World → Ending)
@@ -68,15 +68,15 @@ come_to-step (done next lines) w number others go on same =
     let rest = others next in
     let count : number + 1 + rest.count ≡ number + (rest.count + 1) = omega arith in
     ap (with_text_first (text_of lines)) (same next)
-    ∙ with_text_first-with_text_first (text_of lines) (text_of rest.lines) (behind_lines rest.refusal (number + 1 + rest.count) rest.world go)
-    ∙ ap (λ (t : List ℕ). with_text_first t (behind_lines rest.refusal (number + 1 + rest.count) rest.world go)) (sym (text_of-append lines rest.lines))
-    ∙ ap (λ (n : ℕ). with_text_first (text_of (lines ++ rest.lines)) (behind_lines rest.refusal n rest.world go)) count
+    ∙ with_text_first-with_text_first (text_of lines) (text_of rest.lines) (go_unless_refused rest.refusal (number + 1 + rest.count) rest.world go)
+    ∙ ap (λ (t : List ℕ). with_text_first t (go_unless_refused rest.refusal (number + 1 + rest.count) rest.world go)) (sym (text_of-append lines rest.lines))
+    ∙ ap (λ (n : ℕ). with_text_first (text_of (lines ++ rest.lines)) (go_unless_refused rest.refusal n rest.world go)) count
 come_to-step (refused fault) w number others go on same =
     let here : number ≡ number + 0 = omega arith in
     ap (λ (n : ℕ). ends (last_line fault n) w) here
 
 come_to-same : (a : After) (number : ℕ) (go go' : World → Ending) → ((v : World) → go v ≡ go' v) → come_to a number go ≡ come_to a number go'
-come_to-same a number go go' same = ap (with_text_first (text_of a.lines)) (behind_lines_same a.refusal (number + a.count) a.world go go' same)
+come_to-same a number go go' same = ap (with_text_first (text_of a.lines)) (go_unless_refused_same a.refusal (number + a.count) a.world go go' same)
 
 pub goes_lines : (texts : List (List ℕ)) (spare : ℕ) (rest : List ℕ) (end : End) (number : ℕ) (w : World) → AllByRecursion IsLine texts → length (with_newlines texts) ≤ spare
     → goes spare (with_newlines texts ++ rest) end number w

@@ -1,11 +1,11 @@
 -- The transcript computed: what each text says is what the table's reading of it answers (profile).
 use Rattle.std.specs.Prelude.{◌≡◌, ◌↔◌, ℕ, ◌+◌, List, length}
 use Rattle.uac_units.specs.Hearing.{Reading}
-use Rattle.uac_script.specs.Lines.{Head, most_of_input}
-use Rattle.uac_script.specs.Reading.{answer}
-use Rattle.uac_bus.specs.World.{World, start}
+use Rattle.uac_script.specs.ScriptLines.{Head, most_of_input}
+use Rattle.uac_script.specs.LineReading.{answer}
+use Rattle.uac_bus.specs.BusWorld.{World, start}
 use Rattle.uac_describe.specs.Outcome.{End}
-use Rattle.uac_scripts.specs.Transcript.{Ending, IsTranscript, rest_by, head_by, lines_by}
+use Rattle.uac_scripts.specs.ScriptTranscript.{Ending, IsTranscript, rest_by, head_by, lines_by}
 
 -- what bytes come to by that reading: those after the last newline, those of which something stands first, and so many lines
 abbrev pub rest_done : List ℕ → End → ℕ → World → Ending

@@ -1,7 +1,7 @@
 -- A script's lines, one after the other, and what a run of them comes to.
 -- What the program's theorem says: to be read and believed.
-pub mod Run
-pub mod Transcript
+pub mod ScriptRun
+pub mod ScriptTranscript
 pub mod Script
 pub mod Lived
 -- What the laws say besides.

@@ -6,14 +6,14 @@ use Rattle.uac_script.specs.Line.{Says}
 use Rattle.uac_script.specs.Phrase.{Phrase}
 use Rattle.uac_transcript.specs.Printing.{text_of}
 use Rattle.uac_bus.specs.declared.fault.BusFault.{BusFault}
-use Rattle.uac_bus.specs.World.{start}
+use Rattle.uac_bus.specs.BusWorld.{start}
 use Rattle.uac_bus.specs.After.{after}
 use Rattle.uac_steady.specs.Scripts.{is_steady_in}
 use Rattle.uac_promises.specs.Promises.{KeepsPromises}
 use Rattle.uac_describe.specs.declared.status.Status.TheVariants as statuses
 use Rattle.uac_describe.specs.Outcome.{Outcome, no_memory, read_fault}
 use Rattle.uac_scripts.specs.Script.{IsLine, with_newlines}
-use Rattle.uac_scripts.specs.Transcript.{Ending, with_text_first, ends, last_line, misread, too_long, unfinished}
+use Rattle.uac_scripts.specs.ScriptTranscript.{Ending, with_text_first, ends, last_line, misread, too_long, unfinished}
 
 -- how a run ends after the lines that were done
 pub data IsLast : Outcome → Type 0 where
@@ -22,7 +22,7 @@ pub data IsLast : Outcome → Type 0 where
   -- the next line is refused, or the end of the script is
   at_a_refusal : (fault : BusFault) (number : ℕ) → IsLast (last_line fault number)
   at_a_long_line : (number : ℕ) → IsLast (misread 1 number)
-  behind_the_limit : IsLast too_long
+  past_the_limit : IsLast too_long
   at_a_failed_read : IsLast read_fault
   at_a_failed_write : IsLast unfinished
   without_memory : IsLast no_memory

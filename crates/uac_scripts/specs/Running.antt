@@ -6,11 +6,11 @@ use Rattle.uac_script.specs.declared.lines.LineStop.{LineStop}
 use Rattle.uac_script.specs.declared.lines.LineStop.TheVariants as stop
 use Rattle.uac_bus.specs.declared.fault.BusFault.{BusFault}
 use Rattle.uac_bus.specs.declared.fault.BusFault.TheVariants as faults
-use Rattle.uac_bus.specs.World.{Step}
-use Rattle.uac_bus.specs.Kept.{BusFields}
-use Rattle.uac_bus.specs.Kept as kept
+use Rattle.uac_bus.specs.BusWorld.{Step}
+use Rattle.uac_bus.specs.BusKept.{BusFields}
+use Rattle.uac_bus.specs.BusKept as kept
 use Rattle.uac_describe.specs.Outcome.{Outcome, read_fault}
-use Rattle.uac_scripts.specs.Transcript.{misread, too_long}
+use Rattle.uac_scripts.specs.ScriptTranscript.{misread, too_long}
 
 -- nothing was printed, no write met a fault, and the meters heard nothing
 pub record IsSilent (shown shown' : List Reading) (written written' : Option (List ℕ)) (writes writes' : ℕ) : Type 0 where

@@ -2,17 +2,17 @@
 use Rattle.std.specs.Prelude.{◌≡◌, ◌≢◌, ℕ, ◌+◌, ◌≤◌, ◌⊎◌, Bool, true, false, List, [], ◌∷◌, ◌++◌, length, flat_map}
 use Rattle.std.specs.Prelude.{Option, None, Some, Result, Ok, Err}
 use Rattle.std.specs.List.{All, AllByRecursion, AllZip}
-use Rattle.uac_script.specs.Lines.{most_of_line}
+use Rattle.uac_script.specs.ScriptLines.{most_of_line}
 use Rattle.uac_script.specs.Phrase.{Phrase}
 use Rattle.uac_script.specs.Line.{Says}
 use Rattle.uac_units.specs.Hearing.{Reading}
 use Rattle.uac_transcript.specs.Printing.{text_of}
 use Rattle.uac_bus.specs.declared.fault.BusFault.{BusFault}
-use Rattle.uac_bus.specs.World.{World, start}
-use Rattle.uac_bus.specs.Kept.{may_want}
+use Rattle.uac_bus.specs.BusWorld.{World, start}
+use Rattle.uac_bus.specs.BusKept.{may_want}
 use Rattle.uac_bus.specs.After.{After, after}
 use Rattle.uac_describe.specs.Outcome.{no_memory}
-use Rattle.uac_scripts.specs.Transcript.{Ending, with_text_first, ends, last_line}
+use Rattle.uac_scripts.specs.ScriptTranscript.{Ending, with_text_first, ends, last_line}
 
 -- a line's bytes: at most 4,096, none of them a newline
 pub record IsLine (text : List ℕ) : Type 0 where
@@ -24,17 +24,17 @@ abbrev pub with_newlines : List (List ℕ) → List ℕ
 with_newlines texts = flat_map (λ text. text ++ 10 ∷ []) texts
 
 -- after lines: the refusal of the next, which has this number; or what follows in the world that they leave
-abbrev pub behind_lines : Option BusFault → ℕ → World → (World → Ending) → Ending
-behind_lines None number w go = go w
-behind_lines (Some fault) number w go = ends (last_line fault number) w
+abbrev pub go_unless_refused : Option BusFault → ℕ → World → (World → Ending) → Ending
+go_unless_refused None number w go = go w
+go_unless_refused (Some fault) number w go = ends (last_line fault number) w
 
 -- what lines come to of which the first has this number: their text, and then what stands after them
 abbrev pub come_to : After → ℕ → (World → Ending) → Ending
-come_to a number go = with_text_first (text_of a.lines) (behind_lines a.refusal (number + a.count) a.world go)
+come_to a number go = with_text_first (text_of a.lines) (go_unless_refused a.refusal (number + a.count) a.world go)
 
 -- the bytes after a line: none, or its newline and what follows
-abbrev pub StandsBehind : List ℕ → Type 0
-StandsBehind rest = (rest ≡ []) ⊎ ((more : List ℕ) × (rest ≡ 10 ∷ more))
+abbrev pub EndsLine : List ℕ → Type 0
+EndsLine rest = (rest ≡ []) ⊎ ((more : List ℕ) × (rest ≡ 10 ∷ more))
 
 -- what a line says may want memory in a world
 abbrev pub wants : Result Phrase ℕ → World → Bool
@@ -50,7 +50,7 @@ pub record IsWanted (shown : List Reading) (taken : List ℕ) (ending : Ending) 
   pub cut : taken ≡ with_newlines texts ++ (text ++ rest)
   pub lines : AllByRecursion IsLine texts
   pub line : IsLine text
-  pub whole : StandsBehind rest
+  pub whole : EndsLine rest
   pub saids : List (Result Phrase ℕ)
   pub say : AllZip Says texts saids
   pub done : (after saids (start shown)).refusal ≡ None

@@ -3,10 +3,10 @@ ghost use Rattle.std.specs.Prelude.{◌≡◌, ◌≢◌, ℕ, ◌+◌, ◌-◌,
 ghost use Rattle.std.specs.List.{AllByRecursion, AllZip};
 ghost use Rattle.uac_units.specs.Hearing.{Reading};
 ghost use Rattle.uac_script.specs.Line.{Says};
-ghost use Rattle.uac_script.specs.Lines.{most_of_input};
+ghost use Rattle.uac_script.specs.ScriptLines.{most_of_input};
 ghost use Rattle.uac_script.specs.Phrase.{Phrase};
-ghost use Rattle.uac_script.specs.Reading.{answer};
-ghost use Rattle.uac_bus.specs.World.{start};
+ghost use Rattle.uac_script.specs.LineReading.{answer};
+ghost use Rattle.uac_bus.specs.BusWorld.{start};
 ghost use Rattle.uac_bus.specs.After.{after};
 ghost use Rattle.uac_describe.specs.declared.status.Status.{Status};
 ghost use Rattle.uac_describe.specs.Outcome.{End, stopped};

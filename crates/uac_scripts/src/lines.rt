@@ -1,6 +1,6 @@
 // The lines that a script's run prints beside those of its lines, each from a buffer of fixed size.
 ghost use Rattle.std.specs.Prelude.{◌≡◌};
-ghost use Rattle.uac_scripts.specs.Transcript.{misread};
+ghost use Rattle.uac_scripts.specs.ScriptTranscript.{misread};
 
 use uac_edges::TextLine;
 

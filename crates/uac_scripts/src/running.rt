@@ -3,20 +3,20 @@ ghost use Rattle.std.specs.Prelude.{◌≡◌, ◌≢◌, ◌≤◌, false, [], 
 ghost use Rattle.std.specs.Io.KnownBytes.{IsAtEnd, Keeps};
 ghost use Rattle.uac_edges.specs.Faults.{Rose};
 ghost use Rattle.uac_script.specs.Lent.{lent_said, LentKeeps};
-ghost use Rattle.uac_script.specs.Lines.{most_of_input};
-ghost use Rattle.uac_script.specs.Reading.{answer};
+ghost use Rattle.uac_script.specs.ScriptLines.{most_of_input};
+ghost use Rattle.uac_script.specs.LineReading.{answer};
 ghost use Rattle.uac_units.specs.Fitting.{IsFitted};
 ghost use Rattle.uac_units.specs.Hearing.{Reading};
 ghost use Rattle.uac_units.specs.Panel.{readings};
-ghost use Rattle.uac_bus.specs.World.{World, start};
+ghost use Rattle.uac_bus.specs.BusWorld.{World, start};
 ghost use Rattle.uac_bus.specs.After.{said_step};
-ghost use Rattle.uac_bus.specs.Kept.{Stands};
+ghost use Rattle.uac_bus.specs.BusKept.{Stands};
 ghost use Rattle.uac_scripts.specs.declared.jobs.Job.TheVariants.{Run};
 ghost use Rattle.uac_describe.specs.Closing.{IsFaultless, Closes};
-ghost use Rattle.uac_scripts.specs.Run.{IsRun};
+ghost use Rattle.uac_scripts.specs.ScriptRun.{IsRun};
 ghost use Rattle.uac_scripts.specs.Running.{Does, stop_outcome};
 ghost use Rattle.uac_scripts.specs.Script.{wants};
-ghost use Rattle.uac_scripts.specs.Transcript.{last_line, finished};
+ghost use Rattle.uac_scripts.specs.ScriptTranscript.{last_line, ending_at};
 
 use crate::lines::{TOO_LONG, misread_line};
 use std::alloc::Global;
@@ -206,7 +206,7 @@ fn stop_lines<K: Sink>(stop: LineStop, number: u64, sink: &mut K) -> Status
 /// The script's end, where the next line would have this number.
 fn finish<K: Sink>(bus: &Bus, number: u64, sink: &mut K) -> Status
     ensures closed { (meters : List Reading) (w : World) → Stands bus.now meters w
-        → Closes (finished number w).outcome (K.written sink.old) (K.written sink.new) (K.faults sink.old) (K.faults sink.new) result }
+        → Closes (ending_at number w).outcome (K.written sink.old) (K.written sink.new) (K.faults sink.old) (K.faults sink.new) result }
     ensures never_read { result ≢ Status.ReadFault }
     ensures cause { (meters : List Reading) (w : World) → Stands bus.now meters w → result ≡ Status.WriteFault
         → Rose (K.faults sink.old) (K.faults sink.new) }

@@ -41,13 +41,13 @@ when true a = a
 when false a = nothing
 
 -- what is left of the production after a letter
-abbrev pub behind : {K : Type 0} → K → Production K → Production K
-behind k nothing = nothing
-behind k empty = nothing
-behind k (one passes) = when (passes k) empty
-behind k (then' a b) = choose (join (behind k a) b) (when (nullable a) (behind k b))
-behind k (either a b) = choose (behind k a) (behind k b)
-behind k (many a) = join (behind k a) (many a)
+abbrev pub following : {K : Type 0} → K → Production K → Production K
+following k nothing = nothing
+following k empty = nothing
+following k (one passes) = when (passes k) empty
+following k (then' a b) = choose (join (following k a) b) (when (nullable a) (following k b))
+following k (either a b) = choose (following k a) (following k b)
+following k (many a) = join (following k a) (many a)
 
 module _ {A K : Type 0} (f : A → K) where
   -- join allows what then' allows
@@ -149,9 +149,9 @@ module _ {A K : Type 0} (f : A → K) where
 
   -- the first part that isn't empty has the letter
   many_front : (a : Production K) (x : A) (xs : List A)
-      → ((ys : List A) → Allows f a (x ∷ ys) → Allows f (behind (f x) a) ys)
+      → ((ys : List A) → Allows f a (x ∷ ys) → Allows f (following (f x) a) ys)
       → (parts : List (List A)) → x ∷ xs ≡ flat_map (λ part. part) parts → AllByRecursion (Allows f a) parts
-      → Allows f (then' (behind (f x) a) (many a)) xs
+      → Allows f (then' (following (f x) a) (many a)) xs
   many_front a x xs go [] e all = cc
   many_front a x xs go ([] ∷ parts) e all = many_front a x xs go parts e all.1
   many_front a x xs go ((y ∷ ys) ∷ parts) e all =
@@ -160,7 +160,7 @@ module _ {A K : Type 0} (f : A → K) where
       (ys, flat_map (λ part. part) parts, e', go ys (subst (λ w. Allows f a (w ∷ ys)) h all.0), (parts, refl, all.1))
 
   -- what follows a letter is what its production leaves
-  pub behind_allows : (r : Production K) (x : A) (xs : List A) → Allows f r (x ∷ xs) → Allows f (behind (f x) r) xs
+  pub behind_allows : (r : Production K) (x : A) (xs : List A) → Allows f r (x ∷ xs) → Allows f (following (f x) r) xs
   behind_allows nothing x xs h = absurd h
   behind_allows empty x xs h = cc
   behind_allows (one passes) x xs (y, e, p) =
@@ -168,28 +168,28 @@ module _ {A K : Type 0} (f : A → K) where
       let e' : xs ≡ [] = cc in
       when_allows (passes (f x)) empty xs (subst (λ w. IsTrue (passes (f w))) h p) e'
   behind_allows (then' a b) x xs (ys, zs, e, p, q) =
-      choose_allows (join (behind (f x) a) b) (when (nullable a) (behind (f x) b)) xs
+      choose_allows (join (following (f x) a) b) (when (nullable a) (following (f x) b)) xs
       (elim (front_cases x xs ys zs e) [
-        | inl (ey, ez) ↦ inr (when_allows (nullable a) (behind (f x) b) xs (nullable_from a (subst (Allows f a) ey p)) (behind_allows b x xs (subst (Allows f b) ez q)))
-        | inr (vs, ey, ex) ↦ inl (join_allows (behind (f x) a) b xs (vs, zs, ex, behind_allows a x vs (subst (Allows f a) ey p), q))
+        | inl (ey, ez) ↦ inr (when_allows (nullable a) (following (f x) b) xs (nullable_from a (subst (Allows f a) ey p)) (behind_allows b x xs (subst (Allows f b) ez q)))
+        | inr (vs, ey, ex) ↦ inl (join_allows (following (f x) a) b xs (vs, zs, ex, behind_allows a x vs (subst (Allows f a) ey p), q))
       ])
-  behind_allows (either a b) x xs (inl p) = choose_allows (behind (f x) a) (behind (f x) b) xs (inl (behind_allows a x xs p))
-  behind_allows (either a b) x xs (inr q) = choose_allows (behind (f x) a) (behind (f x) b) xs (inr (behind_allows b x xs q))
+  behind_allows (either a b) x xs (inl p) = choose_allows (following (f x) a) (following (f x) b) xs (inl (behind_allows a x xs p))
+  behind_allows (either a b) x xs (inr q) = choose_allows (following (f x) a) (following (f x) b) xs (inr (behind_allows b x xs q))
   behind_allows (many a) x xs (parts, e, all) =
-      join_allows (behind (f x) a) (many a) xs (many_front a x xs (λ ys. behind_allows a x ys) parts e all)
+      join_allows (following (f x) a) (many a) xs (many_front a x xs (λ ys. behind_allows a x ys) parts e all)
 
-  pub allows_behind : (r : Production K) (x : A) (xs : List A) → Allows f (behind (f x) r) xs → Allows f r (x ∷ xs)
+  pub allows_behind : (r : Production K) (x : A) (xs : List A) → Allows f (following (f x) r) xs → Allows f r (x ∷ xs)
   allows_behind nothing x xs h = absurd h
   allows_behind empty x xs h = absurd h
   allows_behind (one passes) x xs h =
       let (p, e) = allows_when (passes (f x)) empty xs h in (x, ap (λ w. x ∷ w) e, p)
   allows_behind (then' a b) x xs h =
-      elim (allows_choose (join (behind (f x) a) b) (when (nullable a) (behind (f x) b)) xs h) [
-        | inl p ↦ (let (ys, zs, e, q, r) = allows_join (behind (f x) a) b xs p in (x ∷ ys, zs, ap (λ w. x ∷ w) e, allows_behind a x ys q, r))
-        | inr p ↦ (let (t, q) = allows_when (nullable a) (behind (f x) b) xs p in ([], x ∷ xs, refl, allows_empty a t, allows_behind b x xs q))
+      elim (allows_choose (join (following (f x) a) b) (when (nullable a) (following (f x) b)) xs h) [
+        | inl p ↦ (let (ys, zs, e, q, r) = allows_join (following (f x) a) b xs p in (x ∷ ys, zs, ap (λ w. x ∷ w) e, allows_behind a x ys q, r))
+        | inr p ↦ (let (t, q) = allows_when (nullable a) (following (f x) b) xs p in ([], x ∷ xs, refl, allows_empty a t, allows_behind b x xs q))
       ]
   allows_behind (either a b) x xs h =
-      ⊎_elim (λ p. inl (allows_behind a x xs p)) (λ q. inr (allows_behind b x xs q)) (allows_choose (behind (f x) a) (behind (f x) b) xs h)
+      ⊎_elim (λ p. inl (allows_behind a x xs p)) (λ q. inr (allows_behind b x xs q)) (allows_choose (following (f x) a) (following (f x) b) xs h)
   allows_behind (many a) x xs h =
-      let (ys, zs, e, q, (parts, e', all)) = allows_join (behind (f x) a) (many a) xs h in
+      let (ys, zs, e, q, (parts, e', all)) = allows_join (following (f x) a) (many a) xs h in
       ((x ∷ ys) ∷ parts, ap (λ w. x ∷ w) (e ∙ ap (λ w. ys ++ w) e'), (allows_behind a x ys q, all))

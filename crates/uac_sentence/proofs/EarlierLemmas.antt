@@ -7,12 +7,12 @@ use Rattle.uac_descriptor.specs.declared.block.Block as block
 use Rattle.uac_sentence.specs.declared.letters.Letter.{Letter}
 use Rattle.uac_sentence.specs.declared.letters.Letter.TheVariants as letter
 use Rattle.uac_sentence.specs.declared.stages.Stage.{Stage}
-use Rattle.uac_sentence.specs.declared.stages.Stage.TheVariants.{Start, Due, Opening, Before, Announced, Headless, Listing, Quiet, Setting, Formats, Formatted, FirstEndpoint, FirstDone, SecondEndpoint, Closing, Behind}
+use Rattle.uac_sentence.specs.declared.stages.Stage.TheVariants.{Start, Due, Opening, Before, Announced, Headless, Listing, Quiet, Setting, Formats, Formatted, FirstEndpoint, FirstDone, SecondEndpoint, Closing, ForeignAfter}
 use Rattle.uac_sentence.specs.declared.states.State.{State}
 use Rattle.uac_sentence.specs.Letter.{letter_of, is_listed}
 use Rattle.uac_sentence.specs.Steps.{step, may_end, is_before_association}
 use Rattle.uac_sentence.specs.Grammar.{start, state_after, stage_after, is_due, is_announced, is_headless, is_listing, is_past_control, lacks_association, lists_unknown, comes_again, is_audio_interface, is_control, is_unknown, is_association}
-use Rattle.uac_sentence.specs.Progress.{state_behind, BreakNone, HasRead}
+use Rattle.uac_sentence.specs.Progress.{state_following, BreakNone, HasRead}
 use Rattle.uac_sentence.specs.Earlier.{is_same, has, latest_is, is_header_list, is_in_list, is_unknown_in_list, stands_without_association, is_second}
 use Rattle.uac_sentence.proofs.Parts.{bytes_in, broken_passes, step_there}
 
@@ -86,8 +86,8 @@ told_behind SecondEndpoint letter.Device = refl
 told_behind SecondEndpoint k = refl
 told_behind Closing letter.Device = refl
 told_behind Closing k = refl
-told_behind Behind letter.Device = refl
-told_behind Behind k = refl
+told_behind ForeignAfter letter.Device = refl
+told_behind ForeignAfter k = refl
 
 told_at : (n : ℕ) (s t : Stage) (k : Letter) → step s k ≡ Some t → get_or (told (Some t)) n false ≡ get_or (tells (Some t) s k) n false
 told_at n s t k e = ap (λ bits. get_or bits n false) (subst (λ o. told o ≡ tells o s k) e (told_behind s k))
@@ -233,7 +233,7 @@ module _ (ks : List Letter) (s : Stage) (e : stage_behind ks ≡ Some s) where
 -- ---- the state
 
 stage_along : (s : State) (place : ℕ) (blocks : List block.Block) → BreakNone s place blocks
-    → lead (Some s.stage) (map letter_of blocks) ≡ Some (state_behind s place blocks).stage
+    → lead (Some s.stage) (map letter_of blocks) ≡ Some (state_following s place blocks).stage
 unfolding state_after
 stage_along s place [] unbroken = refl
 stage_along s place (b ∷ blocks) (here, unbroken) =

@@ -4,8 +4,8 @@ use Rattle.uac_descriptor.specs.declared.context.Context.TheVariants as context
 use Rattle.uac_descriptor.specs.declared.block.Block as block
 use Rattle.uac_descriptor.specs.declared.block.Block.TheVariants as variant
 use Rattle.uac_descriptor.specs.Classes.{is_audio_association, is_control_interface, is_streaming_interface}
-use Rattle.uac_descriptor.specs.Reading.{block_of, is_whole, has_length}
-use Rattle.uac_descriptor.specs.Rows.{row_in, row_of}
+use Rattle.uac_descriptor.specs.BlockReading.{block_of, is_whole, has_length}
+use Rattle.uac_descriptor.specs.LayoutRows.{row_in, row_of}
 use Rattle.uac_descriptor.specs.Spelling.{spelling}
 use Rattle.uac_descriptor.proofs.ReadBack.{block_of-Spells}
 use Rattle.uac_sentence.specs.Letter.{interface_context, interface_letter, whole_letter, is_device, has_unknown_subtype}
@@ -32,11 +32,11 @@ unknown = variant.Foreign (3 ∷ 36 ∷ 8 ∷ [])
 
 -- G1: one byte alone
 lone_byte : IsFault (9 ∷ []) 1 0
-lone_byte = record { before = []; behind = 9 ∷ []; cut = refl; stand = tt; at = refl; breaks = g1 refl (inl (inl refl)) }
+lone_byte = record { before = []; following = 9 ∷ []; cut = refl; stand = tt; at = refl; breaks = g1 refl (inl (inl refl)) }
 
 -- G2: a length of 1
 length_1 : IsFault (1 ∷ 2 ∷ []) 2 0
-length_1 = record { before = []; behind = 1 ∷ 2 ∷ []; cut = refl; stand = tt; at = refl; breaks = g2 refl (omega arith, omega arith) }
+length_1 = record { before = []; following = 1 ∷ 2 ∷ []; cut = refl; stand = tt; at = refl; breaks = g2 refl (omega arith, omega arith) }
 
 -- G3: a configuration of two bytes
 short_configuration : IsFault (2 ∷ 2 ∷ []) 3 0
@@ -44,7 +44,7 @@ unfolding block_of is_whole has_length row_in row_of
 short_configuration =
     record {
       before = [];
-      behind = 2 ∷ 2 ∷ [];
+      following = 2 ∷ 2 ∷ [];
       cut = refl;
       stand = tt;
       at = refl;
@@ -66,7 +66,7 @@ unfolding spelling row_in row_of interface_context is_control_interface
 old_version =
     record {
       before = control ∷ [];
-      behind = 9 ∷ 36 ∷ 1 ∷ 0 ∷ 1 ∷ 4 ∷ 9 ∷ 0 ∷ 0 ∷ [];
+      following = 9 ∷ 36 ∷ 1 ∷ 0 ∷ 1 ∷ 4 ∷ 9 ∷ 0 ∷ 0 ∷ [];
       cut = refl;
       stand = (record { spelt = refl; stands = refl; complete = tt }, tt);
       at = refl;
@@ -79,7 +79,7 @@ unfolding spelling row_in row_of
 past_the_total =
     record {
       before = configuration ∷ [];
-      behind = 8 ∷ 11 ∷ 0 ∷ 1 ∷ 1 ∷ 0 ∷ 32 ∷ 0 ∷ [];
+      following = 8 ∷ 11 ∷ 0 ∷ 1 ∷ 1 ∷ 0 ∷ 32 ∷ 0 ∷ [];
       cut = refl;
       stand = (record { spelt = refl; stands = refl; complete = tt }, tt);
       at = refl;
@@ -98,7 +98,7 @@ unfolding spelling row_in row_of interface_letter is_control_interface
 header_missing =
     record {
       before = control ∷ [];
-      behind = [];
+      following = [];
       cut = refl;
       stand = (record { spelt = refl; stands = refl; complete = tt }, tt);
       at = refl;
@@ -111,7 +111,7 @@ unfolding spelling row_in row_of interface_letter is_control_interface is_stream
 early_stream =
     record {
       before = [];
-      behind = 9 ∷ 4 ∷ 1 ∷ 0 ∷ 0 ∷ 1 ∷ 2 ∷ 32 ∷ 0 ∷ [];
+      following = 9 ∷ 4 ∷ 1 ∷ 0 ∷ 0 ∷ 1 ∷ 2 ∷ 32 ∷ 0 ∷ [];
       cut = refl;
       stand = tt;
       at = refl;
@@ -124,7 +124,7 @@ unfolding spelling row_in row_of interface_context interface_letter is_control_i
 unknown_subtype =
     record {
       before = control ∷ header 512 ∷ [];
-      behind = 3 ∷ 36 ∷ 8 ∷ [];
+      following = 3 ∷ 36 ∷ 8 ∷ [];
       cut = refl;
       stand = (record { spelt = refl; stands = refl; complete = tt }, (record { spelt = refl; stands = refl; complete = tt }, tt));
       at = refl;
@@ -143,7 +143,7 @@ unfolding spelling row_in row_of is_audio_association
 second_association =
     record {
       before = association ∷ [];
-      behind = 8 ∷ 11 ∷ 0 ∷ 1 ∷ 1 ∷ 0 ∷ 32 ∷ 0 ∷ [];
+      following = 8 ∷ 11 ∷ 0 ∷ 1 ∷ 1 ∷ 0 ∷ 32 ∷ 0 ∷ [];
       cut = refl;
       stand = (record { spelt = refl; stands = refl; complete = tt }, tt);
       at = refl;

@@ -5,8 +5,8 @@ use Rattle.std.specs.List.{AllByRecursion}
 use Rattle.std.proofs.lemmas.Bool.{cases_Bool, cases_lt, true≢false, false≢true, and_parts, and_from, and_cases, and_left, or_parts, or_cases, or_left, or_right, not-true, not-false, not_from_false, cond-true, cond-false}
 use Rattle.uac_descriptor.specs.declared.block.Block as block
 use Rattle.uac_descriptor.specs.Spelling.{spelling}
-use Rattle.uac_descriptor.specs.Rows.{Spells}
-use Rattle.uac_descriptor.specs.Reading.{AreBytes, block_of}
+use Rattle.uac_descriptor.specs.LayoutRows.{Spells}
+use Rattle.uac_descriptor.specs.BlockReading.{AreBytes, block_of}
 use Rattle.uac_descriptor.proofs.ReadBack.{block_of-Spells}
 use Rattle.uac_descriptor.proofs.SpeltAsRead.{Spells-block_of}
 use Rattle.uac_sentence.specs.declared.letters.Letter.{Letter}
@@ -19,11 +19,11 @@ use Rattle.uac_sentence.specs.Fault.{GrammarFault, at_place, rest_rule, faults_o
 use Rattle.uac_sentence.specs.Letter.{letter_of, is_listed}
 use Rattle.uac_sentence.specs.Steps.{step, may_end}
 use Rattle.uac_sentence.specs.Values.{HasValues, has_wrong_value}
-use Rattle.uac_sentence.specs.Grammar.{grammar, start, state_after, state_read, rule_read, rule_broken, rule_at_end, first_fault, end_after, ends_before, ends_behind, listing_after, list_end, passes_total, passes_list, ends_list_early, is_out_of_order, is_refused, lacks_association, lists_unknown, comes_again, least, is_due, is_headless}
+use Rattle.uac_sentence.specs.Grammar.{grammar, start, state_after, state_read, rule_read, rule_broken, rule_at_end, first_fault, end_after, ends_before, ends_after, listing_after, list_end, passes_total, passes_list, ends_list_early, is_out_of_order, is_refused, lacks_association, lists_unknown, comes_again, least, is_due, is_headless}
 use Rattle.uac_sentence.specs.Sentence.{EachIn, SpellsItself, spellings, size}
-use Rattle.uac_sentence.specs.Progress.{state_behind, HasRead}
+use Rattle.uac_sentence.specs.Progress.{state_following, HasRead}
 use Rattle.uac_sentence.specs.Earlier.{is_same, has, latest_is, is_named, is_second, is_unknown_in_list, stands_without_association}
-use Rattle.uac_sentence.specs.FirstFault.{context_behind, context_of, NextBlock, IsAtConfiguration, HasNoLength, MissesTotal, IsMisplaced, LacksPart, Breaks, g1, g2, g3, g4, g5, g6, g7, g8, g9, IsFault, IsFirstFault}
+use Rattle.uac_sentence.specs.FirstFault.{context_following, context_of, NextBlock, IsAtConfiguration, HasNoLength, MissesTotal, IsMisplaced, LacksPart, Breaks, g1, g2, g3, g4, g5, g6, g7, g8, g9, IsFault, IsFirstFault}
 use Rattle.uac_sentence.proofs.CuttingLaw.{chop_is_cut}
 use Rattle.uac_sentence.proofs.FaultLaw.{at_place_is, option_or_some, faults_from_piece}
 use Rattle.uac_sentence.proofs.Parts.{bytes_in}
@@ -95,7 +95,7 @@ block_ascends s place b = (omega arith, (omega arith, (omega arith, (omega arith
 abbrev end_table : State → ℕ → List (ℕ × Bool)
 end_table s place =
     (1, is_due s.stage)
-    ∷ (5, ends_behind s.end place || ends_behind (list_end s.listing) place)
+    ∷ (5, ends_after s.end place || ends_after (list_end s.listing) place)
     ∷ (6, is_headless s.stage)
     ∷ (7, not (may_end s.stage)) ∷ []
 
@@ -136,7 +136,7 @@ record FindsLow (s : State) (place : ℕ) (bytes : List ℕ) (r : ℕ) : Type 0 
   found : faults_from grammar s place bytes ≡ Some (record { rule = rule; at = place })
   low : rule ≤ r
 
-context_along : (s : State) (place : ℕ) (blocks : List block.Block) → (state_behind s place blocks).context ≡ context_behind s.context blocks
+context_along : (s : State) (place : ℕ) (blocks : List block.Block) → (state_following s place blocks).context ≡ context_following s.context blocks
 unfolding state_after
 context_along s place [] = refl
 context_along s place (b ∷ blocks) = context_along (state_after s place b) (place + bytes_in b) blocks
@@ -164,13 +164,13 @@ module _ (blocks : List block.Block) (s : State) (place : ℕ) (read : HasRead b
   misses b h =
       let whole : Bool = ends_before (end_after s.end place b) (place + bytes_in b) in
       let list : Bool = ends_before (list_end (listing_after s.listing place b)) (place + bytes_in b) in
-      let early : Bool = not (is_listed (letter_of b)) && ends_behind (list_end s.listing) place in
+      let early : Bool = not (is_listed (letter_of b)) && ends_after (list_end s.listing) place in
       elim (or_cases (whole || list) early h) [
         | inl past ↦ elim (or_cases whole list past) [
           | inl t ↦ inl (past_total blocks s place read b t)
           | inr l ↦ inr (inl (past_list blocks s place read b l))
         ]
-        | inr short ↦ (let (other, e) = and_parts (not (is_listed (letter_of b))) (ends_behind (list_end s.listing) place) short in
+        | inr short ↦ (let (other, e) = and_parts (not (is_listed (letter_of b))) (ends_after (list_end s.listing) place) short in
             inr (inr (not-true (is_listed (letter_of b)) other, short_list blocks s place read e)))
       ]
 
@@ -180,20 +180,20 @@ module _ (blocks : List block.Block) (s : State) (place : ℕ) (read : HasRead b
   missed b (inl t) =
       or_left
       (ends_before (end_after s.end place b) (place + bytes_in b) || ends_before (list_end (listing_after s.listing place b)) (place + bytes_in b))
-      (not (is_listed (letter_of b)) && ends_behind (list_end s.listing) place)
+      (not (is_listed (letter_of b)) && ends_after (list_end s.listing) place)
       (or_left (ends_before (end_after s.end place b) (place + bytes_in b)) (ends_before (list_end (listing_after s.listing place b)) (place + bytes_in b))
       (total_past blocks s place read b t))
   missed b (inr (inl l)) =
       or_left
       (ends_before (end_after s.end place b) (place + bytes_in b) || ends_before (list_end (listing_after s.listing place b)) (place + bytes_in b))
-      (not (is_listed (letter_of b)) && ends_behind (list_end s.listing) place)
+      (not (is_listed (letter_of b)) && ends_after (list_end s.listing) place)
       (or_right (ends_before (end_after s.end place b) (place + bytes_in b)) (ends_before (list_end (listing_after s.listing place b)) (place + bytes_in b))
       (list_past blocks s place read b l))
   missed b (inr (inr (other, short))) =
       or_right
       (ends_before (end_after s.end place b) (place + bytes_in b) || ends_before (list_end (listing_after s.listing place b)) (place + bytes_in b))
-      (not (is_listed (letter_of b)) && ends_behind (list_end s.listing) place)
-      (and_from (not (is_listed (letter_of b))) (ends_behind (list_end s.listing) place)
+      (not (is_listed (letter_of b)) && ends_after (list_end s.listing) place)
+      (and_from (not (is_listed (letter_of b))) (ends_after (list_end s.listing) place)
       (not_from_false (is_listed (letter_of b)) other) (list_short blocks s place read short))
 
   misplaced : (b : block.Block) → AreBytes (spellings (blocks ++ b ∷ [])) → is_out_of_order s b ≡ true → IsMisplaced blocks b
@@ -299,7 +299,7 @@ module _ (blocks : List block.Block) (s : State) (place : ℕ) (read : HasRead b
       g5 is (inr (
         refl,
         ⊎_elim (λ t. inl (short_total blocks s place read t)) (λ l. inr (short_list blocks s place read l))
-            (or_cases (ends_behind s.end place) (ends_behind (list_end s.listing) place) h),
+            (or_cases (ends_after s.end place) (ends_after (list_end s.listing) place) h),
       ))
   end_breaks r (inr (no1, inr (no5, inl (is, h)))) = g6 is (inr (refl, sym (end_is (map letter_of blocks) s.stage stage_now).1 ∙ h))
   end_breaks r (inr (no1, inr (no5, inr (no6, inl (is, h))))) = g7 is (inr (refl, lacks_part no6 (not-true (may_end s.stage) h)))
@@ -365,9 +365,9 @@ module _ (blocks : List block.Block) (s : State) (place : ℕ) (read : HasRead b
           ]
   breaks_low bytes r are (g5 is (inl n)) = block_low (MissesTotal blocks) bytes r n (inr (inl (is, missed n.next n.is_so)))
   breaks_low bytes r are (g5 is (inr (none, inl t))) =
-      end_low bytes r none (inr (inl (is, or_left (ends_behind s.end place) (ends_behind (list_end s.listing) place) (total_short blocks s place read t))))
+      end_low bytes r none (inr (inl (is, or_left (ends_after s.end place) (ends_after (list_end s.listing) place) (total_short blocks s place read t))))
   breaks_low bytes r are (g5 is (inr (none, inr l))) =
-      end_low bytes r none (inr (inl (is, or_right (ends_behind s.end place) (ends_behind (list_end s.listing) place) (list_short blocks s place read l))))
+      end_low bytes r none (inr (inl (is, or_right (ends_after s.end place) (ends_after (list_end s.listing) place) (list_short blocks s place read l))))
   breaks_low bytes r are (g6 is (inl n)) =
       block_low (IsMisplaced blocks) bytes r n (inr (inr (inl (is, out_of_order n.next (block_bytes (IsMisplaced blocks) bytes n are) n.is_so))))
   breaks_low bytes r are (g6 is (inr (none, h))) =
@@ -408,7 +408,7 @@ module _ (blocks : List block.Block) (s : State) (place : ℕ) (read : HasRead b
   -- a fault at this place
   fault_here : (bytes : List ℕ) (fault : GrammarFault) → fault.at ≡ place → Breaks fault.rule blocks bytes → IsFault (spellings blocks ++ bytes) fault.rule fault.at
   fault_here bytes fault at breaks =
-      record { before = blocks; behind = bytes; cut = refl; stand = read.stand; at = at ∙ read.place_is; breaks = breaks }
+      record { before = blocks; following = bytes; cut = refl; stand = read.stand; at = at ∙ read.place_is; breaks = breaks }
 
 -- ---- along the blocks
 
@@ -487,52 +487,52 @@ record FindsEarly (s : State) (place : ℕ) (bytes : List ℕ) (far r : ℕ) : T
   found : faults_from grammar s place bytes ≡ Some fault
   early : (fault.at < far) ⊎ ((fault.at ≡ far) × (fault.rule ≤ r))
 
-found_along : (before : List block.Block) (behind : List ℕ) (blocks : List block.Block) (s : State) (place : ℕ) → HasRead blocks s place
-    → EachIn SpellsItself s.context before → AreBytes (spellings blocks ++ (spellings before ++ behind)) → (r : ℕ) → Breaks r (blocks ++ before) behind
-    → FindsEarly s place (spellings before ++ behind) (place + size before) r
+found_along : (before : List block.Block) (following : List ℕ) (blocks : List block.Block) (s : State) (place : ℕ) → HasRead blocks s place
+    → EachIn SpellsItself s.context before → AreBytes (spellings blocks ++ (spellings before ++ following)) → (r : ℕ) → Breaks r (blocks ++ before) following
+    → FindsEarly s place (spellings before ++ following) (place + size before) r
 unfolding grammar state_after
-found_along [] behind blocks s place read stand are r breaks =
-    let h = breaks_low blocks s place read behind r are (subst (λ xs. Breaks r xs behind) (append-nil blocks) breaks) in
+found_along [] following blocks s place read stand are r breaks =
+    let h = breaks_low blocks s place read following r are (subst (λ xs. Breaks r xs following) (append-nil blocks) breaks) in
     record { fault = record { rule = h.rule; at = place }; found = h.found; early = inr ((let e : place ≡ place + 0 = omega arith in e), h.low) }
-found_along (b ∷ before) behind blocks s place read (stands, stand) are r breaks =
+found_along (b ∷ before) following blocks s place read (stands, stand) are r breaks =
     next (rule_broken s place (bytes_in b) b) refl
-    (λ read' are'. found_along before behind (blocks ++ b ∷ []) (state_after s place b) (place + bytes_in b) read' stand are' r
-    (subst (λ xs. Breaks r xs behind) (sym (append_assoc blocks (b ∷ []) before)) breaks))
+    (λ read' are'. found_along before following (blocks ++ b ∷ []) (state_after s place b) (place + bytes_in b) read' stand are' r
+    (subst (λ xs. Breaks r xs following) (sym (append_assoc blocks (b ∷ []) before)) breaks))
   where
-    regroup : spellings (b ∷ before) ++ behind ≡ spelling b ++ (spellings before ++ behind)
-    regroup = append_assoc (spelling b) (spellings before) behind
+    regroup : spellings (b ∷ before) ++ following ≡ spelling b ++ (spellings before ++ following)
+    regroup = append_assoc (spelling b) (spellings before) following
 
-    are_here : AreBytes (spellings blocks ++ (spelling b ++ (spellings before ++ behind)))
+    are_here : AreBytes (spellings blocks ++ (spelling b ++ (spellings before ++ following)))
     are_here = subst (λ y. AreBytes (spellings blocks ++ y)) regroup are
 
     is_read : block_of s.context (spelling b) ≡ Some b
     is_read = block_of-Spells s.context b (spelling b) stands
 
     next : (o : Option ℕ) → rule_broken s place (bytes_in b) b ≡ o
-        → (HasRead (blocks ++ b ∷ []) (state_after s place b) (place + bytes_in b) → AreBytes (spellings (blocks ++ b ∷ []) ++ (spellings before ++ behind))
-        → FindsEarly (state_after s place b) (place + bytes_in b) (spellings before ++ behind) (place + bytes_in b + size before) r)
-        → FindsEarly s place (spellings (b ∷ before) ++ behind) (place + size (b ∷ before)) r
+        → (HasRead (blocks ++ b ∷ []) (state_after s place b) (place + bytes_in b) → AreBytes (spellings (blocks ++ b ∷ []) ++ (spellings before ++ following))
+        → FindsEarly (state_after s place b) (place + bytes_in b) (spellings before ++ following) (place + bytes_in b + size before) r)
+        → FindsEarly s place (spellings (b ∷ before) ++ following) (place + size (b ∷ before)) r
     next (Some rule) is go =
         record {
           fault = record { rule = rule; at = place };
           found = ap (faults_from grammar s place) regroup
-              ∙ fault_broken s place (spelling b) (spellings before ++ behind) b rule (piece_of s.context b stands) is_read is;
+              ∙ fault_broken s place (spelling b) (spellings before ++ following) b rule (piece_of s.context b stands) is_read is;
           early = inl (let (two, fits) = piece_of s.context b stands in omega (arith, two, fits, size-cons b before));
         }
     next None is go =
         let (read', e') =
         block_read blocks s place (spelling b) b read
-        (bytes_left (spelling b) (spellings before ++ behind) (bytes_right (spellings blocks) (spelling b ++ (spellings before ++ behind)) are_here)) is_read is in
-        let same : spellings (blocks ++ b ∷ []) ++ (spellings before ++ behind) ≡ spellings blocks ++ (spelling b ++ (spellings before ++ behind)) =
-        ap (λ y. y ++ (spellings before ++ behind)) e' ∙ append_assoc (spellings blocks) (spelling b) (spellings before ++ behind) in
+        (bytes_left (spelling b) (spellings before ++ following) (bytes_right (spellings blocks) (spelling b ++ (spellings before ++ following)) are_here)) is_read is in
+        let same : spellings (blocks ++ b ∷ []) ++ (spellings before ++ following) ≡ spellings blocks ++ (spelling b ++ (spellings before ++ following)) =
+        ap (λ y. y ++ (spellings before ++ following)) e' ∙ append_assoc (spellings blocks) (spelling b) (spellings before ++ following) in
         let h = go read' (subst AreBytes (sym same) are_here) in
         record {
           fault = h.fault;
           found =
               ap (faults_from grammar s place) regroup
-              ∙ faults_from_piece grammar s place (spelling b) (spellings before ++ behind) (piece_of s.context b stands)
-              ∙ ap (λ o. option_or (at_place place (rule_read s place (length (spelling b)) o)) (faults_from grammar (state_read s place o) (place + length (spelling b)) (spellings before ++ behind))) is_read
-              ∙ ap (λ o. option_or (at_place place o) (faults_from grammar (state_after s place b) (place + bytes_in b) (spellings before ++ behind))) is
+              ∙ faults_from_piece grammar s place (spelling b) (spellings before ++ following) (piece_of s.context b stands)
+              ∙ ap (λ o. option_or (at_place place (rule_read s place (length (spelling b)) o)) (faults_from grammar (state_read s place o) (place + length (spelling b)) (spellings before ++ following))) is_read
+              ∙ ap (λ o. option_or (at_place place o) (faults_from grammar (state_after s place b) (place + bytes_in b) (spellings before ++ following))) is
               ∙ h.found;
           early =
               subst (λ n. (h.fault.at < n) ⊎ ((h.fault.at ≡ n) × (h.fault.rule ≤ r)))
@@ -553,8 +553,8 @@ module _ (bytes : List ℕ) (are : AreBytes bytes) where
   unfolding start
   fault_is_found r place h =
       subst (λ y. FindsEarly start 0 y place r) (sym h.cut)
-      (subst (λ n. FindsEarly start 0 (spellings h.before ++ h.behind) n r) (let e : 0 + size h.before ≡ place = omega (arith, h.at) in e)
-      (found_along h.before h.behind [] start 0 nothing_read h.stand (subst AreBytes h.cut are) r h.breaks))
+      (subst (λ n. FindsEarly start 0 (spellings h.before ++ h.following) n r) (let e : 0 + size h.before ≡ place = omega (arith, h.at) in e)
+      (found_along h.before h.following [] start 0 nothing_read h.stand (subst AreBytes h.cut are) r h.breaks))
 
   one_fault : (a b : GrammarFault) → Some a ≡ Some b → a ≡ b
   one_fault a b e = cc

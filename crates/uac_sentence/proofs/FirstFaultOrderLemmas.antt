@@ -6,7 +6,7 @@ use Rattle.uac_descriptor.specs.declared.standard.Interface as interface
 use Rattle.uac_descriptor.specs.declared.block.Block as block
 use Rattle.uac_descriptor.specs.declared.block.Block.TheVariants as variant
 use Rattle.uac_descriptor.specs.Classes.{is_audio_association, is_control_interface, is_streaming_interface}
-use Rattle.uac_descriptor.specs.Reading.{AreBytes}
+use Rattle.uac_descriptor.specs.BlockReading.{AreBytes}
 use Rattle.uac_sentence.specs.declared.letters.Letter.{Letter}
 use Rattle.uac_sentence.specs.declared.stages.Stage.{Stage}
 use Rattle.uac_sentence.specs.declared.stages.Stage.TheVariants.{Start, Due, Opening, Before, Announced, Headless, Listing}
@@ -15,7 +15,7 @@ use Rattle.uac_sentence.specs.Letter.{letter_of, interface_letter}
 use Rattle.uac_sentence.specs.Steps.{step}
 use Rattle.uac_sentence.specs.Grammar.{start, state_after, is_in_turn, is_refused}
 use Rattle.uac_sentence.specs.Sentence.{spellings, interface_of, Begins, Continues, InTurn}
-use Rattle.uac_sentence.specs.Progress.{state_behind, BreakNone, HasRead}
+use Rattle.uac_sentence.specs.Progress.{state_following, BreakNone, HasRead}
 use Rattle.uac_sentence.specs.FirstFault.{MayBegin}
 use Rattle.uac_sentence.proofs.OrderLaw.{Goes, goes_allows, allows_goes}
 use Rattle.uac_sentence.proofs.Parts.{bytes_in, broken_passes, step_there, TurnRun}
@@ -91,7 +91,7 @@ ending_in_turn earlier s = tt
 -- ---- the turn
 
 -- the flags and the latest setting are those of the interfaces before
-record IsBehind (s : State) (earlier : List interface.Interface) : Type 0 where
+record IsFollowing (s : State) (earlier : List interface.Interface) : Type 0 where
   used : IsUsed s.used earlier
   latest : s.latest ≡ latest_of earlier
 
@@ -102,7 +102,7 @@ earlier_behind earlier (variant.Interface i ∷ blocks) = earlier_behind (i ∷ 
 earlier_behind earlier (_ ∷ blocks) = earlier_behind earlier blocks
 
 behind_along : (s : State) (place : ℕ) (blocks : List block.Block) (earlier : List interface.Interface) → HasSmallNumbers blocks
-    → IsBehind s earlier → IsBehind (state_behind s place blocks) (earlier_behind earlier blocks)
+    → IsFollowing s earlier → IsFollowing (state_following s place blocks) (earlier_behind earlier blocks)
 unfolding state_after latest_of
 behind_along s place [] earlier small is = is
 behind_along s place (variant.Interface i ∷ blocks) earlier (small, rest) is =
@@ -168,10 +168,10 @@ module _ (blocks : List block.Block) (s : State) (place : ℕ) (b : block.Block)
   numbers : HasSmallNumbers blocks × HasSmallNumbers (b ∷ [])
   numbers = small_front blocks b (small_numbers (blocks ++ b ∷ []) are)
 
-  is_behind : IsBehind s (earlier_behind [] blocks)
+  is_behind : IsFollowing s (earlier_behind [] blocks)
   unfolding start latest_of
   is_behind =
-      subst (λ u. IsBehind u (earlier_behind [] blocks)) (sym read.state_is)
+      subst (λ u. IsFollowing u (earlier_behind [] blocks)) (sym read.state_is)
       (behind_along start 0 blocks [] numbers.0 (record { used = at_start; latest = refl }))
 
   lead_more : lead (Some Start) (map letter_of (blocks ++ b ∷ [])) ≡ step s.stage (letter_of b)

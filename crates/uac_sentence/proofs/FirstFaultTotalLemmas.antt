@@ -9,9 +9,9 @@ use Rattle.uac_sentence.specs.declared.states.Listing.{Listing}
 use Rattle.uac_sentence.specs.declared.states.Listing.TheVariants as listing
 use Rattle.uac_sentence.specs.declared.states.State.{State}
 use Rattle.uac_sentence.specs.Letter.{letter_of, is_listed}
-use Rattle.uac_sentence.specs.Grammar.{start, state_after, end_after, ends_before, ends_behind, listing_after, list_end}
+use Rattle.uac_sentence.specs.Grammar.{start, state_after, end_after, ends_before, ends_after, listing_after, list_end}
 use Rattle.uac_sentence.specs.Sentence.{size}
-use Rattle.uac_sentence.specs.Progress.{state_behind, HasRead}
+use Rattle.uac_sentence.specs.Progress.{state_following, HasRead}
 use Rattle.uac_sentence.specs.FirstFault.{ConfigurationTotal, HeaderTotal, IsPast, IsShort}
 use Rattle.uac_sentence.proofs.Parts.{bytes_in}
 use Rattle.uac_sentence.proofs.TotalLaw.{size-cons}
@@ -26,12 +26,12 @@ abbrev pub listing_along : Listing → ℕ → List block.Block → Listing
 listing_along list place [] = list
 listing_along list place (b ∷ blocks) = listing_along (listing_after list place b) (place + bytes_in b) blocks
 
-end_of_state : (s : State) (place : ℕ) (blocks : List block.Block) → (state_behind s place blocks).end ≡ end_along s.end place blocks
+end_of_state : (s : State) (place : ℕ) (blocks : List block.Block) → (state_following s place blocks).end ≡ end_along s.end place blocks
 unfolding state_after
 end_of_state s place [] = refl
 end_of_state s place (b ∷ blocks) = end_of_state (state_after s place b) (place + bytes_in b) blocks
 
-listing_of_state : (s : State) (place : ℕ) (blocks : List block.Block) → (state_behind s place blocks).listing ≡ listing_along s.listing place blocks
+listing_of_state : (s : State) (place : ℕ) (blocks : List block.Block) → (state_following s place blocks).listing ≡ listing_along s.listing place blocks
 unfolding state_after
 listing_of_state s place [] = refl
 listing_of_state s place (b ∷ blocks) = listing_of_state (state_after s place b) (place + bytes_in b) blocks
@@ -154,7 +154,7 @@ module _ (test : Option ℕ → ℕ → Bool) (IsSo : ℕ → ℕ → Type 0)
 none_before : (n : ℕ) → ends_before None n ≡ false
 none_before n = refl
 
-none_behind : (n : ℕ) → ends_behind None n ≡ false
+none_behind : (n : ℕ) → ends_after None n ≡ false
 none_behind n = refl
 
 past_to : (place n total : ℕ) → ends_before (Some (place + total)) (place + n) ≡ true → IsPast n total
@@ -163,10 +163,10 @@ past_to place n total h = (let e : place + total < place + n = ltb-true (place +
 past_from : (place n total : ℕ) → IsPast n total → ends_before (Some (place + total)) (place + n) ≡ true
 past_from place n total h = lt-ltb (place + total) (place + n) (omega (arith, h))
 
-short_to : (place n total : ℕ) → ends_behind (Some (place + total)) (place + n) ≡ true → IsShort n total
+short_to : (place n total : ℕ) → ends_after (Some (place + total)) (place + n) ≡ true → IsShort n total
 short_to place n total h = (let e : place + n < place + total = ltb-true (place + n) (place + total) h in omega (arith, e))
 
-short_from : (place n total : ℕ) → IsShort n total → ends_behind (Some (place + total)) (place + n) ≡ true
+short_from : (place n total : ℕ) → IsShort n total → ends_after (Some (place + total)) (place + n) ≡ true
 short_from place n total h = lt-ltb (place + n) (place + total) (omega (arith, h))
 
 -- ---- after blocks that were read
@@ -180,17 +180,17 @@ module _ (blocks : List block.Block) (s : State) (place : ℕ) (read : HasRead b
   unfolding start
   list_now = ap (λ (u : State). u.listing) read.state_is ∙ listing_of_state start 0 blocks
 
-  pub short_total : ends_behind s.end place ≡ true → ConfigurationTotal IsShort blocks
-  short_total h = total_so ends_behind IsShort none_behind short_to short_from blocks s.end place end_now read.place_is h
+  pub short_total : ends_after s.end place ≡ true → ConfigurationTotal IsShort blocks
+  short_total h = total_so ends_after IsShort none_behind short_to short_from blocks s.end place end_now read.place_is h
 
-  pub total_short : ConfigurationTotal IsShort blocks → ends_behind s.end place ≡ true
-  total_short h = so_total ends_behind IsShort none_behind short_to short_from blocks s.end place end_now read.place_is h
+  pub total_short : ConfigurationTotal IsShort blocks → ends_after s.end place ≡ true
+  total_short h = so_total ends_after IsShort none_behind short_to short_from blocks s.end place end_now read.place_is h
 
-  pub short_list : ends_behind (list_end s.listing) place ≡ true → HeaderTotal IsShort blocks
-  short_list h = list_so ends_behind IsShort none_behind short_to short_from blocks s.listing place list_now read.place_is h
+  pub short_list : ends_after (list_end s.listing) place ≡ true → HeaderTotal IsShort blocks
+  short_list h = list_so ends_after IsShort none_behind short_to short_from blocks s.listing place list_now read.place_is h
 
-  pub list_short : HeaderTotal IsShort blocks → ends_behind (list_end s.listing) place ≡ true
-  list_short h = so_list ends_behind IsShort none_behind short_to short_from blocks s.listing place list_now read.place_is h
+  pub list_short : HeaderTotal IsShort blocks → ends_after (list_end s.listing) place ≡ true
+  list_short h = so_list ends_after IsShort none_behind short_to short_from blocks s.listing place list_now read.place_is h
 
   module _ (b : block.Block) where
     size_next : place + bytes_in b ≡ size (blocks ++ b ∷ [])

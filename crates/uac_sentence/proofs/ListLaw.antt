@@ -7,12 +7,12 @@ use Rattle.uac_descriptor.specs.declared.context.Context.TheVariants as context
 use Rattle.uac_descriptor.specs.declared.block.Block as block
 use Rattle.uac_descriptor.specs.declared.block.Block.TheVariants as variant
 use Rattle.uac_descriptor.specs.declared.control.Header as header
-use Rattle.uac_descriptor.specs.Rows.{row_in, row_of, row}
+use Rattle.uac_descriptor.specs.LayoutRows.{row_in, row_of, row}
 use Rattle.uac_descriptor.specs.Spelling.{spelling}
 use Rattle.uac_sentence.specs.declared.letters.Letter.{Letter}
 use Rattle.uac_sentence.specs.declared.letters.Letter.TheVariants as letter
 use Rattle.uac_sentence.specs.declared.stages.Stage.{Stage}
-use Rattle.uac_sentence.specs.declared.stages.Stage.TheVariants.{Start, Due, Opening, Before, Announced, Headless, Listing, Quiet, Setting, Formats, Formatted, FirstEndpoint, FirstDone, SecondEndpoint, Closing, Behind}
+use Rattle.uac_sentence.specs.declared.stages.Stage.TheVariants.{Start, Due, Opening, Before, Announced, Headless, Listing, Quiet, Setting, Formats, Formatted, FirstEndpoint, FirstDone, SecondEndpoint, Closing, ForeignAfter}
 use Rattle.uac_descriptor.specs.Classes.{is_audio_association, is_control_interface, is_streaming_interface}
 use Rattle.uac_sentence.specs.Letter.{letter_of, whole_letter, interface_letter, interface_context, context_after, is_device, has_unknown_subtype, has_place, type_of, is_listed}
 use Rattle.uac_sentence.specs.Steps.{step}
@@ -29,7 +29,7 @@ ListedTotal (_ ∷ blocks) = ListedTotal blocks
 
 abbrev in_part : Stage → Bool
 in_part Before = true
-in_part Behind = true
+in_part ForeignAfter = true
 in_part _ = false
 
 abbrev leads_in_part : Option Stage → Bool
@@ -86,8 +86,8 @@ part_table SecondEndpoint letter.Device = refl
 part_table SecondEndpoint k = refl
 part_table Closing letter.Device = refl
 part_table Closing k = refl
-part_table Behind letter.Device = refl
-part_table Behind k = refl
+part_table ForeignAfter letter.Device = refl
+part_table ForeignAfter k = refl
 
 begins_context : (place : Context) (k : Letter) → begins_part k ≡ true → letter_context place k ≡ context.ForeignInterface
 begins_context place letter.ForeignAssociation e = refl
@@ -179,7 +179,7 @@ list_front (b ∷ blocks) (t, e, goes) =
 header_step : (s t : Stage) → step s letter.Header ≡ Some t → (t ≡ Listing) ⊎ (in_part s ≡ true)
 header_step Headless t e = inl (let h : t ≡ Listing = cc in h)
 header_step Before t e = inr refl
-header_step Behind t e = inr refl
+header_step ForeignAfter t e = inr refl
 header_step s t e = cc
 
 -- the two totals are one, in an allowed order

@@ -1,13 +1,13 @@
 -- The table of steps follows the productions.
 use Rattle.std.proofs.Common.{◌≡◌, Option, Some, None, List, [], ◌∷◌, IsTrue, refl, sym, ap, ◌∙◌, subst}
 use Rattle.uac_sentence.specs.Production.{Production, nothing, one, then', either, many, option, Allows}
-use Rattle.uac_sentence.specs.Order.{a, stays_in_part, others, foreign, control, formats, endpoint, stream, input}
+use Rattle.uac_sentence.specs.BlockOrder.{a, stays_in_part, others, foreign, control, formats, endpoint, stream, input}
 use Rattle.uac_sentence.specs.Steps.{step, may_end}
 use Rattle.uac_sentence.specs.declared.letters.Letter.{Letter}
 use Rattle.uac_sentence.specs.declared.letters.Letter.TheVariants.{Device, Configuration, AudioAssociation, Endpoint, Header, Entity, General, TypeOne, Extra, ClassEndpoint}
 use Rattle.uac_sentence.specs.declared.stages.Stage.{Stage}
-use Rattle.uac_sentence.specs.declared.stages.Stage.TheVariants.{Start, Due, Opening, Before, Announced, Headless, Listing, Quiet, Setting, Formats, Formatted, FirstEndpoint, FirstDone, SecondEndpoint, Closing, Behind}
-use Rattle.uac_sentence.proofs.Derivative.{behind, nullable, behind_allows, allows_behind, allows_empty, nullable_from}
+use Rattle.uac_sentence.specs.declared.stages.Stage.TheVariants.{Start, Due, Opening, Before, Announced, Headless, Listing, Quiet, Setting, Formats, Formatted, FirstEndpoint, FirstDone, SecondEndpoint, Closing, ForeignAfter}
+use Rattle.uac_sentence.proofs.Derivative.{following, nullable, behind_allows, allows_behind, allows_empty, nullable_from}
 
 -- the other parts, after the control interface's
 abbrev parts : Production Letter
@@ -37,14 +37,14 @@ left FirstEndpoint = then' (option (a ClassEndpoint)) (then' (option endpoint) (
 left FirstDone = then' (option endpoint) (then' others parts)
 left SecondEndpoint = then' (option (a ClassEndpoint)) (then' others parts)
 left Closing = then' others parts
-left Behind = then' (many (one stays_in_part)) parts
+left ForeignAfter = then' (many (one stays_in_part)) parts
 
 abbrev pub left_at : Option Stage → Production Letter
 left_at None = nothing
 left_at (Some s) = left s
 
 -- the table says what the productions leave after each letter
-pub left_behind : (s : Stage) (k : Letter) → behind k (left s) ≡ left_at (step s k)
+pub left_behind : (s : Stage) (k : Letter) → following k (left s) ≡ left_at (step s k)
 left_behind Start Device = refl
 left_behind Start k = refl
 left_behind Due Device = refl
@@ -75,8 +75,8 @@ left_behind SecondEndpoint Device = refl
 left_behind SecondEndpoint k = refl
 left_behind Closing Device = refl
 left_behind Closing k = refl
-left_behind Behind Device = refl
-left_behind Behind k = refl
+left_behind ForeignAfter Device = refl
+left_behind ForeignAfter k = refl
 
 -- the input may end where the productions may
 pub may_end_lem : (s : Stage) → nullable (left s) ≡ may_end s

@@ -7,14 +7,14 @@ use Rattle.uac_descriptor.specs.Spelling.{spelling}
 use Rattle.uac_sentence.specs.declared.letters.Letter.{Letter}
 use Rattle.uac_sentence.specs.declared.letters.Letter.TheVariants.{Device}
 use Rattle.uac_sentence.specs.declared.stages.Stage.{Stage}
-use Rattle.uac_sentence.specs.declared.stages.Stage.TheVariants.{Start, Due, Opening, Before, Announced, Headless, Listing, Quiet, Setting, Formats, Formatted, FirstEndpoint, FirstDone, SecondEndpoint, Closing, Behind}
+use Rattle.uac_sentence.specs.declared.stages.Stage.TheVariants.{Start, Due, Opening, Before, Announced, Headless, Listing, Quiet, Setting, Formats, Formatted, FirstEndpoint, FirstDone, SecondEndpoint, Closing, ForeignAfter}
 use Rattle.uac_sentence.specs.declared.states.Latest.{Latest}
 use Rattle.uac_sentence.specs.declared.states.Listing as listing
 use Rattle.uac_sentence.specs.declared.states.State.{State}
 use Rattle.uac_sentence.specs.Letter.{letter_of, is_listed}
 use Rattle.uac_sentence.specs.Steps.{step, may_end}
 use Rattle.uac_sentence.specs.Values.{has_wrong_value}
-use Rattle.uac_sentence.specs.Grammar.{end_after, ends_before, ends_behind, listing_after, list_end, used_after, latest_after, is_in_turn, stage_after, state_after, passes_total, passes_list, ends_list_early, lacks_association, lists_unknown, comes_again, is_refused, is_out_of_order, least, rule_broken, is_due, is_headless, rule_at_end}
+use Rattle.uac_sentence.specs.Grammar.{end_after, ends_before, ends_after, listing_after, list_end, used_after, latest_after, is_in_turn, stage_after, state_after, passes_total, passes_list, ends_list_early, lacks_association, lists_unknown, comes_again, is_refused, is_out_of_order, least, rule_broken, is_due, is_headless, rule_at_end}
 use Rattle.uac_sentence.specs.Sentence.{EachIn}
 use Rattle.uac_sentence.proofs.OrderLaw.{Goes}
 
@@ -34,16 +34,16 @@ HasNoWrongValue place b = has_wrong_value place b ≡ false
 
 -- the configuration's total alone
 abbrev pub EndRun : Option ℕ → ℕ → List block.Block → Type 0
-EndRun end place [] = ends_behind end place ≡ false
+EndRun end place [] = ends_after end place ≡ false
 EndRun end place (b ∷ blocks) =
     (ends_before (end_after end place b) (place + bytes_in b) ≡ false) × EndRun (end_after end place b) (place + bytes_in b) blocks
 
 -- the header's total alone
 abbrev pub ListRun : listing.Listing → ℕ → List block.Block → Type 0
-ListRun l place [] = ends_behind (list_end l) place ≡ false
+ListRun l place [] = ends_after (list_end l) place ≡ false
 ListRun l place (b ∷ blocks) =
     (ends_before (list_end (listing_after l place b)) (place + bytes_in b) ≡ false)
-    × ((not (is_listed (letter_of b)) && ends_behind (list_end l) place) ≡ false)
+    × ((not (is_listed (letter_of b)) && ends_after (list_end l) place) ≡ false)
     × ListRun (listing_after l place b) (place + bytes_in b) blocks
 
 -- the numbers of interfaces and their settings alone
@@ -104,8 +104,8 @@ named_is_refused SecondEndpoint Device = refl
 named_is_refused SecondEndpoint l = refl
 named_is_refused Closing Device = refl
 named_is_refused Closing l = refl
-named_is_refused Behind Device = refl
-named_is_refused Behind l = refl
+named_is_refused ForeignAfter Device = refl
+named_is_refused ForeignAfter l = refl
 
 -- the stages in which the input may not end
 due_may_not_end : (s : Stage) → may_end s ≡ true → (is_due s ≡ false) × (is_headless s ≡ false)
@@ -119,7 +119,7 @@ pub record Passes (s : State) (place : ℕ) (b : block.Block) : Type 0 where
   pub value : has_wrong_value s.context b ≡ false
   pub end : ends_before (end_after s.end place b) (place + bytes_in b) ≡ false
   pub list : ends_before (list_end (listing_after s.listing place b)) (place + bytes_in b) ≡ false
-  pub early : (not (is_listed (letter_of b)) && ends_behind (list_end s.listing) place) ≡ false
+  pub early : (not (is_listed (letter_of b)) && ends_after (list_end s.listing) place) ≡ false
   pub allowed : is_none (step s.stage (letter_of b)) ≡ false
   pub turn : is_in_turn s.used s.latest b ≡ true
 
@@ -156,7 +156,7 @@ broken_passes s place b e =
     let (e4, total, list, early, refused) =
     no_rule (has_wrong_value s.context b) (ends_before (end_after s.end place b) (place + bytes_in b))
     (ends_before (list_end (listing_after s.listing place b)) (place + bytes_in b))
-    (not (is_listed (letter_of b)) && ends_behind (list_end s.listing) place)
+    (not (is_listed (letter_of b)) && ends_after (list_end s.listing) place)
     (is_refused s b) (lacks_association s.stage (letter_of b)) (lists_unknown s.stage (letter_of b)) (comes_again s.stage (letter_of b)) e in
     let (allowed, turn) = or_parts (is_none (step s.stage (letter_of b))) (not (is_in_turn s.used s.latest b)) refused in
     record { value = e4; end = total; list = list; early = early; allowed = allowed; turn = not-false (is_in_turn s.used s.latest b) turn }
@@ -182,7 +182,7 @@ passes_broken s place b p =
     let (lacks, lists) = or_parts (lacks_association s.stage (letter_of b)) (lists_unknown s.stage (letter_of b)) lacks_lists in
     rule_none (has_wrong_value s.context b) (ends_before (end_after s.end place b) (place + bytes_in b))
     (ends_before (list_end (listing_after s.listing place b)) (place + bytes_in b))
-    (not (is_listed (letter_of b)) && ends_behind (list_end s.listing) place)
+    (not (is_listed (letter_of b)) && ends_after (list_end s.listing) place)
     (is_refused s b) (lacks_association s.stage (letter_of b)) (lists_unknown s.stage (letter_of b)) (comes_again s.stage (letter_of b))
     p.value p.end p.list p.early
     (or_from (is_none (step s.stage (letter_of b))) (not (is_in_turn s.used s.latest b)) p.allowed (not_from_true (is_in_turn s.used s.latest b) p.turn))
@@ -190,29 +190,29 @@ passes_broken s place b p =
 
 -- the end of the input
 pub record Ends (s : State) (place : ℕ) : Type 0 where
-  pub end : ends_behind s.end place ≡ false
-  pub list : ends_behind (list_end s.listing) place ≡ false
+  pub end : ends_after s.end place ≡ false
+  pub list : ends_after (list_end s.listing) place ≡ false
   pub may : may_end s.stage ≡ true
 
 end_ends : (s : State) (place : ℕ) → rule_at_end s place ≡ None → Ends s place
 unfolding rule_at_end
 end_ends s place e =
-    let end : Bool = ends_behind s.end place || ends_behind (list_end s.listing) place in
+    let end : Bool = ends_after s.end place || ends_after (list_end s.listing) place in
     let (e1, t1) = least_none 1 (is_due s.stage) ((5, end) ∷ (6, is_headless s.stage) ∷ (7, not (may_end s.stage)) ∷ []) e in
     let (e5, t5) = least_none 5 end ((6, is_headless s.stage) ∷ (7, not (may_end s.stage)) ∷ []) t1 in
     let (e6, t6) = least_none 6 (is_headless s.stage) ((7, not (may_end s.stage)) ∷ []) t5 in
     let (e7, t7) = least_none 7 (not (may_end s.stage)) [] t6 in
-    let (whole, list) = or_parts (ends_behind s.end place) (ends_behind (list_end s.listing) place) e5 in
+    let (whole, list) = or_parts (ends_after s.end place) (ends_after (list_end s.listing) place) e5 in
     record { end = whole; list = list; may = not-false (may_end s.stage) e7 }
 
 ends_end : (s : State) (place : ℕ) → Ends s place → rule_at_end s place ≡ None
 unfolding rule_at_end
 ends_end s place p =
     let (due, headless) = due_may_not_end s.stage p.may in
-    let end : Bool = ends_behind s.end place || ends_behind (list_end s.listing) place in
+    let end : Bool = ends_after s.end place || ends_after (list_end s.listing) place in
     none_least 1 (is_due s.stage) ((5, end) ∷ (6, is_headless s.stage) ∷ (7, not (may_end s.stage)) ∷ []) due
     (none_least 5 end ((6, is_headless s.stage) ∷ (7, not (may_end s.stage)) ∷ [])
-    (or_from (ends_behind s.end place) (ends_behind (list_end s.listing) place) p.end p.list)
+    (or_from (ends_after s.end place) (ends_after (list_end s.listing) place) p.end p.list)
     (none_least 6 (is_headless s.stage) ((7, not (may_end s.stage)) ∷ []) headless
     (none_least 7 (not (may_end s.stage)) [] (not_from_true (may_end s.stage) p.may) refl)))
 

@@ -4,8 +4,8 @@ use Rattle.std.specs.Option.{option_or}
 use Rattle.std.proofs.lemmas.Bool.{and_left, and_right, lt-leb, cases_lt, cond-true, cond-false}
 use Rattle.uac_descriptor.specs.declared.block.Block as block
 use Rattle.uac_descriptor.specs.Spelling.{spelling}
-use Rattle.uac_descriptor.specs.Rows.{Spells}
-use Rattle.uac_descriptor.specs.Reading.{AreBytes, block_of}
+use Rattle.uac_descriptor.specs.LayoutRows.{Spells}
+use Rattle.uac_descriptor.specs.BlockReading.{AreBytes, block_of}
 use Rattle.uac_descriptor.proofs.ReadBack.{block_of-Spells}
 use Rattle.uac_descriptor.proofs.SpeltAsRead.{Spells-block_of}
 use Rattle.uac_sentence.specs.declared.states.State.{State}
@@ -13,7 +13,7 @@ use Rattle.uac_sentence.specs.Cutting.{IsPiece, begins_whole}
 use Rattle.uac_sentence.specs.Fault.{at_place, faults_from}
 use Rattle.uac_sentence.specs.Grammar.{grammar, start, state_after, state_read, rule_read, rule_broken, rule_at_end, first_fault}
 use Rattle.uac_sentence.specs.Sentence.{EachIn, SpellsItself, spellings, size, IsSentence}
-use Rattle.uac_sentence.specs.Progress.{state_behind, BreakNone, HasRead}
+use Rattle.uac_sentence.specs.Progress.{state_following, BreakNone, HasRead}
 use Rattle.uac_sentence.proofs.FaultLaw.{faults_from_piece, faults_from_rest}
 use Rattle.uac_sentence.proofs.Parts.{bytes_in, Clear}
 use Rattle.uac_sentence.proofs.TotalLaw.{size-cons}
@@ -23,7 +23,7 @@ use Rattle.uac_sentence.proofs.SentenceLaw.{piece_of, sentence_of}
 
 -- what comes after them is judged in the state that they leave
 behind_blocks : (s : State) (place : ℕ) (blocks : List block.Block) (rest : List ℕ) → EachIn SpellsItself s.context blocks → BreakNone s place blocks
-    → faults_from grammar s place (spellings blocks ++ rest) ≡ faults_from grammar (state_behind s place blocks) (place + size blocks) rest
+    → faults_from grammar s place (spellings blocks ++ rest) ≡ faults_from grammar (state_following s place blocks) (place + size blocks) rest
 unfolding grammar state_after
 behind_blocks s place [] rest stand unbroken = ap (λ n. faults_from grammar s n rest) (sym (add-zero place))
 behind_blocks s place (b ∷ blocks) rest (stands, stand) (here, unbroken) =
@@ -36,43 +36,43 @@ behind_blocks s place (b ∷ blocks) rest (stands, stand) (here, unbroken) =
     ∙ ap (λ o. option_or (at_place place (rule_read s place (length (spelling b)) o)) (faults_from grammar (state_read s place o) at tail)) read
     ∙ ap (λ r. option_or (at_place place r) (faults_from grammar next at tail)) here
     ∙ behind_blocks next at blocks rest stand unbroken
-    ∙ ap (λ n. faults_from grammar (state_behind next at blocks) n rest) (add_assoc place (bytes_in b) (size blocks) ∙ ap (λ n. place + n) (sym (size-cons b blocks)))
+    ∙ ap (λ n. faults_from grammar (state_following next at blocks) n rest) (add_assoc place (bytes_in b) (size blocks) ∙ ap (λ n. place + n) (sym (size-cons b blocks)))
 
 -- with no rule broken at the end, none is broken at all
 clear_behind : (s : State) (place : ℕ) (blocks : List block.Block) → BreakNone s place blocks
-    → rule_at_end (state_behind s place blocks) (place + size blocks) ≡ None → Clear s place blocks
+    → rule_at_end (state_following s place blocks) (place + size blocks) ≡ None → Clear s place blocks
 clear_behind s place [] unbroken e = subst (λ n. rule_at_end s n ≡ None) (add-zero place) e
 clear_behind s place (b ∷ blocks) (here, unbroken) e = (
   here,
   clear_behind (state_after s place b) (place + bytes_in b) blocks unbroken
-      (subst (λ n. rule_at_end (state_behind (state_after s place b) (place + bytes_in b) blocks) n ≡ None)
+      (subst (λ n. rule_at_end (state_following (state_after s place b) (place + bytes_in b) blocks) n ≡ None)
       (ap (λ n. place + n) (size-cons b blocks) ∙ sym (add_assoc place (bytes_in b) (size blocks))) e),
 )
 
 -- one block more at the end
 stand_more : (s : State) (place : ℕ) (blocks : List block.Block) (b : block.Block) → EachIn SpellsItself s.context blocks
-    → SpellsItself (state_behind s place blocks).context b → EachIn SpellsItself s.context (blocks ++ b ∷ [])
+    → SpellsItself (state_following s place blocks).context b → EachIn SpellsItself s.context (blocks ++ b ∷ [])
 unfolding state_after
 stand_more s place [] b stand h = (h, tt)
 stand_more s place (a ∷ blocks) b (stands, stand) h =
     (stands, stand_more (state_after s place a) (place + bytes_in a) blocks b stand h)
 
 unbroken_more : (s : State) (place : ℕ) (blocks : List block.Block) (b : block.Block) → BreakNone s place blocks
-    → rule_broken (state_behind s place blocks) (place + size blocks) (bytes_in b) b ≡ None → BreakNone s place (blocks ++ b ∷ [])
+    → rule_broken (state_following s place blocks) (place + size blocks) (bytes_in b) b ≡ None → BreakNone s place (blocks ++ b ∷ [])
 unbroken_more s place [] b unbroken e = (subst (λ n. rule_broken s n (bytes_in b) b ≡ None) (add-zero place) e, tt)
 unbroken_more s place (a ∷ blocks) b (here, unbroken) e = (
   here,
   unbroken_more (state_after s place a) (place + bytes_in a) blocks b unbroken
-      (subst (λ n. rule_broken (state_behind (state_after s place a) (place + bytes_in a) blocks) n (bytes_in b) b ≡ None)
+      (subst (λ n. rule_broken (state_following (state_after s place a) (place + bytes_in a) blocks) n (bytes_in b) b ≡ None)
       (ap (λ n. place + n) (size-cons a blocks) ∙ sym (add_assoc place (bytes_in a) (size blocks))) e),
 )
 
 behind_more : (s : State) (place : ℕ) (blocks : List block.Block) (b : block.Block)
-    → state_behind s place (blocks ++ b ∷ []) ≡ state_after (state_behind s place blocks) (place + size blocks) b
+    → state_following s place (blocks ++ b ∷ []) ≡ state_after (state_following s place blocks) (place + size blocks) b
 behind_more s place [] b = ap (λ n. state_after s n b) (sym (add-zero place))
 behind_more s place (a ∷ blocks) b =
     behind_more (state_after s place a) (place + bytes_in a) blocks b
-    ∙ ap (λ n. state_after (state_behind (state_after s place a) (place + bytes_in a) blocks) n b)
+    ∙ ap (λ n. state_after (state_following (state_after s place a) (place + bytes_in a) blocks) n b)
     (add_assoc place (bytes_in a) (size blocks) ∙ ap (λ n. place + n) (sym (size-cons a blocks)))
 
 pub spellings-push : (blocks : List block.Block) (b : block.Block) → spellings (blocks ++ b ∷ []) ≡ spellings blocks ++ spelling b
@@ -93,15 +93,15 @@ unfolding start
 block_read blocks s place piece b h are read e =
     let spells : Spells s.context b piece = Spells-block_of s.context piece b are read in
     let at : place ≡ 0 + size blocks = h.place_is ∙ omega arith in
-    let stands : SpellsItself (state_behind start 0 blocks).context b =
+    let stands : SpellsItself (state_following start 0 blocks).context b =
     subst (λ t. SpellsItself t.context b) h.state_is (subst (Spells s.context b) spells.spelt spells) in
-    let here : rule_broken (state_behind start 0 blocks) (0 + size blocks) (bytes_in b) b ≡ None =
+    let here : rule_broken (state_following start 0 blocks) (0 + size blocks) (bytes_in b) b ≡ None =
     subst (λ t. rule_broken t (0 + size blocks) (bytes_in b) b ≡ None) h.state_is
     (subst (λ n. rule_broken s n (bytes_in b) b ≡ None) at (subst (λ y. rule_broken s place (length y) b ≡ None) spells.spelt e)) in (
       record {
         stand = stand_more start 0 blocks b h.stand stands;
         unbroken = unbroken_more start 0 blocks b h.unbroken here;
-        state_is = ap (λ t. state_after t place b) h.state_is ∙ ap (λ n. state_after (state_behind start 0 blocks) n b) at ∙ sym (behind_more start 0 blocks b);
+        state_is = ap (λ t. state_after t place b) h.state_is ∙ ap (λ n. state_after (state_following start 0 blocks) n b) at ∙ sym (behind_more start 0 blocks b);
         place_is =
             ap (λ n. n + length piece) h.place_is ∙ ap (λ y. size blocks + length y) spells.spelt
             ∙ sym (length-append (spellings blocks) (spelling b)) ∙ sym (ap length (spellings-push blocks b));
@@ -124,7 +124,7 @@ pub read_sentence : (blocks : List block.Block) (s : State) (place : ℕ) → Ha
 read_sentence blocks s place h are e =
     sentence_of blocks are h.stand
     (clear_behind start 0 blocks h.unbroken
-    (subst (λ n. rule_at_end (state_behind start 0 blocks) n ≡ None) (let at : place ≡ 0 + size blocks = omega (arith, h.place_is) in at)
+    (subst (λ n. rule_at_end (state_following start 0 blocks) n ≡ None) (let at : place ≡ 0 + size blocks = omega (arith, h.place_is) in at)
     (subst (λ t. rule_at_end t place ≡ None) h.state_is e)))
 
 -- ---- faults

@@ -4,7 +4,7 @@ use Rattle.std.proofs.lemmas.Bool.{true≢false, cases_Bool, cases_cond, cond-fa
 use Rattle.uac_descriptor.specs.declared.block.Block as block
 use Rattle.uac_descriptor.specs.declared.block.Block.TheVariants as variant
 use Rattle.uac_descriptor.specs.Spelling.{spelling}
-use Rattle.uac_descriptor.specs.Reading.{AreBytes}
+use Rattle.uac_descriptor.specs.BlockReading.{AreBytes}
 use Rattle.uac_sentence.specs.declared.letters.Letter.{Letter}
 use Rattle.uac_sentence.specs.declared.letters.Letter.TheVariants as letter
 use Rattle.uac_sentence.specs.declared.stages.Stage.{Stage}
@@ -16,7 +16,7 @@ use Rattle.uac_sentence.specs.Letter.{letter_of, whole_letter, interface_letter,
 use Rattle.uac_sentence.specs.Steps.{step}
 use Rattle.uac_sentence.specs.Grammar.{start, state_after, stage_after, end_after, ends_before}
 use Rattle.uac_sentence.specs.Sentence.{spellings, size}
-use Rattle.uac_sentence.specs.Progress.{state_behind, BreakNone, HasRead}
+use Rattle.uac_sentence.specs.Progress.{state_following, BreakNone, HasRead}
 use Rattle.uac_sentence.proofs.Parts.{bytes_in, broken_passes}
 use Rattle.uac_sentence.proofs.TotalLaw.{size-cons}
 use Rattle.uac_sentence.proofs.SentenceLaw.{bytes_left, bytes_right}
@@ -125,12 +125,12 @@ reach_more None s place (variant.Configuration c) fits allowed are h =
 reach_more None s place b fits allowed are h = other_reaches s place b refl allowed h
 
 reach_behind : (s : State) (place : ℕ) (blocks : List block.Block) → AreBytes (spellings blocks) → BreakNone s place blocks → Reaches s.end s.stage place
-    → Reaches (state_behind s place blocks).end (state_behind s place blocks).stage (place + size blocks)
+    → Reaches (state_following s place blocks).end (state_following s place blocks).stage (place + size blocks)
 unfolding state_after
 reach_behind s place [] are unbroken h = subst (Reaches s.end s.stage) (sym (add-zero place)) h
 reach_behind s place (b ∷ blocks) are (here, unbroken) h =
     let p = broken_passes s place b here in
-    subst (Reaches (state_behind (state_after s place b) (place + bytes_in b) blocks).end (state_behind (state_after s place b) (place + bytes_in b) blocks).stage)
+    subst (Reaches (state_following (state_after s place b) (place + bytes_in b) blocks).end (state_following (state_after s place b) (place + bytes_in b) blocks).stage)
     (add_assoc place (bytes_in b) (size blocks) ∙ ap (λ n. place + n) (sym (size-cons b blocks)))
     (reach_behind (state_after s place b) (place + bytes_in b) blocks (bytes_right (spelling b) (spellings blocks) are) unbroken
     (reach_more s.end s.stage place b p.end p.allowed (bytes_left (spelling b) (spellings blocks) are) h))
@@ -144,5 +144,5 @@ reach_bound (Some end) s place (low, high) = omega arith
 pub read_reach : (blocks : List block.Block) (s : State) (place : ℕ) → HasRead blocks s place → AreBytes (spellings blocks) → place ≤ FURTHEST
 unfolding start
 read_reach blocks s place h are =
-    let far = reach_bound (state_behind start 0 blocks).end (state_behind start 0 blocks).stage (0 + size blocks) (reach_behind start 0 blocks are h.unbroken (inl (refl, refl))) in
+    let far = reach_bound (state_following start 0 blocks).end (state_following start 0 blocks).stage (0 + size blocks) (reach_behind start 0 blocks are h.unbroken (inl (refl, refl))) in
     omega (arith, h.place_is, far)

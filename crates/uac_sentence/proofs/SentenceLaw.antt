@@ -8,8 +8,8 @@ use Rattle.uac_descriptor.specs.declared.context.Context.TheVariants as context
 use Rattle.uac_descriptor.specs.declared.block.Block as block
 use Rattle.uac_descriptor.specs.declared.block.Block.TheVariants as variant
 use Rattle.uac_descriptor.specs.Spelling.{spelling}
-use Rattle.uac_descriptor.specs.Rows.{Spells}
-use Rattle.uac_descriptor.specs.Reading.{AreBytes, is_whole, block_of}
+use Rattle.uac_descriptor.specs.LayoutRows.{Spells}
+use Rattle.uac_descriptor.specs.BlockReading.{AreBytes, is_whole, block_of}
 use Rattle.uac_descriptor.proofs.ReadBack.{is_whole-spelling, block_of-Spells}
 use Rattle.uac_descriptor.proofs.SpeltAsRead.{Spells-block_of}
 use Rattle.uac_sentence.specs.declared.stages.Stage.TheVariants as stage

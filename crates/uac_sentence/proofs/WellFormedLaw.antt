@@ -9,7 +9,7 @@ use Rattle.uac_descriptor.specs.declared.block.Block.TheVariants as variant
 use Rattle.uac_descriptor.specs.Classes.{is_audio_association, is_control_interface, is_streaming_interface}
 use Rattle.std.proofs.lemmas.List.{drop_more, drop_all}
 use Rattle.uac_descriptor.specs.Contexts.{EachIn, context_after}
-use Rattle.uac_descriptor.specs.Turns.{BeginsWithControl, InTurn, interface_of, interfaces_in}
+use Rattle.uac_descriptor.specs.BlockTurns.{BeginsWithControl, InTurn, interface_of, interfaces_in}
 use Rattle.uac_descriptor.specs.WellFormed.{IsWellFormed, AreWellFormed}
 use Rattle.uac_sentence.specs.declared.letters.Letter.{Letter}
 use Rattle.uac_sentence.specs.declared.letters.Letter.TheVariants as letter

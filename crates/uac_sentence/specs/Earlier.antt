@@ -4,7 +4,7 @@ use Rattle.std.specs.List.{list_any, list_all}
 use Rattle.uac_sentence.specs.declared.letters.Letter.{Letter}
 use Rattle.uac_sentence.specs.declared.letters.Letter.TheVariants as letter
 use Rattle.uac_sentence.specs.Letter.{is_listed}
-use Rattle.uac_sentence.specs.Order.{number}
+use Rattle.uac_sentence.specs.BlockOrder.{number}
 
 abbrev pub is_same : Letter → Letter → Bool
 is_same j k = number j == number k

@@ -6,13 +6,13 @@ use Rattle.uac_descriptor.specs.declared.context.Context.{Context}
 use Rattle.uac_descriptor.specs.declared.context.Context.TheVariants as context
 use Rattle.uac_descriptor.specs.declared.block.Block as block
 use Rattle.uac_descriptor.specs.Kinds.{configuration_of, header_of}
-use Rattle.uac_descriptor.specs.Rows.{Spells}
+use Rattle.uac_descriptor.specs.LayoutRows.{Spells}
 use Rattle.uac_descriptor.specs.Spelling.{spelling}
 use Rattle.uac_sentence.specs.declared.faults.GrammarFault.{GrammarFault}
 use Rattle.uac_sentence.specs.declared.letters.Letter.TheVariants as letter
 use Rattle.uac_sentence.specs.Cutting.{IsPiece}
 use Rattle.uac_sentence.specs.Letter.{letter_of, context_after, is_listed}
-use Rattle.uac_sentence.specs.Order.{input}
+use Rattle.uac_sentence.specs.BlockOrder.{input}
 use Rattle.uac_sentence.specs.Production.{Allows}
 use Rattle.uac_sentence.specs.Values.{HasValues}
 use Rattle.uac_sentence.specs.Sentence.{EachIn, IsSoOf, SpellsItself, InTurn, interface_of, size, spellings}
@@ -21,13 +21,13 @@ use Rattle.uac_sentence.specs.Earlier.{has, latest_is, is_named, is_second, is_u
 -- ---- where a block stands
 
 -- the context after blocks, the first of which stands in this one
-abbrev pub context_behind : Context → List block.Block → Context
-context_behind place [] = place
-context_behind place (b ∷ blocks) = context_behind (context_after place b) blocks
+abbrev pub context_following : Context → List block.Block → Context
+context_following place [] = place
+context_following place (b ∷ blocks) = context_following (context_after place b) blocks
 
 -- the context of what follows the first blocks of a descriptor
 abbrev pub context_of : List block.Block → Context
-context_of before = context_behind context.DeviceFront before
+context_of before = context_following context.DeviceFront before
 
 -- the bytes after these blocks begin with a block that may stand there, and this is so of it
 pub record NextBlock (before : List block.Block) (bytes : List ℕ) (IsSo : block.Block → Type 0) : Type 0 where
@@ -160,11 +160,11 @@ pub data Breaks (rule : ℕ) (before : List block.Block) (bytes : List ℕ) : Ty
 -- a fault of bytes: blocks stand in front of its place, each in its context, and after them the rule is broken
 pub record IsFault (bytes : List ℕ) (rule place : ℕ) : Type 0 where
   pub before : List block.Block
-  pub behind : List ℕ
-  pub cut : bytes ≡ spellings before ++ behind
+  pub following : List ℕ
+  pub cut : bytes ≡ spellings before ++ following
   pub stand : EachIn SpellsItself context.DeviceFront before
   pub at : place ≡ size before
-  pub breaks : Breaks rule before behind
+  pub breaks : Breaks rule before following
 
 -- the first one: each other lies after it, or is of no lesser rule at its place
 pub record IsFirstFault (bytes : List ℕ) (fault : GrammarFault) : Type 0 where

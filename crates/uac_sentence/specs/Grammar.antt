@@ -4,7 +4,7 @@ use Rattle.std.specs.Prelude.{slice_index_or, slice_set, Option, Some, None, is_
 use Rattle.std.specs.Option.{option_map, option_map_or}
 use Rattle.uac_descriptor.specs.declared.context.Context.TheVariants as context
 use Rattle.uac_descriptor.specs.Kinds.{configuration_of, header_of}
-use Rattle.uac_descriptor.specs.Reading.{block_of}
+use Rattle.uac_descriptor.specs.BlockReading.{block_of}
 use Rattle.uac_descriptor.specs.declared.standard.Interface as interface
 use Rattle.uac_descriptor.specs.declared.block.Block as block
 use Rattle.uac_sentence.specs.declared.letters.Letter.{Letter}
@@ -16,7 +16,7 @@ use Rattle.uac_sentence.specs.declared.states.Listing.{Listing}
 use Rattle.uac_sentence.specs.declared.states.Listing.TheVariants as listing
 use Rattle.uac_sentence.specs.declared.states.State.{State}
 use Rattle.uac_descriptor.specs.Classes.{is_control_interface, is_streaming_interface}
-use Rattle.uac_descriptor.specs.Turns.{interface_of}
+use Rattle.uac_descriptor.specs.BlockTurns.{interface_of}
 use Rattle.uac_sentence.specs.Letter.{letter_of, context_after, is_listed}
 use Rattle.uac_sentence.specs.Steps.{step, may_end, is_before_association}
 use Rattle.uac_sentence.specs.Values.{has_wrong_value}
@@ -35,9 +35,9 @@ ends_before (Some end) place = nat_lt end place
 ends_before None place = false
 
 -- the total ends after this place
-abbrev pub ends_behind : Option ℕ → ℕ → Bool
-ends_behind (Some end) place = nat_lt place end
-ends_behind None place = false
+abbrev pub ends_after : Option ℕ → ℕ → Bool
+ends_after (Some end) place = nat_lt place end
+ends_after None place = false
 
 -- ---- the header's total: wTotalLength, Audio Class 2.0, 4.7.2
 
@@ -114,7 +114,7 @@ unfoldable pub passes_list : Listing → ℕ → ℕ → block.Block → Bool
 passes_list list place size b = ends_before (list_end (listing_after list place b)) (place + size)
 
 unfoldable pub ends_list_early : Listing → ℕ → Letter → Bool
-ends_list_early list place k = not (is_listed k) && ends_behind (list_end list) place
+ends_list_early list place k = not (is_listed k) && ends_after (list_end list) place
 
 abbrev pub is_announced : Stage → Bool
 is_announced stage.Announced = true
@@ -211,7 +211,7 @@ unfoldable pub rule_at_end : State → ℕ → Option ℕ
 rule_at_end s place =
     least (
     (1, is_due s.stage)
-    ∷ (5, ends_behind s.end place || ends_behind (list_end s.listing) place)
+    ∷ (5, ends_after s.end place || ends_after (list_end s.listing) place)
     ∷ (6, is_headless s.stage)
     ∷ (7, not (may_end s.stage)) ∷ [])
 

@@ -2,7 +2,7 @@
 -- What the program's theorem says: to be read and believed.
 pub mod Production
 pub mod Letter
-pub mod Order
+pub mod BlockOrder
 pub mod Steps
 pub mod Values
 pub mod Cutting

@@ -8,9 +8,9 @@ use Rattle.uac_sentence.specs.Grammar.{start, state_after, rule_broken}
 use Rattle.uac_sentence.specs.Sentence.{EachIn, SpellsItself, size}
 
 -- the state after blocks that begin at a place
-abbrev pub state_behind : State → ℕ → List block.Block → State
-state_behind s place [] = s
-state_behind s place (b ∷ blocks) = state_behind (state_after s place b) (place + length (spelling b)) blocks
+abbrev pub state_following : State → ℕ → List block.Block → State
+state_following s place [] = s
+state_following s place (b ∷ blocks) = state_following (state_after s place b) (place + length (spelling b)) blocks
 
 -- none of these blocks breaks a rule
 abbrev pub BreakNone : State → ℕ → List block.Block → Type 0
@@ -22,5 +22,5 @@ BreakNone s place (b ∷ blocks) =
 pub record HasRead (blocks : List block.Block) (s : State) (place : ℕ) : Type 0 where
   pub stand : EachIn SpellsItself context.DeviceFront blocks
   pub unbroken : BreakNone start 0 blocks
-  pub state_is : s ≡ state_behind start 0 blocks
+  pub state_is : s ≡ state_following start 0 blocks
   pub place_is : place ≡ size blocks

@@ -4,15 +4,15 @@ use Rattle.uac_descriptor.specs.declared.context.Context.{Context}
 use Rattle.uac_descriptor.specs.declared.context.Context.TheVariants as context
 use Rattle.uac_descriptor.specs.declared.block.Block as block
 use Rattle.uac_descriptor.specs.Kinds.{configuration_of, header_of}
-use Rattle.uac_descriptor.specs.Rows.{Spells}
+use Rattle.uac_descriptor.specs.LayoutRows.{Spells}
 use Rattle.uac_descriptor.specs.Spelling.{spelling}
 use Rattle.uac_sentence.specs.declared.letters.Letter.{Letter}
 use Rattle.uac_sentence.specs.declared.letters.Letter.TheVariants as letter
 use Rattle.uac_sentence.specs.Production.{Allows}
 pub use Rattle.uac_descriptor.specs.Contexts.{EachIn}
-pub use Rattle.uac_descriptor.specs.Turns.{is_of_function, Begins, Continues, InTurn, interface_of}
+pub use Rattle.uac_descriptor.specs.BlockTurns.{is_of_function, Begins, Continues, InTurn, interface_of}
 use Rattle.uac_sentence.specs.Letter.{letter_of}
-use Rattle.uac_sentence.specs.Order.{input}
+use Rattle.uac_sentence.specs.BlockOrder.{input}
 use Rattle.uac_sentence.specs.Values.{HasValues}
 
 -- the block may stand in this context: there its row reads its bytes
@@ -26,10 +26,10 @@ spellings blocks = flat_map spelling blocks
 abbrev pub size : List block.Block → ℕ
 size blocks = length (spellings blocks)
 
--- it is so of what a block is, where it is that, and else of the blocks behind it
+-- it is so of what a block is, where it is that, and else of the blocks after it
 abbrev pub IsSoOf : {A : Type 0} → Option A → (A → Type 0) → Type 0 → Type 0
-IsSoOf (Some a) IsSo Behind = IsSo a
-IsSoOf None IsSo Behind = Behind
+IsSoOf (Some a) IsSo ForeignAfter = IsSo a
+IsSoOf None IsSo ForeignAfter = ForeignAfter
 
 -- the first configuration's total is the number of its bytes and of all bytes after it
 abbrev pub HasWholeTotal : List block.Block → Type 0

@@ -8,13 +8,13 @@ use Rattle.uac_sentence.specs.declared.letters.Letter.TheVariants.{Stray}
 use Rattle.uac_sentence.specs.declared.stages.Stage.{Stage}
 use Rattle.uac_sentence.specs.declared.stages.Stage.TheVariants.{Start, Due, Opening, Before, Announced, Headless, Listing, Quiet, Setting}
 use Rattle.uac_sentence.specs.declared.stages.Stage.TheVariants.{Formats, Formatted, FirstEndpoint, FirstDone, SecondEndpoint, Closing}
-use Rattle.uac_sentence.specs.declared.stages.Stage.TheVariants.{Behind}
+use Rattle.uac_sentence.specs.declared.stages.Stage.TheVariants.{ForeignAfter}
 
 -- after the control interface's part, another part may begin
 abbrev pub begin_part : Letter → Option Stage
 begin_part StreamingInterface = Some Setting
-begin_part ForeignAssociation = Some Behind
-begin_part ForeignInterface = Some Behind
+begin_part ForeignAssociation = Some ForeignAfter
+begin_part ForeignInterface = Some ForeignAfter
 begin_part Device = None
 begin_part Configuration = None
 begin_part AudioAssociation = None
@@ -82,11 +82,11 @@ step SecondEndpoint Other = Some Closing
 step SecondEndpoint letter = begin_part letter
 step Closing Other = Some Closing
 step Closing letter = begin_part letter
-step Behind Configuration = None
-step Behind AudioAssociation = None
-step Behind ControlInterface = None
-step Behind StreamingInterface = Some Setting
-step Behind _ = Some Behind
+step ForeignAfter Configuration = None
+step ForeignAfter AudioAssociation = None
+step ForeignAfter ControlInterface = None
+step ForeignAfter StreamingInterface = Some Setting
+step ForeignAfter _ = Some ForeignAfter
 
 -- the input may end here
 abbrev pub may_end : Stage → Bool
@@ -105,7 +105,7 @@ may_end FirstEndpoint = true
 may_end FirstDone = true
 may_end SecondEndpoint = true
 may_end Closing = true
-may_end Behind = true
+may_end ForeignAfter = true
 
 -- the audio association has not come yet
 abbrev pub is_before_association : Stage → Bool
@@ -124,4 +124,4 @@ is_before_association FirstEndpoint = false
 is_before_association FirstDone = false
 is_before_association SecondEndpoint = false
 is_before_association Closing = false
-is_before_association Behind = false
+is_before_association ForeignAfter = false

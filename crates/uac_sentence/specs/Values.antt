@@ -7,8 +7,8 @@ use Rattle.uac_descriptor.specs.declared.block.Block as block
 use Rattle.uac_descriptor.specs.declared.block.Block.TheVariants as variant
 use Rattle.uac_descriptor.specs.Standard.{VERSION_02_00}
 pub use Rattle.uac_descriptor.specs.Contexts.{is_audio}
-pub use Rattle.uac_descriptor.specs.Fields.{is_isochronous, IsHighSpeed, IsFormat}
-unfoldable pub use Rattle.uac_descriptor.specs.Fields.{is_no_high_speed, is_no_format}
+pub use Rattle.uac_descriptor.specs.BlockFields.{is_isochronous, IsHighSpeed, IsFormat}
+unfoldable pub use Rattle.uac_descriptor.specs.BlockFields.{is_no_high_speed, is_no_format}
 
 -- the two bits of control n in bmControls, the lowest two being control 0: 00 absent, 01 read-only, 11 host-programmable
 abbrev pub control_bits : ℕ → ℕ → ℕ

@@ -4,7 +4,7 @@ ghost use Rattle.uac_sentence.specs.Steps.{is_before_association, may_end};
 ghost use Rattle.uac_sentence.specs.Grammar.{
   comes_again,
   ends_before,
-  ends_behind,
+  ends_after,
   ends_list_early,
   is_announced,
   is_association,
@@ -68,7 +68,7 @@ impl State {
     {
         if is_due(self.stage) {
             Some(1)
-        } else if ends_behind(self.end, place) || ends_behind(list_end(self.listing), place) {
+        } else if ends_after(self.end, place) || ends_after(list_end(self.listing), place) {
             Some(5)
         } else if is_headless(self.stage) {
             Some(6)
@@ -91,8 +91,8 @@ fn ends_before(end: Option<u32>, place: u32) -> bool
 }
 
 /// A total that is known ends after this place.
-fn ends_behind(end: Option<u32>, place: u32) -> bool
-    ensures { result ≡ ends_behind end place }
+fn ends_after(end: Option<u32>, place: u32) -> bool
+    ensures { result ≡ ends_after end place }
 {
     match end {
         Some(end) => place < end,
@@ -136,7 +136,7 @@ fn passes_list(listing: Listing, place: u32, size: u8, block: &Block) -> bool
 fn ends_list_early(listing: Listing, place: u32, letter: Letter) -> bool
     ensures { result ≡ ends_list_early listing place letter }
 {
-    !is_listed(letter) && ends_behind(list_end(listing), place)
+    !is_listed(letter) && ends_after(list_end(listing), place)
 }
 
 /// The order, or the turn of the settings, does not allow the block.

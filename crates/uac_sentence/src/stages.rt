@@ -38,7 +38,7 @@ pub enum Stage {
     /// At the end of an interface, in blocks of other types.
     Closing,
     /// In a foreign part after the control interface.
-    Behind,
+    ForeignAfter,
 }
 
 impl Stage {
@@ -79,11 +79,11 @@ impl Stage {
             ),
             (Stage::SecondEndpoint, Letter::ClassEndpoint) => Some(Stage::Closing),
             (
-                Stage::Behind,
+                Stage::ForeignAfter,
                 Letter::Configuration | Letter::AudioAssociation | Letter::ControlInterface,
             ) => None,
-            (Stage::Behind, Letter::StreamingInterface) => Some(Stage::Setting),
-            (Stage::Behind, _) => Some(Stage::Behind),
+            (Stage::ForeignAfter, Letter::StreamingInterface) => Some(Stage::Setting),
+            (Stage::ForeignAfter, _) => Some(Stage::ForeignAfter),
             (
                 Stage::Formats
                 | Stage::Formatted
@@ -115,7 +115,7 @@ fn begin_part(letter: Letter) -> Option<Stage>
 {
     match letter {
         Letter::StreamingInterface => Some(Stage::Setting),
-        Letter::ForeignAssociation | Letter::ForeignInterface => Some(Stage::Behind),
+        Letter::ForeignAssociation | Letter::ForeignInterface => Some(Stage::ForeignAfter),
         Letter::Device
         | Letter::Configuration
         | Letter::AudioAssociation

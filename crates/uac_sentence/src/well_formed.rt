@@ -2,7 +2,7 @@
 ghost use Rattle.std.specs.Prelude.{◌≡◌, ◌↔◌, ℕ, List, [], ◌∷◌, true};
 ghost use Rattle.std.specs.Bool.{OnTrue};
 ghost use Rattle.uac_descriptor.specs.Contexts.{EachIn};
-ghost use Rattle.uac_descriptor.specs.Turns.{BeginsWithControl, InTurn, interfaces_in};
+ghost use Rattle.uac_descriptor.specs.BlockTurns.{BeginsWithControl, InTurn, interfaces_in};
 ghost use Rattle.uac_descriptor.specs.WellFormed.{AreWellFormed};
 ghost use Rattle.uac_descriptor.specs.declared.context.Context.TheVariants as context;
 ghost use Rattle.uac_sentence.specs.Sentence.{HasSmallNumbers, IsSentence};

@@ -1,4 +1,4 @@
-pub mod GapsLemmas
-pub mod StretchesLemmas
-pub mod TurnsLemmas
+pub mod Gaps
+pub mod Stretches
+pub mod TurnsGoOn
 mod Worked

@@ -29,15 +29,15 @@ at_48000 = record { f = 393216; e = 393; lo = 5; hi = 7 }
 abbrev before : Point
 before = record { level = 600; target = 602; host = 0; clock = 65200; value = 393216; waited = 2; lost = 3 }
 
-abbrev behind : Point
-behind = record { level = 599; target = 602; host = 0; clock = 450; value = 393216; waited = 4; lost = 3 }
+abbrev following : Point
+following = record { level = 599; target = 602; host = 0; clock = 450; value = 393216; waited = 4; lost = 3 }
 
 -- twelve frames come and thirteen ticks go; the report that is due then asks for 3,072 more
 thirteen_ticks : Turn at_48000 2 4 (record { steps = 393609 ∷ 393609 ∷ []; packet_lost = false; report_lost = false }) before
     (record { level = 599; target = 602; host = 0; clock = 450; value = 396288; waited = 0; lost = 0 })
 thirteen_ticks = record {
   is_served = record { whole = refl; slight = ((omega arith, omega arith), ((omega arith, omega arith), tt)) };
-  behind = behind;
+  following = following;
   interval = record {
     steps = 787218;
     slight = (omega arith, omega arith);
@@ -71,7 +71,7 @@ thirteen_ticks = record {
 -- lost, it would be the fourth in succession: that is no interval of a stretch
 no_fourth : (q : Point) → Turn at_48000 2 4 (record { steps = 393609 ∷ 393609 ∷ []; packet_lost = false; report_lost = true }) before q → ⊥
 no_fourth q turn = from turn.ends where
-  from : Ends at_48000 4 true turn.behind q → ⊥
+  from : Ends at_48000 4 true turn.following q → ⊥
   from (inl none) = absurd (omega (arith, none, turn.interval.waited_is))
   from (inr r) = absurd (omega (arith, r.lost_is, r.few, turn.interval.lost_is))
 

@@ -71,16 +71,16 @@ Ends values period report_lost p q = ((p.waited < period) × (q ≡ p)) ⊎ Repo
 -- what an interval makes of a stream
 pub record Turn (values : Nominal) (service period : ℕ) (served : Served) (p q : Point) : Type 0 where
   pub is_served : IsServed values service served
-  pub behind : Point
-  pub interval : Interval values service period served.packet_lost p behind
+  pub following : Point
+  pub interval : Interval values service period served.packet_lost p following
   pub steps_are : interval.steps ≡ sum served.steps
-  pub ends : Ends values period served.report_lost behind q
+  pub ends : Ends values period served.report_lost following q
 
 -- intervals one after the other
 abbrev pub Turns : Nominal → ℕ → ℕ → List Served → Point → Point → Type 0
 Turns values service period [] p q = p ≡ q
 Turns values service period (served ∷ later) p q =
-    (behind : Point) × Turn values service period served p behind × Turns values service period later behind q
+    (following : Point) × Turn values service period served p following × Turns values service period later following q
 
 -- a robust stream at the end of an interval, and the intervals from there on; no four reports in succession are lost, those before the
 -- start counted in

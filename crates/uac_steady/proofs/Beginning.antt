@@ -7,7 +7,7 @@ use Rattle.std.proofs.lemmas.List.Elements.{All-cons, All-map, All-nil}
 use Rattle.hex.specs.Hex.{decode_of}
 use Rattle.hex.proofs.HexLemmas.{decode_of-ok}
 use Rattle.uac_descriptor.specs.Classes.{is_streaming_interface}
-use Rattle.uac_descriptor.specs.Reading.{AreBytes}
+use Rattle.uac_descriptor.specs.BlockReading.{AreBytes}
 use Rattle.uac_descriptor.specs.Spelling.{spelling}
 use Rattle.uac_descriptor.specs.WellFormed.{AreWellFormed}
 use Rattle.uac_descriptor.specs.declared.block.Block as block
@@ -18,8 +18,8 @@ use Rattle.uac_sentence.specs.declared.faults.GrammarFault.{GrammarFault}
 use Rattle.uac_sentence.proofs.SentenceLaw.{bytes_right, none_sentence, small_numbers}
 use Rattle.uac_sentence.proofs.WellFormedLaw.{sentence_is_well_formed}
 use Rattle.uac_entities.specs.Entities.{entities_of, entity_of}
-use Rattle.uac_entities.specs.Settings.{alternate_at, alternate_of, alternates_of}
-use Rattle.uac_entities.specs.Streams.{stream_at, stream_of}
+use Rattle.uac_entities.specs.EntitySettings.{alternate_at, alternate_of, alternates_of}
+use Rattle.uac_entities.specs.EntityStreams.{stream_at, stream_of}
 use Rattle.uac_entities.specs.declared.alternate.Alternate.{Alternate}
 use Rattle.uac_entities.specs.declared.entity.Entity.{Entity}
 use Rattle.uac_entities.specs.declared.stream.StreamInterface.{StreamInterface}
@@ -31,15 +31,15 @@ use Rattle.uac_topology.proofs.Clustered.{seen_alike}
 use Rattle.uac_grammar.specs.Stop.{shown_fault}
 use Rattle.uac_script.specs.Phrase.{Phrase, idle, feeds, goes, controls, gets, sets, shows, breaks, appends, tracks, jacks, deviates, runs, details, reports}
 use Rattle.uac_script.specs.Line.{IsRow, Says}
-use Rattle.uac_script.specs.Reading.{answer}
+use Rattle.uac_script.specs.LineReading.{answer}
 use Rattle.uac_script.specs.Words.{Word, hex_of, is_idle, words_of}
 use Rattle.uac_script.proofs.Answered.{answer_says}
 use Rattle.uac_units.specs.Hearing.{Reading}
 use Rattle.uac_running.specs.RunningWorld.{at_start}
-use Rattle.uac_running.specs.Lines.{ready_line}
+use Rattle.uac_running.specs.RunningLines.{ready_line}
 use Rattle.uac_configuration.specs.Description.{blocks_of, function_of}
 use Rattle.uac_bus.specs.declared.fault.BusFault.{BusFault}
-use Rattle.uac_bus.specs.World.{Step, describing, done, fed, gone, if_no_fault, if_sound, refused, running, silently, step_describing}
+use Rattle.uac_bus.specs.BusWorld.{Step, describing, done, step_feed, step_go, if_no_fault, if_sound, refused, running, silently, step_describing}
 use Rattle.uac_configuration.proofs.Described.{blocks_of_sentence}
 use Rattle.uac_bands.proofs.Begun.{runs_start_in_band}
 use Rattle.uac_bands.proofs.SoundStart.{runs_start_sound}
@@ -167,16 +167,16 @@ module _ (P : Phrase → Step → Type 0) (fails : (phrase : Phrase) (fault : Bu
     (grows : (more now : List ℕ) → AreBytes now → P (feeds more) (silently (describing now meters)))
     (starts : (function : FunctionFields) → IsDescribed function
     → P goes (done (running (at_start bytes function meters)) (ready_line function ∷ []))) where
-  fed_is : (more now : List ℕ) → AreBytes now → P (feeds more) (fed now meters)
-  unfolding fed
+  fed_is : (more now : List ℕ) → AreBytes now → P (feeds more) (step_feed now meters)
+  unfolding step_feed
   fed_is more now are = by (shown_fault now)
     where
       by : (o : Option GrammarFault) → P (feeds more) (if_no_fault o (silently (describing now meters)))
       by None = grows more now are
       by (Some fault) = fails (feeds more) _
 
-  gone_is : AreBytes bytes → P goes (gone bytes meters)
-  unfolding gone
+  gone_is : AreBytes bytes → P goes (step_go bytes meters)
+  unfolding step_go
   gone_is are = by (first_fault bytes) refl (first_broken (blocks_of bytes)) refl
     where
       function : FunctionFields
@@ -201,8 +201,8 @@ module _ (P : Phrase → Step → Type 0) (fails : (phrase : Phrase) (fault : Bu
   describing_is (appends number samples) are feed = fails (appends number samples) _
   describing_is (tracks number voice) are feed = fails (tracks number voice) _
   describing_is (jacks terminal voice) are feed = fails (jacks terminal voice) _
-  describing_is (deviates clock millionths) are feed = fails (deviates clock millionths) _
-  describing_is (runs count losses) are feed = fails (runs count losses) _
+  describing_is (deviates clock ppm) are feed = fails (deviates clock ppm) _
+  describing_is (runs count marks) are feed = fails (runs count marks) _
   describing_is (details level) are feed = fails (details level) _
   describing_is reports are feed = fails reports _
 

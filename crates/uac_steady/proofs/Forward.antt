@@ -3,13 +3,13 @@
 use Rattle.std.proofs.Common.{◌≡◌, ℕ, zero, suc, true, false, List, [], ◌∷◌, ◌++◌, map, Bool, Option}
 use Rattle.std.specs.List.{All}
 use Rattle.std.proofs.lemmas.List.Elements.{All-append, All-cons, All-nil}
-use Rattle.uac_descriptor.specs.Reading.{AreBytes}
+use Rattle.uac_descriptor.specs.BlockReading.{AreBytes}
 use Rattle.uac_entities.specs.declared.stream.StreamInterface.{StreamInterface}
 use Rattle.uac_rate.specs.Steadiness.{is_steady}
 use Rattle.uac_device.specs.DeviceWorld.{Domain}
 use Rattle.uac_request.specs.Requests.{setup_of}
 use Rattle.uac_request.specs.declared.setup.Setup.{Setup}
-use Rattle.uac_mixer.specs.Elements.{fits_element}
+use Rattle.uac_mixer.specs.MixerElements.{fits_element}
 use Rattle.uac_script.specs.Phrase.{SaidMark, Phrase, idle, feeds, goes, controls, gets, sets, shows, breaks, appends, tracks, jacks, deviates, runs, details, reports}
 use Rattle.uac_transcript.specs.Transcript.{Said, Sight, Outcome, says_answer, says_view, says_meter, says_passed, says_renders, says_steady}
 use Rattle.uac_transcript.specs.declared.report.StreamCounts.{StreamCounts}
@@ -17,12 +17,12 @@ use Rattle.uac_running.specs.RunningWorld.{RunningWorld}
 use Rattle.uac_running.specs.RunningWorld as world
 use Rattle.uac_running.specs.Naming.{size_of}
 use Rattle.uac_running.specs.Events.{microframe, microframes}
-use Rattle.uac_running.specs.Lines.{domain_line, report_lines, says_stream, stream_line}
-use Rattle.uac_running.specs.Transfers.{element_named, read_element, set_element, show_element, transfer, transferred}
+use Rattle.uac_running.specs.RunningLines.{domain_line, report_lines, says_stream, stream_line}
+use Rattle.uac_running.specs.RunningTransfers.{element_named, read_element, set_element, show_element, transfer, after_transfer}
 use Rattle.uac_bus.specs.declared.fault.BusFault.{BusFault}
-use Rattle.uac_bus.specs.World.{Step, World, describing, done, refused, running, step_running, told, tone_of}
-use Rattle.uac_bands.specs.Run.{IsNearLevel, IsNoUnder, RunInBand}
-use Rattle.uac_bands.specs.Transfers.{IsSoundRun}
+use Rattle.uac_bus.specs.BusWorld.{Step, World, describing, done, refused, running, step_running, step_telling, tone_of}
+use Rattle.uac_bands.specs.BandRun.{IsNearLevel, IsNoUnder, RunInBand}
+use Rattle.uac_bands.specs.BandTransfers.{IsSoundRun}
 use Rattle.uac_bands.proofs.Begun.{calls_keep_bands}
 use Rattle.uac_bands.proofs.LookingBack.{calls_look_back, stay_steady}
 use Rattle.uac_bands.proofs.Transferred.{transfers_keep_bands}
@@ -114,24 +114,24 @@ report_quiet r =
 
 -- ---- the running device
 
-sound_after : (losses : List SaidMark) (count : ℕ) (r : RunningWorld) → IsSoundRun r → IsSoundRun (microframes losses count r).world
+sound_after : (marks : List SaidMark) (count : ℕ) (r : RunningWorld) → IsSoundRun r → IsSoundRun (microframes marks count r).world
 unfolding microframes
-sound_after losses zero r sound = sound
-sound_after losses (suc count) r sound = sound_after losses count (microframe losses r).world (microframes_keep_sound losses r sound)
+sound_after marks zero r sound = sound
+sound_after marks (suc count) r sound = sound_after marks count (microframe marks r).world (microframes_keep_sound marks r sound)
 
 module _ (r : RunningWorld) (band : RunInBand r) (sound : IsSoundRun r) where
-  transfer_leaves : (p : Setup) (bytes : List ℕ) (lines : List Said) → AreQuiet lines → LeavesGood (running (transferred p bytes r)) lines
+  transfer_leaves : (p : Setup) (bytes : List ℕ) (lines : List Said) → AreQuiet lines → LeavesGood (running (after_transfer p bytes r)) lines
   transfer_leaves p bytes lines quiet =
       record { good = (transfers_keep_bands p bytes r band sound, transfers_keep_sound p bytes r sound); quiet = quiet }
 
   silent : (next : RunningWorld) → RunInBand next → IsSoundRun next → LeavesGood (running next) []
   silent next banded sounds = record { good = (banded, sounds); quiet = none_quiet }
 
-  microframes_leave : (losses : List SaidMark) (count : ℕ) → is_steady (microframes losses count r).world.given ≡ true
-      → LeavesGood (running (microframes losses count r).world) (microframes losses count r).lines
-  microframes_leave losses count steady =
-      let stays = stay_steady losses count r band steady in
-      record { good = (stays.stays, sound_after losses count r sound); quiet = record { no_under = stays.no_under; near = stays.near } }
+  microframes_leave : (marks : List SaidMark) (count : ℕ) → is_steady (microframes marks count r).world.given ≡ true
+      → LeavesGood (running (microframes marks count r).world) (microframes marks count r).lines
+  microframes_leave marks count steady =
+      let stays = stay_steady marks count r band steady in
+      record { good = (stays.stays, sound_after marks count r sound); quiet = record { no_under = stays.no_under; near = stays.near } }
 
   pub running_keeps : (phrase : Phrase) → KeepsGood (step_running r phrase)
   unfolding transfer read_element set_element show_element
@@ -143,7 +143,7 @@ module _ (r : RunningWorld) (band : RunInBand r) (sound : IsSoundRun r) where
       on_element_is KeepsGood no_step (element_named r name) (reads r) (λ x h. transfer_leaves _ _ _ (view_quiet _))
   running_keeps (sets name value) =
       on_element_is KeepsGood no_step (element_named r name) (set_to r value)
-      (λ x. unless_is KeepsGood no_step (fits_element x.kind value) 7 (told (set_element x value r))
+      (λ x. unless_is KeepsGood no_step (fits_element x.kind value) 7 (step_telling (set_element x value r))
       (λ h. transfer_leaves _ _ _ (view_quiet _)))
   running_keeps (shows name) =
       on_element_is KeepsGood no_step (element_named r name) (shown r)
@@ -161,13 +161,13 @@ module _ (r : RunningWorld) (band : RunInBand r) (sound : IsSoundRun r) where
       unless_is KeepsGood no_step _ 6 (toned r terminal voice) (λ h.
       silent _ ((calls_keep_bands r band).tone (size_of terminal) (tone_of voice))
       ((calls_keep_sound r sound).tone (size_of terminal) (tone_of voice)))
-  running_keeps (deviates clock millionths) =
-      unless_is KeepsGood no_step _ 6 (off r clock millionths) (λ h.
-      let slight = ((calls_look_back r).deviation (size_of clock) millionths h).0 in
-      silent _ ((calls_keep_bands r band).deviation (size_of clock) millionths slight)
-      ((calls_keep_sound r sound).deviation (size_of clock) millionths slight))
-  running_keeps (runs count losses) =
-      unless_is KeepsGood no_step _ 6 (gone_on r count losses) (microframes_leave losses (size_of count))
+  running_keeps (deviates clock ppm) =
+      unless_is KeepsGood no_step _ 6 (off r clock ppm) (λ h.
+      let slight = ((calls_look_back r).deviation (size_of clock) ppm h).0 in
+      silent _ ((calls_keep_bands r band).deviation (size_of clock) ppm slight)
+      ((calls_keep_sound r sound).deviation (size_of clock) ppm slight))
+  running_keeps (runs count marks) =
+      unless_is KeepsGood no_step _ 6 (gone_on r count marks) (microframes_leave marks (size_of count))
   running_keeps (details level) =
       λ h. silent _ ((calls_keep_bands r band).detail (size_of level)) ((calls_keep_sound r sound).detail (size_of level))
   running_keeps reports = λ h. record { good = (band, sound); quiet = report_quiet r }

@@ -2,4 +2,4 @@
 pub mod Steps
 pub mod Forward
 pub mod Beginning
-pub mod Behind
+pub mod LookingBackwards

@@ -2,16 +2,16 @@
 use Rattle.std.proofs.Common.{◌≡◌, refl, ℕ, zero, suc, ℤ, length, Bool, true, false, List, Option, None, Some}
 use Rattle.uac_rate.specs.Steadiness.{is_steady}
 use Rattle.uac_request.specs.Requests.{setup_of}
-use Rattle.uac_mixer.specs.Elements.{fits_element}
+use Rattle.uac_mixer.specs.MixerElements.{fits_element}
 use Rattle.uac_mixer.specs.declared.element.Element.{Element}
 use Rattle.uac_script.specs.Phrase.{SaidMark, Phrase, SaidTone, idle, feeds, goes, controls, gets, sets, shows, breaks, appends, tracks, jacks, deviates, runs, details, reports}
 use Rattle.uac_units.specs.Hearing.{Reading}
 use Rattle.uac_running.specs.RunningWorld.{RunningWorld, with_detail, with_deviation, with_samples_on, with_tone, with_track}
 use Rattle.uac_running.specs.Naming.{are_frames, size_of}
 use Rattle.uac_running.specs.Events.{microframe, microframes}
-use Rattle.uac_running.specs.Transfers.{element_named, read_element, set_element, show_element, transfer, with_break}
+use Rattle.uac_running.specs.RunningTransfers.{element_named, read_element, set_element, show_element, transfer, with_break}
 use Rattle.uac_bus.specs.declared.fault.BusFault.{BusFault}
-use Rattle.uac_bus.specs.World.{silently, tone_of, Step, World, describing, done, on_element, refused, running, step_running, told, unless}
+use Rattle.uac_bus.specs.BusWorld.{silently, tone_of, Step, World, describing, done, on_element, refused, running, step_running, step_telling, unless}
 use Rattle.uac_bands.proofs.LookingBack.{calls_look_back, looks_back}
 use Rattle.uac_steady.specs.Scripts.{is_steady_in}
 
@@ -31,13 +31,13 @@ on_element_is P fails (Some x) step is = is x
 
 module _ (r : RunningWorld) where
   abbrev pub reads : Element → Step
-  reads x = told (read_element x r)
+  reads x = step_telling (read_element x r)
 
   abbrev pub set_to : ℤ → Element → Step
-  set_to value x = unless (fits_element x.kind value) 7 (told (set_element x value r))
+  set_to value x = unless (fits_element x.kind value) 7 (step_telling (set_element x value r))
 
   abbrev pub shown : Element → Step
-  shown x = told (show_element x r)
+  shown x = step_telling (show_element x r)
 
   abbrev pub appended : ℤ → List ℤ → Step
   appended number samples = silently (running (with_samples_on (size_of number) samples r))
@@ -52,10 +52,10 @@ module _ (r : RunningWorld) where
   toned terminal voice = silently (running (with_tone (size_of terminal) (tone_of voice) r))
 
   abbrev pub off : ℤ → ℤ → Step
-  off clock millionths = silently (running (with_deviation (size_of clock) millionths r))
+  off clock ppm = silently (running (with_deviation (size_of clock) ppm r))
 
   abbrev pub gone_on : ℤ → List SaidMark → Step
-  gone_on count losses = told (microframes losses (size_of count) r)
+  gone_on count marks = step_telling (microframes marks (size_of count) r)
 
 -- ---- looking back
 
@@ -64,11 +64,11 @@ abbrev pub WasSteady : World → Step → Type 0
 WasSteady w (done next lines) = is_steady_in next ≡ true → is_steady_in w ≡ true
 WasSteady w (refused fault) = Unit {0}
 
-pub microframes_before : (losses : List SaidMark) (count : ℕ) (r : RunningWorld) → is_steady (microframes losses count r).world.given ≡ true
+pub microframes_before : (marks : List SaidMark) (count : ℕ) (r : RunningWorld) → is_steady (microframes marks count r).world.given ≡ true
     → is_steady r.given ≡ true
 unfolding microframes
-microframes_before losses zero r h = h
-microframes_before losses (suc count) r h = looks_back losses r (microframes_before losses count (microframe losses r).world h)
+microframes_before marks zero r h = h
+microframes_before marks (suc count) r h = looks_back marks r (microframes_before marks count (microframe marks r).world h)
 
 module _ (r : RunningWorld) where
   abbrev Back : Step → Type 0
@@ -87,7 +87,7 @@ module _ (r : RunningWorld) where
       on_element_is Back no_step (element_named r name) (reads r) (λ x. (calls_look_back r).transfer _ _)
   running_looks_back (sets name value) =
       on_element_is Back no_step (element_named r name) (set_to r value)
-      (λ x. unless_is Back no_step (fits_element x.kind value) 7 (told (set_element x value r))
+      (λ x. unless_is Back no_step (fits_element x.kind value) 7 (step_telling (set_element x value r))
       ((calls_look_back r).transfer _ _))
   running_looks_back (shows name) = on_element_is Back no_step (element_named r name) (shown r) (λ x h. h)
   running_looks_back (breaks after) = λ h. h
@@ -96,9 +96,9 @@ module _ (r : RunningWorld) where
       (unless_is Back no_step _ 7 (appended r number samples) (λ h. h))
   running_looks_back (tracks number voice) = unless_is Back no_step _ 6 (tracked r number voice) (λ h. h)
   running_looks_back (jacks terminal voice) = unless_is Back no_step _ 6 (toned r terminal voice) (λ h. h)
-  running_looks_back (deviates clock millionths) =
-      unless_is Back no_step _ 6 (off r clock millionths) (λ h. ((calls_look_back r).deviation (size_of clock) millionths h).1)
-  running_looks_back (runs count losses) = unless_is Back no_step _ 6 (gone_on r count losses) (microframes_before losses _ r)
+  running_looks_back (deviates clock ppm) =
+      unless_is Back no_step _ 6 (off r clock ppm) (λ h. ((calls_look_back r).deviation (size_of clock) ppm h).1)
+  running_looks_back (runs count marks) = unless_is Back no_step _ 6 (gone_on r count marks) (microframes_before marks _ r)
   running_looks_back (details level) = λ h. h
   running_looks_back reports = λ h. h
 

@@ -4,10 +4,10 @@ use Rattle.std.specs.Prelude.{◌≡◌, ℕ, Bool, true, List, map}
 use Rattle.std.specs.List.{All}
 use Rattle.uac_units.specs.Hearing.{Reading}
 use Rattle.uac_rate.specs.Steadiness as steadiness
-use Rattle.uac_script.specs.Reading.{answer}
-use Rattle.uac_bus.specs.World.{World, describing, running, start}
+use Rattle.uac_script.specs.LineReading.{answer}
+use Rattle.uac_bus.specs.BusWorld.{World, describing, running, start}
 use Rattle.uac_bus.specs.After.{After, after}
-use Rattle.uac_bands.specs.Run.{IsNearLevel, IsNoUnder, RunInBand}
+use Rattle.uac_bands.specs.BandRun.{IsNearLevel, IsNoUnder, RunInBand}
 
 -- what was given so far is steady; before the descriptor's end nothing was given
 abbrev pub is_steady_in : World → Bool
@@ -20,8 +20,8 @@ IsInBand (describing bytes meters) = Unit {0}
 IsInBand (running r) = RunInBand r
 
 -- what lines come to, by their texts
-abbrev pub behind_lines : List (List ℕ) → List Reading → After
-behind_lines texts shown = after (map answer texts) (start shown)
+abbrev pub after_texts : List (List ℕ) → List Reading → After
+after_texts texts shown = after (map answer texts) (start shown)
 
 -- lines of a script that leave a steady world: each stream is in its band there, no line that they printed tells of a ring that was found
 -- empty, and each that tells the level of a primed stream tells one near its target
@@ -33,5 +33,5 @@ pub record KeepsBands (a : After) : Type 0 where
 -- so it is for every list of lines
 abbrev pub SteadyScriptsKeepBands : Type 0
 SteadyScriptsKeepBands =
-    (texts : List (List ℕ)) (shown : List Reading) → is_steady_in (behind_lines texts shown).world ≡ true
-    → KeepsBands (behind_lines texts shown)
+    (texts : List (List ℕ)) (shown : List Reading) → is_steady_in (after_texts texts shown).world ≡ true
+    → KeepsBands (after_texts texts shown)

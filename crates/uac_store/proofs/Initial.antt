@@ -5,16 +5,16 @@ use Rattle.std.specs.List.{flat_map, All, AllByRecursion, IsDistinct}
 use Rattle.std.proofs.lemmas.Bool.{and_parts, eqb-true, eqb-false, ltb-true, ltb-false, le-leb, leb-true, leb-false}
 use Rattle.uac_clock.specs.Nominal.{is_listed}
 use Rattle.uac_gain.specs.Gain.{gain_of}
-use Rattle.uac_entities.specs.Streams.{named}
+use Rattle.uac_entities.specs.EntityStreams.{named}
 use Rattle.uac_entities.specs.declared.entity.EntityKind.{EntityKind}
 use Rattle.uac_entities.specs.declared.entity.EntityKind.TheVariants as kind
 use Rattle.uac_entities.specs.declared.entity.Entity.{Entity}
 use Rattle.uac_topology_rules.proofs.Sound.{option_or-none}
-use Rattle.uac_topology.specs.Kept.{has_pins, HavePins}
+use Rattle.uac_topology.specs.FunctionKept.{has_pins, HavePins}
 use Rattle.uac_store.specs.declared.keys.Key.{Key}
 use Rattle.uac_store.specs.Keyed.{value_of}
 use Rattle.uac_store.specs.ControlTable.{choices, is_one_to, selectors_of, start_by, takes_by}
-use Rattle.uac_store.specs.Controls.{start_of, start_at, count_of, pins_of, node_start, channel_within, controls_of, initial_controls, has_on, has_control, takes, takes_on, IsStoreOf}
+use Rattle.uac_store.specs.StoreControls.{start_of, start_at, count_of, pins_of, node_start, channel_within, controls_of, initial_controls, has_on, has_control, takes, takes_on, IsStoreOf}
 use Rattle.uac_store.proofs.Tabled.{at_each}
 use Rattle.uac_store.proofs.Keeping.{value_of-append, controls_miss_channel, controls_miss_entity, selectors_miss, selectors_have, entities_miss}
 
@@ -46,7 +46,7 @@ controls_value all e k i = from (nat_lt 0 k.selector) (nat_le k.selector (select
   from true true false l h c =
       controls_miss_channel all e k (ltb-false k.channel (count_of all e) c) ∙ sym (λ j. start (l j) (h j) (c j))
 
--- the entities behind one of this id have other ids
+-- the entities after one of this id have other ids
 others_apart : (id : ℕ) (xs : List Entity) → AllByRecursion (λ y. nat_eq id y ≡ false) (map (λ e. e.id) xs) → AllByRecursion (λ e. id ≡ e.id → ⊥) xs
 others_apart id [] h = tt
 others_apart id (x ∷ xs) h = (eqb-false id x.id h.0, others_apart id xs h.1)

@@ -8,7 +8,7 @@ use Rattle.uac_entities.specs.declared.entity.Entity.{Entity}
 use Rattle.uac_store.specs.declared.keys.Key.{Key}
 use Rattle.uac_store.specs.Keyed.{key_of, same_key, value_of}
 use Rattle.uac_store.specs.ControlTable.{selectors_of}
-use Rattle.uac_store.specs.Controls.{start_of, count_of, first_channels, channels_at, controls_of}
+use Rattle.uac_store.specs.StoreControls.{start_of, count_of, first_channels, channels_at, controls_of}
 
 -- keys that differ in a part
 other_entity : (k l : Key) → (k.entity ≡ l.entity → ⊥) → same_key k l ≡ false

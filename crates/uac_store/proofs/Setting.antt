@@ -7,7 +7,7 @@ use Rattle.std.proofs.lemmas.Map.{lookup-set_value}
 use Rattle.uac_entities.specs.declared.entity.Entity.{Entity}
 use Rattle.uac_store.specs.declared.keys.Key.{Key}
 use Rattle.uac_store.specs.Keyed.{same_key, value_of, with_value}
-use Rattle.uac_store.specs.Controls.{takes, IsStoreOf}
+use Rattle.uac_store.specs.StoreControls.{takes, IsStoreOf}
 
 -- the parts of one key are those of the other
 pub one_key : (k l : Key) → same_key k l ≡ true → k ≡ l

@@ -7,14 +7,14 @@ use Rattle.std.proofs.lemmas.List.{get_or_past, length-map}
 use Rattle.std.proofs.lemmas.Option.{get_or_from_slice_get, slice_get-map, slice_get_within}
 use Rattle.uac_walk.specs.Walk.{links, has_walk}
 use Rattle.uac_walk.proofs.Walks.{none_at}
-use Rattle.uac_entities.specs.Streams.{named}
+use Rattle.uac_entities.specs.EntityStreams.{named}
 use Rattle.uac_entities.specs.declared.entity.Entity.{Entity}
 use Rattle.uac_entities.specs.declared.entity.EntityKind.{EntityKind}
 use Rattle.uac_entities.specs.declared.entity.EntityKind.TheVariants as kind
 use Rattle.uac_topology_rules.specs.Table.{place_of}
 use Rattle.uac_topology_rules.specs.Links.{clock_sources, clock_links, is_clock}
 use Rattle.uac_store.specs.declared.keys.Key.{Key}
-use Rattle.uac_store.specs.Rates.{value_at, chosen, chosen_source, multiplier_rate, rate_by, rate_step, rate_within, rate_of, EndsWithin, IsClockTree}
+use Rattle.uac_store.specs.Rates.{value_at, source_on_pin, chosen_source, multiplier_rate, rate_by, rate_step, rate_within, rate_of, EndsWithin, IsClockTree}
 
 -- the links of the first entity with an id are those of its place
 links_at_place : (f : Entity → List ℕ) (xs : List Entity) (id : ℕ) (e : Entity) → named xs id ≡ Some e → slice_index_or (map f xs) (place_of xs id) [] ≡ f e
@@ -52,7 +52,7 @@ chosen_is_source controls e s is = from (value_at controls e.id 1) is where
   pin n true is = (n - 1, is)
   pin n false is = cc
 
-  from : (o : Option ℤ) → option_and_then (chosen e.sources) o ≡ Some s → (i : ℕ) × (slice_get e.sources i ≡ Some s)
+  from : (o : Option ℤ) → option_and_then (source_on_pin e.sources) o ≡ Some s → (i : ℕ) × (slice_get e.sources i ≡ Some s)
   from None is = cc
   from (Some (pos n)) is = pin n (nat_lt 0 n) is
   from (Some (negsuc n)) is = cc

@@ -9,7 +9,7 @@ use Rattle.std.proofs.lemmas.Map.Keys.{IsDistinct-from_apart}
 use Rattle.std.proofs.lemmas.Option.{slice_get-get_or, slice_get_past}
 use Rattle.uac_walk.specs.Walk.{links, has_walk}
 use Rattle.uac_entities.specs.Entities.{entities_of, no_cluster}
-use Rattle.uac_entities.specs.Streams.{channels_of, named}
+use Rattle.uac_entities.specs.EntityStreams.{channels_of, named}
 use Rattle.uac_entities.specs.declared.entity.Cluster.{Cluster}
 use Rattle.uac_entities.specs.declared.entity.Entity.{Entity}
 use Rattle.uac_entities.specs.declared.entity.EntityKind.{EntityKind}
@@ -22,7 +22,7 @@ use Rattle.uac_topology_rules.proofs.Sound.{signal_links-at}
 use Rattle.uac_topology.specs.Function.{FunctionFields}
 use Rattle.uac_topology.specs.Topology.{IsSoundFunction}
 use Rattle.uac_store.specs.ControlTable.{IsSmall}
-use Rattle.uac_store.specs.Controls.{pins_of, IsKeyed}
+use Rattle.uac_store.specs.StoreControls.{pins_of, IsKeyed}
 use Rattle.uac_store.specs.Rates.{IsClockTree}
 use Rattle.uac_topology.proofs.Clustered.{clustered-at, length-clustered, same_place, seen_alike}
 use Rattle.uac_topology.proofs.SoundRules.{KeepsRules, rules_hold}

@@ -1,7 +1,7 @@
 -- Worked values of the definitions, on the entities of a headset with a mixer, and on a tree of clocks.
 use Rattle.std.proofs.Common.{◌≡◌, ℕ, nat_le, is_some, ℤ, pos, negsuc, List, [], ◌∷◌, true, false, Option, Some, None, refl}
 use Rattle.uac_entities.specs.Entities as entity
-use Rattle.uac_entities.specs.Streams.{channels_of, named}
+use Rattle.uac_entities.specs.EntityStreams.{channels_of, named}
 use Rattle.uac_entities.specs.declared.entity.Cluster.{Cluster}
 use Rattle.uac_entities.specs.declared.entity.Entity.{Entity}
 use Rattle.uac_entities.specs.declared.entity.EntityKind.{EntityKind}
@@ -13,9 +13,9 @@ use Rattle.uac_store.specs.declared.keys.Key.{Key}
 use Rattle.uac_store.specs.declared.keys.Range.{Range}
 use Rattle.uac_store.specs.ControlTable.{facts_of, keeps_value, ranges_as, selectors_of}
 use Rattle.uac_store.specs.Keyed.{key_of, value_of, with_value}
-use Rattle.uac_store.specs.Controls.{pins_of, count_of, node_start, start_of, first_channels, channels_at, controls_of, initial_controls, has_on, has_control, takes_on, takes}
+use Rattle.uac_store.specs.StoreControls.{pins_of, count_of, node_start, start_of, first_channels, channels_at, controls_of, initial_controls, has_on, has_control, takes_on, takes}
 use Rattle.uac_store.specs.Rates.{source_rate, chosen_source, multiplier_rate, rate_step, rate_within, rate_of}
-use Rattle.uac_store.specs.Values.{ranges_of, are_clocked, is_legal}
+use Rattle.uac_store.specs.StoreValues.{ranges_of, are_clocked, is_legal}
 
 -- ---- the table
 

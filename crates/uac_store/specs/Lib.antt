@@ -3,6 +3,6 @@
 pub mod Keyed
 pub mod Selectors
 pub mod ControlTable
-pub mod Controls
+pub mod StoreControls
 pub mod Rates
-pub mod Values
+pub mod StoreValues

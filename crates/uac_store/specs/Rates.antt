@@ -3,7 +3,7 @@ use Rattle.std.specs.Prelude.{◌≡◌, ℕ, ◌-◌, ◌*◌, ◌/◌, ◌%◌
 use Rattle.std.specs.Prelude.{slice_get, Option, Some, None}
 use Rattle.std.specs.Option.{option_and_then}
 use Rattle.uac_clock.specs.Nominal.{is_listed}
-use Rattle.uac_entities.specs.Streams.{named}
+use Rattle.uac_entities.specs.EntityStreams.{named}
 use Rattle.uac_entities.specs.declared.entity.Entity.{Entity}
 use Rattle.uac_entities.specs.declared.entity.EntityKind.{EntityKind}
 use Rattle.uac_entities.specs.declared.entity.EntityKind.TheVariants as kind
@@ -15,25 +15,25 @@ use Rattle.uac_store.specs.Keyed.{key_of, value_of}
 use Rattle.uac_store.specs.Selectors.{CS_SAM_FREQ_CONTROL, CX_CLOCK_SELECTOR_CONTROL, CM_NUMERATOR_CONTROL, CM_DENOMINATOR_CONTROL}
 
 -- a number of hertz that is one of the twelve rates
-abbrev pub listed : ℕ → Option ℕ
-listed hertz = if is_listed hertz then Some hertz else None
+abbrev pub listed_rate : ℕ → Option ℕ
+listed_rate hertz = if is_listed hertz then Some hertz else None
 
 -- profile: a source has the rate that its frequency is, where that is one of the twelve
 abbrev pub of_frequency : ℤ → Option ℕ
-of_frequency (pos hertz) = listed hertz
+of_frequency (pos hertz) = listed_rate hertz
 of_frequency _ = None
 
 -- the pin that a selector's value chooses, where it is there; pins count from 1
-abbrev pub chosen : List ℕ → ℤ → Option ℕ
-chosen sources (pos pin) = if nat_lt 0 pin then slice_get sources (pin - 1) else None
-chosen sources _ = None
+abbrev pub source_on_pin : List ℕ → ℤ → Option ℕ
+source_on_pin sources (pos pin) = if nat_lt 0 pin then slice_get sources (pin - 1) else None
+source_on_pin sources _ = None
 
 -- profile: a multiplier has a rate where numerator and denominator are positive and the quotient is a whole number and one
 -- of the twelve
-abbrev pub multiplied : ℕ → ℤ → ℤ → Option ℕ
-multiplied rate (pos n) (pos d) =
-    if nat_lt 0 n && nat_lt 0 d && (rate * n % d == 0) then listed (rate * n / d) else None
-multiplied rate _ _ = None
+abbrev pub rate_times : ℕ → ℤ → ℤ → Option ℕ
+rate_times rate (pos n) (pos d) =
+    if nat_lt 0 n && nat_lt 0 d && (rate * n % d == 0) then listed_rate (rate * n / d) else None
+rate_times rate _ _ = None
 
 -- the value of a control that has no channel but 0
 abbrev pub value_at : List (Key × ℤ) → ℕ → ℕ → Option ℤ
@@ -45,12 +45,12 @@ source_rate controls id = option_and_then of_frequency (value_at controls id CS_
 
 -- the clock source that a clock selector chooses
 unfoldable pub chosen_source : List (Key × ℤ) → Entity → Option ℕ
-chosen_source controls e = option_and_then (chosen e.sources) (value_at controls e.id CX_CLOCK_SELECTOR_CONTROL)
+chosen_source controls e = option_and_then (source_on_pin e.sources) (value_at controls e.id CX_CLOCK_SELECTOR_CONTROL)
 
 -- the rate of a multiplier by the rate of its source
 unfoldable pub multiplier_rate : List (Key × ℤ) → ℕ → ℕ → Option ℕ
 multiplier_rate controls id rate =
-    option_and_then (λ n. option_and_then (multiplied rate n) (value_at controls id CM_DENOMINATOR_CONTROL))
+    option_and_then (λ n. option_and_then (rate_times rate n) (value_at controls id CM_DENOMINATOR_CONTROL))
     (value_at controls id CM_NUMERATOR_CONTROL)
 
 -- one step: from the rates of its sources to that of an entity

@@ -1,6 +1,6 @@
 // The controls of entities in one table: which control a selector names, and what is so of it (Audio Class 2.0, A.17 and 5.2.5).
 ghost use Rattle.std.specs.Prelude.{◌≡◌, ◌≤◌, IfSome, sum};
-ghost use Rattle.uac_store.specs.Controls as spec;
+ghost use Rattle.uac_store.specs.StoreControls as spec;
 ghost use Rattle.uac_store.specs.ControlTable as table;
 ghost use Rattle.uac_store.specs.ControlTable.{IsSmall};
 
@@ -216,7 +216,7 @@ pub fn spread_of(kind: EntityKind) -> Spread
 }
 
 /// How many of each control an entity has: a mixer's nodes, the master and the channels of a feature or an effect, else one.
-#[tactic(auto, unfolding(crate::specs::Controls::count_of))]
+#[tactic(auto, unfolding(crate::specs::StoreControls::count_of))]
 pub fn count_of(function: &Function, entity: &Entity) -> usize
     requires { IsSmall entity.now.kind (sum (spec.pins_of function.now.entities entity.now)) entity.now.cluster.channels }
     ensures few { result ≤ 256 }
@@ -231,7 +231,7 @@ pub fn count_of(function: &Function, entity: &Entity) -> usize
 }
 
 // The channels of all its pins. It takes no memory.
-#[tactic(auto, unfolding(crate::specs::Controls::pins_of))]
+#[tactic(auto, unfolding(crate::specs::StoreControls::pins_of))]
 fn inputs_of(function: &Function, entity: &Entity) -> usize
     requires { sum (spec.pins_of function.now.entities entity.now) ≤ 256 }
     ensures { result ≡ sum (spec.pins_of function.now.entities entity.now) }

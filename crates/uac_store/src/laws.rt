@@ -4,7 +4,7 @@ ghost use Rattle.std.specs.List.{IsDistinct};
 ghost use Rattle.uac_entities.specs.declared.entity.Entity.{Entity};
 ghost use Rattle.uac_store.specs.declared.keys.Key.{Key};
 ghost use Rattle.uac_store.specs.Keyed.{value_of};
-ghost use Rattle.uac_store.specs.Controls.{initial_controls, start_at, IsKeyed};
+ghost use Rattle.uac_store.specs.StoreControls.{initial_controls, start_at, IsKeyed};
 ghost use Rattle.uac_topology.specs.Function.{FunctionFields};
 ghost use Rattle.uac_topology.specs.Topology.{IsSoundFunction};
 ghost use Rattle.uac_store.specs.Rates.{rate_step, rate_within, rate_of, EndsWithin, IsClockTree};

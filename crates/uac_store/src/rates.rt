@@ -3,7 +3,7 @@ ghost use Rattle.std.specs.Prelude.{◌≡◌, ◌≤◌, IfSome, IsSome};
 ghost use Rattle.uac_clock.specs.Nominal.{is_listed};
 ghost use Rattle.uac_store.specs.Keyed.{value_of};
 ghost use Rattle.uac_store.specs.Rates as spec;
-ghost use Rattle.uac_store.specs.Values.{changed};
+ghost use Rattle.uac_store.specs.StoreValues.{values_after};
 
 use crate::keys::Key;
 use crate::selectors::{
@@ -24,7 +24,7 @@ pub(crate) fn rate_within(
     id: u8,
 ) -> Option<u32>
     requires { IfSome change (λ c. IsSome (value_of store.now c.key)) }
-    ensures { result ≡ spec.rate_within steps function.now.entities (changed store.now change) id }
+    ensures { result ≡ spec.rate_within steps function.now.entities (values_after store.now change) id }
 {
     if steps == 0 {
         return None;
@@ -54,7 +54,7 @@ pub(crate) fn rate_within(
 #[tactic(auto, unfolding(crate::specs::Rates::source_rate))]
 fn source_rate(store: &Store, change: Option<Change>, id: u8) -> Option<u32>
     requires { IfSome change (λ c. IsSome (value_of store.now c.key)) }
-    ensures { result ≡ spec.source_rate (changed store.now change) id }
+    ensures { result ≡ spec.source_rate (values_after store.now change) id }
 {
     let hertz = value(store, change, id, CS_SAM_FREQ_CONTROL)?;
     of_frequency(hertz)
@@ -64,27 +64,27 @@ fn source_rate(store: &Store, change: Option<Change>, id: u8) -> Option<u32>
 #[tactic(auto, unfolding(crate::specs::Rates::chosen_source))]
 fn chosen_source(store: &Store, change: Option<Change>, entity: &Entity) -> Option<u8>
     requires { IfSome change (λ c. IsSome (value_of store.now c.key)) }
-    ensures { result ≡ spec.chosen_source (changed store.now change) entity.now }
+    ensures { result ≡ spec.chosen_source (values_after store.now change) entity.now }
 {
     let pin = value(store, change, entity.id, CX_CLOCK_SELECTOR_CONTROL)?;
-    chosen(entity.sources.as_slice(), pin)
+    source_on_pin(entity.sources.as_slice(), pin)
 }
 
 // The rate of a multiplier by the rate of its source.
 #[tactic(auto, unfolding(crate::specs::Rates::multiplier_rate))]
 fn multiplier_rate(store: &Store, change: Option<Change>, id: u8, rate: u32) -> Option<u32>
     requires { IfSome change (λ c. IsSome (value_of store.now c.key)) }
-    ensures { result ≡ spec.multiplier_rate (changed store.now change) id rate }
+    ensures { result ≡ spec.multiplier_rate (values_after store.now change) id rate }
 {
     let numerator = value(store, change, id, CM_NUMERATOR_CONTROL)?;
     let denominator = value(store, change, id, CM_DENOMINATOR_CONTROL)?;
-    multiplied(rate, numerator, denominator)
+    rate_times(rate, numerator, denominator)
 }
 
 // The value of a control that has no channels but 0.
 fn value(store: &Store, change: Option<Change>, entity: u8, selector: u8) -> Option<i32>
     requires { IfSome change (λ c. IsSome (value_of store.now c.key)) }
-    ensures { result ≡ spec.value_at (changed store.now change) entity selector }
+    ensures { result ≡ spec.value_at (values_after store.now change) entity selector }
 {
     let key = Key {
         entity,
@@ -98,7 +98,7 @@ fn value(store: &Store, change: Option<Change>, entity: u8, selector: u8) -> Opt
 #[tactic(auto, using(crate::proofs::Setting::changed_alone))]
 fn cur_under(store: &Store, change: Option<Change>, key: Key) -> Option<i32>
     requires { IfSome change (λ c. IsSome (value_of store.now c.key)) }
-    ensures { result ≡ value_of (changed store.now change) key }
+    ensures { result ≡ value_of (values_after store.now change) key }
 {
     match change {
         Some(change) if change.key == key => Some(change.value),
@@ -106,8 +106,8 @@ fn cur_under(store: &Store, change: Option<Change>, key: Key) -> Option<i32>
     }
 }
 
-fn listed(hertz: u64) -> Option<u32>
-    ensures { result ≡ spec.listed hertz }
+fn listed_rate(hertz: u64) -> Option<u32>
+    ensures { result ≡ spec.listed_rate hertz }
 {
     let hertz = u32::try_from(hertz).ok()?;
     if RATES.contains(&hertz) {
@@ -120,12 +120,12 @@ fn listed(hertz: u64) -> Option<u32>
 fn of_frequency(hertz: i32) -> Option<u32>
     ensures { result ≡ spec.of_frequency hertz }
 {
-    listed(u64::try_from(hertz).ok()?)
+    listed_rate(u64::try_from(hertz).ok()?)
 }
 
 // The pin that a selector's value chooses.
-fn chosen(sources: &[u8], pin: i32) -> Option<u8>
-    ensures { result ≡ spec.chosen sources.now pin }
+fn source_on_pin(sources: &[u8], pin: i32) -> Option<u8>
+    ensures { result ≡ spec.source_on_pin sources.now pin }
 {
     if pin < 1 {
         return None;
@@ -133,8 +133,8 @@ fn chosen(sources: &[u8], pin: i32) -> Option<u8>
     sources.get((pin - 1) as usize).copied()
 }
 
-fn multiplied(rate: u32, numerator: i32, denominator: i32) -> Option<u32>
-    ensures { result ≡ spec.multiplied rate numerator denominator }
+fn rate_times(rate: u32, numerator: i32, denominator: i32) -> Option<u32>
+    ensures { result ≡ spec.rate_times rate numerator denominator }
 {
     if numerator < 1 || denominator < 1 {
         return None;
@@ -144,5 +144,5 @@ fn multiplied(rate: u32, numerator: i32, denominator: i32) -> Option<u32>
     if times % parts != 0 {
         return None;
     }
-    listed(times / parts)
+    listed_rate(times / parts)
 }

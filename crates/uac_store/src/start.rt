@@ -3,9 +3,9 @@ ghost use Rattle.std.specs.Prelude.{◌≡◌, ℕ, ◌*◌, ◌<◌, ◌++◌, 
 ghost use Rattle.uac_store.specs.Keyed.{key_of, value_of};
 ghost use Rattle.uac_store.specs.declared.controls.Control.TheVariants as controls;
 ghost use Rattle.uac_store.specs.ControlTable as table;
-ghost use Rattle.uac_store.specs.Controls as spec;
+ghost use Rattle.uac_store.specs.StoreControls as spec;
 ghost use Rattle.uac_store.specs.ControlTable.{IsSmall};
-ghost use Rattle.uac_store.specs.Controls.{IsKeyed, initial_controls, controls_of, channels_at};
+ghost use Rattle.uac_store.specs.StoreControls.{IsKeyed, initial_controls, controls_of, channels_at};
 
 use crate::controls::{Control, control_of, count_of, selectors_of};
 use crate::keys::Key;
@@ -104,7 +104,7 @@ fn start_as(control: Control, pins: &[u8], outputs: usize, channel: usize) -> i3
 }
 
 // A mixer passes each channel of a pin on to its own channel of the same number.
-#[tactic(auto, unfolding(crate::specs::Controls::node_start))]
+#[tactic(auto, unfolding(crate::specs::StoreControls::node_start))]
 fn node_start(pins: &[u8], outputs: usize, node: usize) -> i32
     requires { 0 < outputs }
     ensures { result ≡ spec.node_start pins.now outputs node }
@@ -131,7 +131,7 @@ fn channel_within(pins: &[u8], input: usize) -> usize
 }
 
 // The channels of each pin.
-#[tactic(auto, unfolding(crate::specs::Controls::pins_of))]
+#[tactic(auto, unfolding(crate::specs::StoreControls::pins_of))]
 fn pins_of(alloc: Global, function: &Function, entity: &Entity) -> Result<Vec<u8>, NoMemory>
     ensures { IfOk result (λ pins. pins.items ≡ spec.pins_of function.now.entities entity.now) }
 {

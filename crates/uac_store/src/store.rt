@@ -2,9 +2,9 @@
 ghost use Rattle.std.specs.Prelude.{◌≡◌, true, IfOk, IsSome, List, if◌then◌else◌};
 ghost use Rattle.uac_entities.specs.declared.entity.Entity.{Entity};
 ghost use Rattle.uac_store.specs.Keyed.{same_key, value_of, with_value};
-ghost use Rattle.uac_store.specs.Controls.{IsStoreOf, initial_controls, takes};
+ghost use Rattle.uac_store.specs.StoreControls.{IsStoreOf, initial_controls, takes};
 ghost use Rattle.uac_store.specs.Rates.{rate_of};
-ghost use Rattle.uac_store.specs.Values.{is_legal};
+ghost use Rattle.uac_store.specs.StoreValues.{is_legal};
 
 use crate::keys::Key;
 use crate::rates::rate_within;

@@ -4,11 +4,11 @@ ghost use Rattle.std.specs.List.{All};
 ghost use Rattle.std.specs.Option.{option_map};
 ghost use Rattle.uac_gain.specs.Gain.{gain_of};
 ghost use Rattle.uac_store.specs.ControlTable as table;
-ghost use Rattle.uac_store.specs.Controls as controls;
+ghost use Rattle.uac_store.specs.StoreControls as controls;
 ghost use Rattle.uac_store.specs.ControlTable.{IsSmall};
 ghost use Rattle.uac_store.specs.Keyed.{value_of, with_value};
 ghost use Rattle.uac_store.specs.Rates.{rate_of};
-ghost use Rattle.uac_store.specs.Values as spec;
+ghost use Rattle.uac_store.specs.StoreValues as spec;
 
 use crate::controls::{Control, control_of, count_of, selectors_of};
 use crate::keys::{Key, Range, Ranges};
@@ -53,7 +53,7 @@ pub(crate) struct Change {
 ///
 /// None comes exactly where there is no control with this key that keeps a value, or it has no ranges, as mutes and
 /// enables have none. It takes no memory.
-#[tactic(auto, unfolding(crate::specs::Values::ranges_of), using(crate::proofs::Small::small_named, crate::proofs::Soundness::keyed))]
+#[tactic(auto, unfolding(crate::specs::StoreValues::ranges_of), using(crate::proofs::Small::small_named, crate::proofs::Soundness::keyed))]
 pub fn ranges(function: &Function, key: Key) -> Option<Ranges>
     ensures { option_map (λ ranges. ranges.items) result ≡ spec.ranges_of function.now.entities key }
 {
@@ -67,7 +67,7 @@ pub fn ranges(function: &Function, key: Key) -> Option<Ranges>
 }
 
 // Whether an entity of the function has a control of this selector and channel that keeps a value.
-#[tactic(auto, unfolding(crate::specs::Controls::has_on))]
+#[tactic(auto, unfolding(crate::specs::StoreControls::has_on))]
 fn has_on(function: &Function, entity: &Entity, key: Key) -> bool
     requires { IsSmall entity.now.kind (sum (controls.pins_of function.now.entities entity.now)) entity.now.cluster.channels }
     ensures { result ≡ controls.has_on function.now.entities key entity.now }
@@ -159,7 +159,7 @@ fn each_alone(rates: &[u32]) -> Ranges
 
 /// Whether a change gives its control a value that is legal: one that the control takes, and where it is a clock
 /// entity's, one under which every clock entity has a rate. It takes no memory.
-#[tactic(auto, unfolding(crate::specs::Values::is_legal, crate::specs::Controls::takes))]
+#[tactic(auto, unfolding(crate::specs::StoreValues::is_legal, crate::specs::StoreControls::takes))]
 pub(crate) fn is_legal(function: &Function, store: &Store, change: Change) -> bool
     requires { IsSome (value_of store.now change.key) }
     ensures { result ≡ spec.is_legal function.now.entities store.now change.key change.value }
@@ -174,7 +174,7 @@ pub(crate) fn is_legal(function: &Function, store: &Store, change: Change) -> bo
 }
 
 // Whether an entity's control takes a value (profile).
-#[tactic(auto, unfolding(crate::specs::Controls::takes_on))]
+#[tactic(auto, unfolding(crate::specs::StoreControls::takes_on))]
 fn takes(entity: &Entity, selector: u8, value: i32) -> bool
     ensures { result ≡ controls.takes_on selector value entity.now }
 {
@@ -232,7 +232,7 @@ fn is_volume(value: i32) -> bool
 }
 
 // Whether each clock entity has a rate under a change.
-#[tactic(auto, unfolding(crate::specs::Values::are_clocked))]
+#[tactic(auto, unfolding(crate::specs::StoreValues::are_clocked))]
 fn are_clocked(function: &Function, store: &Store, change: Change) -> bool
     requires { IsSome (value_of store.now change.key) }
     ensures { result ≡ spec.are_clocked function.now.entities (with_value store.now change.key change.value) }

@@ -7,7 +7,7 @@ use Rattle.std.proofs.lemmas.List.Quantifiers.{position-Some}
 use Rattle.std.proofs.lemmas.Map.Keys.{IsDistinct-head, IsDistinct-tail}
 use Rattle.uac_entities.specs.declared.stream.StreamInterface.{StreamInterface}
 use Rattle.uac_topology.specs.Function.{FunctionFields}
-use Rattle.uac_topology.specs.Kept.{AreNumbered}
+use Rattle.uac_topology.specs.FunctionKept.{AreNumbered}
 use Rattle.uac_topology_rules.proofs.Found.{position_is, position_none}
 use Rattle.std.proofs.lemmas.Option.{slice_get-get_or}
 use Rattle.uac_transcript.specs.declared.report.StreamCounts.{StreamCounts}

@@ -6,17 +6,17 @@ use Rattle.std.proofs.lemmas.Bool.{cases_Bool, cases_eq}
 use Rattle.uac_entities.specs.declared.stream.StreamInterface.{StreamInterface}
 use Rattle.uac_topology.specs.Function.{FunctionFields, interface_in}
 use Rattle.uac_rate.specs.Steadiness as steadiness
-use Rattle.uac_alt.specs.Streams.{StreamFields, stream_fields}
+use Rattle.uac_alt.specs.AltStreams.{StreamFields, stream_fields}
 use Rattle.uac_alt.specs.declared.values.Stream.{Stream}
-use Rattle.uac_device.specs.Kept as devices
+use Rattle.uac_device.specs.DeviceKept as devices
 use Rattle.uac_host.specs.HostWorld.{HostWorld, Pace}
 use Rattle.uac_host.specs.Calls.{IsStreamOf, at_interface, with_stream}
-use Rattle.uac_host.specs.Kept as hosts
+use Rattle.uac_host.specs.HostKept as hosts
 use Rattle.uac_host.specs.declared.lanes.Lane.{Lane}
-use Rattle.uac_host.proofs.StandsLemmas.{elsewhere, here}
-use Rattle.uac_host.proofs.StreamsLemmas.{carried_by}
-use Rattle.uac_streaming.specs.StreamingWorld.{StreamingWorld, followed, given_at, place_of}
-use Rattle.uac_streaming.specs.Kept.{StreamingFields, Stands}
+use Rattle.uac_host.proofs.StandsAfterCalls.{elsewhere, here}
+use Rattle.uac_host.proofs.SettingStreams.{carried_by}
+use Rattle.uac_streaming.specs.StreamingWorld.{StreamingWorld, after_following, given_at, place_of}
+use Rattle.uac_streaming.specs.StreamingKept.{StreamingFields, Stands}
 
 eq_of : (m n : ℕ) → (m == n) ≡ true → m ≡ n
 eq_of m n e = grind arith
@@ -78,8 +78,8 @@ no_lane lanes w interface stands none = record {
 }
 
 stopped : (p : StreamingFields) (d : devices.DeviceFields) (w : StreamingWorld) (interface : ℕ) → Stands p d w → hosts.Stands p.host (with_stream interface None w.host)
-    → Stands p d (followed interface None w)
-unfolding followed with_stream
+    → Stands p d (after_following interface None w)
+unfolding after_following with_stream
 stopped p d w interface stands of_host = record {
   device = stands.device;
   host = of_host;
@@ -93,20 +93,20 @@ stopped p d w interface stands of_host = record {
 
 pub followed_nowhere : (p : StreamingFields) (d : devices.DeviceFields) (w : StreamingWorld) (function : FunctionFields) (interface : ℕ) (begun : Option Stream) → Stands p d w
     → w.device.function ≡ function → IfSome begun (λ s. IsStreamOf function interface (stream_fields s))
-    → None ≡ option_map (λ (s : StreamInterface). s.number) (interface_in function interface) → Stands p d (followed interface (option_map stream_fields begun) w)
+    → None ≡ option_map (λ (s : StreamInterface). s.number) (interface_in function interface) → Stands p d (after_following interface (option_map stream_fields begun) w)
 followed_nowhere p d w function interface begun stands same of none =
     let nothing = none_found function interface none in
-    subst (λ (o : Option StreamFields). Stands p d (followed interface o w)) (sym (none_begun function interface begun of nothing))
+    subst (λ (o : Option StreamFields). Stands p d (after_following interface o w)) (sym (none_begun function interface begun of nothing))
     (stopped p d w interface stands
     (no_lane p.host w.host interface stands.host (ap (λ (f : FunctionFields). interface_in f interface) (stands.same ∙ same) ∙ nothing)))
 
 -- one that it has
 pub followed_so : (p : StreamingFields) (d : devices.DeviceFields) (w : StreamingWorld) (interface : ℕ) (begun : Option StreamFields) (b : Bool) → is_some begun ≡ b
-    → Stands p d (record w { host = with_stream interface begun w.host; given = if b then given_at (place_of w.device.function interface) steadiness.restarted w.given else w.given })
-    → Stands p d (followed interface begun w)
-unfolding followed
+    → Stands p d (record w { host = with_stream interface begun w.host; given = if b then given_at (place_of w.device.function interface) steadiness.with_restart_given w.given else w.given })
+    → Stands p d (after_following interface begun w)
+unfolding after_following
 followed_so p d w interface begun b is stands =
-    subst (λ (b : Bool). Stands p d (record w { host = with_stream interface begun w.host; given = if b then given_at (place_of w.device.function interface) steadiness.restarted w.given else w.given }))
+    subst (λ (b : Bool). Stands p d (record w { host = with_stream interface begun w.host; given = if b then given_at (place_of w.device.function interface) steadiness.with_restart_given w.given else w.given }))
     (sym is) stands
 
 pub seen_some : (begun : Option Stream) → is_some (option_map stream_fields begun) ≡ is_some begun

@@ -11,25 +11,25 @@ use Rattle.uac_topology.specs.Function.{FunctionFields}
 use Rattle.uac_topology.specs.Topology.{IsSoundFunction}
 use Rattle.uac_store.specs.declared.keys.Key.{Key}
 use Rattle.uac_rate.specs.Levels.{IsInterval}
-use Rattle.uac_alt.specs.Streams.{StreamFields, stream_of}
+use Rattle.uac_alt.specs.AltStreams.{StreamFields, stream_of}
 use Rattle.uac_alt.proofs.Parts.{parts_of, ran_of}
 use Rattle.uac_request.specs.Requests.{after_request, held_by, rate_at, reply_of}
 use Rattle.uac_request.specs.declared.setup.Setup.{Setup}
-use Rattle.uac_flow.specs.Streams.{OutStream, started_out}
+use Rattle.uac_flow.specs.FlowStreams.{OutStream, started_out}
 use Rattle.uac_lanes.specs.InterfaceStreams.{out_from, replaced_at}
-use Rattle.uac_device.specs.DeviceWorld.{DeviceWorld, at_rest, controlled, deviated, fresh, restarted, sets_interface, stream_in_setting, tells_done}
-use Rattle.uac_device.specs.Kept.{IsInRange}
-use Rattle.uac_device.proofs.StreamsLemmas.{interval}
+use Rattle.uac_device.specs.DeviceWorld.{DeviceWorld, at_rest, after_control, after_deviation, fresh, after_restart, sets_interface, stream_in_setting, tells_done}
+use Rattle.uac_device.specs.DeviceKept.{IsInRange}
+use Rattle.uac_device.proofs.SettingStreams.{interval}
 use Rattle.uac_streaming.specs.Room.{HasRoom, HaveRoom}
 use Rattle.uac_streaming.proofs.RoomOfDevices.{deviations_kept}
 
 -- ---- a clock that is off
 
-pub deviated_room : (clock : ℕ) (millionths : ℤ) (w : DeviceWorld) → IsInRange millionths → HaveRoom w
-    → HaveRoom (deviated clock millionths w)
-unfolding deviated
-deviated_room clock millionths w range room = record {
-  deviations = deviations_kept (λ d. record d { deviation = millionths }) (λ d _. range) (λ d. d.clock == clock) w.domains room.deviations;
+pub deviated_room : (clock : ℕ) (ppm : ℤ) (w : DeviceWorld) → IsInRange ppm → HaveRoom w
+    → HaveRoom (after_deviation clock ppm w)
+unfolding after_deviation
+deviated_room clock ppm w range room = record {
+  deviations = deviations_kept (λ d. record d { deviation = ppm }) (λ d _. range) (λ d. d.clock == clock) w.domains room.deviations;
   apart = room.apart;
   streams = room.streams;
 }
@@ -108,7 +108,7 @@ pub stream_interval : (function : FunctionFields) (rate interface number : ℕ) 
     → IsInterval stream.service
 stream_interval function rate interface number stream is =
     let parts = parts_of function rate interface number stream is in
-    let ran = ran_of function parts.carrier parts.setting parts.nominal parts.general parts.type_one parts.first parts.runs in
+    let ran = ran_of function parts.streaming_interface parts.setting parts.nominal parts.general parts.type_one parts.first parts.runs in
     subst (λ (t : StreamFields). IsInterval t.service) (sym parts.is) (interval (parts.first.interval - 1) (omega (arith, ran.most)))
 
 asked_interval : (function : FunctionFields) (controls : List (Key × ℤ)) (interface setting : ℕ) (s : StreamFields)
@@ -137,8 +137,8 @@ module _ (w : DeviceWorld) (room : HaveRoom w) where
       by true e = begun_room begun serves o e
       by false e = room.streams k o e
 
-  pub controlled_room : (p : Setup) (bytes : List ℕ) → HaveRoom (controlled p bytes w)
-  unfolding controlled restarted
+  pub controlled_room : (p : Setup) (bytes : List ℕ) → HaveRoom (after_control p bytes w)
+  unfolding after_control after_restart
   controlled_room p bytes = by (sets_interface p && tells_done (reply_of w.function (held_by w.controls w.settings) p bytes))
     where
       begun : Option StreamFields
@@ -147,7 +147,7 @@ module _ (w : DeviceWorld) (room : HaveRoom w) where
       by : (b : Bool)
           → (let after = after_request w.function (held_by w.controls w.settings) p bytes in
           let asked : DeviceWorld = record w { controls = after.controls; settings = after.settings } in
-          HaveRoom (if b then restarted p.index begun asked else asked))
+          HaveRoom (if b then after_restart p.index begun asked else asked))
       by true = record {
         deviations = room.deviations;
         apart = room.apart;

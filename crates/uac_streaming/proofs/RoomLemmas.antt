@@ -8,7 +8,7 @@ use Rattle.std.proofs.lemmas.List.{length-replicate, take_at}
 use Rattle.std.proofs.lemmas.List.Elements.{All-head, All-tail}
 use Rattle.std.proofs.lemmas.List.Sums.{sum_by_push}
 use Rattle.std.proofs.lemmas.Nat.{mul-le}
-use Rattle.uac_alt.specs.Streams.{StreamFields}
+use Rattle.uac_alt.specs.AltStreams.{StreamFields}
 use Rattle.uac_clock.specs.Nominal.{nominal_of, step_of}
 use Rattle.uac_clock.specs.Ticks.{ticks_in}
 use Rattle.uac_clock.specs.declared.values.Nominal.{Nominal}
@@ -16,9 +16,9 @@ use Rattle.uac_rate.specs.Levels.{IsInterval}
 use Rattle.uac_ring.specs.Rings.{ring_frames}
 use Rattle.uac_store.specs.Rates.{rate_of}
 use Rattle.uac_flow.specs.Flows.{ZerosFit}
-use Rattle.uac_flow.specs.Streams.{OutStream, after_packet, after_taking, after_ticks, frames_of, is_due, out_level, priming_level, settled_out, settled_when_due, takes_all, target_after, zeros_due}
+use Rattle.uac_flow.specs.FlowStreams.{OutStream, after_packet, after_taking, after_ticks, frames_of, is_due, out_level, priming_level, settled_out, settled_when_due, takes_all, target_after, zeros_due}
 use Rattle.uac_device.specs.DeviceWorld.{DeviceWorld, Domain, next_ticks, step_in, steps_with_next}
-use Rattle.uac_device.specs.Kept.{IsInRange}
+use Rattle.uac_device.specs.DeviceKept.{IsInRange}
 use Rattle.uac_device.proofs.Fastest.{nominal_most, rated_nominal}
 use Rattle.uac_streaming.specs.Room.{HasRoom}
 
@@ -263,20 +263,20 @@ settled_again o room = settled_room false o (opened false o room)
 -- ---- the ticks of a domain
 
 -- a clock in range gives few frames in a microframe
-step_most : (values : Nominal) (millionths : ℤ) → values.f ≤ 1572864 → IsInRange millionths → step_of values millionths ≤ 1730150
+step_most : (values : Nominal) (ppm : ℤ) → values.f ≤ 1572864 → IsInRange ppm → step_of values ppm ≤ 1730150
 step_most values (pos m) slow range =
     let small : m ≤ 100000 = omega (arith, ints) in
     let product : values.f * m ≤ 1572864 * 100000 = mul-le values.f m 1572864 100000 slow small in
     omega arith
 step_most values (negsuc m) slow range = omega arith
 
-steps_most : (rate : Option ℕ) (millionths : ℤ) → IsInRange millionths
-    → option_map_or (λ values. step_of values millionths) (option_and_then nominal_of rate) 0 ≤ 1730150
-steps_most rate millionths range = by (option_and_then nominal_of rate) refl
+steps_most : (rate : Option ℕ) (ppm : ℤ) → IsInRange ppm
+    → option_map_or (λ values. step_of values ppm) (option_and_then nominal_of rate) 0 ≤ 1730150
+steps_most rate ppm range = by (option_and_then nominal_of rate) refl
   where
-    by : (o : Option Nominal) → option_and_then nominal_of rate ≡ o → option_map_or (λ values. step_of values millionths) o 0 ≤ 1730150
+    by : (o : Option Nominal) → option_and_then nominal_of rate ≡ o → option_map_or (λ values. step_of values ppm) o 0 ≤ 1730150
     by None is = omega arith
-    by (Some values) is = step_most values millionths (nominal_most values (rated_nominal rate values is)) range
+    by (Some values) is = step_most values ppm (nominal_most values (rated_nominal rate values is)) range
 
 last_few : (steps : List ℕ) (step : ℕ) → step ≤ 1730150 → ticks_in (steps ++ step ∷ []) ≤ 27
 last_few steps step most =

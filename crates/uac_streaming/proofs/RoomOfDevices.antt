@@ -9,10 +9,10 @@ use Rattle.uac_entities.specs.declared.stream.StreamInterface.{StreamInterface}
 use Rattle.uac_topology.specs.Function.{FunctionFields}
 use Rattle.uac_graph.specs.Meaning.{entity}
 use Rattle.uac_flow.specs.Flows.{ZerosFit}
-use Rattle.uac_flow.specs.Streams.{OutStream, after_packet, after_taking, after_ticks, is_due, settled_out}
+use Rattle.uac_flow.specs.FlowStreams.{OutStream, after_packet, after_taking, after_ticks, is_due, settled_out}
 use Rattle.uac_lanes.specs.InterfaceStreams.{changed_at, changed_where, either_due}
-use Rattle.uac_device.specs.DeviceWorld.{DeviceWorld, Domain, ZerosFitIn, advanced, is_due_in, next_ticks, received, sent, set_jack, settled, steps_with_next, ticked}
-use Rattle.uac_device.specs.Kept.{IsInRange}
+use Rattle.uac_device.specs.DeviceWorld.{DeviceWorld, Domain, ZerosFitIn, after_advance, is_due_in, next_ticks, after_receiving, after_sending_packet, set_jack, after_settling, steps_with_next, after_tick}
+use Rattle.uac_device.specs.DeviceKept.{IsInRange}
 use Rattle.uac_streaming.specs.Room.{HasRoom, HaveRoom}
 use Rattle.uac_streaming.specs.StreamingWorld.{numbers}
 use Rattle.uac_streaming.proofs.RoomLemmas.{IsWithin, next_few, opened, packet_came, packet_keeps, settled_again, settled_room, tick_came, tick_keeps, ticks_came, zeros_fit}
@@ -168,8 +168,8 @@ any_clock about loses ahead clock other w is = record {
 pub received_within : (about : FunctionFields → Type 0) (loses : ℕ → Bool) (ahead : List ℕ) (clock interface : ℕ) (packet : List ℕ) (w : DeviceWorld)
     → (find (λ s. s.number == interface) w.function.streams ≡ None → ⊥) → is_due_in w interface ≡ true
     → AreWithin about loses ahead clock 0 w
-    → AreWithin about loses ahead clock 0 (received interface (if loses interface then None else Some packet) w)
-unfolding received is_due_in
+    → AreWithin about loses ahead clock 0 (after_receiving interface (if loses interface then None else Some packet) w)
+unfolding after_receiving is_due_in
 received_within about loses ahead clock interface packet w known due is = record {
   deviations = is.deviations;
   apart = is.apart;
@@ -195,8 +195,8 @@ received_within about loses ahead clock interface packet w known due is = record
 -- the device sends a packet, or a jack is given a frame
 pub sent_within : (about : FunctionFields → Type 0) (loses : ℕ → Bool) (ahead : List ℕ) (clock left interface : ℕ) (w : DeviceWorld)
     → AreWithin about loses ahead clock left w
-    → AreWithin about loses ahead clock left (sent interface w)
-unfolding sent
+    → AreWithin about loses ahead clock left (after_sending_packet interface w)
+unfolding after_sending_packet
 sent_within about loses ahead clock left interface w is = record { deviations = is.deviations; apart = is.apart; function = is.function; streams = is.streams }
 
 pub jack_within : (about : FunctionFields → Type 0) (loses : ℕ → Bool) (ahead : List ℕ) (clock left terminal : ℕ) (frame : List ℤ) (w : DeviceWorld) → AreWithin about loses ahead clock left w
@@ -219,8 +219,8 @@ deviations_kept change keeps test ds all =
 -- a domain's clock goes on
 pub advanced_within : (about : FunctionFields → Type 0) (loses : ℕ → Bool) (clock before : ℕ) (ahead : List ℕ) (w : DeviceWorld)
     → IsDistinct nat_eq (clock ∷ ahead)
-    → AreWithin about loses (clock ∷ ahead) before 0 w → AreWithin about loses ahead clock (next_ticks clock w) (advanced clock w)
-unfolding advanced
+    → AreWithin about loses (clock ∷ ahead) before 0 w → AreWithin about loses ahead clock (next_ticks clock w) (after_advance clock w)
+unfolding after_advance
 advanced_within about loses clock before ahead w once is = record {
   deviations = deviations_kept (λ d. record d { steps = steps_with_next w d }) (λ d range. range) (λ d. d.clock == clock) w.domains is.deviations;
   apart = is.apart;
@@ -256,8 +256,8 @@ advanced_within about loses clock before ahead w once is = record {
 -- it ticks
 pub ticked_within : (about : FunctionFields → Type 0) (loses : ℕ → Bool) (ahead : List ℕ) (clock left : ℕ) (w : DeviceWorld)
     → AreWithin about loses ahead clock (suc left) w
-    → AreWithin about loses ahead clock left (ticked clock w)
-unfolding ticked
+    → AreWithin about loses ahead clock left (after_tick clock w)
+unfolding after_tick
 ticked_within about loses ahead clock left w is = record {
   deviations = is.deviations;
   apart = is.apart;
@@ -371,8 +371,8 @@ all_ending about loses clock w numbered is = record {
 -- the microframe ends for an interface's stream
 pub settled_ending : (about : FunctionFields → Type 0) (loses : ℕ → Bool) (interface : ℕ) (ahead : List ℕ) (w : DeviceWorld)
     → AreEnding about loses (interface ∷ ahead) w
-    → AreEnding about loses ahead (settled interface w)
-unfolding settled IsEnding
+    → AreEnding about loses ahead (after_settling interface w)
+unfolding after_settling IsEnding
 settled_ending about loses interface ahead w is = record {
   deviations = is.deviations;
   apart = is.apart;

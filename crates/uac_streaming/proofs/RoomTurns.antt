@@ -28,40 +28,40 @@ known_out : (function : FunctionFields) (interface : ℕ) → goes_out function 
 known_out function interface out none =
     true≢false (sym out ∙ ap (λ (o : Option StreamInterface). option_map_or (λ s. s.out) o false) none)
 
-module _ (about : FunctionFields → Type 0) (detail : ℕ) (losses : List SaidMark) (ahead : List ℕ) (clock : ℕ) where
+module _ (about : FunctionFields → Type 0) (detail : ℕ) (marks : List SaidMark) (ahead : List ℕ) (clock : ℕ) where
   abbrev Holds : StreamingWorld → Type 0
-  Holds w = AreWithin about (loses_out losses) ahead clock 0 w.device
+  Holds w = AreWithin about (loses_out marks) ahead clock 0 w.device
 
-  out_turn_within : (interface : ℕ) (w : StreamingWorld) → Holds w → Holds (out_turn detail losses interface w).world
+  out_turn_within : (interface : ℕ) (w : StreamingWorld) → Holds w → Holds (out_turn detail marks interface w).world
   unfolding out_turn packet_sent
   out_turn_within interface w is = by (is_out_due w interface) refl
     where
       by : (b : Bool) → is_out_due w interface ≡ b
-          → Holds (if b then record { lines = sent_lines detail (loses_out losses interface) interface w; world = packet_sent (loses_out losses interface) interface w }
+          → Holds (if b then record { lines = sent_lines detail (loses_out marks interface) interface w; world = packet_sent (loses_out marks interface) interface w }
           else at_rest w).world
       by true due =
           let both = and_parts (goes_out w.device.function interface) (is_due_in w.device interface) due in
-          received_within about (loses_out losses) ahead clock interface (packet_of w.host interface) w.device
+          received_within about (loses_out marks) ahead clock interface (packet_of w.host interface) w.device
           (known_out w.device.function interface both.0) both.1 is
       by false _ = is
 
-  pub out_packets_within : (w : StreamingWorld) → Holds w → Holds (out_packets detail losses w).world
+  pub out_packets_within : (w : StreamingWorld) → Holds w → Holds (out_packets detail marks w).world
   unfolding out_packets
-  out_packets_within w is = in_turn_keeps Holds (out_turn detail losses) out_turn_within (numbers w.device.function) w is
+  out_packets_within w is = in_turn_keeps Holds (out_turn detail marks) out_turn_within (numbers w.device.function) w is
 
-  in_turn_within : (interface : ℕ) (w : StreamingWorld) → Holds w → Holds (in_packet_turn detail losses interface w).world
+  in_turn_within : (interface : ℕ) (w : StreamingWorld) → Holds w → Holds (in_packet_turn detail marks interface w).world
   unfolding in_packet_turn packet_fetched
   in_turn_within interface w is = by (is_in_due w interface)
     where
       by : (b : Bool)
-          → Holds (if b then record { lines = fetched_lines detail (loses_in losses interface) interface w; world = packet_fetched (loses_in losses interface) interface w }
+          → Holds (if b then record { lines = fetched_lines detail (loses_in marks interface) interface w; world = packet_fetched (loses_in marks interface) interface w }
           else at_rest w).world
-      by true = sent_within about (loses_out losses) ahead clock 0 interface w.device is
+      by true = sent_within about (loses_out marks) ahead clock 0 interface w.device is
       by false = is
 
-  pub in_packets_within : (w : StreamingWorld) → Holds w → Holds (in_packets detail losses w).world
+  pub in_packets_within : (w : StreamingWorld) → Holds w → Holds (in_packets detail marks w).world
   unfolding in_packets
-  in_packets_within w is = in_turn_keeps Holds (in_packet_turn detail losses) in_turn_within (numbers w.device.function) w is
+  in_packets_within w is = in_turn_keeps Holds (in_packet_turn detail marks) in_turn_within (numbers w.device.function) w is
 
 -- ---- the ends
 
@@ -88,19 +88,19 @@ all_settled_room about detail loses clock w small is =
 
 -- ---- the reports
 
-report_turn_keeps : (P : DeviceWorld → Type 0) (detail : ℕ) (losses : List SaidMark) (interface : ℕ) (w : StreamingWorld) → P w.device
-    → P (report_turn detail losses interface w).world.device
+report_turn_keeps : (P : DeviceWorld → Type 0) (detail : ℕ) (marks : List SaidMark) (interface : ℕ) (w : StreamingWorld) → P w.device
+    → P (report_turn detail marks interface w).world.device
 unfolding report_turn report_made
-report_turn_keeps P detail losses interface w is = by (feedback_in w.device interface)
+report_turn_keeps P detail marks interface w is = by (feedback_in w.device interface)
   where
     by : (o : Option ℕ)
-        → P (option_map_or (λ value. record { lines = report_lines detail (loses_report losses interface) value interface; world = report_made (loses_report losses interface) value interface w })
+        → P (option_map_or (λ value. record { lines = report_lines detail (loses_report marks interface) value interface; world = report_made (loses_report marks interface) value interface w })
         o (at_rest w)).world.device
     by None = is
     by (Some value) = is
 
-pub all_reported_keeps : (P : DeviceWorld → Type 0) (detail : ℕ) (losses : List SaidMark) (w : StreamingWorld) → P w.device
-    → P (all_reported detail losses w).world.device
+pub all_reported_keeps : (P : DeviceWorld → Type 0) (detail : ℕ) (marks : List SaidMark) (w : StreamingWorld) → P w.device
+    → P (all_reported detail marks w).world.device
 unfolding all_reported
-all_reported_keeps P detail losses w is =
-    in_turn_keeps (λ (v : StreamingWorld). P v.device) (report_turn detail losses) (λ n v. report_turn_keeps P detail losses n v) (numbers w.device.function) w is
+all_reported_keeps P detail marks w is =
+    in_turn_keeps (λ (v : StreamingWorld). P v.device) (report_turn detail marks) (λ n v. report_turn_keeps P detail marks n v) (numbers w.device.function) w is

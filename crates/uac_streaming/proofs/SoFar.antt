@@ -6,7 +6,7 @@ use Rattle.uac_edges.specs.Writing.{AppendsFront}
 use Rattle.uac_transcript.specs.Transcript.{Said}
 use Rattle.uac_transcript.specs.Printing.{text_of}
 use Rattle.uac_transcript.proofs.PrintingLemmas.{Appends-lines, front_after, front_of_more}
-use Rattle.uac_streaming.specs.Telling.{Telling, at_rest, in_turn, told_behind}
+use Rattle.uac_streaming.specs.Telling.{Telling, at_rest, in_turn, telling_after}
 
 -- so much of the whole was printed, what is left is what `rest` tells of the world that is kept now, and this holds of that world
 pub record SoFar {W : Type 0} (whole : Telling W) (rest : W → Telling W) (Holds : W → Type 0) (old new : Option (List ℕ)) : Type 0 where
@@ -14,10 +14,10 @@ pub record SoFar {W : Type 0} (whole : Telling W) (rest : W → Telling W) (Hold
   pub now : W
   pub written : Appends old new (text_of lines)
   pub stands : Holds now
-  pub left : told_behind lines (rest now) ≡ whole
+  pub left : telling_after lines (rest now) ≡ whole
 
-pub behind-behind : {W : Type 0} (front back : List Said) (told : Telling W) → told_behind front (told_behind back told) ≡ told_behind (front ++ back) told
-behind-behind {W = W} front back told = ap (λ (lines : List Said). let t : Telling W = record { lines = lines; world = told.world } in t) (sym (append_assoc front back told.lines))
+pub following-following : {W : Type 0} (front back : List Said) (told : Telling W) → telling_after front (telling_after back told) ≡ telling_after (front ++ back) told
+following-following {W = W} front back told = ap (λ (lines : List Said). let t : Telling W = record { lines = lines; world = told.world } in t) (sym (append_assoc front back told.lines))
 
 pub Appends-nothing : (old : Option (List ℕ)) → Appends old old []
 Appends-nothing None = tt
@@ -29,7 +29,7 @@ begun whole rest Holds old w stands is = record { lines = []; now = w; written =
 
 -- one step more
 pub one_more : {W : Type 0} (whole : Telling W) (rest next step : W → Telling W) (Before After : W → Type 0) (old mid new : Option (List ℕ))
-    → ((w : W) → rest w ≡ told_behind (step w).lines (next (step w).world)) → SoFar whole rest Before old mid
+    → ((w : W) → rest w ≡ telling_after (step w).lines (next (step w).world)) → SoFar whole rest Before old mid
     → ((w : W) → Before w → Appends mid new (text_of (step w).lines) × After (step w).world) → SoFar whole next After old new
 one_more whole rest next step Before After old mid new splits s tells =
     let t = tells s.now s.stands in
@@ -38,15 +38,15 @@ one_more whole rest next step Before After old mid new splits s tells =
       now = (step s.now).world;
       written = Appends-lines old mid new s.lines (step s.now).lines s.written t.0;
       stands = t.1;
-      left = sym (behind-behind s.lines (step s.now).lines (next (step s.now).world)) ∙ ap (told_behind s.lines) (sym (splits s.now)) ∙ s.left;
+      left = sym (following-following s.lines (step s.now).lines (next (step s.now).world)) ∙ ap (telling_after s.lines) (sym (splits s.now)) ∙ s.left;
     }
 
 -- a step that failed: a front of the whole was written
 pub stopped : {W : Type 0} (whole : Telling W) (rest next step : W → Telling W) (Before : W → Type 0) (old mid new : Option (List ℕ))
-    → ((w : W) → rest w ≡ told_behind (step w).lines (next (step w).world)) → SoFar whole rest Before old mid
+    → ((w : W) → rest w ≡ telling_after (step w).lines (next (step w).world)) → SoFar whole rest Before old mid
     → ((w : W) → Before w → AppendsFront mid new (text_of (step w).lines)) → AppendsFront old new (text_of whole.lines)
 stopped {W = W} whole rest next step Before old mid new splits s tells =
-    subst (λ (told : Telling W). AppendsFront old new (text_of told.lines)) (ap (told_behind s.lines) (sym (splits s.now)) ∙ s.left)
+    subst (λ (told : Telling W). AppendsFront old new (text_of told.lines)) (ap (telling_after s.lines) (sym (splits s.now)) ∙ s.left)
     (front_after old mid new s.lines ((step s.now).lines ++ (next (step s.now).world).lines) s.written
     (front_of_more mid new (step s.now).lines (next (step s.now).world).lines (tells s.now s.stands)))
 
@@ -54,7 +54,7 @@ stopped {W = W} whole rest next step Before old mid new splits s tells =
 pub finished : {W : Type 0} (whole : Telling W) (rest : W → Telling W) (Holds : W → Type 0) (old new : Option (List ℕ))
     → SoFar whole rest Holds old new → ((w : W) → rest w ≡ at_rest w) → Appends old new (text_of whole.lines) × Holds whole.world
 finished {W = W} whole rest Holds old new s ends =
-    let is : told_behind s.lines (at_rest s.now) ≡ whole = ap (told_behind s.lines) (sym (ends s.now)) ∙ s.left in (
+    let is : telling_after s.lines (at_rest s.now) ≡ whole = ap (telling_after s.lines) (sym (ends s.now)) ∙ s.left in (
       subst (λ (lines : List Said). Appends old new (text_of lines)) (sym (append-nil s.lines) ∙ ap (λ (told : Telling W). told.lines) is) s.written,
       subst Holds (ap (λ (told : Telling W). told.world) is) s.stands,
     )
@@ -62,7 +62,7 @@ finished {W = W} whole rest Holds old new s ends =
 -- ---- of each of these, one after the other
 
 pub in_turn_split : {W : Type 0} (event : ℕ → W → Telling W) (ns : List ℕ) (i : ℕ) (w : W) → i < length ns
-    → in_turn event (drop i ns) w ≡ told_behind (event (get_or ns i 0) w).lines (in_turn event (drop (i + 1) ns) (event (get_or ns i 0) w).world)
+    → in_turn event (drop i ns) w ≡ telling_after (event (get_or ns i 0) w).lines (in_turn event (drop (i + 1) ns) (event (get_or ns i 0) w).world)
 unfolding in_turn
 in_turn_split event ns i w below = ap (λ (ms : List ℕ). in_turn event ms w) (drop-cons ns i 0 below) ∙ rw add-one refl
 

@@ -2,15 +2,15 @@
 use Rattle.std.proofs.Common.{◌≡◌, ◌∙◌, sym, refl, ap, subst, ℕ, Bool, true, false, if◌then◌else◌, List, filter, Option, Some, None, Result, Ok, Err, OnOk}
 use Rattle.uac_topology.specs.Function.{FunctionFields}
 use Rattle.uac_rate.specs.Steadiness as steadiness
-use Rattle.uac_device.specs.Kept as devices
+use Rattle.uac_device.specs.DeviceKept as devices
 use Rattle.uac_device.specs.DeviceWorld.{DeviceWorld, fresh}
-use Rattle.uac_host.specs.Kept as hosts
+use Rattle.uac_host.specs.HostKept as hosts
 use Rattle.uac_host.specs.HostWorld.{HostWorld, fresh_host}
 use Rattle.uac_host.specs.Calls.{packet_of}
 use Rattle.uac_host.specs.declared.lanes.Lane.{Lane}
 use Rattle.uac_transcript.specs.declared.report.StreamCounts.{StreamCounts}
 use Rattle.uac_streaming.specs.StreamingWorld.{StreamingWorld, comes_in, counted_at, given_at, goes_out, met_in, nothing_met, numbers, numbers_in, numbers_out, packet_to, place_of, streaming_start}
-use Rattle.uac_streaming.specs.Kept.{StreamingFields, Stands}
+use Rattle.uac_streaming.specs.StreamingKept.{StreamingFields, Stands}
 use Rattle.uac_streaming.proofs.Counted.{counts_changed, counts_kept}
 
 -- at the start

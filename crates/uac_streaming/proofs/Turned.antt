@@ -10,18 +10,18 @@ use Rattle.std.specs.Io.KnownBytes.{Appends}
 use Rattle.uac_edges.specs.Writing.{AppendsFront}
 use Rattle.uac_topology.specs.Function.{FunctionFields, interface_in}
 use Rattle.uac_flow.specs.declared.arrival.Arrival.{Arrival}
-use Rattle.uac_device.specs.Kept as devices
-use Rattle.uac_device.specs.DeviceWorld.{DeviceWorld, ZerosFitIn, arrival_in, feedback_in, frames_in, is_due_in, packet_in, received, sent, settled}
-use Rattle.uac_host.specs.Kept as hosts
+use Rattle.uac_device.specs.DeviceKept as devices
+use Rattle.uac_device.specs.DeviceWorld.{DeviceWorld, ZerosFitIn, arrival_in, feedback_in, frames_in, is_due_in, packet_in, after_receiving, after_sending_packet, after_settling}
+use Rattle.uac_host.specs.HostKept as hosts
 use Rattle.uac_host.specs.HostWorld.{HostWorld}
 use Rattle.uac_host.specs.Calls.{heard_in, size_of}
 use Rattle.uac_script.specs.Phrase.{SaidMark}
 use Rattle.uac_transcript.specs.Transcript.{Said, says_feedback, says_frame, says_in}
 use Rattle.uac_transcript.specs.Printing.{Prints, text_of}
 use Rattle.uac_transcript.proofs.PrintingLemmas.{Prints-after}
-use Rattle.uac_streaming.specs.Telling.{Telling, at_rest, in_turn, told_behind}
+use Rattle.uac_streaming.specs.Telling.{Telling, at_rest, in_turn, telling_after}
 use Rattle.uac_streaming.specs.StreamingWorld.{StreamingWorld, all_reported, all_settled, comes_in, fetched_lines, goes_out, in_lines, in_packet_turn, in_packets, inward_turn, is_in_due, is_out_due, loses_in, loses_out, loses_report, numbers, numbers_in, numbers_out, out_lines, out_packets, out_turn, outward_turn, packet_fetched, packet_sent, packet_to, report_lines, report_made, report_turn, sent_lines, settled_lines, settled_turn}
-use Rattle.uac_streaming.specs.Kept.{StreamingFields, Stands, Tells}
+use Rattle.uac_streaming.specs.StreamingKept.{StreamingFields, Stands, Tells}
 use Rattle.uac_streaming.proofs.SoFar.{Appends-nothing}
 
 -- what holds in any case holds at Ok
@@ -37,22 +37,22 @@ rests told p d old w is stands =
 
 -- ---- packets to the device
 
-module _ (detail interface : ℕ) (losses : List SaidMark) (w : StreamingWorld) (due : Bool) (is : due ≡ is_due_in w.device interface) where
-  pub out_rests : due ≡ false → at_rest w ≡ outward_turn detail losses interface w
+module _ (detail interface : ℕ) (marks : List SaidMark) (w : StreamingWorld) (due : Bool) (is : due ≡ is_due_in w.device interface) where
+  pub out_rests : due ≡ false → at_rest w ≡ outward_turn detail marks interface w
   unfolding outward_turn
   out_rests idle =
-      let lost : Bool = loses_out losses interface in
+      let lost : Bool = loses_out marks interface in
       let runs : Telling StreamingWorld = record { lines = sent_lines detail lost interface w; world = packet_sent lost interface w } in
       ap (λ (b : Bool). if b then runs else at_rest w) (sym idle ∙ is)
 
   pub out_told : {T E : Type 0} (q : StreamingFields) (e : devices.DeviceFields) (old new : Option (List ℕ)) (r : Result T E) (frames : ℕ) (arrival : Arrival) (lost : Bool)
-      → due ≡ true → lost ≡ loses_out losses interface → frames ≡ size_of w.host interface → arrival ≡ arrival_in w.device interface (packet_to lost interface w)
-      → Stands q e (packet_sent lost interface w) → Prints old new r (out_lines detail interface frames arrival) → Tells (outward_turn detail losses interface w) q e old new r
+      → due ≡ true → lost ≡ loses_out marks interface → frames ≡ size_of w.host interface → arrival ≡ arrival_in w.device interface (packet_to lost interface w)
+      → Stands q e (packet_sent lost interface w) → Prints old new r (out_lines detail interface frames arrival) → Tells (outward_turn detail marks interface w) q e old new r
   unfolding outward_turn
   out_told q e old new r frames arrival lost ran own frames_are arrives stands prints =
-      let loses : Bool = loses_out losses interface in
+      let loses : Bool = loses_out marks interface in
       let runs : Telling StreamingWorld = record { lines = sent_lines detail loses interface w; world = packet_sent loses interface w } in
-      let happens : runs ≡ outward_turn detail losses interface w = ap (λ (b : Bool). if b then runs else at_rest w) (sym ran ∙ is) in
+      let happens : runs ≡ outward_turn detail marks interface w = ap (λ (b : Bool). if b then runs else at_rest w) (sym ran ∙ is) in
       let lines : out_lines detail interface frames arrival ≡ sent_lines detail loses interface w =
       ap (λ (n : ℕ). out_lines detail interface n arrival) frames_are
       ∙ ap (out_lines detail interface (size_of w.host interface)) (arrives ∙ ap (λ (b : Bool). arrival_in w.device interface (packet_to b interface w)) own) in
@@ -79,24 +79,24 @@ host_still : (lost : Bool) (interface : ℕ) (w : StreamingWorld) → (packet_fe
 unfolding packet_fetched
 host_still lost interface w = refl
 
-module _ (detail interface : ℕ) (losses : List SaidMark) (w : StreamingWorld) (due : Bool) (is : due ≡ is_due_in w.device interface) where
-  pub in_rests : due ≡ false → at_rest w ≡ inward_turn detail losses interface w
+module _ (detail interface : ℕ) (marks : List SaidMark) (w : StreamingWorld) (due : Bool) (is : due ≡ is_due_in w.device interface) where
+  pub in_rests : due ≡ false → at_rest w ≡ inward_turn detail marks interface w
   unfolding inward_turn
   in_rests idle =
-      let lost : Bool = loses_in losses interface in
+      let lost : Bool = loses_in marks interface in
       let runs : Telling StreamingWorld = record { lines = fetched_lines detail lost interface w; world = packet_fetched lost interface w } in
       ap (λ (b : Bool). if b then runs else at_rest w) (sym idle ∙ is)
 
   pub in_told : {T E : Type 0} (q : StreamingFields) (e : devices.DeviceFields) (old new : Option (List ℕ)) (r : Result T E) (frames : ℕ) (lost : Bool)
-      → due ≡ true → lost ≡ loses_in losses interface → frames ≡ frames_in w.device interface → q.fetched_packet ≡ packet_in w.device interface
+      → due ≡ true → lost ≡ loses_in marks interface → frames ≡ frames_in w.device interface → q.fetched_packet ≡ packet_in w.device interface
       → Stands q e (packet_fetched lost interface w)
       → ((h : HostWorld) → hosts.Stands q.host h → Prints old new r (in_lines detail lost interface frames (heard_in h interface q.fetched_packet)))
-      → Tells (inward_turn detail losses interface w) q e old new r
+      → Tells (inward_turn detail marks interface w) q e old new r
   unfolding inward_turn
   in_told q e old new r frames lost ran own frames_are packet stands prints =
-      let loses : Bool = loses_in losses interface in
+      let loses : Bool = loses_in marks interface in
       let runs : Telling StreamingWorld = record { lines = fetched_lines detail loses interface w; world = packet_fetched loses interface w } in
-      let happens : runs ≡ inward_turn detail losses interface w = ap (λ (b : Bool). if b then runs else at_rest w) (sym ran ∙ is) in
+      let happens : runs ≡ inward_turn detail marks interface w = ap (λ (b : Bool). if b then runs else at_rest w) (sym ran ∙ is) in
       let lines : in_lines detail lost interface frames (heard_in w.host interface q.fetched_packet) ≡ fetched_lines detail loses interface w =
       ap (λ (b : Bool). in_lines detail b interface frames (heard_in w.host interface q.fetched_packet)) own
       ∙ ap (λ (n : ℕ). in_lines detail loses interface n (heard_in w.host interface q.fetched_packet)) frames_are
@@ -109,22 +109,22 @@ module _ (detail interface : ℕ) (losses : List SaidMark) (w : StreamingWorld) 
 
 -- ---- reports
 
-module _ (detail interface : ℕ) (losses : List SaidMark) (w : StreamingWorld) (report : Option ℕ) (is : report ≡ feedback_in w.device interface) where
-  pub report_rests : report ≡ None → at_rest w ≡ report_turn detail losses interface w
+module _ (detail interface : ℕ) (marks : List SaidMark) (w : StreamingWorld) (report : Option ℕ) (is : report ≡ feedback_in w.device interface) where
+  pub report_rests : report ≡ None → at_rest w ≡ report_turn detail marks interface w
   unfolding report_turn
   report_rests none =
-      let lost : Bool = loses_report losses interface in
+      let lost : Bool = loses_report marks interface in
       let made : ℕ → Telling StreamingWorld = λ value. record { lines = report_lines detail lost value interface; world = report_made lost value interface w } in
       ap (λ (o : Option ℕ). option_map_or made o (at_rest w)) (sym none ∙ is)
 
   pub report_told : {T E : Type 0} (q : StreamingFields) (e : devices.DeviceFields) (old new : Option (List ℕ)) (r : Result T E) (value : ℕ) (lost : Bool)
-      → report ≡ Some value → lost ≡ loses_report losses interface → Stands q e (report_made lost value interface w)
-      → Prints old new r (if nat_le 2 detail then says_feedback interface value lost ∷ [] else []) → Tells (report_turn detail losses interface w) q e old new r
+      → report ≡ Some value → lost ≡ loses_report marks interface → Stands q e (report_made lost value interface w)
+      → Prints old new r (if nat_le 2 detail then says_feedback interface value lost ∷ [] else []) → Tells (report_turn detail marks interface w) q e old new r
   unfolding report_turn
   report_told q e old new r value lost some own stands prints =
-      let loses : Bool = loses_report losses interface in
+      let loses : Bool = loses_report marks interface in
       let made : ℕ → Telling StreamingWorld = λ v. record { lines = report_lines detail loses v interface; world = report_made loses v interface w } in
-      let happens : made value ≡ report_turn detail losses interface w = ap (λ (o : Option ℕ). option_map_or made o (at_rest w)) (sym some ∙ is) in
+      let happens : made value ≡ report_turn detail marks interface w = ap (λ (o : Option ℕ). option_map_or made o (at_rest w)) (sym some ∙ is) in
       subst (λ (told : Telling StreamingWorld). Tells told q e old new r) happens (
         subst (λ (b : Bool). Prints old new r (report_lines detail b value interface)) own prints,
         at_ok (Stands q e (report_made loses value interface w)) r (subst (λ (b : Bool). Stands q e (report_made b value interface w)) own stands),
@@ -133,9 +133,9 @@ module _ (detail interface : ℕ) (losses : List SaidMark) (w : StreamingWorld) 
 -- ---- the ends of microframes
 
 -- the device alone changes
-settled_stands : (p : StreamingFields) (d e : devices.DeviceFields) (w : StreamingWorld) (detail interface : ℕ) → Stands p d w → devices.Stands e (settled interface w.device)
+settled_stands : (p : StreamingFields) (d e : devices.DeviceFields) (w : StreamingWorld) (detail interface : ℕ) → Stands p d w → devices.Stands e (after_settling interface w.device)
     → Stands p e (settled_turn detail interface w).world
-unfolding settled_turn settled
+unfolding settled_turn after_settling
 settled_stands p d e w detail interface stands after = record {
   device = after;
   host = stands.host;
@@ -148,8 +148,8 @@ settled_stands p d e w detail interface stands after = record {
 }
 
 -- what is due at another interface stays as it was
-zeros_elsewhere : (w : DeviceWorld) (interface other : ℕ) → (other == interface) ≡ false → ZerosFitIn w other → ZerosFitIn (settled interface w) other
-unfolding ZerosFitIn settled
+zeros_elsewhere : (w : DeviceWorld) (interface other : ℕ) → (other == interface) ≡ false → ZerosFitIn w other → ZerosFitIn (after_settling interface w) other
+unfolding ZerosFitIn after_settling
 zeros_elsewhere w interface other differs fits = rw differs fits
 
 -- of those that come, each has room for the zeros that are due
@@ -179,7 +179,7 @@ above_differs m n less = grind arith
 
 -- the device is settled at one, and what comes still fits
 pub settled_one : (p : StreamingFields) (d e : devices.DeviceFields) (w : StreamingWorld) (detail interface i : ℕ) → interface ≡ get_or p.order i 0
-    → StandsBefore p d p.order i w → devices.Stands e (settled interface w.device) → StandsBefore p e p.order (i + 1) (settled_turn detail interface w).world
+    → StandsBefore p d p.order i w → devices.Stands e (after_settling interface w.device) → StandsBefore p e p.order (i + 1) (settled_turn detail interface w).world
 unfolding settled_turn
 settled_one p d e w detail interface i is before after =
     let order = before.0.order in (
@@ -194,7 +194,7 @@ settled_one p d e w detail interface i is before after =
 
 module _ (p : StreamingFields) (d e : devices.DeviceFields) (detail interface i : ℕ) (mid new : Option (List ℕ)) (is : interface ≡ get_or p.order i 0) (below : i < length p.order) where
   -- the next one is settled
-  pub settled_next : ((v : DeviceWorld) → devices.Stands d v → ZerosFitIn v interface → Appends mid new (text_of (settled_lines detail interface v)) × devices.Stands e (settled interface v))
+  pub settled_next : ((v : DeviceWorld) → devices.Stands d v → ZerosFitIn v interface → Appends mid new (text_of (settled_lines detail interface v)) × devices.Stands e (after_settling interface v))
       → (w : StreamingWorld) → StandsBefore p d p.order i w
       → Appends mid new (text_of (settled_turn detail interface w).lines) × StandsBefore p e p.order (i + 1) (settled_turn detail interface w).world
   unfolding settled_turn
@@ -204,7 +204,7 @@ module _ (p : StreamingFields) (d e : devices.DeviceFields) (detail interface i 
       (t.0, settled_one p d e w detail interface i is before t.1)
 
   -- or its line fails
-  pub settled_failed : ((v : DeviceWorld) → devices.Stands d v → ZerosFitIn v interface → AppendsFront mid new (text_of (settled_lines detail interface v)) × devices.Stands e (settled interface v))
+  pub settled_failed : ((v : DeviceWorld) → devices.Stands d v → ZerosFitIn v interface → AppendsFront mid new (text_of (settled_lines detail interface v)) × devices.Stands e (after_settling interface v))
       → (w : StreamingWorld) → StandsBefore p d p.order i w → AppendsFront mid new (text_of (settled_turn detail interface w).lines)
   unfolding settled_turn
   settled_failed tells w before =
@@ -223,78 +223,78 @@ in_turn_chosen {W = W} Kept own event test does rests keeps (n ∷ ns) w kept =
     elim (cases_Bool (test n)) [
       | inl chosen ↦
           rw chosen
-          (ap (λ (told : Telling W). told_behind told.lines (in_turn own (filter test ns) told.world)) (does n w kept chosen)
-          ∙ ap (told_behind (event n w).lines) (in_turn_chosen Kept own event test does rests keeps ns (event n w).world (keeps n w kept)))
+          (ap (λ (told : Telling W). telling_after told.lines (in_turn own (filter test ns) told.world)) (does n w kept chosen)
+          ∙ ap (telling_after (event n w).lines) (in_turn_chosen Kept own event test does rests keeps ns (event n w).world (keeps n w kept)))
       | inr left ↦
           rw left
           (in_turn_chosen Kept own event test does rests keeps ns w kept
-          ∙ ap (λ (told : Telling W). told_behind told.lines (in_turn event ns told.world)) (rests n w kept left))
+          ∙ ap (λ (told : Telling W). telling_after told.lines (in_turn event ns told.world)) (rests n w kept left))
     ]
 
 -- the function of the world is this
 abbrev IsOf : FunctionFields → StreamingWorld → Type 0
 IsOf function w = w.device.function ≡ function
 
-module _ (function : FunctionFields) (detail : ℕ) (losses : List SaidMark) (interface : ℕ) (w : StreamingWorld) (of : IsOf function w) where
-  outward_does : goes_out function interface ≡ true → outward_turn detail losses interface w ≡ out_turn detail losses interface w
+module _ (function : FunctionFields) (detail : ℕ) (marks : List SaidMark) (interface : ℕ) (w : StreamingWorld) (of : IsOf function w) where
+  outward_does : goes_out function interface ≡ true → outward_turn detail marks interface w ≡ out_turn detail marks interface w
   unfolding outward_turn out_turn
   outward_does goes =
-      let lost : Bool = loses_out losses interface in
+      let lost : Bool = loses_out marks interface in
       let runs : Telling StreamingWorld = record { lines = sent_lines detail lost interface w; world = packet_sent lost interface w } in
       ap (λ (b : Bool). if (b && is_due_in w.device interface) then runs else at_rest w) (sym (ap (λ (f : FunctionFields). goes_out f interface) of ∙ goes))
 
-  outward_rests : goes_out function interface ≡ false → at_rest w ≡ out_turn detail losses interface w
+  outward_rests : goes_out function interface ≡ false → at_rest w ≡ out_turn detail marks interface w
   unfolding out_turn
   outward_rests stays =
-      let lost : Bool = loses_out losses interface in
+      let lost : Bool = loses_out marks interface in
       let runs : Telling StreamingWorld = record { lines = sent_lines detail lost interface w; world = packet_sent lost interface w } in
       ap (λ (b : Bool). if (b && is_due_in w.device interface) then runs else at_rest w) (sym (ap (λ (f : FunctionFields). goes_out f interface) of ∙ stays))
 
-  outward_keeps : IsOf function (out_turn detail losses interface w).world
-  unfolding out_turn packet_sent received
+  outward_keeps : IsOf function (out_turn detail marks interface w).world
+  unfolding out_turn packet_sent after_receiving
   outward_keeps = elim (cases_Bool (is_out_due w interface)) [ inl due ↦ rw due of | inr not_due ↦ rw not_due of ]
 
-  inward_does : comes_in function interface ≡ true → inward_turn detail losses interface w ≡ in_packet_turn detail losses interface w
+  inward_does : comes_in function interface ≡ true → inward_turn detail marks interface w ≡ in_packet_turn detail marks interface w
   unfolding inward_turn in_packet_turn
   inward_does comes =
-      let lost : Bool = loses_in losses interface in
+      let lost : Bool = loses_in marks interface in
       let runs : Telling StreamingWorld = record { lines = fetched_lines detail lost interface w; world = packet_fetched lost interface w } in
       ap (λ (b : Bool). if (b && is_due_in w.device interface) then runs else at_rest w) (sym (ap (λ (f : FunctionFields). comes_in f interface) of ∙ comes))
 
-  inward_rests : comes_in function interface ≡ false → at_rest w ≡ in_packet_turn detail losses interface w
+  inward_rests : comes_in function interface ≡ false → at_rest w ≡ in_packet_turn detail marks interface w
   unfolding in_packet_turn
   inward_rests stays =
-      let lost : Bool = loses_in losses interface in
+      let lost : Bool = loses_in marks interface in
       let runs : Telling StreamingWorld = record { lines = fetched_lines detail lost interface w; world = packet_fetched lost interface w } in
       ap (λ (b : Bool). if (b && is_due_in w.device interface) then runs else at_rest w) (sym (ap (λ (f : FunctionFields). comes_in f interface) of ∙ stays))
 
-  inward_keeps : IsOf function (in_packet_turn detail losses interface w).world
-  unfolding in_packet_turn packet_fetched sent
+  inward_keeps : IsOf function (in_packet_turn detail marks interface w).world
+  unfolding in_packet_turn packet_fetched after_sending_packet
   inward_keeps = elim (cases_Bool (is_in_due w interface)) [ inl due ↦ rw due of | inr not_due ↦ rw not_due of ]
 
-pub out_packets_are : (detail : ℕ) (losses : List SaidMark) (w : StreamingWorld) (outs : List ℕ) → outs ≡ numbers_out w.device.function
-    → in_turn (outward_turn detail losses) outs w ≡ out_packets detail losses w
+pub out_packets_are : (detail : ℕ) (marks : List SaidMark) (w : StreamingWorld) (outs : List ℕ) → outs ≡ numbers_out w.device.function
+    → in_turn (outward_turn detail marks) outs w ≡ out_packets detail marks w
 unfolding out_packets
-out_packets_are detail losses w outs is =
+out_packets_are detail marks w outs is =
     let function = w.device.function in
-    ap (λ (ns : List ℕ). in_turn (outward_turn detail losses) ns w) is
-    ∙ in_turn_chosen (IsOf function) (outward_turn detail losses) (out_turn detail losses) (goes_out function) (outward_does function detail losses)
-    (outward_rests function detail losses) (outward_keeps function detail losses) (numbers function) w refl
+    ap (λ (ns : List ℕ). in_turn (outward_turn detail marks) ns w) is
+    ∙ in_turn_chosen (IsOf function) (outward_turn detail marks) (out_turn detail marks) (goes_out function) (outward_does function detail marks)
+    (outward_rests function detail marks) (outward_keeps function detail marks) (numbers function) w refl
 
-pub in_packets_are : (detail : ℕ) (losses : List SaidMark) (w : StreamingWorld) (ins : List ℕ) → ins ≡ numbers_in w.device.function
-    → in_turn (inward_turn detail losses) ins w ≡ in_packets detail losses w
+pub in_packets_are : (detail : ℕ) (marks : List SaidMark) (w : StreamingWorld) (ins : List ℕ) → ins ≡ numbers_in w.device.function
+    → in_turn (inward_turn detail marks) ins w ≡ in_packets detail marks w
 unfolding in_packets
-in_packets_are detail losses w ins is =
+in_packets_are detail marks w ins is =
     let function = w.device.function in
-    ap (λ (ns : List ℕ). in_turn (inward_turn detail losses) ns w) is
-    ∙ in_turn_chosen (IsOf function) (inward_turn detail losses) (in_packet_turn detail losses) (comes_in function) (inward_does function detail losses)
-    (inward_rests function detail losses) (inward_keeps function detail losses) (numbers function) w refl
+    ap (λ (ns : List ℕ). in_turn (inward_turn detail marks) ns w) is
+    ∙ in_turn_chosen (IsOf function) (inward_turn detail marks) (in_packet_turn detail marks) (comes_in function) (inward_does function detail marks)
+    (inward_rests function detail marks) (inward_keeps function detail marks) (numbers function) w refl
 
 pub all_settled_are : (detail : ℕ) (w : StreamingWorld) (order : List ℕ) → order ≡ numbers w.device.function → in_turn (settled_turn detail) order w ≡ all_settled detail w
 unfolding all_settled
 all_settled_are detail w order is = ap (λ (ns : List ℕ). in_turn (settled_turn detail) ns w) is
 
-pub all_reported_are : (detail : ℕ) (losses : List SaidMark) (w : StreamingWorld) (order : List ℕ) → order ≡ numbers w.device.function
-    → in_turn (report_turn detail losses) order w ≡ all_reported detail losses w
+pub all_reported_are : (detail : ℕ) (marks : List SaidMark) (w : StreamingWorld) (order : List ℕ) → order ≡ numbers w.device.function
+    → in_turn (report_turn detail marks) order w ≡ all_reported detail marks w
 unfolding all_reported
-all_reported_are detail losses w order is = ap (λ (ns : List ℕ). in_turn (report_turn detail losses) ns w) is
+all_reported_are detail marks w order is = ap (λ (ns : List ℕ). in_turn (report_turn detail marks) ns w) is

@@ -5,4 +5,4 @@ pub mod StreamingWorld
 -- What the contracts below them cite: steps of the code, no part of what is promised.
 pub mod FoundRings
 pub mod Room
-pub mod Kept
+pub mod StreamingKept

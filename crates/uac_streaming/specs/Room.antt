@@ -3,8 +3,8 @@ use Rattle.std.specs.Prelude.{◌≡◌, ℕ, ◌+◌, ◌*◌, ◌%◌, ◌≤�
 use Rattle.std.specs.List.{All, IsDistinct}
 use Rattle.uac_rate.specs.Levels.{IsInterval}
 use Rattle.uac_ring.specs.Rings.{ring_frames}
-use Rattle.uac_flow.specs.Streams.{OutStream, out_level}
-use Rattle.uac_device.specs.Kept.{IsInRange}
+use Rattle.uac_flow.specs.FlowStreams.{OutStream, out_level}
+use Rattle.uac_device.specs.DeviceKept.{IsInRange}
 use Rattle.uac_device.specs.DeviceWorld.{DeviceWorld}
 
 -- a stream to the device between two microframes: as many frames as its domain ticked since it was last due went out of its ring, or that

@@ -6,19 +6,19 @@ use Rattle.std.specs.Prelude.{filter, position, Option, Some, None, is_some}
 use Rattle.std.specs.List.{list_any, range_with_len}
 use Rattle.std.specs.Option.{option_map_or}
 use Rattle.uac_topology.specs.Function.{FunctionFields, interface_in}
-use Rattle.uac_alt.specs.Streams.{StreamFields}
-use Rattle.uac_rate.specs.Steadiness.{Given, nothing_given, reported, restarted}
-use Rattle.uac_flow.specs.Streams.{is_dry, is_full}
+use Rattle.uac_alt.specs.AltStreams.{StreamFields}
+use Rattle.uac_rate.specs.Steadiness.{Given, nothing_given, with_report_given, with_restart_given}
+use Rattle.uac_flow.specs.FlowStreams.{is_dry, is_full}
 use Rattle.uac_flow.specs.declared.arrival.Arrival.{Arrival}
 use Rattle.uac_flow.specs.declared.arrival.Arrival.TheVariants as arrivals
 use Rattle.uac_units.specs.Hearing.{at_most_u64}
 use Rattle.uac_device.specs.DeviceWorld.{DeviceWorld, arrival_in, feedback_in, frames_in, fresh, is_due_in, is_on, level_of, packet_in}
-use Rattle.uac_device.specs.DeviceWorld.{received, sent, settled, target_of}
+use Rattle.uac_device.specs.DeviceWorld.{after_receiving, after_sending_packet, after_settling, target_of}
 use Rattle.uac_host.specs.HostWorld.{HostWorld, fresh_host}
 use Rattle.uac_host.specs.Calls.{after_packet, heard_in, packet_of, size_of, with_report, with_stream}
 use Rattle.uac_script.specs.Phrase.{SaidMark}
 use Rattle.uac_script.specs.declared.line.MarkKind.{MarkKind}
-use Rattle.uac_script.specs.declared.line.MarkKind.TheVariants as marks
+use Rattle.uac_script.specs.declared.line.MarkKind.TheVariants as mark_kinds
 use Rattle.uac_transcript.specs.declared.packets.Arrival as printed
 use Rattle.uac_transcript.specs.declared.packets.Arrival.TheVariants as arrived
 use Rattle.uac_transcript.specs.declared.report.StreamCounts.{StreamCounts}
@@ -77,29 +77,29 @@ is_at (negsuc n) interface = false
 
 -- marks are of packets to the device, of packets from it, or of reports
 abbrev pub marks_out : MarkKind → Bool
-marks_out marks.Out = true
-marks_out marks.In = false
-marks_out marks.Feedback = false
+marks_out mark_kinds.Out = true
+marks_out mark_kinds.In = false
+marks_out mark_kinds.Feedback = false
 
 abbrev pub marks_in : MarkKind → Bool
-marks_in marks.Out = false
-marks_in marks.In = true
-marks_in marks.Feedback = false
+marks_in mark_kinds.Out = false
+marks_in mark_kinds.In = true
+marks_in mark_kinds.Feedback = false
 
 abbrev pub marks_report : MarkKind → Bool
-marks_report marks.Out = false
-marks_report marks.In = false
-marks_report marks.Feedback = true
+marks_report mark_kinds.Out = false
+marks_report mark_kinds.In = false
+marks_report mark_kinds.Feedback = true
 
 -- the packet to the device of an interface is lost, that from it, or its report
 abbrev pub loses_out : List SaidMark → ℕ → Bool
-loses_out losses interface = list_any (λ l. marks_out l.letter && is_at l.place interface) losses
+loses_out marks interface = list_any (λ l. marks_out l.letter && is_at l.place interface) marks
 
 abbrev pub loses_in : List SaidMark → ℕ → Bool
-loses_in losses interface = list_any (λ l. marks_in l.letter && is_at l.place interface) losses
+loses_in marks interface = list_any (λ l. marks_in l.letter && is_at l.place interface) marks
 
 abbrev pub loses_report : List SaidMark → ℕ → Bool
-loses_report losses interface = list_any (λ l. marks_report l.letter && is_at l.place interface) losses
+loses_report marks interface = list_any (λ l. marks_report l.letter && is_at l.place interface) marks
 
 -- ---- counts
 
@@ -160,7 +160,7 @@ unfoldable pub packet_sent : Bool → ℕ → StreamingWorld → StreamingWorld
 packet_sent lost interface w =
     let packet = packet_to lost interface w in
     record w {
-      device = received interface packet w.device;
+      device = after_receiving interface packet w.device;
       host = after_packet interface w.host;
       met = counted_at interface (after_arrival (arrival_in w.device interface packet)) w.met;
     }
@@ -176,28 +176,28 @@ is_out_due w interface = goes_out w.device.function interface && is_due_in w.dev
 
 -- a packet's turn to the device, where the interface runs such a stream that is due
 unfoldable pub out_turn : ℕ → List SaidMark → ℕ → StreamingWorld → Telling StreamingWorld
-out_turn detail losses interface w =
+out_turn detail marks interface w =
     if is_out_due w interface
     then record {
-      lines = sent_lines detail (loses_out losses interface) interface w;
+      lines = sent_lines detail (loses_out marks interface) interface w;
       world = packet_sent
-          (loses_out losses interface) interface w;
+          (loses_out marks interface) interface w;
     }
     else at_rest w
 
 -- of an interface that carries a stream to the device, where that is due
 unfoldable pub outward_turn : ℕ → List SaidMark → ℕ → StreamingWorld → Telling StreamingWorld
-outward_turn detail losses interface w =
+outward_turn detail marks interface w =
     if is_due_in w.device interface
     then record {
-      lines = sent_lines detail (loses_out losses interface) interface w;
-      world = packet_sent (loses_out losses interface) interface w;
+      lines = sent_lines detail (loses_out marks interface) interface w;
+      world = packet_sent (loses_out marks interface) interface w;
     }
     else at_rest w
 
 -- the packets to the device, by interface number
 unfoldable pub out_packets : ℕ → List SaidMark → StreamingWorld → Telling StreamingWorld
-out_packets detail losses w = in_turn (out_turn detail losses) (numbers w.device.function) w
+out_packets detail marks w = in_turn (out_turn detail marks) (numbers w.device.function) w
 
 -- ---- packets from the device
 
@@ -210,7 +210,7 @@ in_lines detail lost interface frames heard =
 -- the device sends a packet, which is lost or comes to the host
 unfoldable pub packet_fetched : Bool → ℕ → StreamingWorld → StreamingWorld
 packet_fetched lost interface w =
-    record w { device = sent interface w.device; met = counted_at interface (λ c. if lost then one_lost c else c) w.met }
+    record w { device = after_sending_packet interface w.device; met = counted_at interface (λ c. if lost then one_lost c else c) w.met }
 
 -- what is said of it
 abbrev pub fetched_lines : ℕ → Bool → ℕ → StreamingWorld → List Said
@@ -223,28 +223,28 @@ is_in_due w interface = comes_in w.device.function interface && is_due_in w.devi
 
 -- a packet's turn from the device, where the interface runs such a stream that is due
 unfoldable pub in_packet_turn : ℕ → List SaidMark → ℕ → StreamingWorld → Telling StreamingWorld
-in_packet_turn detail losses interface w =
+in_packet_turn detail marks interface w =
     if is_in_due w interface
     then record {
-      lines = fetched_lines detail (loses_in losses interface) interface w;
+      lines = fetched_lines detail (loses_in marks interface) interface w;
       world = packet_fetched
-          (loses_in losses interface) interface w;
+          (loses_in marks interface) interface w;
     }
     else at_rest w
 
 -- of an interface that carries a stream from the device, where that is due
 unfoldable pub inward_turn : ℕ → List SaidMark → ℕ → StreamingWorld → Telling StreamingWorld
-inward_turn detail losses interface w =
+inward_turn detail marks interface w =
     if is_due_in w.device interface
     then record {
-      lines = fetched_lines detail (loses_in losses interface) interface w;
-      world = packet_fetched (loses_in losses interface) interface w;
+      lines = fetched_lines detail (loses_in marks interface) interface w;
+      world = packet_fetched (loses_in marks interface) interface w;
     }
     else at_rest w
 
 -- the packets from the device, by interface number
 unfoldable pub in_packets : ℕ → List SaidMark → StreamingWorld → Telling StreamingWorld
-in_packets detail losses w = in_turn (in_packet_turn detail losses) (numbers w.device.function) w
+in_packets detail marks w = in_turn (in_packet_turn detail marks) (numbers w.device.function) w
 
 -- ---- ticks
 
@@ -273,13 +273,13 @@ found_counts clock w met k =
 abbrev pub settled_lines : ℕ → ℕ → DeviceWorld → List Said
 settled_lines detail interface w =
     if nat_le 2 detail && (goes_out w.function interface && is_due_in w interface)
-    then says_level interface (level_of (settled interface w) interface) (target_of (settled interface w) interface) ∷ []
+    then says_level interface (level_of (after_settling interface w) interface) (target_of (after_settling interface w) interface) ∷ []
     else []
 
 -- a microframe ends for an interface's stream
 unfoldable pub settled_turn : ℕ → ℕ → StreamingWorld → Telling StreamingWorld
 settled_turn detail interface w =
-    record { lines = settled_lines detail interface w.device; world = record w { device = settled interface w.device } }
+    record { lines = settled_lines detail interface w.device; world = record w { device = after_settling interface w.device } }
 
 -- the microframe ends for all streams, by interface number
 unfoldable pub all_settled : ℕ → StreamingWorld → Telling StreamingWorld
@@ -298,7 +298,7 @@ report_made lost value interface w =
     record w {
       host = if lost then w.host else with_report interface value w.host;
       met = counted_at interface (λ c. if lost then one_missed c else c) w.met;
-      given = given_at (place_of w.device.function interface) (λ place. reported place lost) w.given;
+      given = given_at (place_of w.device.function interface) (λ place. with_report_given place lost) w.given;
     }
 
 -- from detail 2 on it is said
@@ -307,21 +307,21 @@ report_lines detail lost value interface = if nat_le 2 detail then says_feedback
 
 -- a report's turn, where one of the interface's stream is due
 unfoldable pub report_turn : ℕ → List SaidMark → ℕ → StreamingWorld → Telling StreamingWorld
-report_turn detail losses interface w =
-    let lost = loses_report losses interface in
+report_turn detail marks interface w =
+    let lost = loses_report marks interface in
     option_map_or (λ value. record { lines = report_lines detail lost value interface; world = report_made lost value interface w })
     (feedback_in w.device interface) (at_rest w)
 
 -- the reports, by interface number
 unfoldable pub all_reported : ℕ → List SaidMark → StreamingWorld → Telling StreamingWorld
-all_reported detail losses w = in_turn (report_turn detail losses) (numbers w.device.function) w
+all_reported detail marks w = in_turn (report_turn detail marks) (numbers w.device.function) w
 
 -- ---- starts
 
 -- the host's stream of an interface follows the device's: it starts anew, with no reports yet, or stops where none is given
-unfoldable pub followed : ℕ → Option StreamFields → StreamingWorld → StreamingWorld
-followed interface begun w =
+unfoldable pub after_following : ℕ → Option StreamFields → StreamingWorld → StreamingWorld
+after_following interface begun w =
     record w {
       host = with_stream interface begun w.host;
-      given = if is_some begun then given_at (place_of w.device.function interface) restarted w.given else w.given;
+      given = if is_some begun then given_at (place_of w.device.function interface) with_restart_given w.given else w.given;
     }

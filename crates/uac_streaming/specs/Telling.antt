@@ -8,8 +8,8 @@ pub record Telling (W : Type 0) : Type 0 where
   pub world : W
 
 -- some lines, and then what is told
-abbrev pub told_behind : {W : Type 0} → List Said → Telling W → Telling W
-told_behind lines told = record { lines = lines ++ told.lines; world = told.world }
+abbrev pub telling_after : {W : Type 0} → List Said → Telling W → Telling W
+telling_after lines told = record { lines = lines ++ told.lines; world = told.world }
 
 -- nothing happens and nothing is said
 abbrev pub at_rest : {W : Type 0} → W → Telling W
@@ -18,4 +18,4 @@ at_rest w = record { lines = []; world = w }
 -- something of each of these, one after the other
 unfoldable pub in_turn : {W : Type 0} → (ℕ → W → Telling W) → List ℕ → W → Telling W
 in_turn event [] w = at_rest w
-in_turn event (n ∷ ns) w = told_behind (event n w).lines (in_turn event ns (event n w).world)
+in_turn event (n ∷ ns) w = telling_after (event n w).lines (in_turn event ns (event n w).world)

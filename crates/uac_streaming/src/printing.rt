@@ -5,7 +5,7 @@ ghost use Rattle.uac_edges.specs.Faults.{HasCause};
 ghost use Rattle.uac_entities.specs.declared.stream.StreamInterface as streamed;
 ghost use Rattle.uac_host.specs.HostWorld.{HostWorld};
 ghost use Rattle.uac_host.specs.Calls.{heard_in};
-ghost use Rattle.uac_host.specs.Kept as kept;
+ghost use Rattle.uac_host.specs.HostKept as kept;
 ghost use Rattle.uac_transcript.specs.Printing.{Prints};
 ghost use Rattle.uac_transcript.specs.Transcript.{says_feedback, says_frame, says_in, says_out};
 ghost use Rattle.uac_lanes.specs.InterfaceStreams.{bits_of};

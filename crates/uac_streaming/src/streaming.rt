@@ -2,17 +2,17 @@
 ghost use Rattle.std.specs.Prelude.{◌≡◌, ◌<◌, ◌≤◌, if◌then◌else◌, ℕ, Some, None, IfOk, IfSome, OnOk, OnErr, length, set, slice_get};
 ghost use Rattle.std.specs.Option.{option_map};
 ghost use Rattle.uac_topology.specs.Topology.{IsSoundFunction};
-ghost use Rattle.uac_alt.specs.Streams.{stream_fields};
-ghost use Rattle.uac_rate.specs.Steadiness.{deviated, is_steady, reported, restarted};
-ghost use Rattle.uac_device.specs.Kept as devices;
-ghost use Rattle.uac_device.specs.DeviceWorld.{DeviceWorld, arrival_in, frames_in, fresh, met_of, packet_in, received};
+ghost use Rattle.uac_alt.specs.AltStreams.{stream_fields};
+ghost use Rattle.uac_rate.specs.Steadiness.{with_deviation_given, is_steady, with_report_given, with_restart_given};
+ghost use Rattle.uac_device.specs.DeviceKept as devices;
+ghost use Rattle.uac_device.specs.DeviceWorld.{DeviceWorld, arrival_in, frames_in, fresh, met_of, packet_in, after_receiving};
 ghost use Rattle.uac_topology.specs.Function.{interface_in};
 ghost use Rattle.uac_host.specs.Calls.{AreWhole, IsStreamOf, size_of, with_report, with_samples, with_tone};
 ghost use Rattle.uac_transcript.specs.declared.report.StreamCounts as counted;
-ghost use Rattle.uac_streaming.specs.StreamingWorld.{StreamingWorld, followed, found_counts, packet_fetched, packet_sent, packet_to};
+ghost use Rattle.uac_streaming.specs.StreamingWorld.{StreamingWorld, after_following, found_counts, packet_fetched, packet_sent, packet_to};
 ghost use Rattle.uac_streaming.specs.StreamingWorld.{report_made, streaming_start};
 ghost use Rattle.uac_streaming.specs.StreamingWorld as spec;
-ghost use Rattle.uac_streaming.specs.Kept.{Stands};
+ghost use Rattle.uac_streaming.specs.StreamingKept.{Stands};
 
 use crate::counts::{after_arrival, nothing_met, one_lost, one_missed, one_over, one_under};
 use crate::ways::{inward, outward};
@@ -49,7 +49,7 @@ pub struct Streaming {
 }
 
 impl Model for Streaming {
-    ghost use Rattle.uac_streaming.specs.Kept.{StreamingFields};
+    ghost use Rattle.uac_streaming.specs.StreamingKept.{StreamingFields};
 
     ghost Value = { StreamingFields };
 
@@ -111,10 +111,10 @@ impl Streaming {
         self.steady.holds()
     }
 
-    /// A clock is off by so many millionths from now on.
+    /// A clock is off by so many ppm from now on.
     pub fn deviate(&mut self, ppm: i32)
         ensures { (d : devices.DeviceFields) (w : StreamingWorld) → Stands self.old d w
-            → Stands self.new d (record w { given = deviated ppm w.given }) }
+            → Stands self.new d (record w { given = with_deviation_given ppm w.given }) }
     {
         self.steady.deviate(ppm);
     }
@@ -142,7 +142,7 @@ impl Streaming {
     pub fn follow(&mut self, function: &Function, interface: u16, begun: Option<Stream>)
         requires { IfSome begun (λ s. IsStreamOf function.now interface (stream_fields s)) }
         ensures { (d : devices.DeviceFields) (w : StreamingWorld) → Stands self.old d w → w.device.function ≡ function.now
-            → Stands self.new d (followed interface (option_map stream_fields begun) w) }
+            → Stands self.new d (after_following interface (option_map stream_fields begun) w) }
     {
         functions_are_sound(function);
         sound_functions_are_small();
@@ -158,7 +158,7 @@ impl Streaming {
         requires few { length function.now.streams ≤ 8 }
         requires begun { IfSome begun (λ s. IsStreamOf function.now interface (stream_fields s)) }
         ensures { (d : devices.DeviceFields) (w : StreamingWorld) → Stands self.old d w → w.device.function ≡ function.now
-            → Stands self.new d (followed interface (option_map stream_fields begun) w) }
+            → Stands self.new d (after_following interface (option_map stream_fields begun) w) }
     {
         self.host.set_stream(interface, begun);
         if begun.is_some() {
@@ -170,7 +170,8 @@ impl Streaming {
     fn start_reports(&mut self, function: &Function, interface: u8)
         requires { length function.now.streams ≤ 8 }
         ensures { (d : devices.DeviceFields) (w : StreamingWorld) → Stands self.old d w → w.device.function ≡ function.now
-            → Stands self.new d (record w { given = spec.given_at (spec.place_of w.device.function interface) restarted w.given }) }
+            → Stands self.new d (record w
+            { given = spec.given_at (spec.place_of w.device.function interface) with_restart_given w.given }) }
     {
         match function.stream_at(interface) {
             Some(place) => self.steady.restart(place as u8),
@@ -246,7 +247,7 @@ impl Streaming {
         requires { length function.now.streams ≤ 8 }
         ensures stands { (d : devices.DeviceFields) (w : StreamingWorld) → Stands self.old d w → w.device.function ≡ function.now
             → Stands self.new d (record w {
-              given = spec.given_at (spec.place_of w.device.function interface) (λ place. reported place lost) w.given;
+              given = spec.given_at (spec.place_of w.device.function interface) (λ place. with_report_given place lost) w.given;
             }) }
         ensures order { self.new.order ≡ self.old.order }
     {
@@ -326,7 +327,7 @@ impl Streaming {
 /// A packet comes to the device, unless it is lost.
 fn arrive(device: &mut Device, interface: u8, packet: &Packet, lost: bool) -> Arrival
     ensures stands { (w : DeviceWorld) → devices.Stands device.old w
-        → devices.Stands device.new (received interface (if lost then None else Some packet.now.items) w) }
+        → devices.Stands device.new (after_receiving interface (if lost then None else Some packet.now.items) w) }
     ensures arrival { (w : DeviceWorld) → devices.Stands device.old w
         → result ≡ arrival_in w interface (if lost then None else Some packet.now.items) }
     ensures function { device.new.function ≡ device.old.function }

@@ -2,13 +2,13 @@
 ghost use Rattle.std.specs.Prelude.{◌≡◌, ◌&&◌, ◌<◌, nat_le, ℕ, length, map};
 ghost use Rattle.uac_edges.specs.Faults.{HasCause};
 ghost use Rattle.uac_script.specs.Line.{said_mark};
-ghost use Rattle.uac_device.specs.DeviceWorld.{DeviceWorld, ZerosFitIn, is_due_in, met_of, settled};
-ghost use Rattle.uac_device.specs.Kept as device_kept;
+ghost use Rattle.uac_device.specs.DeviceWorld.{DeviceWorld, ZerosFitIn, is_due_in, met_of, after_settling};
+ghost use Rattle.uac_device.specs.DeviceKept as device_kept;
 ghost use Rattle.uac_transcript.specs.Printing.{Prints};
 ghost use Rattle.uac_streaming.specs.StreamingWorld.{StreamingWorld, all_reported, all_settled, found_lines, in_packets};
 ghost use Rattle.uac_streaming.specs.StreamingWorld.{inward_turn, out_packets, outward_turn, report_turn, settled_turn};
 ghost use Rattle.uac_streaming.specs.StreamingWorld as spec;
-ghost use Rattle.uac_streaming.specs.Kept.{Stands, Tells};
+ghost use Rattle.uac_streaming.specs.StreamingKept.{Stands, Tells};
 
 use crate::losses::{loses_in, loses_out, loses_report};
 use crate::printing::{Fetched, FoundRing, write_fetched, write_report, write_rings, write_sent};
@@ -192,7 +192,7 @@ fn settle_one<K: Sink>(
 ) -> Result<(), Failed>
     ensures tells { (w : DeviceWorld) → device_kept.Stands device.old w → ZerosFitIn w interface
         → Prints (K.written sink.old) (K.written sink.new) result (spec.settled_lines detail interface w)
-        × device_kept.Stands device.new (settled interface w) }
+        × device_kept.Stands device.new (after_settling interface w) }
     ensures function { device.new.function ≡ device.old.function }
     ensures cause { HasCause (K.faults sink.old) (K.faults sink.new) result }
 {

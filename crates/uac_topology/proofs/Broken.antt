@@ -3,12 +3,12 @@ use Rattle.std.proofs.Common.{◌≡◌, List, Option, Some, None, refl, sym, ap
 use Rattle.std.specs.Option.{option_or}
 use Rattle.uac_descriptor.specs.declared.block.Block as block
 use Rattle.uac_entities.specs.Entities.{entities_of}
-use Rattle.uac_entities.specs.Settings.{alternates_of}
+use Rattle.uac_entities.specs.EntitySettings.{alternates_of}
 use Rattle.uac_entities.specs.declared.alternate.Alternate.{Alternate}
 use Rattle.uac_entities.specs.declared.entity.Entity.{Entity}
 use Rattle.uac_entities.specs.declared.stream.StreamInterface.{StreamInterface}
 use Rattle.uac_topology_rules.specs.declared.fault.TopologyFault.{TopologyFault}
-use Rattle.uac_topology_rules.specs.Faults.{broken_names, broken_walks, broken_shapes, broken_ends, broken}
+use Rattle.uac_topology_rules.specs.RuleFaults.{broken_names, broken_walks, broken_shapes, broken_ends, broken}
 use Rattle.uac_topology_rules.proofs.Sound.{option_or-none}
 use Rattle.uac_topology.specs.Topology.{first_broken, streams_in}
 

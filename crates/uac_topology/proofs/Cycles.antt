@@ -5,7 +5,7 @@ use Rattle.std.proofs.lemmas.Option.{none-some, same_Some}
 use Rattle.uac_descriptor.specs.declared.block.Block as block
 use Rattle.uac_walk.specs.Cycles.{HasCycle}
 use Rattle.uac_entities.specs.Entities.{entities_of}
-use Rattle.uac_entities.specs.Settings.{alternates_of}
+use Rattle.uac_entities.specs.EntitySettings.{alternates_of}
 use Rattle.uac_entities.specs.declared.alternate.Alternate.{Alternate}
 use Rattle.uac_entities.specs.declared.entity.Entity.{Entity}
 use Rattle.uac_entities.specs.declared.stream.StreamInterface.{StreamInterface}
@@ -13,9 +13,9 @@ use Rattle.uac_topology_rules.specs.declared.fault.TopologyFault.{TopologyFault}
 use Rattle.uac_topology_rules.specs.Links.{signal_links, clock_links}
 use Rattle.uac_topology_rules.specs.Offenders.{offender, interface_offender}
 use Rattle.uac_topology_rules.specs.Rules as rules
-use Rattle.uac_topology_rules.specs.Faults.{of_entity, of_interface, least, broken_names, broken_walks, broken_shapes, broken_ends, broken}
-use Rattle.uac_topology_rules.specs.Cycles.{HasNoCycle, IsSignalFault, IsClockFault}
-use Rattle.uac_topology_rules.proofs.CyclesLemmas.{cycles_are_named}
+use Rattle.uac_topology_rules.specs.RuleFaults.{of_entity, of_interface, least, broken_names, broken_walks, broken_shapes, broken_ends, broken}
+use Rattle.uac_topology_rules.specs.LinkCycles.{HasNoCycle, IsSignalFault, IsClockFault}
+use Rattle.uac_topology_rules.proofs.LinkCyclesLemmas.{cycles_are_named}
 use Rattle.uac_topology_rules.proofs.Sound.{or_none}
 use Rattle.uac_walk.proofs.CyclesLemmas as walks
 use Rattle.uac_topology.specs.Topology.{first_broken, streams_in, SoundHasNoCycle, IsRefusedBy, RefusesCycles, CyclesAreRefused}

@@ -3,9 +3,9 @@ pub mod SoundRules
 pub mod Cycles
 pub mod Small
 pub mod Clustered
-pub mod PinLemmas
-pub mod ChannelLemmas
-pub mod RangeLemmas
-pub mod LinkLemmas
-pub mod NumberLemmas
-pub mod EntityLemmas
+pub mod Pins
+pub mod Channels
+pub mod Ranges
+pub mod SettingLinks
+pub mod Numbers
+pub mod EntitiesByPlace

@@ -6,7 +6,7 @@ use Rattle.uac_entities.specs.Entities.{entities_of}
 use Rattle.uac_entities.specs.declared.entity.Entity.{Entity}
 use Rattle.uac_entities.specs.declared.stream.StreamInterface.{StreamInterface}
 use Rattle.uac_topology_rules.specs.Domains.{domains_of, each_once, names_new, noted}
-use Rattle.uac_topology_rules.specs.Faults.{of_interface}
+use Rattle.uac_topology_rules.specs.RuleFaults.{of_interface}
 use Rattle.uac_topology_rules.specs.Rules.{breaks_u14, exceeds, names_ninth}
 use Rattle.uac_topology_rules.specs.Table.{at, nothing}
 use Rattle.uac_topology_rules.proofs.DomainSteps.{domains_of-push}

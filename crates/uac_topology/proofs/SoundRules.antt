@@ -3,10 +3,10 @@ use Rattle.std.proofs.Common.{◌≡◌, ◌∙◌, sym, arith, ℕ, zero, suc, 
 use Rattle.std.proofs.lemmas.Bool.{cases_Bool}
 use Rattle.uac_descriptor.specs.declared.block.Block as block
 use Rattle.uac_entities.specs.Entities.{entities_of}
-use Rattle.uac_entities.specs.Settings.{alternates_of}
+use Rattle.uac_entities.specs.EntitySettings.{alternates_of}
 use Rattle.uac_entities.specs.declared.entity.Entity.{Entity}
 use Rattle.uac_entities.specs.declared.stream.StreamInterface.{StreamInterface}
-use Rattle.uac_topology_rules.specs.Faults.{broken, broken_ends, broken_names, broken_shapes, broken_walks, of_entity, of_interface}
+use Rattle.uac_topology_rules.specs.RuleFaults.{broken, broken_ends, broken_names, broken_shapes, broken_walks, of_entity, of_interface}
 use Rattle.uac_topology_rules.specs.Rules.{breaks_u2, breaks_u3, breaks_u4, breaks_u6, breaks_u7, breaks_u8, breaks_u9, breaks_u10, breaks_u12, breaks_u13, breaks_u14, exceeds}
 use Rattle.uac_topology_rules.proofs.FirstPlace.{breaks_none, interface_breaks}
 use Rattle.uac_topology_rules.proofs.Sound.{has_names, or_none}

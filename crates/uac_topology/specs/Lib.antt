@@ -3,6 +3,6 @@
 pub mod Function
 pub mod Topology
 -- What the laws say besides.
-pub mod Kept
+pub mod FunctionKept
 -- What the contracts below them cite: steps of the code, no part of what is promised.
 pub mod Judged

@@ -6,18 +6,18 @@ use Rattle.uac_descriptor.specs.Classes.{is_control_interface}
 use Rattle.uac_descriptor.specs.WellFormed.{AreWellFormed}
 use Rattle.uac_descriptor.specs.declared.block.Block as block
 use Rattle.uac_descriptor.specs.Kinds.{configuration_of}
-use Rattle.uac_descriptor.specs.Turns.{interface_of}
+use Rattle.uac_descriptor.specs.BlockTurns.{interface_of}
 use Rattle.uac_walk.specs.Cycles.{HasCycle}
 use Rattle.uac_entities.specs.Entities.{entities_of}
-use Rattle.uac_entities.specs.Settings.{alternates_of}
-use Rattle.uac_entities.specs.Streams.{streams_of}
+use Rattle.uac_entities.specs.EntitySettings.{alternates_of}
+use Rattle.uac_entities.specs.EntityStreams.{streams_of}
 use Rattle.uac_entities.specs.declared.stream.StreamInterface.{StreamInterface}
 use Rattle.uac_topology_rules.specs.declared.fault.TopologyFault.{TopologyFault}
 use Rattle.uac_topology_rules.specs.Links.{signal_links, clock_links}
-use Rattle.uac_topology_rules.specs.Cycles.{HasNoCycle}
+use Rattle.uac_topology_rules.specs.LinkCycles.{HasNoCycle}
 use Rattle.uac_topology_rules.specs.Clusters.{clustered}
 use Rattle.uac_topology_rules.specs.Domains.{domains_of}
-use Rattle.uac_topology_rules.specs.Faults.{broken, broken_names}
+use Rattle.uac_topology_rules.specs.RuleFaults.{broken, broken_names}
 use Rattle.uac_topology.specs.Function.{FunctionFields}
 use Rattle.uac_topology.specs.declared.soundness.CheckStop.{CheckStop}
 use Rattle.uac_topology.specs.declared.soundness.CheckStop.TheVariants as stop

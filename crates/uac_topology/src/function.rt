@@ -1,7 +1,7 @@
 // A sound function.
 ghost use Rattle.std.specs.Prelude.{◌≡◌, ◌==◌, position};
 ghost use Rattle.std.specs.Option.{option_map};
-ghost use Rattle.uac_entities.specs.Streams.{channels_of, named};
+ghost use Rattle.uac_entities.specs.EntityStreams.{channels_of, named};
 ghost use Rattle.uac_topology.specs.Function.{FunctionFields, interface_in};
 ghost use Rattle.uac_topology_rules.specs.Table.{at, place_of};
 
@@ -60,7 +60,7 @@ impl Function {
     }
 
     /// The entity with this id, None exactly where no entity has it.
-    #[tactic(auto, using(crate::proofs::EntityLemmas::named_at, crate::proofs::EntityLemmas::named_nowhere))]
+    #[tactic(auto, using(crate::proofs::EntitiesByPlace::named_at, crate::proofs::EntitiesByPlace::named_nowhere))]
     pub fn entity(&self, id: u8) -> Option<&Entity>
         ensures { option_map (λ e. e.now) result ≡ named self.now.entities id }
     {

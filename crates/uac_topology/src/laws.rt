@@ -1,7 +1,7 @@
 // Laws of sound functions, each the contract of a function that does nothing.
 ghost use Rattle.std.specs.Prelude.{◌≤◌, length};
 ghost use Rattle.uac_topology.specs.Function.{FunctionFields};
-ghost use Rattle.uac_topology.specs.Kept.{AreInRange, AreLinks, AreNumbered, HaveChannels, HavePins};
+ghost use Rattle.uac_topology.specs.FunctionKept.{AreInRange, AreLinks, AreNumbered, HaveChannels, HavePins};
 ghost use Rattle.uac_topology.specs.Topology.{IsSoundFunction, SoundHasNoCycle, CyclesAreRefused};
 
 use crate::function::Function;

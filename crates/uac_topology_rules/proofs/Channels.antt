@@ -5,7 +5,7 @@ use Rattle.std.proofs.lemmas.Bool.{cases_lt}
 use Rattle.std.proofs.lemmas.List.{get_or_past}
 use Rattle.std.proofs.lemmas.List.Folds.{find_at}
 use Rattle.std.proofs.lemmas.Option.{slice_get_past, slice_get-get_or}
-use Rattle.uac_entities.specs.Streams.{channels_of, named}
+use Rattle.uac_entities.specs.EntityStreams.{channels_of, named}
 use Rattle.uac_entities.specs.declared.entity.Entity.{Entity}
 use Rattle.uac_topology_rules.specs.Table.{at, found, nothing, place_of}
 use Rattle.uac_topology_rules.proofs.TableSteps.{at_read, found_is, found_none}

@@ -9,7 +9,7 @@ use Rattle.uac_entities.specs.declared.stream.StreamInterface.{StreamInterface}
 use Rattle.uac_topology_rules.specs.declared.fault.TopologyFault.{TopologyFault}
 use Rattle.uac_topology_rules.specs.Table.{at}
 use Rattle.uac_topology_rules.specs.Offenders.{first_place, offender, number_at, interface_offender}
-use Rattle.uac_topology_rules.specs.Faults.{of_entity, of_interface}
+use Rattle.uac_topology_rules.specs.RuleFaults.{of_entity, of_interface}
 
 first_from : (test : ℕ → Bool) (a n k : ℕ) → a ≤ k → k < a + n → ((j : ℕ) → a ≤ j → j < k → test j ≡ false) → test k ≡ true →
     find test (range_with_len a n) ≡ Some k

@@ -10,7 +10,7 @@ use Rattle.uac_topology_rules.specs.declared.fault.TopologyFault.{TopologyFault}
 use Rattle.uac_topology_rules.specs.declared.signals.Behind.{Behind}
 use Rattle.uac_topology_rules.specs.Clusters.{cluster_of, pins}
 use Rattle.uac_topology_rules.specs.Rules.{breaks_u6}
-use Rattle.uac_topology_rules.specs.Faults.{broken_names, broken_walks}
+use Rattle.uac_topology_rules.specs.RuleFaults.{broken_names, broken_walks}
 use Rattle.uac_topology_rules.specs.Walks.{IsWalked}
 use Rattle.uac_topology_rules.specs.Signals.{IsAcyclic, IsWalkable, IsKnown, AreClusters, AreClocks}
 use Rattle.uac_topology_rules.proofs.FirstPlace.{breaks_none}

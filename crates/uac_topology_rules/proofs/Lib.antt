@@ -2,7 +2,7 @@ pub mod Found
 pub mod TableSteps
 pub mod FirstPlace
 pub mod Sound
-pub mod CyclesLemmas
+pub mod LinkCyclesLemmas
 pub mod WalkSteps
 pub mod Along
 pub mod Told

@@ -4,8 +4,8 @@ use Rattle.uac_descriptor.specs.Classes.{is_streaming_interface}
 use Rattle.uac_descriptor.specs.declared.block.Block as block
 use Rattle.uac_descriptor.specs.declared.block.Block.TheVariants as row
 use Rattle.uac_entities.specs.Entities.{entity_of, entities_of}
-use Rattle.uac_entities.specs.Settings.{alternates_of, alternate_at, own_blocks, ends_setting, general_of, format_of, endpoint_of}
-use Rattle.uac_entities.specs.Streams.{streams_of, stream_at, stream_of, setting_of, link_of, named}
+use Rattle.uac_entities.specs.EntitySettings.{alternates_of, alternate_at, own_blocks, ends_setting, general_of, format_of, endpoint_of}
+use Rattle.uac_entities.specs.EntityStreams.{streams_of, stream_at, stream_of, setting_of, link_of, named}
 use Rattle.uac_topology_rules.specs.declared.fault.TopologyFault.{TopologyFault}
 use lib.Count.{ones, ones_in}
 use Rattle.uac_walk.specs.Walk.{has_walk}
@@ -35,7 +35,7 @@ use Rattle.uac_topology_rules.specs.Rules.{
   exceeds,
   names_ninth,
 }
-use Rattle.uac_topology_rules.specs.Faults.{of_entity, of_interface, broken_names, broken_walks, broken_shapes, broken_ends, broken}
+use Rattle.uac_topology_rules.specs.RuleFaults.{of_entity, of_interface, broken_names, broken_walks, broken_shapes, broken_ends, broken}
 
 fault_of : List block.Block → Option TopologyFault
 fault_of blocks = broken (entities_of blocks) (alternates_of blocks) (streams_of (entities_of blocks) (alternates_of blocks))

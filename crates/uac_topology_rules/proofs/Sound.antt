@@ -11,7 +11,7 @@ use Rattle.uac_entities.specs.declared.entity.Entity.{Entity}
 use Rattle.uac_topology_rules.specs.Table.{found, place_of, at, nothing, kind_of}
 use Rattle.uac_topology_rules.specs.Links.{signal_sources, clock_sources, signal_links, clock_links}
 use Rattle.uac_topology_rules.specs.Rules.{breaks_u3, breaks_u5, is_some_clock}
-use Rattle.uac_topology_rules.specs.Faults.{of_entity, broken_names}
+use Rattle.uac_topology_rules.specs.RuleFaults.{of_entity, broken_names}
 use Rattle.uac_topology_rules.specs.Rules as rules
 use Rattle.uac_topology_rules.proofs.FirstPlace.{breaks_none}
 use Rattle.uac_topology_rules.proofs.TableSteps.{found_is}

@@ -5,7 +5,7 @@ use Rattle.std.specs.Option.{option_or}
 use Rattle.uac_topology_rules.specs.declared.fault.TopologyFault.{TopologyFault}
 use Rattle.uac_topology_rules.specs.Links.{signal_links, clock_links}
 use Rattle.uac_topology_rules.specs.Rules.{breaks_u6, breaks_u7}
-use Rattle.uac_topology_rules.specs.Faults.{of_entity, broken_walks}
+use Rattle.uac_topology_rules.specs.RuleFaults.{of_entity, broken_walks}
 use Rattle.uac_topology_rules.specs.Walks.{goes_on}
 use Rattle.uac_topology_rules.proofs.Sound.{option_or-none}
 

@@ -11,12 +11,12 @@ differs (clocks.One c) clock = not (c == clock)
 differs clocks.Several clock = true
 
 -- the clocks behind two sources
-abbrev pub joined : Behind → Behind → Behind
-joined clocks.Nothing b = b
-joined (clocks.One c) clocks.Nothing = clocks.One c
-joined (clocks.One c) (clocks.One d) = if c == d then clocks.One c else clocks.Several
-joined (clocks.One c) clocks.Several = clocks.Several
-joined clocks.Several b = clocks.Several
+abbrev pub behind_both : Behind → Behind → Behind
+behind_both clocks.Nothing b = b
+behind_both (clocks.One c) clocks.Nothing = clocks.One c
+behind_both (clocks.One c) (clocks.One d) = if c == d then clocks.One c else clocks.Several
+behind_both (clocks.One c) clocks.Several = clocks.Several
+behind_both clocks.Several b = clocks.Several
 
 -- a summary tells which clock differs from one of the list
 abbrev pub Tells : Behind → List ℕ → Type 0

@@ -10,7 +10,7 @@ use Rattle.uac_entities.specs.declared.entity.Cluster.{Cluster}
 use Rattle.uac_entities.specs.declared.entity.Entity.{Entity}
 use Rattle.uac_entities.specs.declared.entity.EntityKind.{EntityKind}
 use Rattle.uac_entities.specs.declared.entity.EntityKind.TheVariants as kind
-pub use Rattle.uac_entities.specs.Streams.{is_input}
+pub use Rattle.uac_entities.specs.EntityStreams.{is_input}
 use Rattle.uac_topology_rules.specs.Table.{at, with_cluster}
 use Rattle.uac_topology_rules.specs.Links.{signal_links}
 

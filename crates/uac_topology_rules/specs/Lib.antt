@@ -6,9 +6,9 @@ pub mod Clusters
 pub mod Domains
 pub mod Offenders
 pub mod Rules
-pub mod Faults
+pub mod RuleFaults
 -- What the laws say besides.
-pub mod Cycles
+pub mod LinkCycles
 -- What the contracts below them cite: steps of the code, no part of what is promised.
 pub mod Places
 pub mod RuleNumbers

@@ -7,7 +7,7 @@ use Rattle.std.specs.Option.{option_map_or}
 use Rattle.uac_walk.specs.Walk.{has_walk}
 use Rattle.uac_descriptor.specs.Endpoints.{transfer_type, usage_type}
 use Rattle.uac_descriptor.specs.declared.standard.Endpoint.{Endpoint}
-use Rattle.uac_entities.specs.Streams.{links_of}
+use Rattle.uac_entities.specs.EntityStreams.{links_of}
 use Rattle.uac_entities.specs.declared.alternate.Alternate.{Alternate}
 use Rattle.uac_descriptor.specs.Standard.{USB_STREAMING}
 use Rattle.uac_entities.specs.declared.entity.Entity.{Entity}

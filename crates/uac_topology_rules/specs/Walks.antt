@@ -5,7 +5,7 @@ use Rattle.uac_walk.specs.Order.{IsOrder}
 use Rattle.uac_entities.specs.declared.entity.Entity.{Entity}
 use Rattle.uac_topology_rules.specs.declared.fault.TopologyFault.{TopologyFault}
 use Rattle.uac_topology_rules.specs.Links.{signal_links}
-use Rattle.uac_topology_rules.specs.Faults.{broken_walks}
+use Rattle.uac_topology_rules.specs.RuleFaults.{broken_walks}
 
 -- a walk of as many of these links as there are entities leads on from a place
 abbrev pub goes_on : List (List ℕ) → List Entity → ℕ → Bool

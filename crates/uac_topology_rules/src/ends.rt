@@ -4,9 +4,9 @@ ghost use Rattle.uac_topology_rules.specs.Table.{at};
 ghost use Rattle.uac_topology_rules.specs.Links as links;
 ghost use Rattle.std.specs.List.{list_any};
 ghost use Rattle.std.specs.Option.{option_map_or};
-ghost use Rattle.uac_entities.specs.Streams.{links_of};
+ghost use Rattle.uac_entities.specs.EntityStreams.{links_of};
 ghost use Rattle.uac_topology_rules.specs.Rules as rules;
-ghost use Rattle.uac_topology_rules.specs.Faults.{of_interface, broken_ends};
+ghost use Rattle.uac_topology_rules.specs.RuleFaults.{of_interface, broken_ends};
 ghost use Rattle.uac_topology_rules.specs.Domains.{IsDomains};
 ghost use Rattle.uac_topology_rules.specs.RuleNumbers.{number};
 ghost use Rattle.uac_topology_rules.specs.Ending as ending;
@@ -27,7 +27,7 @@ const MOST_STREAMS: usize = 8;
 const MOST_SETTINGS: usize = 16;
 
 /// The first fault by the rules U12 to U14.
-#[tactic(auto, unfolding(crate::specs::Faults::broken_ends))]
+#[tactic(auto, unfolding(crate::specs::RuleFaults::broken_ends))]
 pub fn ends_fault(
     known: &Known,
     domains: &Domains,

@@ -5,7 +5,7 @@ ghost use Rattle.std.specs.List.{list_any};
 ghost use Rattle.uac_topology_rules.specs.Table.{at};
 ghost use Rattle.uac_topology_rules.specs.Clusters as spec;
 ghost use Rattle.uac_topology_rules.specs.Rules as rules;
-ghost use Rattle.uac_topology_rules.specs.Faults.{broken_names};
+ghost use Rattle.uac_topology_rules.specs.RuleFaults.{broken_names};
 ghost use Rattle.uac_topology_rules.specs.Walks.{IsWalked};
 
 use crate::signals::{Behind, clocks_of, clusters_of, differs};

@@ -4,7 +4,7 @@ ghost use Rattle.std.specs.List.{list_any};
 ghost use Rattle.uac_topology_rules.specs.Table as spec;
 ghost use Rattle.uac_topology_rules.specs.Links as links;
 ghost use Rattle.uac_topology_rules.specs.Rules as rules;
-ghost use Rattle.uac_topology_rules.specs.Faults.{of_entity, broken_names};
+ghost use Rattle.uac_topology_rules.specs.RuleFaults.{of_entity, broken_names};
 ghost use Rattle.uac_topology_rules.specs.RuleNumbers.{number};
 ghost use Rattle.uac_topology_rules.specs.Naming as naming;
 
@@ -15,7 +15,7 @@ use crate::table::EntityTable;
 use uac_entities::{Entity, EntityKind};
 
 /// The first fault by the rules U1 to U5.
-#[tactic(auto, unfolding(crate::specs::Faults::broken_names))]
+#[tactic(auto, unfolding(crate::specs::RuleFaults::broken_names))]
 pub fn names_fault(table: &EntityTable) -> Option<TopologyFault>
     ensures { result ≡ broken_names table.now }
 {

@@ -2,7 +2,7 @@
 ghost use Rattle.std.specs.Prelude.{◌≡◌, ◌<◌, ◌-◌, ◌==◌, ◌&&◌, nat_lt, length, slice_index};
 ghost use Rattle.uac_topology_rules.specs.Clusters as spec;
 ghost use Rattle.uac_topology_rules.specs.Rules as rules;
-ghost use Rattle.uac_topology_rules.specs.Faults.{of_entity, broken_shapes};
+ghost use Rattle.uac_topology_rules.specs.RuleFaults.{of_entity, broken_shapes};
 ghost use Rattle.uac_topology_rules.specs.RuleNumbers.{number};
 ghost use Rattle.uac_topology_rules.specs.Shaping as shaping;
 ghost use Rattle.uac_topology_rules.specs.Domains.{IsDomains};
@@ -24,7 +24,7 @@ const MOST_NODES: u128 = 256;
 const MOST_CLOCKS: usize = 8;
 
 /// The first fault by the rules U8 to U11.
-#[tactic(auto, unfolding(crate::specs::Faults::broken_shapes))]
+#[tactic(auto, unfolding(crate::specs::RuleFaults::broken_shapes))]
 pub fn shapes_fault(known: &Known) -> Option<TopologyFault>
     ensures { result ≡ broken_shapes known.now }
 {

@@ -146,13 +146,13 @@ fn clocks_by(entity: &Entity, sources: &[usize], list: &[Behind]) -> Behind
     }
     let mut behind = Behind::Nothing;
     for place in sources {
-        behind = joined(behind, list[*place]);
+        behind = behind_both(behind, list[*place]);
     }
     behind
 }
 
-fn joined(left: Behind, right: Behind) -> Behind
-    ensures { result ≡ behind.joined left right }
+fn behind_both(left: Behind, right: Behind) -> Behind
+    ensures { result ≡ behind.behind_both left right }
 {
     match (left, right) {
         (Behind::Nothing, other) => other,

@@ -1,7 +1,7 @@
 // The entities by their place and by their id.
 ghost use Rattle.std.specs.Prelude.{◌≡◌, ◌<◌, ◌==◌, IfOk, OnOk, length, take, map};
 ghost use Rattle.std.specs.Option.{option_map};
-ghost use Rattle.uac_entities.specs.Streams.{channels_of};
+ghost use Rattle.uac_entities.specs.EntityStreams.{channels_of};
 ghost use Rattle.uac_topology_rules.specs.Table as spec;
 ghost use Rattle.uac_topology_rules.specs.Places.{IsTable};
 

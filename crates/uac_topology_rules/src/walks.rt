@@ -1,7 +1,7 @@
 // The rules on walks, U6 and U7.
 ghost use Rattle.std.specs.Prelude.{◌≡◌, None, IfOk, length};
 ghost use Rattle.uac_walk.specs.Order.{IsClosed, IsOrder};
-ghost use Rattle.uac_topology_rules.specs.Faults.{broken_names, of_entity};
+ghost use Rattle.uac_topology_rules.specs.RuleFaults.{broken_names, of_entity};
 ghost use Rattle.uac_topology_rules.specs.RuleNumbers.{number};
 ghost use Rattle.uac_topology_rules.specs.Walks.{IsWalked, goes_on};
 

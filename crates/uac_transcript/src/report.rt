@@ -24,11 +24,11 @@ pub fn write_passed<K: Sink>(sink: &mut K, time: u64) -> Result<(), Failed>
     ensures written { Writes (K.written sink.old) (K.written sink.new) result (spelled (says_passed time)) }
     ensures cause { HasCause (K.faults sink.old) (K.faults sink.new) result }
 {
-    give_all(sink, passed(time).as_bytes())
+    give_all(sink, time_line(time).as_bytes())
 }
 
 #[tactic(auto, unfolding(crate::specs::Transcript::spelled))]
-fn passed(time: u64) -> TextLine<32>
+fn time_line(time: u64) -> TextLine<32>
     ensures { result ≡ spelled (says_passed time) }
 {
     let mut text = TextLine::new();
@@ -60,23 +60,23 @@ fn steadiness(steady: bool) -> TextLine<32>
 /// Prints a domain: its clock, its rate if it has one, and its ticks since the start.
 pub fn write_domain<K: Sink>(
     sink: &mut K,
-    clock: u8,
+    domain: u8,
     rate: Option<u32>,
     ticks: u64,
 ) -> Result<(), Failed>
-    ensures written { Writes (K.written sink.old) (K.written sink.new) result (spelled (says_domain clock rate ticks)) }
+    ensures written { Writes (K.written sink.old) (K.written sink.new) result (spelled (says_domain domain rate ticks)) }
     ensures cause { HasCause (K.faults sink.old) (K.faults sink.new) result }
 {
-    give_all(sink, domain(clock, rate, ticks).as_bytes())
+    give_all(sink, domain_text(domain, rate, ticks).as_bytes())
 }
 
 #[tactic(auto, unfolding(crate::specs::Transcript::spelled))]
-fn domain(clock: u8, rate: Option<u32>, ticks: u64) -> TextLine<128>
-    ensures { result ≡ spelled (says_domain clock rate ticks) }
+fn domain_text(domain: u8, rate: Option<u32>, ticks: u64) -> TextLine<128>
+    ensures { result ≡ spelled (says_domain domain rate ticks) }
 {
     let mut text = TextLine::new();
     text.push(b"domain ");
-    text.push_number(u64::from(clock));
+    text.push_number(u64::from(domain));
     text.push(b" rate ");
     push_number_or_dash(&mut text, rate);
     text.push(b" ticks ");

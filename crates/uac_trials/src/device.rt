@@ -220,7 +220,7 @@ fn a_frame_is_played_and_heard(rt: HostRuntime) -> Result<(), Fail> {
     Ok(())
 }
 
-/// At 48000 Hz a microframe has 6 frames, 393216 parts of 65536. A clock that is fast by 1000 millionths gives 393 parts
+/// At 48000 Hz a microframe has 6 frames, 393216 parts of 65536. A clock that is fast by 1000 ppm gives 393 parts
 /// more, and 167 times that is a frame: 65631 parts.
 fn run_fast(rt: &impl Abort, device: &mut Device) {
     assert!(rt; device.ticks(1) == 6);

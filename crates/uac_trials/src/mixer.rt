@@ -1,7 +1,7 @@
 // A view of a small device: a jack through a feature to a jack, under one clock that can be set.
 ghost use Rattle.std.specs.Prelude.{◌≡◌, IfOk};
-ghost use Rattle.uac_device.specs.Kept.{DeviceFields};
-ghost use Rattle.uac_store.specs.Controls.{IsStoreOf};
+ghost use Rattle.uac_device.specs.DeviceKept.{DeviceFields};
+ghost use Rattle.uac_store.specs.StoreControls.{IsStoreOf};
 
 use crate::blocks::{clock, control, feature, function_of, input, output, push};
 use std::alloc::{AllocError, Global};

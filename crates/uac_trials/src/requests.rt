@@ -22,7 +22,7 @@ struct Headset {
 }
 
 impl Model for Headset {
-    ghost use Rattle.uac_store.specs.Controls.{IsStoreOf};
+    ghost use Rattle.uac_store.specs.StoreControls.{IsStoreOf};
     ghost use Rattle.uac_topology.specs.Function.{FunctionFields};
     ghost use Rattle.uac_request.specs.Requests.{AreSettingsOf};
 

@@ -1,4 +1,4 @@
-pub mod LanesLemmas
+pub mod SampleLanesLemmas
 pub mod Listing
 pub mod Mixing
 pub mod NodeLanes

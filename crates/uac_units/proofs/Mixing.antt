@@ -7,10 +7,10 @@ use Rattle.std.proofs.lemmas.List.FromFn.{map-range_with_len_more}
 use Rattle.std.proofs.lemmas.Int.{ints}
 use Rattle.uac_units.specs.declared.jobs.Job.{Job}
 use Rattle.std.specs.Simd.Lanes.{Each1, zip2}
-use Rattle.uac_units.specs.Lanes.{HasRoom, eight}
+use Rattle.uac_units.specs.SampleLanes.{HasRoom, eight}
 use Rattle.uac_units.specs.Rendering.{input}
 use Rattle.uac_gain.specs.Gain.{floored, scaled}
-use Rattle.uac_units.proofs.LanesLemmas.{saturated-mag, eight-same, eight-each}
+use Rattle.uac_units.proofs.SampleLanesLemmas.{saturated-mag, eight-same, eight-each}
 
 -- one input, scaled by the gain of its node
 abbrev pub node : Job → List ℤ → ℕ → ℕ → ℤ

@@ -7,8 +7,8 @@ use Rattle.std.proofs.lemmas.Nat.{le_or_l, le_or_r, or_mod}
 use Rattle.std.proofs.Math.Nat.{mul-le-mul_left}
 use Rattle.std.specs.Simd.Lanes.{Each1, zip2, fold_l, sel_l}
 use Rattle.uac_gain.specs.Gain.{floor_div, floored, saturated, scaled}
-use Rattle.uac_units.specs.Lanes.{IsGain, floored_by, scaled_by, together}
-use Rattle.uac_units.proofs.LanesLemmas.{gain-lane, lane-is, lane-of, saturated-mag}
+use Rattle.uac_units.specs.SampleLanes.{IsGain, floored_by, scaled_by, together}
+use Rattle.uac_units.proofs.SampleLanesLemmas.{gain-lane, lane-is, lane-of, saturated-mag}
 
 -- ---- the bits of all gains together
 

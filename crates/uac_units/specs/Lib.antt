@@ -5,5 +5,5 @@ pub mod Hearing
 pub mod Panel
 pub mod Rendering
 -- What the contracts below them cite: steps of the code, no part of what is promised.
-pub mod Lanes
+pub mod SampleLanes
 pub mod Unity

@@ -41,15 +41,15 @@ pub record Inputs : Type 0 where
   pub of_only : ℕ → ℤ
 
 -- all inputs together, each scaled by the gain of its node with this output
-abbrev pub mixed : (ℕ → ℕ → ℕ) → List ℤ → ℕ → ℤ
-mixed node inputs channel =
+abbrev pub job_sum : (ℕ → ℕ → ℕ) → List ℤ → ℕ → ℤ
+job_sum node inputs channel =
     fold (λ sum sample. sum +ℤ sample) (pos 0)
     (map (λ at. scaled (input inputs at) (node at channel)) (range_with_len 0 (length inputs)))
 
 -- the sample of an output channel: a mixer's is the saturated sum, a selector's its chosen pin's, a feature's its one source's,
 -- scaled by the channel's gain and then by the master's, an effect's its one source's
 abbrev pub unit_sample : UnitKind → Setting → Inputs → ℕ → ℤ
-unit_sample Mixer setting inputs channel = saturated (mixed setting.node inputs.all channel)
+unit_sample Mixer setting inputs channel = saturated (job_sum setting.node inputs.all channel)
 unit_sample Selector setting inputs channel = inputs.of_pin setting.chosen channel
 unit_sample Feature setting inputs channel = scaled (scaled (inputs.of_only channel) (setting.own channel)) (setting.master channel)
 unit_sample Effect setting inputs channel = inputs.of_only channel

@@ -4,7 +4,7 @@ ghost use Rattle.std.specs.Prelude.{◌≡◌, ◌+◌, ◌*◌, ◌^◌, ◌<�
 ghost use Rattle.std.specs.Int.{w32, w64};
 ghost use Rattle.std.specs.Simd.Lanes.{Each1, zip2};
 ghost use Rattle.uac_gain.specs.Gain.{saturated};
-ghost use Rattle.uac_units.specs.Lanes.{HasRoom, IsGain, eight, floored_by, scaled_by};
+ghost use Rattle.uac_units.specs.SampleLanes.{HasRoom, IsGain, eight, floored_by, scaled_by};
 ghost use Rattle.uac_units.specs.Rendering.{input};
 
 use crate::jobs::{Job, Pins};

@@ -7,7 +7,7 @@ ghost use Rattle.std.specs.Int.{w32};
 ghost use Rattle.std.specs.Simd.Lanes.{Each1};
 ghost use Rattle.uac_units.specs.declared.jobs.UnitKind.{UnitKind};
 ghost use Rattle.uac_units.specs.declared.jobs.UnitKind.TheVariants.{Mixer, Selector, Feature, Effect};
-ghost use Rattle.uac_units.specs.Lanes.{eight};
+ghost use Rattle.uac_units.specs.SampleLanes.{eight};
 ghost use Rattle.uac_units.specs.Rendering.{FitsKind, pins_sample, rendered};
 
 use crate::counting::Steps;

@@ -4,7 +4,7 @@ ghost use Rattle.std.specs.Prelude.{◌≡◌, ◌+◌, ◌^◌, ◌<◌, ◌≤
 ghost use Rattle.std.specs.Int.{w32, w64};
 ghost use Rattle.std.specs.Simd.Lanes.{Each1, zip2};
 ghost use Rattle.uac_gain.specs.Gain.{scaled};
-ghost use Rattle.uac_units.specs.Lanes.{HasRoom, eight, together};
+ghost use Rattle.uac_units.specs.SampleLanes.{HasRoom, eight, together};
 
 use crate::eights::{add_eight, multiply_eight, scale_eight};
 use crate::jobs::Job;

@@ -10,7 +10,7 @@ use Rattle.uac_walk.specs.Walk.{links, has_walk}
 use Rattle.uac_walk.specs.Count.{times, times_seen}
 use Rattle.uac_walk.specs.Order.{IsClosed, IsAmongFirst, IsOrder}
 use Rattle.uac_walk.specs.Noting.{IsNamedBy}
-use Rattle.uac_walk.specs.Settling.{Settles, IsSettled}
+use Rattle.uac_walk.specs.NodeSettling.{Settles, IsSettled}
 use Rattle.uac_walk.proofs.Times.{one, times_at, times_before, place_of, times_seen-push, times_seen-cons, times_seen-le, seen_all, seen_short, any_from_times, none_from_times, no_equal, IsDistinct-from_times}
 use Rattle.uac_walk.proofs.Walks.{any_none, no_longer}
 

@@ -6,12 +6,12 @@ ghost use Rattle.uac_walk.specs.Order.{IsClosed, IsOrder};
 ghost use Rattle.uac_walk.specs.Cycles.{ComesRound};
 ghost use Rattle.uac_walk.specs.Count.{times};
 ghost use Rattle.uac_walk.specs.Noting.{IsNoted, IsNamedBy};
-ghost use Rattle.uac_walk.specs.Settling.{Settles};
+ghost use Rattle.uac_walk.specs.NodeSettling.{Settles};
 
 use crate::links::Links;
 use std::alloc::{AllocError, Global};
 
-/// The nodes from which no walk of as many links as there are nodes leads on, each once, behind all
+/// The nodes from which no walk of as many links as there are nodes leads on, each once, after all
 /// those that it names. The time is linear in the links.
 pub fn sources_first(alloc: Global, graph: &[Links]) -> Result<Vec<usize>, AllocError>
     requires { IsClosed graph.now }

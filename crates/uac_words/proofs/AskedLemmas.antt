@@ -18,11 +18,11 @@ use Rattle.uac_words.specs.declared.commands.WordsFault.{WordsFault}
 use Rattle.uac_words.specs.declared.commands.WordsFault.TheVariants.{NoMemory, Usage}
 use Rattle.uac_words.specs.ByClap.{IsAnswer}
 use Rattle.uac_words.specs.Asked.{both, is_decimal, number_of}
-use Rattle.uac_words.specs.Lines.{AnswersLine, IsInRange, IsLine, name_of, spelled}
+use Rattle.uac_words.specs.CommandLines.{AnswersLine, IsInRange, IsLine, rack_name, spelled}
 use Rattle.uac_words.specs.Plain.{Places, Text, asked_at, command_in, ends_options, has_value, is_dashed, is_option, placed, plainly, rack_in, with_bare, with_rack}
-use Rattle.uac_words.proofs.LineLemmas.{line_asks}
-use Rattle.uac_words.proofs.NumberLemmas.{digits_all}
-use Rattle.uac_words.proofs.WordLemmas.{bytes_same}
+use Rattle.uac_words.proofs.CommandLinesLemmas.{line_asks}
+use Rattle.uac_words.proofs.DigitWords.{digits_all}
+use Rattle.uac_words.proofs.PlainWords.{bytes_same}
 
 -- ---- options
 
@@ -95,18 +95,18 @@ command_written (word ∷ number ∷ []) command h = go (bytes_eq word (codes "g
         (ap (λ w. w ∷ number ∷ []) (bytes_same word (codes "gen") e) ∙ ap (λ d. codes "gen" ∷ d ∷ []) is.0, is.1)
 command_written (word ∷ number ∷ third ∷ more) command h = nothing command h
 
-rack_written : (racks : List Text) (rack : RackChoice) → rack_in racks ≡ Some rack → (racks ≡ []) × (rack ≡ Plain) ⊎ (racks ≡ name_of rack ∷ [])
+rack_written : (racks : List Text) (rack : RackChoice) → rack_in racks ≡ Some rack → (racks ≡ []) × (rack ≡ Plain) ⊎ (racks ≡ rack_name rack ∷ [])
 rack_written [] rack h = inl (refl, sym (inside Plain rack h))
 rack_written (word ∷ []) rack h = first (bytes_eq word (codes "plain")) refl h
   where
     second : (t : Bool) → bytes_eq word (codes "lanes") ≡ t → (if t then Some Lanes else None) ≡ Some rack
-        → (word ∷ [] ≡ []) × (rack ≡ Plain) ⊎ (word ∷ [] ≡ name_of rack ∷ [])
+        → (word ∷ [] ≡ []) × (rack ≡ Plain) ⊎ (word ∷ [] ≡ rack_name rack ∷ [])
     second false e h = nothing rack h
-    second true e h = inr (ap (λ w. w ∷ []) (bytes_same word (codes "lanes") e) ∙ ap (λ r. name_of r ∷ []) (inside Lanes rack h))
+    second true e h = inr (ap (λ w. w ∷ []) (bytes_same word (codes "lanes") e) ∙ ap (λ r. rack_name r ∷ []) (inside Lanes rack h))
 
     first : (t : Bool) → bytes_eq word (codes "plain") ≡ t → (if t then Some Plain else (if bytes_eq word (codes "lanes") then Some Lanes else None)) ≡ Some rack
-        → (word ∷ [] ≡ []) × (rack ≡ Plain) ⊎ (word ∷ [] ≡ name_of rack ∷ [])
-    first true e h = inr (ap (λ w. w ∷ []) (bytes_same word (codes "plain") e) ∙ ap (λ r. name_of r ∷ []) (inside Plain rack h))
+        → (word ∷ [] ≡ []) × (rack ≡ Plain) ⊎ (word ∷ [] ≡ rack_name rack ∷ [])
+    first true e h = inr (ap (λ w. w ∷ []) (bytes_same word (codes "plain") e) ∙ ap (λ r. rack_name r ∷ []) (inside Plain rack h))
     first false e h = second (bytes_eq word (codes "lanes")) refl h
 rack_written (word ∷ other ∷ more) rack h = nothing rack h
 
@@ -153,21 +153,21 @@ valued (word ∷ rest) p h = at (is_dashed word) refl h
 record IsRest (words bare : List Text) : Type 0 where
   between : List Text
   dashes : List Text
-  behind : List Text
-  whole : words ≡ between ++ (dashes ++ behind)
-  parts : between ++ behind ≡ bare
+  following : List Text
+  whole : words ≡ between ++ (dashes ++ following)
+  parts : between ++ following ≡ bare
   end : (dashes ≡ []) ⊎ (dashes ≡ codes "--" ∷ [])
 
 one_more : (value : Text) (more : List Text) → value ∷ more ≡ [] → ⊥
 one_more value more e = let lengths = ap length e in omega arith
 
 no_choice : (words : List Text) (p : Places) → placed false words ≡ Some p → p.racks ≡ [] → IsRest words p.bare
-no_choice [] p h none = record { between = []; dashes = []; behind = []; whole = refl; parts = ap (λ q. q.bare) (inside _ p h); end = inl refl }
+no_choice [] p h none = record { between = []; dashes = []; following = []; whole = refl; parts = ap (λ q. q.bare) (inside _ p h); end = inl refl }
 no_choice (word ∷ rest) p h none = elim (first_of word rest) [
   | ends is e ↦ record {
     between = [];
     dashes = codes "--" ∷ [];
-    behind = rest;
+    following = rest;
     whole = ap (λ w. w ∷ rest) is;
     parts = ap (λ q. q.bare) (inside _ p (sym e ∙ h));
     end = inr refl;
@@ -181,7 +181,7 @@ no_choice (word ∷ rest) p h none = elim (first_of word rest) [
       record {
         between = word ∷ more.between;
         dashes = more.dashes;
-        behind = more.behind;
+        following = more.following;
         whole = ap (λ ws. word ∷ ws) more.whole;
         parts = ap (λ ws. word ∷ ws) more.parts ∙ ap (λ q. q.bare) found.2;
         end = more.end;
@@ -194,9 +194,9 @@ record IsChoice (words bare : List Text) (value : Text) : Type 0 where
   option : List Text
   between : List Text
   dashes : List Text
-  behind : List Text
-  whole : words ≡ before ++ (option ++ (between ++ (dashes ++ behind)))
-  parts : before ++ (between ++ behind) ≡ bare
+  following : List Text
+  whole : words ≡ before ++ (option ++ (between ++ (dashes ++ following)))
+  parts : before ++ (between ++ following) ≡ bare
   chosen : (option ≡ codes "--rack" ∷ value ∷ []) ⊎ (option ≡ (codes "--rack=" ++ value) ∷ [])
   end : (dashes ≡ []) ⊎ (dashes ≡ codes "--" ∷ [])
 
@@ -222,7 +222,7 @@ one_choice (word ∷ rest) p value h one = elim (first_of word rest) [
         option = codes "--rack" ∷ value ∷ [];
         between = more.between;
         dashes = more.dashes;
-        behind = more.behind;
+        following = more.following;
         whole = ap (λ w. w ∷ rest) is ∙ ap (λ ws. codes "--rack" ∷ ws) (found.3 ∙ ap (λ w. w ∷ found.1) (ap head_of racks) ∙ ap (λ ws. value ∷ ws) more.whole);
         parts = more.parts ∙ ap (λ q. q.bare) found.5;
         chosen = inl refl;
@@ -237,7 +237,7 @@ one_choice (word ∷ rest) p value h one = elim (first_of word rest) [
         option = (codes "--rack=" ++ value) ∷ [];
         between = more.between;
         dashes = more.dashes;
-        behind = more.behind;
+        following = more.following;
         whole = ap (λ w. w ∷ rest) (is ∙ ap (λ w. codes "--rack=" ++ w) (ap head_of racks)) ∙ ap (λ ws. (codes "--rack=" ++ value) ∷ ws) more.whole;
         parts = more.parts ∙ ap (λ q. q.bare) found.2;
         chosen = inr refl;
@@ -252,7 +252,7 @@ one_choice (word ∷ rest) p value h one = elim (first_of word rest) [
         option = more.option;
         between = more.between;
         dashes = more.dashes;
-        behind = more.behind;
+        following = more.following;
         whole = ap (λ ws. word ∷ ws) more.whole;
         parts = ap (λ ws. word ∷ ws) more.parts ∙ ap (λ q. q.bare) found.2;
         chosen = more.chosen;
@@ -278,7 +278,7 @@ nothing_else_asks words line h = go (placed false words) refl h
                 option = [];
                 between = rest.between;
                 dashes = rest.dashes;
-                behind = rest.behind;
+                following = rest.following;
                 whole = rest.whole;
                 command = rest.parts ∙ command.0;
                 range = command.1;
@@ -286,13 +286,13 @@ nothing_else_asks words line h = go (placed false words) refl h
                 end = rest.end;
               }
           | inr one ↦
-              let choice = one_choice words p (name_of line.rack) e one in
+              let choice = one_choice words p (rack_name line.rack) e one in
               record {
                 before = choice.before;
                 option = choice.option;
                 between = choice.between;
                 dashes = choice.dashes;
-                behind = choice.behind;
+                following = choice.following;
                 whole = choice.whole;
                 command = choice.parts ∙ command.0;
                 range = command.1;

@@ -1,8 +1,8 @@
 pub mod AskedLemmas
-pub mod ClapLemmas
-pub mod LineLemmas
-pub mod NumberLemmas
+pub mod ByClapLemmas
+pub mod CommandLinesLemmas
+pub mod DigitWords
 pub mod PlainLemmas
-pub mod RowLemmas
-pub mod RunLemmas
-pub mod WordLemmas
+pub mod PlainRows
+pub mod PlainRuns
+pub mod PlainWords

@@ -15,9 +15,9 @@ use Rattle.uac_words.specs.declared.commands.WordsFault.{WordsFault}
 use Rattle.uac_words.specs.Asked.{both}
 use Rattle.uac_words.specs.ByClap.{IsAnswer, asked, none_refused}
 use Rattle.uac_words.specs.Plain.{Places, asked_at, command_in, placed, plainly, rack_in, with_bare, with_rack}
-use Rattle.uac_words.proofs.RowLemmas.{Reads, found, full_reads, has_found, nothing_read, reads_command, reads_number, reads_rack, used_command, used_number, used_rack}
-use Rattle.uac_words.proofs.RunLemmas.{args, asked_runs, command_arg, full, number_arg, rack_arg, run, top, unless}
-use Rattle.uac_words.proofs.WordLemmas.{IsBare, IsStrange, usual, class_of, dashes, option as option_class, strange, valued}
+use Rattle.uac_words.proofs.PlainRows.{Reads, found, full_reads, has_found, nothing_read, reads_command, reads_number, reads_rack, used_command, used_number, used_rack}
+use Rattle.uac_words.proofs.PlainRuns.{args, asked_runs, command_arg, full, number_arg, rack_arg, run, top, unless}
+use Rattle.uac_words.proofs.PlainWords.{IsBare, IsStrange, usual, class_of, dashes, option as option_class, strange, valued}
 
 abbrev pub Pending : Type 0
 Pending = Option (Text × List Text)
@@ -299,17 +299,17 @@ stands_number a word rows racks reads once =
       once = once;
     }
 
-pub behind : (words : List Text) (rows : List Row) (p : Pending) (wt : Waiting) (ps racks : List Text) → Stands rows p ps racks
+pub following : (words : List Text) (rows : List Row) (p : Pending) (wt : Waiting) (ps racks : List Text) → Stands rows p ps racks
     → option_and_then full (run (at rows p wt (length ps + 1) true) words) ≡ ended ps racks (Some (record { bare = words; racks = [] }))
-behind [] rows p wt ps racks s = at_end rows p ps racks s
-behind (word ∷ rest) rows p wt [] racks s =
+following [] rows p wt ps racks s = at_end rows p ps racks s
+following (word ∷ rest) rows p wt [] racks s =
     ap (option_and_then full) (step_command_behind rows p wt word rest ∙ unless_none (fault_at rows p) _ s.clean)
-    ∙ behind rest (rows_at rows p) (Some (codes "command", word ∷ [])) idle (word ∷ []) racks (stands_command word (rows_at rows p) racks s.reads s.once)
-behind (word ∷ rest) rows p wt (a ∷ []) racks s =
+    ∙ following rest (rows_at rows p) (Some (codes "command", word ∷ [])) idle (word ∷ []) racks (stands_command word (rows_at rows p) racks s.reads s.once)
+following (word ∷ rest) rows p wt (a ∷ []) racks s =
     ap (option_and_then full) (step_number_behind rows p wt word rest ∙ unless_none (fault_at rows p) _ s.clean)
-    ∙ behind rest (rows_at rows p) (Some (codes "number", word ∷ [])) idle (a ∷ word ∷ []) racks (stands_number a word (rows_at rows p) racks s.reads s.once)
-behind (word ∷ rest) rows p wt (a ∷ b ∷ []) racks s = ap (option_and_then full) (step_third_behind rows p wt word rest)
-behind (word ∷ rest) rows p wt (a ∷ b ∷ third ∷ more) racks s = let few = s.few in absurd (omega arith)
+    ∙ following rest (rows_at rows p) (Some (codes "number", word ∷ [])) idle (a ∷ word ∷ []) racks (stands_number a word (rows_at rows p) racks s.reads s.once)
+following (word ∷ rest) rows p wt (a ∷ b ∷ []) racks s = ap (option_and_then full) (step_third_behind rows p wt word rest)
+following (word ∷ rest) rows p wt (a ∷ b ∷ third ∷ more) racks s = let few = s.few in absurd (omega arith)
 
 Ready : List Text → Type 0
 Ready words =
@@ -325,7 +325,7 @@ Waits words =
 ready_dashes : (rest : List Text) (rows : List Row) (p : Pending) (ps racks : List Text) → Stands rows p ps racks
     → option_and_then full (run (at rows p idle (length ps + 1) false) (codes "--" ∷ rest)) ≡ ended ps racks (placed false (codes "--" ∷ rest))
 ready_dashes rest rows p ps racks s =
-    ap (option_and_then full) (step_dashes rows p (length ps + 1) rest) ∙ behind rest rows p idle ps racks s
+    ap (option_and_then full) (step_dashes rows p (length ps + 1) rest) ∙ following rest rows p idle ps racks s
 
 ready_option : (rest : List Text) → Waits rest → AllByRecursion IsUtf8 rest → (rows : List Row) (p : Pending) (ps racks : List Text) → Stands rows p ps racks
     → option_and_then full (run (at rows p idle (length ps + 1) false) (codes "--rack" ∷ rest)) ≡ ended ps racks (placed false (codes "--rack" ∷ rest))

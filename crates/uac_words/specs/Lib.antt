@@ -4,4 +4,4 @@ pub mod Asked
 pub mod Plain
 -- What the laws say besides.
 pub mod ByClap
-pub mod Lines
+pub mod CommandLines

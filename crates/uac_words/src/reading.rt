@@ -4,7 +4,7 @@ ghost use Rattle.std.specs.List.{list_all};
 ghost use Rattle.std.specs.Char.{is_ascii_digit};
 ghost use Rattle.uac_words.specs.Asked.{both, command_named, command_of, command_with, is_decimal, number_of, rack_named};
 ghost use Rattle.uac_words.specs.ByClap.{HasMatched, IsAnswer, IsRefused, answer, asked, asked_by, asked_by_rows, now_in, simple_command};
-ghost use Rattle.uac_words.specs.Lines.{AnswersLine};
+ghost use Rattle.uac_words.specs.CommandLines.{AnswersLine};
 ghost use Rattle.uac_words.specs.Plain.{plainly};
 ghost use Rattle.clap.specs.Words.{app_of, found_of, kind_of, rows_of};
 
@@ -32,7 +32,7 @@ fn is_decimal(word: &[u8]) -> bool
 }
 
 /// The NUMBER that a word spells.
-#[tactic(auto, unfolding(crate::specs::Asked::number_of), using(crate::proofs::NumberLemmas::number_read))]
+#[tactic(auto, unfolding(crate::specs::Asked::number_of), using(crate::proofs::DigitWords::number_read))]
 fn number(word: &str) -> Option<u32>
     ensures { result ≡ number_of word.now }
 {
@@ -144,7 +144,7 @@ fn matched_by<'a>(
 }
 
 /// The values that the words give, where the simple command takes them.
-fn matched<'a>(alloc: Global, words: &'a [String]) -> Result<ArgMatches<'a>, WordsFault>
+fn matches_in<'a>(alloc: Global, words: &'a [String]) -> Result<ArgMatches<'a>, WordsFault>
     ensures { MatchResult result (HasMatched (map (λ w. string_bytes w) words.now)) (IsRefused (map (λ w. string_bytes w) words.now)) }
 {
     let command = simple_command(alloc)?;
@@ -159,7 +159,7 @@ fn asked_by(command: Option<&str>, number: Option<&str>, rack: Option<&str>) -> 
 }
 
 /// What the values that were matched ask for.
-#[tactic(auto, using(crate::proofs::ClapLemmas::rows_ask))]
+#[tactic(auto, using(crate::proofs::ByClapLemmas::rows_ask))]
 fn asked_by_matches(matches: &ArgMatches) -> Option<Words>
     ensures { result ≡ asked_by_rows (rows_of (found_of matches.now)) }
 {
@@ -187,6 +187,6 @@ pub fn read(alloc: Global, words: &[String]) -> Result<Words, WordsFault>
     ensures plainly { IsAnswer (plainly (map (λ w. string_bytes w) words.now)) result }
     ensures line { AnswersLine (map (λ w. string_bytes w) words.now) result }
 {
-    let matches = matched(alloc, words)?;
+    let matches = matches_in(alloc, words)?;
     answer(asked_by_matches(&matches))
 }

@@ -1,7 +1,7 @@
 // The class blocks of the audio control interface (Audio Class 2.0, 4.7.2).
 ghost use Rattle.std.specs.Prelude.{◌≡◌, ◌+◌, ◌==◌, IfOk, length, slice_index};
 ghost use Rattle.uac_descriptor.specs.Layout.{IsWhole};
-ghost use Rattle.uac_descriptor.specs.Rows as rows;
+ghost use Rattle.uac_descriptor.specs.LayoutRows as rows;
 ghost use Rattle.uac_grammar.specs.Row.{read_row};
 
 use super::parts::{four_at, two_at, words_of};
@@ -12,7 +12,7 @@ use uac_descriptor::{
 };
 
 /// The header (Audio Class 2.0, 4.7.2).
-#[tactic(auto, unfolding(uac_descriptor::specs::Reading::has_length, uac_descriptor::specs::Reading::fields))]
+#[tactic(auto, unfolding(uac_descriptor::specs::BlockReading::has_length, uac_descriptor::specs::BlockReading::fields))]
 pub(super) fn header(bytes: &[u8]) -> Option<Block>
     ensures { result ≡ read_row rows.header bytes.now }
 {
@@ -28,7 +28,7 @@ pub(super) fn header(bytes: &[u8]) -> Option<Block>
 }
 
 /// A clock source (Audio Class 2.0, 4.7.2.1).
-#[tactic(auto, unfolding(uac_descriptor::specs::Reading::has_length, uac_descriptor::specs::Reading::fields))]
+#[tactic(auto, unfolding(uac_descriptor::specs::BlockReading::has_length, uac_descriptor::specs::BlockReading::fields))]
 pub(super) fn clock_source(bytes: &[u8]) -> Option<Block>
     ensures { result ≡ read_row rows.clock_source bytes.now }
 {
@@ -45,7 +45,7 @@ pub(super) fn clock_source(bytes: &[u8]) -> Option<Block>
 }
 
 /// A clock selector (Audio Class 2.0, 4.7.2.2).
-#[tactic(auto, unfolding(uac_descriptor::specs::Reading::has_length, uac_descriptor::specs::Reading::fields))]
+#[tactic(auto, unfolding(uac_descriptor::specs::BlockReading::has_length, uac_descriptor::specs::BlockReading::fields))]
 pub(super) fn clock_selector(alloc: Global, bytes: &[u8]) -> Result<Option<Block>, NoMemory>
     requires { IsWhole bytes.now }
     ensures { IfOk result (λ found. found ≡ read_row rows.clock_selector bytes.now) }
@@ -53,17 +53,17 @@ pub(super) fn clock_selector(alloc: Global, bytes: &[u8]) -> Result<Option<Block
     if !has_pins(bytes) {
         return Ok(None);
     }
-    let (sources, behind) = bytes[5..].split_at(bytes[4] as usize);
+    let (sources, following) = bytes[5..].split_at(bytes[4] as usize);
     Ok(Some(Block::ClockSelector(ClockSelector {
         id: bytes[3],
         sources: ByteList::from_slice(alloc, sources)?,
-        controls: behind[0],
-        name: behind[1],
+        controls: following[0],
+        name: following[1],
     })))
 }
 
 /// A clock multiplier (Audio Class 2.0, 4.7.2.3).
-#[tactic(auto, unfolding(uac_descriptor::specs::Reading::has_length, uac_descriptor::specs::Reading::fields))]
+#[tactic(auto, unfolding(uac_descriptor::specs::BlockReading::has_length, uac_descriptor::specs::BlockReading::fields))]
 pub(super) fn clock_multiplier(bytes: &[u8]) -> Option<Block>
     ensures { result ≡ read_row rows.clock_multiplier bytes.now }
 {
@@ -79,7 +79,7 @@ pub(super) fn clock_multiplier(bytes: &[u8]) -> Option<Block>
 }
 
 /// An input terminal (Audio Class 2.0, 4.7.2.4).
-#[tactic(auto, unfolding(uac_descriptor::specs::Reading::has_length, uac_descriptor::specs::Reading::fields))]
+#[tactic(auto, unfolding(uac_descriptor::specs::BlockReading::has_length, uac_descriptor::specs::BlockReading::fields))]
 pub(super) fn input_terminal(bytes: &[u8]) -> Option<Block>
     ensures { result ≡ read_row rows.input_terminal bytes.now }
 {
@@ -100,7 +100,7 @@ pub(super) fn input_terminal(bytes: &[u8]) -> Option<Block>
 }
 
 /// An output terminal (Audio Class 2.0, 4.7.2.5).
-#[tactic(auto, unfolding(uac_descriptor::specs::Reading::has_length, uac_descriptor::specs::Reading::fields))]
+#[tactic(auto, unfolding(uac_descriptor::specs::BlockReading::has_length, uac_descriptor::specs::BlockReading::fields))]
 pub(super) fn output_terminal(bytes: &[u8]) -> Option<Block>
     ensures { result ≡ read_row rows.output_terminal bytes.now }
 {
@@ -119,7 +119,7 @@ pub(super) fn output_terminal(bytes: &[u8]) -> Option<Block>
 }
 
 /// A mixer unit (Audio Class 2.0, 4.7.2.6).
-#[tactic(auto, unfolding(uac_descriptor::specs::Reading::has_length, uac_descriptor::specs::Reading::fields))]
+#[tactic(auto, unfolding(uac_descriptor::specs::BlockReading::has_length, uac_descriptor::specs::BlockReading::fields))]
 pub(super) fn mixer(alloc: Global, bytes: &[u8]) -> Result<Option<Block>, NoMemory>
     requires { IsWhole bytes.now }
     ensures { IfOk result (λ found. found ≡ read_row rows.mixer bytes.now) }
@@ -128,14 +128,14 @@ pub(super) fn mixer(alloc: Global, bytes: &[u8]) -> Result<Option<Block>, NoMemo
         return Ok(None);
     }
     let bit_bytes = bytes.len() - 13 - bytes[4] as usize;
-    let (sources, behind) = bytes[5..].split_at(bytes[4] as usize);
-    let (mix_bits, tail) = behind[6..].split_at(bit_bytes);
+    let (sources, following) = bytes[5..].split_at(bytes[4] as usize);
+    let (mix_bits, tail) = following[6..].split_at(bit_bytes);
     Ok(Some(Block::Mixer(Mixer {
         id: bytes[3],
         sources: ByteList::from_slice(alloc, sources)?,
-        channels: behind[0],
-        locations: four_at(behind, 1),
-        names: behind[5],
+        channels: following[0],
+        locations: four_at(following, 1),
+        names: following[5],
         mix_bits: ByteList::from_slice(alloc, mix_bits)?,
         controls: tail[0],
         name: tail[1],
@@ -143,7 +143,7 @@ pub(super) fn mixer(alloc: Global, bytes: &[u8]) -> Result<Option<Block>, NoMemo
 }
 
 /// A selector unit (Audio Class 2.0, 4.7.2.7).
-#[tactic(auto, unfolding(uac_descriptor::specs::Reading::has_length, uac_descriptor::specs::Reading::fields))]
+#[tactic(auto, unfolding(uac_descriptor::specs::BlockReading::has_length, uac_descriptor::specs::BlockReading::fields))]
 pub(super) fn selector(alloc: Global, bytes: &[u8]) -> Result<Option<Block>, NoMemory>
     requires { IsWhole bytes.now }
     ensures { IfOk result (λ found. found ≡ read_row rows.selector bytes.now) }
@@ -151,17 +151,17 @@ pub(super) fn selector(alloc: Global, bytes: &[u8]) -> Result<Option<Block>, NoM
     if !has_pins(bytes) {
         return Ok(None);
     }
-    let (sources, behind) = bytes[5..].split_at(bytes[4] as usize);
+    let (sources, following) = bytes[5..].split_at(bytes[4] as usize);
     Ok(Some(Block::Selector(Selector {
         id: bytes[3],
         sources: ByteList::from_slice(alloc, sources)?,
-        controls: behind[0],
-        name: behind[1],
+        controls: following[0],
+        name: following[1],
     })))
 }
 
 /// A feature unit (Audio Class 2.0, 4.7.2.8).
-#[tactic(auto, using(crate::proofs::Parts::words_length), unfolding(uac_descriptor::specs::Reading::has_length, uac_descriptor::specs::Reading::fields))]
+#[tactic(auto, using(crate::proofs::Parts::words_length), unfolding(uac_descriptor::specs::BlockReading::has_length, uac_descriptor::specs::BlockReading::fields))]
 pub(super) fn feature(alloc: Global, bytes: &[u8]) -> Result<Option<Block>, NoMemory>
     requires { IsWhole bytes.now }
     ensures { IfOk result (λ found. found ≡ read_row rows.feature bytes.now) }
@@ -178,7 +178,7 @@ pub(super) fn feature(alloc: Global, bytes: &[u8]) -> Result<Option<Block>, NoMe
 }
 
 /// An effect unit (Audio Class 2.0, 4.7.2.10; profile: its control words and its length).
-#[tactic(auto, using(crate::proofs::Parts::words_length), unfolding(uac_descriptor::specs::Reading::has_length, uac_descriptor::specs::Reading::fields))]
+#[tactic(auto, using(crate::proofs::Parts::words_length), unfolding(uac_descriptor::specs::BlockReading::has_length, uac_descriptor::specs::BlockReading::fields))]
 pub(super) fn effect(alloc: Global, bytes: &[u8]) -> Result<Option<Block>, NoMemory>
     requires { IsWhole bytes.now }
     ensures { IfOk result (λ found. found ≡ read_row rows.effect bytes.now) }

@@ -1,7 +1,7 @@
 // Fields of more than one byte, and lists.
 ghost use Rattle.std.specs.Prelude.{◌≡◌, ◌+◌, ◌*◌, ◌≤◌, length, IfOk};
 ghost use Rattle.uac_descriptor.specs.Little.{two_at, four_at};
-ghost use Rattle.uac_descriptor.specs.Reading.{words_in};
+ghost use Rattle.uac_descriptor.specs.BlockReading.{words_in};
 
 use byteorder::{ByteOrder, LittleEndian};
 use std::alloc::Global;

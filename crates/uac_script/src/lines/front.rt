@@ -32,7 +32,7 @@ fn find_end(bytes: &[u8], searched: usize) -> usize
     ensures { result ≡ line_end bytes.now }
 {
     match find_newline(&bytes[searched..]) {
-        Some(behind) => searched + behind,
+        Some(following) => searched + following,
         None => bytes.len(),
     }
 }

@@ -1,6 +1,6 @@
 // Lines in pieces of any size, with a fault, without an end, and at the limits.
 ghost use Rattle.std.specs.Prelude.{◌≤◌};
-ghost use Rattle.uac_script.specs.Lines.{most_of_input};
+ghost use Rattle.uac_script.specs.ScriptLines.{most_of_input};
 
 use super::unread::Unread;
 use super::{LineStop, Lines, Next};
@@ -145,7 +145,7 @@ fn second_call_fails(rt: HostRuntime) -> Result<(), Fail> {
 
 // After a last line without a newline the source isn't called: its third call would fail.
 #[test]
-fn no_call_behind_the_end(rt: HostRuntime) -> Result<(), Fail> {
+fn no_call_after_the_end(rt: HostRuntime) -> Result<(), Fail> {
     let alloc = rt.alloc();
     let third = WordList::from_vec(vec![in alloc; 3]?);
     let bytes = ByteList::from_vec(b"v 1".as_slice().to_vec(alloc)?);

@@ -2,7 +2,7 @@
 ghost use Rattle.std.specs.Prelude.{◌≡◌, ℕ, ◌+◌, ◌-◌, ◌<◌, ◌≤◌, [], length, take, drop, IfOk, OnErr};
 ghost use Rattle.std.specs.Io.KnownBytes.{Keeps};
 ghost use Rattle.uac_edges.specs.Faults.{HasCause};
-ghost use Rattle.uac_script.specs.Lines.{piece_size};
+ghost use Rattle.uac_script.specs.ScriptLines.{piece_size};
 ghost use Rattle.uac_script.specs.Taking.{Grows};
 
 use std::marker::Model;

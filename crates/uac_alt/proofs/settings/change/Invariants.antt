@@ -1,6 +1,6 @@
 use Rattle.std.proofs.Common.{◌≡◌, ◌++◌, map, take, drop}
-use Rattle.uac_alt.specs.Settings.{changed}
+use Rattle.uac_alt.specs.AltSettings.{interface_setting_after}
 use Rattle.uac_alt.proofs.settings.change.Given as goal
 
 abbrev pub invariant-loop-held : goal.invariant-loop-held
-invariant-loop-held l = l.settings ≡ map (changed l.interface l.setting) (take l.held-index l.initial.settings) ++ drop l.held-index l.initial.settings
+invariant-loop-held l = l.settings ≡ map (interface_setting_after l.interface l.setting) (take l.held-index l.initial.settings) ++ drop l.held-index l.initial.settings

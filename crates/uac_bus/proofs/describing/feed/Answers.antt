@@ -1,5 +1,5 @@
 use Rattle.std.proofs.Common.{◌∙◌, ap}
-use Rattle.uac_bus.specs.Rows.{bus_fault_of}
+use Rattle.uac_bus.specs.BusRows.{bus_fault_of}
 use Rattle.uac_bus.proofs.DescriptorLines.{fed_well, fed_ill}
 use Rattle.uac_bus.proofs.describing.feed.Goals as goal
 

@@ -2,7 +2,7 @@ use Rattle.std.proofs.Common.{ℤ, w32, subst, sym, ◌∙◌}
 use Rattle.std.proofs.KnownBytes.{Appends-nil}
 use Rattle.std.proofs.lemmas.Int.{to_z-of_z}
 use Rattle.uac_running.specs.RunningWorld.{with_deviation}
-use Rattle.uac_running.specs.Kept.{StandsBetween}
+use Rattle.uac_running.specs.RunningKept.{StandsBetween}
 use Rattle.uac_bus.proofs.Rowing.{unless_reached}
 use Rattle.uac_bus.proofs.rows.deviate.Goals as goal
 

@@ -2,7 +2,7 @@ use Rattle.std.proofs.Common.{sym, subst, ◌∙◌}
 use Rattle.std.proofs.KnownBytes.{Appends-nil}
 use Rattle.uac_pcm.specs.declared.tones.Tone.{Tone}
 use Rattle.uac_running.specs.RunningWorld.{with_track}
-use Rattle.uac_running.specs.Kept.{StandsBetween}
+use Rattle.uac_running.specs.RunningKept.{StandsBetween}
 use Rattle.uac_bus.proofs.Stepping.{tone_back}
 use Rattle.uac_bus.proofs.Rowing.{unless_reached, streams_in, has_out_in}
 use Rattle.uac_bus.proofs.rows.track.Goals as goal

@@ -1,8 +1,8 @@
 use Rattle.std.proofs.Common.{ap}
 use Rattle.uac_mixer.specs.ViewWorld.{ViewWorld}
 use Rattle.uac_bus.specs.declared.bus.BusStage.TheVariants as stages
-use Rattle.uac_bus.specs.World.{Step}
-use Rattle.uac_bus.specs.Kept.{IsCut, Reaches, StandsFor}
+use Rattle.uac_bus.specs.BusWorld.{Step}
+use Rattle.uac_bus.specs.BusKept.{IsCut, Reaches, StandsFor}
 use Rattle.uac_bus.proofs.TransferRows.{on_named}
 use Rattle.uac_bus.proofs.transfers.get.Goals as goal
 

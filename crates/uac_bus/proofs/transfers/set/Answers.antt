@@ -2,12 +2,12 @@ use Rattle.std.proofs.Common.{◌≡◌, ◌∙◌, sym, ap, subst, ℤ, w32, to
 use Rattle.std.proofs.lemmas.Int.{to_z-of_z}
 use Rattle.uac_edges.specs.declared.edges.Failed.{Failed}
 use Rattle.uac_mixer.specs.ViewWorld.{ViewWorld}
-use Rattle.uac_mixer.specs.Elements.{fits_element}
-use Rattle.uac_running.specs.Kept.{TellsBetween}
-use Rattle.uac_running.specs.Transfers.{set_element}
+use Rattle.uac_mixer.specs.MixerElements.{fits_element}
+use Rattle.uac_running.specs.RunningKept.{TellsBetween}
+use Rattle.uac_running.specs.RunningTransfers.{set_element}
 use Rattle.uac_bus.specs.declared.bus.BusStage.TheVariants as stages
-use Rattle.uac_bus.specs.World.{Step, breaks_rule}
-use Rattle.uac_bus.specs.Kept.{IsCut, Reaches, StandsFor}
+use Rattle.uac_bus.specs.BusWorld.{Step, breaks_rule}
+use Rattle.uac_bus.specs.BusKept.{IsCut, Reaches, StandsFor}
 use Rattle.uac_bus.proofs.Stepping.{unless_fails, unless_holds}
 use Rattle.uac_bus.proofs.TransferRows.{on_named}
 use Rattle.uac_bus.proofs.transfers.set.Goals as goal

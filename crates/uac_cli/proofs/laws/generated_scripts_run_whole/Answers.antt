@@ -1,4 +1,4 @@
-use Rattle.uac_cli.proofs.GeneratedLemmas.{generated_scripts_run_whole}
+use Rattle.uac_cli.proofs.GeneratedCallLemmas.{generated_scripts_run_whole}
 use Rattle.uac_cli.proofs.laws.generated_scripts_run_whole.Goals as goal
 
 pub returns : goal.returns

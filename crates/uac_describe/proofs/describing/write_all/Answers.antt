@@ -2,10 +2,10 @@ use Rattle.std.proofs.Common.{ℕ, List, flat_map, subst}
 use Rattle.uac_edges.specs.Writing.{AppendsFront}
 use Rattle.uac_edges.proofs.WritingLemmas.{AppendsFront-after, AppendsFront-longer, Writes-handed_on}
 use Rattle.uac_entities.specs.declared.entity.Entity.{Entity}
-use Rattle.uac_store.specs.Controls.{initial_controls}
-use Rattle.uac_listing.specs.Blocks.{block_lines}
-use Rattle.uac_listing.specs.Entities.{entity_line}
-use Rattle.uac_listing.specs.Settings.{setting_lines}
+use Rattle.uac_store.specs.StoreControls.{initial_controls}
+use Rattle.uac_listing.specs.BlockLines.{block_lines}
+use Rattle.uac_listing.specs.EntityLines.{entity_line}
+use Rattle.uac_listing.specs.SettingLines.{setting_lines}
 use Rattle.uac_describe.proofs.describing.write_all.Goals as goal
 
 pub returns-in_err-write_entities-clause-written : goal.returns-in_err-write_entities-clause-written

@@ -1,6 +1,6 @@
 use Rattle.std.proofs.Common.{◌≡◌, ◌≤◌, None, ◌-◌, length}
 use Rattle.std.specs.Io.KnownBytes.{Consumes}
-use Rattle.uac_grammar.specs.Reading.{most_taken}
+use Rattle.uac_grammar.specs.ReaderKept.{most_taken}
 use Rattle.uac_grammar.specs.Stop.{shown_fault}
 use Rattle.uac_describe.proofs.reading.read_descriptor.Given as goal
 

@@ -1,6 +1,6 @@
 use Rattle.std.proofs.Common.{refl}
 use Rattle.uac_edges.proofs.WritingLemmas.{front_of_each, Writes-handed_on}
-use Rattle.uac_describe.specs.Settling.{settling_line}
+use Rattle.uac_describe.specs.SettleLines.{settling_line}
 use Rattle.uac_describe.proofs.settling.write_rates.Goals as goal
 
 pub returns-in_err-write_rate-clause-written : goal.returns-in_err-write_rate-clause-written

@@ -1,6 +1,6 @@
 use Rattle.std.proofs.Common.{◌≡◌, flat_map, take}
 use Rattle.std.specs.Io.KnownBytes.{Appends}
-use Rattle.uac_describe.specs.Settling.{settling_line}
+use Rattle.uac_describe.specs.SettleLines.{settling_line}
 use Rattle.uac_describe.proofs.settling.write_rates.Given as goal
 
 abbrev pub invariant-loop-rate : goal.invariant-loop-rate

@@ -1,4 +1,4 @@
-use Rattle.uac_descriptor.proofs.KeptLemmas.{one_spelling_lem}
+use Rattle.uac_descriptor.proofs.LawsLemmas.{one_spelling_lem}
 use Rattle.uac_descriptor.proofs.laws.one_spelling.Goals as goal
 
 pub returns : goal.returns

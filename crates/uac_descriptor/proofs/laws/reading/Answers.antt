@@ -1,4 +1,4 @@
-use Rattle.uac_descriptor.proofs.KeptLemmas.{spelt_is_read, read_is_spelt}
+use Rattle.uac_descriptor.proofs.LawsLemmas.{spelt_is_read, read_is_spelt}
 use Rattle.uac_descriptor.proofs.laws.reading.Goals as goal
 
 pub returns-clause-spelt_is_read : goal.returns-clause-spelt_is_read

@@ -1,8 +1,8 @@
 use Rattle.std.proofs.Common.{◌∙◌, ap, arith}
-use Rattle.uac_device.specs.Kept.{IsInRange}
-use Rattle.uac_device.specs.Turns.{advanced_clock, ticks_where}
+use Rattle.uac_device.specs.DeviceKept.{IsInRange}
+use Rattle.uac_device.specs.DeviceTurns.{advanced_clock, ticks_where}
 use Rattle.uac_device.specs.declared.clocks.Clock.{Clock}
-use Rattle.uac_device.proofs.Kept.{first_more, first_read}
+use Rattle.uac_device.proofs.DeviceKeptLemmas.{first_more, first_read}
 use Rattle.uac_lanes.proofs.Turning.{turned_all, turned_more, untouched, untouched_holds}
 use Rattle.uac_device.proofs.clocks.advance.Goals as goal
 

@@ -1,7 +1,7 @@
 use Rattle.std.proofs.Common.{◌≡◌, ◌==◌, take}
 use Rattle.std.specs.List.{find}
 use Rattle.std.specs.Option.{option_and_then}
-use Rattle.uac_device.specs.Turns.{advanced_clock, ticks_where}
+use Rattle.uac_device.specs.DeviceTurns.{advanced_clock, ticks_where}
 use Rattle.uac_lanes.proofs.Turning.{IsTurnedBelow}
 use Rattle.uac_device.proofs.clocks.advance.Given as goal
 

@@ -1,4 +1,4 @@
-use Rattle.uac_device.specs.Turns.{deviated_clock}
+use Rattle.uac_device.specs.DeviceTurns.{deviated_clock}
 use Rattle.uac_lanes.proofs.Turning.{IsTurnedBelow}
 use Rattle.uac_device.proofs.clocks.deviate.Given as goal
 

@@ -1,5 +1,5 @@
 use Rattle.std.proofs.Common.{◌≡◌, map, take}
-use Rattle.uac_device.specs.Turns.{resting_clock}
+use Rattle.uac_device.specs.DeviceTurns.{resting_clock}
 use Rattle.uac_device.proofs.clocks.resting_clocks.Given as goal
 
 abbrev pub invariant-loop-domain : goal.invariant-loop-domain

@@ -2,7 +2,7 @@ use Rattle.std.proofs.Common.{◌≡◌, ◌∙◌, ◌==◌, ℕ, ap, subst, sy
 use Rattle.std.specs.List.{find}
 use Rattle.std.specs.Option.{option_and_then}
 use Rattle.uac_entities.specs.declared.stream.StreamInterface.{StreamInterface}
-use Rattle.uac_alt.specs.Streams.{stream_of}
+use Rattle.uac_alt.specs.AltStreams.{stream_of}
 use Rattle.uac_request.specs.Requests.{rate_at}
 use Rattle.uac_device.specs.DeviceWorld.{stream_in_setting}
 use Rattle.uac_device.proofs.Asked.{has_number}

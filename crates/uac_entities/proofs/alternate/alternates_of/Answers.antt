@@ -4,8 +4,8 @@ use Rattle.std.proofs.lemmas.List.{take_rest}
 use Rattle.uac_descriptor.specs.declared.block.Block as block
 use Rattle.uac_descriptor.specs.declared.block.Block.TheVariants as row
 use Rattle.uac_entities.specs.declared.alternate.Alternate.{Alternate}
-use Rattle.uac_entities.specs.Settings.{alternate_at, alternates_of}
-use Rattle.uac_entities.proofs.Behind.{alternates_at, alternates_end, no_alternate}
+use Rattle.uac_entities.specs.EntitySettings.{alternate_at, alternates_of}
+use Rattle.uac_entities.proofs.BlocksFollowing.{alternates_at, alternates_end, no_alternate}
 use Rattle.uac_entities.proofs.alternate.alternates_of.Goals as goal
 use Rattle.uac_entities.proofs.alternate.alternates_of.Goals.{in-Interface+in_ok-keep, in_default}
 

@@ -1,5 +1,5 @@
 use Rattle.std.proofs.Common.{◌≡◌, ◌++◌, drop}
-use Rattle.uac_entities.specs.Settings.{alternates_of}
+use Rattle.uac_entities.specs.EntitySettings.{alternates_of}
 use Rattle.uac_entities.proofs.alternate.alternates_of.Given as goal
 
 abbrev pub invariant-loop-place : goal.invariant-loop-place

@@ -1,5 +1,5 @@
 use Rattle.std.proofs.Common.{◌≡◌, drop}
-use Rattle.uac_entities.specs.Streams.{named}
+use Rattle.uac_entities.specs.EntityStreams.{named}
 use Rattle.uac_entities.proofs.interfaces.kind_of.Given as goal
 
 abbrev pub invariant-loop-entity : goal.invariant-loop-entity

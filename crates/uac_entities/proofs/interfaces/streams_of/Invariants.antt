@@ -1,6 +1,6 @@
 use Rattle.std.proofs.Common.{◌≡◌, take}
 use Rattle.std.specs.List.{filter_map}
-use Rattle.uac_entities.specs.Streams.{stream_at}
+use Rattle.uac_entities.specs.EntityStreams.{stream_at}
 use Rattle.uac_entities.proofs.interfaces.streams_of.Given as goal
 
 abbrev pub invariant-loop-alternate : goal.invariant-loop-alternate

@@ -1,6 +1,6 @@
 use Rattle.std.proofs.Common.{◌≡◌, ◌+◌, ◌-◌, ◌*◌, ◌++◌, [], ◌∷◌, take, drop, ap, ◌∙◌}
 use Rattle.hex.specs.Hex.{encode_lower}
-use Rattle.uac_gen.proofs.LineLemmas.{piece}
+use Rattle.uac_gen.proofs.GeneratedScriptLemmas.{piece}
 use Rattle.uac_gen.proofs.lines.feed_line.Goals as goal
 
 pub returns : goal.returns

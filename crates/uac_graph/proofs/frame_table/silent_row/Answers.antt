@@ -4,7 +4,7 @@ use Rattle.std.proofs.lemmas.List.{length-set, length-replicate}
 use Rattle.arrayvec.specs.declared.array_vec.ArrayVec.{ArrayVec}
 use Rattle.uac_entities.specs.declared.entity.Entity.{Entity}
 use Rattle.uac_topology_rules.specs.Links.{is_clock}
-use Rattle.uac_graph.specs.Rows.{frames_in}
+use Rattle.uac_graph.specs.FrameRows.{frames_in}
 use Rattle.uac_graph.specs.Wiring.{Frames, frame_on, silence}
 use Rattle.uac_topology_rules.proofs.TableSteps.{at_read}
 use Rattle.uac_graph.proofs.Lookups.{AreSilentBelow, silent_all, silent_clock, silent_none, silent_wire}

@@ -1,6 +1,6 @@
 use Rattle.std.proofs.Common.{◌≡◌, length, map}
 use Rattle.std.specs.Option.{option_map}
-use Rattle.uac_graph.specs.Rows.{frames_in}
+use Rattle.uac_graph.specs.FrameRows.{frames_in}
 use Rattle.uac_graph.proofs.Lookups.{AreSilentBelow}
 use Rattle.uac_graph.proofs.frame_table.silent_row.Given as goal
 

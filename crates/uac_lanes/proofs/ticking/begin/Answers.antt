@@ -76,20 +76,20 @@ loop-lane-preserved c =
       few_over = few_more c.loop-lane.over c.loop-lane.bit c.with_bit-over.result c.begin-found.result.full c.loop-lane.invariant.few_over c.with_bit-over.ensures;
     }
 
-pub told-requires-clause-under : goal.told-requires-clause-under
-told-requires-clause-under c =
+pub bits_met-requires-clause-under : goal.bits_met-requires-clause-under
+bits_met-requires-clause-under c =
     let most : 2 ^ c.loop-lane.lane-index ≤ 256 = light c.loop-lane.lane-index (omega (arith, c.loop-lane.invariant.inside, c.requires.few)) in
     omega (arith, most, c.loop-lane.invariant.weight, c.loop-lane.invariant.few_under)
 
-pub told-requires-clause-over : goal.told-requires-clause-over
-told-requires-clause-over c =
+pub bits_met-requires-clause-over : goal.bits_met-requires-clause-over
+bits_met-requires-clause-over c =
     let most : 2 ^ c.loop-lane.lane-index ≤ 256 = light c.loop-lane.lane-index (omega (arith, c.loop-lane.invariant.inside, c.requires.few)) in
     omega (arith, most, c.loop-lane.invariant.weight, c.loop-lane.invariant.few_over)
 
 pub returns-clause-met : goal.returns-clause-met
 returns-clause-met c outs ins keeps =
     let past : length c.args.lanes.now ≤ c.loop-lane.lane-index = omega (arith, c.loop-lane.invariant.turned.same) in
-    c.told.ensures
+    c.bits_met.ensures
     ∙ ap (λ (n : ℕ). let t : Ticked = record { under = n; over = c.loop-lane.over } in t)
     (met_all (λ p. found_dry c.args.domain (outs p.interface) p) c.args.lanes.now c.loop-lane.lane-index c.loop-lane.under past (c.loop-lane.invariant.under outs ins keeps))
     ∙ ap (λ (n : ℕ). let t : Ticked = record { under = bits_of (map (λ p. found_dry c.args.domain (outs p.interface) p) (ports c.args.lanes.now)); over = n } in t)

@@ -1,7 +1,7 @@
 use Rattle.std.proofs.Common.{◌≡◌, ℕ, ◌^◌, ◌<◌, ◌≤◌, Option, length, map, take}
 use Rattle.std.specs.Option.{option_map}
 use Rattle.uac_graph.specs.Wiring.{frame_on}
-use Rattle.uac_flow.specs.Streams.{InStream, OutStream}
+use Rattle.uac_flow.specs.FlowStreams.{InStream, OutStream}
 use Rattle.uac_lanes.specs.InterfaceStreams.{bits_of}
 use Rattle.uac_lanes.specs.Lanes.{KeepsStreams, found_dry, found_full, given_by, ports, taken_on}
 use Rattle.uac_lanes.proofs.TurnedLanes.{IsTurnedTo}

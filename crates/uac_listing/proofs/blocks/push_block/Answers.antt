@@ -1,5 +1,5 @@
 use Rattle.std.proofs.Common.{List, ℕ, ◌++◌, refl, ap, ◌∙◌}
-use Rattle.uac_listing.proofs.ListingLemmas.{line-spelling}
+use Rattle.uac_listing.proofs.BlockLinesLemmas.{line-spelling}
 use Rattle.uac_listing.proofs.blocks.push_block.Goals as goal
 
 pub returns-clause-text : goal.returns-clause-text

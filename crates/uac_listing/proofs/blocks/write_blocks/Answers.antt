@@ -1,7 +1,7 @@
 use Rattle.std.proofs.Common.{List, ℕ, ◌++◌, ap, subst, ◌∙◌}
 use Rattle.uac_edges.specs.Writing.{AppendsFront, Writes}
 use Rattle.uac_edges.proofs.WritingLemmas.{Appends-twice, AppendsFront-after, AppendsFront-longer, Writes-after, Writes-handed_on}
-use Rattle.uac_listing.proofs.ListingLemmas.{lines_wait, lines_end, bytes_more}
+use Rattle.uac_listing.proofs.BlockLinesLemmas.{lines_wait, lines_end, bytes_more}
 use Rattle.uac_listing.proofs.blocks.write_blocks.Goals as goal
 
 pub returns-in_err-make_room-clause-written : goal.returns-in_err-make_room-clause-written

@@ -1,7 +1,7 @@
 use Rattle.std.proofs.Common.{◌≡◌, ◌≤◌, ℕ, List, ◌++◌, length, flat_map, drop}
 use Rattle.std.specs.Io.KnownBytes.{Appends}
 use Rattle.uac_descriptor.specs.Spelling.{spelling}
-use Rattle.uac_listing.specs.Blocks.{block_lines}
+use Rattle.uac_listing.specs.BlockLines.{block_lines}
 use Rattle.uac_listing.proofs.blocks.write_blocks.Given as goal
 
 abbrev pub invariant-loop-block : goal.invariant-loop-block

@@ -1,5 +1,5 @@
 use Rattle.std.proofs.Common.{◌∙◌}
-use Rattle.uac_listing.specs.Elements.{element_line}
+use Rattle.uac_listing.specs.ElementLines.{element_line}
 use Rattle.uac_edges.proofs.WritingLemmas.{front_of_each, Writes-handed_on}
 use Rattle.uac_listing.proofs.elements.write_elements.Goals as goal
 

@@ -1,6 +1,6 @@
 use Rattle.std.proofs.Common.{◌≡◌, flat_map, take}
 use Rattle.std.specs.Io.KnownBytes.{Appends}
-use Rattle.uac_listing.specs.Elements.{element_line}
+use Rattle.uac_listing.specs.ElementLines.{element_line}
 use Rattle.uac_listing.proofs.elements.write_elements.Given as goal
 
 abbrev pub invariant-loop-element : goal.invariant-loop-element

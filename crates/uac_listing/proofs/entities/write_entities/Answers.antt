@@ -1,5 +1,5 @@
 use Rattle.std.proofs.Common.{ap}
-use Rattle.uac_listing.specs.Entities.{entity_line}
+use Rattle.uac_listing.specs.EntityLines.{entity_line}
 use Rattle.uac_edges.proofs.WritingLemmas.{front_of_each, Writes-handed_on}
 use Rattle.uac_listing.proofs.entities.write_entities.Goals as goal
 

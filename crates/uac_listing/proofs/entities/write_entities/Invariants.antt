@@ -1,6 +1,6 @@
 use Rattle.std.proofs.Common.{◌≡◌, flat_map, take}
 use Rattle.std.specs.Io.KnownBytes.{Appends}
-use Rattle.uac_listing.specs.Entities.{entity_line}
+use Rattle.uac_listing.specs.EntityLines.{entity_line}
 use Rattle.uac_listing.proofs.entities.write_entities.Given as goal
 
 abbrev pub invariant-loop-entity : goal.invariant-loop-entity

@@ -1,7 +1,7 @@
 use Rattle.std.proofs.Common.{List, ℕ, subst, ◌∙◌}
 use Rattle.uac_edges.specs.Writing.{Writes}
 use Rattle.uac_edges.proofs.WritingLemmas.{Writes-after}
-use Rattle.uac_listing.proofs.ListingLemmas.{ids_parts}
+use Rattle.uac_listing.proofs.BlockLinesLemmas.{ids_parts}
 use Rattle.uac_listing.proofs.entities.write_ids.Goals as goal
 
 pub returns-clause-written : goal.returns-clause-written

@@ -1,6 +1,6 @@
 use Rattle.std.proofs.Common.{◌≡◌, take}
 use Rattle.std.specs.Io.KnownBytes.{Appends}
-use Rattle.uac_listing.specs.Entities.{more_ids}
+use Rattle.uac_listing.specs.EntityLines.{more_ids}
 use Rattle.uac_listing.proofs.entities.write_more_ids.Given as goal
 
 abbrev pub invariant-loop-id : goal.invariant-loop-id

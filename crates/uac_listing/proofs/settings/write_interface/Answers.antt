@@ -4,7 +4,7 @@ use Rattle.std.specs.Io.KnownBytes.{Appends}
 use Rattle.uac_edges.specs.Writing.{AppendsFront}
 use Rattle.uac_edges.proofs.WritingLemmas.{front_of_each, Writes-handed_on}
 use Rattle.uac_entities.specs.declared.stream.Setting.{Setting}
-use Rattle.uac_listing.specs.Settings.{interface_lines, setting_line}
+use Rattle.uac_listing.specs.SettingLines.{interface_lines, setting_line}
 use Rattle.uac_listing.proofs.settings.write_interface.Goals as goal
 
 pub returns-in_err-write_setting-clause-written : goal.returns-in_err-write_setting-clause-written

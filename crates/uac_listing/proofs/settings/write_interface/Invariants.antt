@@ -1,6 +1,6 @@
 use Rattle.std.proofs.Common.{◌≡◌, flat_map, take}
 use Rattle.std.specs.Io.KnownBytes.{Appends}
-use Rattle.uac_listing.specs.Settings.{setting_line}
+use Rattle.uac_listing.specs.SettingLines.{setting_line}
 use Rattle.uac_listing.proofs.settings.write_interface.Given as goal
 
 abbrev pub invariant-loop-setting : goal.invariant-loop-setting

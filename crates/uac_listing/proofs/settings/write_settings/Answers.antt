@@ -2,7 +2,7 @@ use Rattle.std.proofs.Common.{List, ap, subst, flat_map}
 use Rattle.uac_edges.specs.Writing.{AppendsFront}
 use Rattle.uac_edges.proofs.WritingLemmas.{front_of_each, Writes-handed_on}
 use Rattle.uac_entities.specs.declared.stream.StreamInterface.{StreamInterface}
-use Rattle.uac_listing.specs.Settings.{interface_lines}
+use Rattle.uac_listing.specs.SettingLines.{interface_lines}
 use Rattle.uac_listing.proofs.settings.write_settings.Goals as goal
 
 pub returns-in_err-write_interface-clause-written : goal.returns-in_err-write_interface-clause-written

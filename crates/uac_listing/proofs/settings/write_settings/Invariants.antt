@@ -1,6 +1,6 @@
 use Rattle.std.proofs.Common.{◌≡◌, flat_map, take}
 use Rattle.std.specs.Io.KnownBytes.{Appends}
-use Rattle.uac_listing.specs.Settings.{interface_lines}
+use Rattle.uac_listing.specs.SettingLines.{interface_lines}
 use Rattle.uac_listing.proofs.settings.write_settings.Given as goal
 
 abbrev pub invariant-loop-stream : goal.invariant-loop-stream

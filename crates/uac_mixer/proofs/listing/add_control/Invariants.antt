@@ -1,6 +1,6 @@
 use Rattle.std.proofs.Common.{◌≡◌, ◌++◌}
 use Rattle.std.specs.List.{filter_map, range_with_len}
-use Rattle.uac_mixer.specs.Elements.{element_on}
+use Rattle.uac_mixer.specs.MixerElements.{element_on}
 use Rattle.uac_mixer.proofs.listing.add_control.Given as goal
 
 abbrev pub invariant-loop-channel : goal.invariant-loop-channel

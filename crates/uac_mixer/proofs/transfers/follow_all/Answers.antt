@@ -1,7 +1,7 @@
 use Rattle.std.proofs.Common.{arith}
 use Rattle.uac_lanes.proofs.Turning.{turned_more, untouched_holds}
 use Rattle.uac_mixer.specs.Readable.{IsReadable}
-use Rattle.uac_mixer.specs.Transfers.{came_of}
+use Rattle.uac_mixer.specs.ViewTransfers.{came_of}
 use Rattle.uac_mixer.proofs.transfers.follow_all.Goals as goal
 
 pub follow_one-requires : goal.follow_one-requires

@@ -1,5 +1,5 @@
 use Rattle.uac_lanes.proofs.Turning.{IsTurnedBelow}
-use Rattle.uac_mixer.specs.Transfers.{came_of, element_after}
+use Rattle.uac_mixer.specs.ViewTransfers.{came_of, element_after}
 use Rattle.uac_mixer.proofs.transfers.follow_all.Given as goal
 
 abbrev pub invariant-loop-element : goal.invariant-loop-element

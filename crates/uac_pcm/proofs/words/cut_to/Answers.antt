@@ -1,7 +1,7 @@
 -- The shifts round down to a multiple of the unit, which divides 2^31.
 use Rattle.std.proofs.Common.{◌-◌, ◌^◌, arith}
 use Rattle.std.proofs.lemmas.Nat.{pow_pos}
-use Rattle.uac_pcm.specs.Words.{cut}
+use Rattle.uac_pcm.specs.SampleWords.{cut}
 use Rattle.uac_pcm.proofs.Cutting.{pow-mul}
 use Rattle.uac_pcm.proofs.Rounding.{shifts_round}
 use Rattle.uac_pcm.proofs.words.cut_to.Goals as goal

@@ -1,6 +1,6 @@
 use Rattle.std.proofs.Common.{rules, ◌≡◌, ◌∙◌, ap, ℕ, ℤ, List, drop, take, to_z, of_z, FitsSigned, w32, slice_set}
 use Rattle.std.proofs.lemmas.Int.{to_z-of_z}
-use Rattle.uac_pcm.specs.Words.{sample_of_word}
+use Rattle.uac_pcm.specs.SampleWords.{sample_of_word}
 use Rattle.uac_pcm.proofs.Packing.{pair_read}
 use Rattle.uac_pcm.proofs.words.read_pair.Goals as goal
 

@@ -2,7 +2,7 @@
 use Rattle.std.proofs.Common.{◌≡◌, ℕ, ◌-◌, ◌*◌, ◌^◌, w32, FitsSigned, rules, ap, ◌∙◌, sym, pos}
 use Rattle.std.proofs.lemmas.Int.{to_z-of_z}
 use Rattle.byteorder.specs.Endian.{little_number}
-use Rattle.uac_pcm.specs.Words.{cut, wrap, sample_of_word}
+use Rattle.uac_pcm.specs.SampleWords.{cut, wrap, sample_of_word}
 use Rattle.uac_pcm.proofs.Wrapping.{int_wrap-pos}
 use Rattle.uac_pcm.proofs.words.sample_of.Goals as goal
 

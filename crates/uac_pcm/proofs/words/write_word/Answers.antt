@@ -2,7 +2,7 @@
 use Rattle.std.proofs.Common.{◌≡◌, ◌/◌, ◌^◌, ◌-◌, ◌*◌, ℕ, [], ◌∷◌, take, drop, ℤ, FitsSigned, w32, of_z, rules, ap, ◌∙◌}
 use Rattle.std.proofs.lemmas.Int.{to_z-of_z}
 use Rattle.byteorder.specs.Endian.{little_bytes}
-use Rattle.uac_pcm.specs.Words.{cut}
+use Rattle.uac_pcm.specs.SampleWords.{cut}
 use Rattle.uac_pcm.proofs.Cutting.{take-four_bytes, word-top_bytes}
 use Rattle.uac_pcm.proofs.words.write_word.Goals as goal
 

@@ -1,4 +1,4 @@
-use Rattle.uac_rate.proofs.PacketsLemmas.{packets_add_up, by_remainder}
+use Rattle.uac_rate.proofs.PacketSizesLemmas.{packets_add_up, by_remainder}
 use Rattle.uac_rate.proofs.laws.packets_add_up.Goals as goal
 
 pub returns : goal.returns

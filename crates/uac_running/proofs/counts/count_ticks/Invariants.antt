@@ -1,6 +1,6 @@
-use Rattle.uac_running.specs.Kept.{more_counted}
+use Rattle.uac_running.specs.RunningKept.{more_counted}
 use Rattle.uac_lanes.proofs.Turning.{IsTurnedBelow}
 use Rattle.uac_running.proofs.counts.count_ticks.Given as goal
 
 abbrev pub invariant-loop-count : goal.invariant-loop-count
-invariant-loop-count l = IsTurnedBelow (more_counted l.clock l.ticks) l.counts l.initial.counts l.count-index
+invariant-loop-count l = IsTurnedBelow (more_counted l.domain l.ticks) l.counts l.initial.counts l.count-index

@@ -1,5 +1,5 @@
 use Rattle.std.proofs.Common.{◌≡◌, map, take}
-use Rattle.uac_running.specs.Kept.{none_counted}
+use Rattle.uac_running.specs.RunningKept.{none_counted}
 use Rattle.uac_running.proofs.counts.no_ticks.Given as goal
 
 abbrev pub invariant-loop-clock : goal.invariant-loop-clock

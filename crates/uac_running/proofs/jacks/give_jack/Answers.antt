@@ -2,6 +2,6 @@ use Rattle.std.proofs.Common.{arith}
 use Rattle.uac_running.proofs.JackSteps.{sounded_given}
 use Rattle.uac_running.proofs.jacks.give_jack.Goals as goal
 
-pub returns-then-jack-clock-clause-stands : goal.returns-then-jack-clock-clause-stands
-returns-then-jack-clock-clause-stands c w stands =
-    sounded_given c.args.clock _ c.args.jack.now w c.sound.new.self (omega (arith, c.if-jack-clock.true)) c.requires.channels (c.sound.ensures.stands w stands)
+pub returns-then-jack-domain-clause-stands : goal.returns-then-jack-domain-clause-stands
+returns-then-jack-domain-clause-stands c w stands =
+    sounded_given c.args.domain _ c.args.jack.now w c.sound.new.self (omega (arith, c.if-jack-domain.true)) c.requires.channels (c.sound.ensures.stands w stands)

@@ -4,4 +4,4 @@ use Rattle.uac_running.proofs.jacks.next_frames.Goals as goal
 pub returns-then-rest-clause-stands : goal.returns-then-rest-clause-stands
 returns-then-rest-clause-stands c w stands rests =
     let still = rests c.if-rest.true in
-    given_again c.args.clock c.args.jacks.now c.args.device.now w still.silent still.gave stands
+    given_again c.args.domain c.args.jacks.now c.args.device.now w still.silent still.gave stands

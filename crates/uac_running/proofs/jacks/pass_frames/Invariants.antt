@@ -3,4 +3,4 @@ use Rattle.uac_lanes.proofs.Turning.{IsTurnedBelow}
 use Rattle.uac_running.proofs.jacks.pass_frames.Given as goal
 
 abbrev pub invariant-loop-passed : goal.invariant-loop-passed
-invariant-loop-passed l = IsTurnedBelow (after_one l.clock) l.jacks l.initial.jacks l.passed-index
+invariant-loop-passed l = IsTurnedBelow (after_one l.domain) l.jacks l.initial.jacks l.passed-index

@@ -1,13 +1,13 @@
 use Rattle.std.proofs.Common.{arith}
-use Rattle.uac_running.specs.RunningWorld.{toned}
+use Rattle.uac_running.specs.RunningWorld.{jack_with_tone}
 use Rattle.uac_lanes.proofs.Turning.{turned_all, turned_more}
 use Rattle.uac_running.proofs.jacks.set_tone.Goals as goal
 
 pub loop-jack-preserved : goal.loop-jack-preserved
 loop-jack-preserved c =
-    turned_more (toned c.args.terminal c.args.tone) c.loop-jack.jacks c.args.jacks.now c.loop-jack.jack-index c.with_tone.result _
+    turned_more (jack_with_tone c.args.terminal c.args.tone) c.loop-jack.jacks c.args.jacks.now c.loop-jack.jack-index c.with_tone.result _
     (omega (arith, c.loop-jack.invariant.same)) c.loop-jack.invariant c.with_tone.ensures
 
 pub returns : goal.returns
 returns c =
-    turned_all (toned c.args.terminal c.args.tone) c.loop-jack.jacks c.args.jacks.now c.loop-jack.jack-index (omega (arith, c.loop-jack.invariant.same)) c.loop-jack.invariant
+    turned_all (jack_with_tone c.args.terminal c.args.tone) c.loop-jack.jacks c.args.jacks.now c.loop-jack.jack-index (omega (arith, c.loop-jack.invariant.same)) c.loop-jack.invariant

@@ -1,6 +1,6 @@
-use Rattle.uac_running.specs.RunningWorld.{toned}
+use Rattle.uac_running.specs.RunningWorld.{jack_with_tone}
 use Rattle.uac_lanes.proofs.Turning.{IsTurnedBelow}
 use Rattle.uac_running.proofs.jacks.set_tone.Given as goal
 
 abbrev pub invariant-loop-jack : goal.invariant-loop-jack
-invariant-loop-jack l = IsTurnedBelow (toned l.terminal l.tone) l.jacks l.initial.jacks l.jack-index
+invariant-loop-jack l = IsTurnedBelow (jack_with_tone l.terminal l.tone) l.jacks l.initial.jacks l.jack-index

@@ -23,16 +23,16 @@ returns-in_err-write_entity-clause-printed g c = λ w stands.
     let items = c.entities-entity-items.result.now in
     Writes-handed_on _ (g.K.Sink.written c.args.sink.now) (g.K.Sink.written c.write_entity.new.sink) c.from_residual.result _ c.from_residual.ensures.1 (
     subst (λ (lines : List Said). AppendsFront (g.K.Sink.written c.args.sink.now) (g.K.Sink.written c.write_entity.new.sink) (text_of lines))
-    (each-played c.args.clock w items (c.entities-entity-items.ensures ∙ ap (λ f. f.entities) (c.function-function.ensures ∙ stands.function)))
-    (front_of_some _ _ _ (of_entity c.args.clock w) items c.loop-entity.entity-index c.entity-item.result _ c.loop-entity-test.true
-    (ap (of_entity c.args.clock w) c.entity-item.is) (c.loop-entity.invariant.written w stands) (c.in_err-write_entity.ensures.printed w stands))
+    (each-played c.args.domain w items (c.entities-entity-items.ensures ∙ ap (λ f. f.entities) (c.function-function.ensures ∙ stands.function)))
+    (front_of_some _ _ _ (of_entity c.args.domain w) items c.loop-entity.entity-index c.entity-item.result _ c.loop-entity-test.true
+    (ap (of_entity c.args.domain w) c.entity-item.is) (c.loop-entity.invariant.written w stands) (c.in_err-write_entity.ensures.printed w stands))
     )
 
 pub loop-entity-preserved : goal.loop-entity-preserved
 loop-entity-preserved g c = record {
   written = λ w stands.
-      some_lines_more _ _ _ (of_entity c.args.clock w) c.entities-entity-items.result.now c.loop-entity.entity-index c.entity-item.result _ c.loop-entity-test.true
-      (ap (of_entity c.args.clock w) c.entity-item.is) (c.loop-entity.invariant.written w stands) (c.in_ok-write_entity.ensures.printed w stands);
+      some_lines_more _ _ _ (of_entity c.args.domain w) c.entities-entity-items.result.now c.loop-entity.entity-index c.entity-item.result _ c.loop-entity-test.true
+      (ap (of_entity c.args.domain w) c.entity-item.is) (c.loop-entity.invariant.written w stands) (c.in_ok-write_entity.ensures.printed w stands);
   faultless = c.in_ok-write_entity.ensures.cause.faultless ∙ c.loop-entity.invariant.faultless;
 }
 
@@ -40,6 +40,6 @@ pub returns-clause-printed : goal.returns-clause-printed
 returns-clause-printed g c = λ w stands.
     let items = c.entities-entity-items.result.now in
     subst (λ (lines : List Said). Appends (g.K.Sink.written c.args.sink.now) (g.K.Sink.written c.loop-entity.sink) (text_of lines))
-    (ap (λ xs. flat_map (of_entity c.args.clock w) xs) (take_all c.loop-entity.entity-index items c.loop-entity-test.false)
-    ∙ each-played c.args.clock w items (c.entities-entity-items.ensures ∙ ap (λ f. f.entities) (c.function-function.ensures ∙ stands.function)))
+    (ap (λ xs. flat_map (of_entity c.args.domain w) xs) (take_all c.loop-entity.entity-index items c.loop-entity-test.false)
+    ∙ each-played c.args.domain w items (c.entities-entity-items.ensures ∙ ap (λ f. f.entities) (c.function-function.ensures ∙ stands.function)))
     (c.loop-entity.invariant.written w stands)

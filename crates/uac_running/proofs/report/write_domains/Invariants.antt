@@ -1,10 +1,10 @@
 use Rattle.std.proofs.Common.{◌≡◌, map, take}
 use Rattle.std.specs.Io.KnownBytes.{Appends}
-use Rattle.uac_device.specs.Kept.{Stands}
+use Rattle.uac_device.specs.DeviceKept.{Stands}
 use Rattle.uac_device.specs.DeviceWorld.{DeviceWorld}
 use Rattle.uac_transcript.specs.Printing.{text_of}
-use Rattle.uac_running.specs.Kept.{counted}
-use Rattle.uac_running.specs.Lines.{domain_line}
+use Rattle.uac_running.specs.RunningKept.{counted}
+use Rattle.uac_running.specs.RunningLines.{domain_line}
 use Rattle.uac_running.proofs.report.write_domains.Given as goal
 
 abbrev pub invariant-loop-count : goal.invariant-loop-count

@@ -1,6 +1,6 @@
 use Rattle.std.proofs.Common.{map}
 use Rattle.uac_transcript.proofs.PrintingLemmas.{Prints-after, Prints-stopped, Prints-stopped_next, front_of_more}
-use Rattle.uac_running.specs.Lines.{domain_line, stream_line}
+use Rattle.uac_running.specs.RunningLines.{domain_line, stream_line}
 use Rattle.uac_running.proofs.report.write_rest.Goals as goal
 
 pub returns-in_err-write_domains-clause-printed : goal.returns-in_err-write_domains-clause-printed

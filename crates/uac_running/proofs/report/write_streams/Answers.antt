@@ -3,7 +3,7 @@ use Rattle.uac_entities.specs.declared.stream.StreamInterface.{StreamInterface}
 use Rattle.uac_edges.specs.Writing.{AppendsFront}
 use Rattle.uac_transcript.specs.Printing.{text_of}
 use Rattle.uac_transcript.proofs.PrintingLemmas.{front_of_lines, one_line_more}
-use Rattle.uac_running.specs.Lines.{stream_line}
+use Rattle.uac_running.specs.RunningLines.{stream_line}
 use Rattle.uac_running.proofs.Printed.{place_there}
 use Rattle.uac_edges.proofs.WritingLemmas.{Writes-handed_on}
 use Rattle.uac_running.proofs.report.write_streams.Goals as goal

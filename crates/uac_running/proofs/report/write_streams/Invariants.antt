@@ -1,11 +1,11 @@
 use Rattle.std.proofs.Common.{◌≡◌, ℕ, map, take}
 use Rattle.std.specs.Io.KnownBytes.{Appends}
-use Rattle.uac_device.specs.Kept.{Stands}
+use Rattle.uac_device.specs.DeviceKept.{Stands}
 use Rattle.uac_device.specs.DeviceWorld.{DeviceWorld}
 use Rattle.uac_transcript.specs.declared.report.StreamCounts.{StreamCounts}
 use Rattle.uac_transcript.specs.Printing.{text_of}
 use Rattle.uac_streaming.specs.StreamingWorld.{met_in}
-use Rattle.uac_running.specs.Lines.{stream_line}
+use Rattle.uac_running.specs.RunningLines.{stream_line}
 use Rattle.uac_running.proofs.report.write_streams.Given as goal
 
 abbrev pub invariant-loop-stream : goal.invariant-loop-stream

@@ -1,9 +1,9 @@
 use Rattle.std.proofs.Common.{◌≡◌, ◌∙◌}
 use Rattle.std.proofs.lemmas.Result.{IfOk-weaker}
-use Rattle.uac_device.specs.Kept as kept
+use Rattle.uac_device.specs.DeviceKept as kept
 use Rattle.uac_device.specs.DeviceWorld.{DeviceWorld, fresh}
 use Rattle.uac_mixer.specs.ViewWorld.{known_view}
-use Rattle.uac_store.specs.Controls.{initial_controls}
+use Rattle.uac_store.specs.StoreControls.{initial_controls}
 use Rattle.uac_running.specs.declared.transfers.Viewed.{Viewed}
 use Rattle.uac_running.proofs.Start.{function_kept, known_start}
 use Rattle.uac_running.proofs.transfers.fresh_viewed.Goals as goal

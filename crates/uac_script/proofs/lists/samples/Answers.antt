@@ -3,13 +3,13 @@ use Rattle.std.proofs.lemmas.Bool.{and_parts}
 use Rattle.std.proofs.lemmas.Int.{to_z-of_z}
 use mir.Val.{SFits, to_z, of_z}
 use mir.Syntax.{w32}
-use Rattle.uac_script.proofs.ListLemmas.{next_taken, all_taken}
+use Rattle.uac_script.proofs.GrowingLists.{next_taken, all_taken}
 use Rattle.uac_script.specs.Phrase.{is_signed}
-use Rattle.uac_script.specs.Numerals.{value_of}
+use Rattle.uac_script.specs.ScriptNumerals.{value_of}
 use Rattle.std.specs.List.{list_all}
 use Rattle.uac_script.specs.Words.{words_left}
-use Rattle.uac_script.specs.Numerals.{is_number}
-use Rattle.uac_script.proofs.NumeralLemmas.{number_not_empty}
+use Rattle.uac_script.specs.ScriptNumerals.{is_number}
+use Rattle.uac_script.proofs.ScriptNumeralsLemmas.{number_not_empty}
 use Rattle.uac_script.proofs.lists.samples.Goals as goal
 
 pub loop-word-preserved : goal.loop-word-preserved

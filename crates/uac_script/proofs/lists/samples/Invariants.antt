@@ -1,7 +1,7 @@
 use Rattle.std.proofs.Common.{◌≡◌, ◌≤◌, ◌+◌, ◌*◌, ◌++◌, true, map, length}
 use Rattle.std.specs.List.{list_all}
 use Rattle.uac_script.specs.Words.{words_left, bytes_left}
-use Rattle.uac_script.specs.Numerals.{is_number, value_of}
+use Rattle.uac_script.specs.ScriptNumerals.{is_number, value_of}
 use Rattle.uac_script.specs.Phrase.{is_signed}
 use Rattle.uac_script.proofs.lists.samples.Given as goal
 

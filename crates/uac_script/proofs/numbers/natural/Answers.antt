@@ -1,6 +1,6 @@
 use Rattle.std.proofs.Common.{◌≡◌, ◌+◌, ◌*◌, min, true, ap, ◌∙◌, arith, rules}
-use Rattle.uac_script.proofs.NumeralLemmas.{digit_is, held_more}
-use Rattle.uac_script.specs.Numerals.{is_natural, far}
+use Rattle.uac_script.proofs.ScriptNumeralsLemmas.{digit_is, held_more}
+use Rattle.uac_script.specs.ScriptNumerals.{is_natural, far}
 use Rattle.uac_script.proofs.numbers.natural.Goals as goal
 
 pub overflow_sub-digit : goal.overflow_sub-digit

@@ -1,6 +1,6 @@
 use Rattle.std.proofs.Common.{◌≡◌, ◌≤◌, min, take}
 use Rattle.std.specs.Str.Parse.{digits_value}
-use Rattle.uac_script.specs.Numerals.{far}
+use Rattle.uac_script.specs.ScriptNumerals.{far}
 use Rattle.uac_script.proofs.numbers.natural.Given as goal
 
 abbrev pub invariant-loop-digit : goal.invariant-loop-digit

@@ -3,11 +3,11 @@ use Rattle.uac_units.specs.Hearing.{Reading}
 use Rattle.uac_units.specs.Panel.{readings}
 use Rattle.uac_script.specs.Lent.{lent_said}
 use Rattle.uac_script.specs.Phrase.{Phrase}
-use Rattle.uac_script.specs.Reading.{answer}
+use Rattle.uac_script.specs.LineReading.{answer}
 use Rattle.uac_bus.specs.declared.fault.BusFault.{BusFault}
-use Rattle.uac_bus.specs.World.{World}
+use Rattle.uac_bus.specs.BusWorld.{World}
 use Rattle.uac_bus.specs.After.{said_step}
-use Rattle.uac_bus.specs.Kept.{BusFields}
+use Rattle.uac_bus.specs.BusKept.{BusFields}
 use Rattle.uac_scripts.specs.Running.{Does}
 use Rattle.uac_scripts.specs.Script.{wants}
 use Rattle.uac_scripts.proofs.Idle.{idle_done}

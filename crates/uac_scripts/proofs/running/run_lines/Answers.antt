@@ -1,8 +1,8 @@
 use Rattle.std.proofs.Common.{◌≡◌, ◌+◌, ◌∙◌, Ok, Err, refl, ap, arith}
-use Rattle.uac_script.specs.Lines.{Splitting}
+use Rattle.uac_script.specs.ScriptLines.{Splitting}
 use Rattle.uac_units.specs.Panel.{readings}
 use Rattle.uac_scripts.specs.Running.{stop_outcome}
-use Rattle.uac_scripts.specs.Transcript.{finished, last_line}
+use Rattle.uac_scripts.specs.ScriptTranscript.{ending_at, last_line}
 use Rattle.uac_scripts.proofs.Following.{far_at_first, not_ended, has_line, far_on, failed_line, finished_run, stopped_run, left_faultless, stop_untold}
 use Rattle.uac_describe.proofs.Answering.{closes_faultless}
 use Rattle.uac_scripts.proofs.running.run_lines.Goals as goal
@@ -73,7 +73,7 @@ pub returns-in-Ok-End-clause-faultless : goal.returns-in-Ok-End-clause-faultless
 returns-in-Ok-End-clause-faultless g c = λ unread unwritten.
     let i = c.loop-bus.invariant in (
       c.in-Ok-End.ensures.faultless (λ e. cc) ∙ i.reads,
-      closes_faultless (finished (c.number-in-Ok-End.result + 1) i.far.world).outcome (g.K.Sink.written c.loop-bus.sink) (g.K.Sink.written c.finish.new.sink) (g.K.Sink.faults c.loop-bus.sink) (g.K.Sink.faults c.finish.new.sink) c.finish.result
+      closes_faultless (ending_at (c.number-in-Ok-End.result + 1) i.far.world).outcome (g.K.Sink.written c.loop-bus.sink) (g.K.Sink.written c.finish.new.sink) (g.K.Sink.faults c.loop-bus.sink) (g.K.Sink.faults c.finish.new.sink) c.finish.result
           (c.finish.ensures.closed _ i.far.world i.far.stands) unwritten ∙ i.writes,
     )
 

@@ -1,5 +1,5 @@
 use Rattle.std.proofs.Common.{◌↔◌, drop}
-use Rattle.uac_descriptor.specs.Turns.{BeginsWithControl, interfaces_in}
+use Rattle.uac_descriptor.specs.BlockTurns.{BeginsWithControl, interfaces_in}
 use Rattle.uac_sentence.proofs.well_formed.begin_with_control.Given as goal
 
 abbrev pub invariant-loop-block : goal.invariant-loop-block

@@ -1,4 +1,4 @@
-use Rattle.uac_settle.proofs.StretchesLemmas.{stretch_settles}
+use Rattle.uac_settle.proofs.Stretches.{stretch_settles}
 use Rattle.uac_settle.proofs.laws.stretches_settle.Goals as goal
 
 pub returns : goal.returns

@@ -1,5 +1,5 @@
 use Rattle.std.proofs.Common.{◌≡◌, ◌++◌}
-use Rattle.uac_store.specs.Controls.{first_channels}
+use Rattle.uac_store.specs.StoreControls.{first_channels}
 use Rattle.uac_store.proofs.start.add_channels.Given as goal
 
 abbrev pub invariant-loop-channel : goal.invariant-loop-channel

@@ -1,6 +1,6 @@
 use Rattle.std.proofs.Common.{◌≡◌, ◌++◌}
 use Rattle.std.specs.List.{flat_map, range_with_len}
-use Rattle.uac_store.specs.Controls.{channels_at}
+use Rattle.uac_store.specs.StoreControls.{channels_at}
 use Rattle.uac_store.proofs.start.add_controls.Given as goal
 
 abbrev pub invariant-loop-below : goal.invariant-loop-below

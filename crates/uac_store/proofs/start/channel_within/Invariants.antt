@@ -1,5 +1,5 @@
 use Rattle.std.proofs.Common.{◌≡◌, drop}
-use Rattle.uac_store.specs.Controls.{channel_within}
+use Rattle.uac_store.specs.StoreControls.{channel_within}
 use Rattle.uac_store.proofs.start.channel_within.Given as goal
 
 abbrev pub invariant-loop-channels : goal.invariant-loop-channels

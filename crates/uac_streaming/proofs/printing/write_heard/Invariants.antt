@@ -2,7 +2,7 @@ use Rattle.std.proofs.Common.{◌≡◌, map, take}
 use Rattle.std.specs.Io.KnownBytes.{Appends}
 use Rattle.uac_host.specs.HostWorld.{HostWorld}
 use Rattle.uac_host.specs.Calls.{heard_in}
-use Rattle.uac_host.specs.Kept as kept
+use Rattle.uac_host.specs.HostKept as kept
 use Rattle.uac_transcript.specs.Transcript.{says_frame}
 use Rattle.uac_transcript.specs.Printing.{text_of}
 use Rattle.uac_streaming.proofs.printing.write_heard.Given as goal

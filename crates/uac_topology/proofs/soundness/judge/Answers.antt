@@ -1,12 +1,12 @@
 use Rattle.std.proofs.Common.{◌≡◌, List, Some, None, sym, ap, ◌∙◌}
 use Rattle.uac_entities.specs.declared.entity.Entity.{Entity}
 use Rattle.uac_entities.specs.Entities.{entities_of}
-use Rattle.uac_entities.specs.Settings.{alternates_of}
-use Rattle.uac_entities.specs.Streams.{streams_of}
+use Rattle.uac_entities.specs.EntitySettings.{alternates_of}
+use Rattle.uac_entities.specs.EntityStreams.{streams_of}
 use Rattle.uac_entities.specs.declared.alternate.Alternate.{Alternate}
 use Rattle.uac_topology_rules.specs.Clusters.{clustered}
 use Rattle.uac_topology_rules.specs.Domains.{domains_of}
-use Rattle.uac_topology_rules.specs.Faults.{broken_names, broken_walks}
+use Rattle.uac_topology_rules.specs.RuleFaults.{broken_names, broken_walks}
 use Rattle.uac_topology.specs.Topology.{IsFunctionOf, IsSound, streams_in}
 use Rattle.uac_topology.proofs.Broken.{by_names, by_walks, by_shapes, by_ends}
 use Rattle.uac_topology.proofs.soundness.judge.Goals as goal

@@ -1,6 +1,6 @@
 use Rattle.std.proofs.Common.{sym, subst, FitsSigned, w64}
 use Rattle.std.specs.Simd.Lanes.{Each1}
-use Rattle.uac_units.proofs.LanesLemmas.{added, add_asked, added-fits, addable-lanes}
+use Rattle.uac_units.proofs.SampleLanesLemmas.{added, add_asked, added-fits, addable-lanes}
 use Rattle.uac_units.proofs.eights.add_eight.Goals as goal
 
 pub overflow_add-result : goal.overflow_add-result

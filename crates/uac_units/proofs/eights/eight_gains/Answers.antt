@@ -1,5 +1,5 @@
 use Rattle.std.proofs.Common.{refl, arith, rules, ◌*◌, ◌∷◌, []}
-use Rattle.uac_units.proofs.LanesLemmas.{gain-read}
+use Rattle.uac_units.proofs.SampleLanesLemmas.{gain-read}
 use Rattle.uac_units.proofs.eights.eight_gains.Goals as goal
 
 pub returns-clause-lanes : goal.returns-clause-lanes

@@ -1,5 +1,5 @@
 use Rattle.std.proofs.Common.{rules, ◌∷◌, []}
-use Rattle.uac_units.proofs.LanesLemmas.{input-read}
+use Rattle.uac_units.proofs.SampleLanesLemmas.{input-read}
 use Rattle.uac_units.proofs.eights.eight_inputs.Goals as goal
 
 pub returns-clause-lanes : goal.returns-clause-lanes

@@ -1,8 +1,8 @@
 use Rattle.std.proofs.Common.{◌≡◌, ◌∙◌, ap, sym, subst, FitsSigned, w64}
 use Rattle.std.specs.Prelude.{replicate}
 use Rattle.std.specs.Simd.Lanes.{Each1, zip2}
-use Rattle.uac_units.specs.Lanes.{floored_by}
-use Rattle.uac_units.proofs.LanesLemmas.{products, asked, shifts, floored-fits, small-lanes}
+use Rattle.uac_units.specs.SampleLanes.{floored_by}
+use Rattle.uac_units.proofs.SampleLanesLemmas.{products, asked, shifts, floored-fits, small-lanes}
 use Rattle.uac_units.proofs.eights.multiply_eight.Goals as goal
 
 pub overflow_mul-result : goal.overflow_mul-result

@@ -1,4 +1,4 @@
-use Rattle.uac_units.proofs.LanesLemmas.{narrow-asked, narrowed}
+use Rattle.uac_units.proofs.SampleLanesLemmas.{narrow-asked, narrowed}
 use Rattle.uac_units.proofs.eights.narrow_eight.Goals as goal
 
 pub overflow_cast-result : goal.overflow_cast-result

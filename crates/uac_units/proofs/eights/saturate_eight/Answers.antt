@@ -2,7 +2,7 @@ use Rattle.std.proofs.Common.{◌≡◌, ◌∙◌, ap, sym, subst, map, FitsSig
 use Rattle.std.specs.Prelude.{replicate}
 use Rattle.std.specs.Simd.Lanes.{Each1}
 use Rattle.uac_gain.specs.Gain.{saturated}
-use Rattle.uac_units.proofs.LanesLemmas.{clamps, clamped-lanes, saturated-fits}
+use Rattle.uac_units.proofs.SampleLanesLemmas.{clamps, clamped-lanes, saturated-fits}
 use Rattle.uac_units.proofs.eights.saturate_eight.Goals as goal
 
 pub returns-clause-lanes : goal.returns-clause-lanes

@@ -1,8 +1,8 @@
 use Rattle.std.proofs.Common.{◌∙◌, ap, map, subst, sym, FitsSigned, w32, w64}
 use Rattle.std.specs.Simd.Lanes.{Each1, zip2}
 use Rattle.uac_gain.specs.Gain.{saturated}
-use Rattle.uac_units.specs.Lanes.{IsGain, floored_by}
-use Rattle.uac_units.proofs.LanesLemmas.{saturated-zip2, handed, handed-samples, handed-gains}
+use Rattle.uac_units.specs.SampleLanes.{IsGain, floored_by}
+use Rattle.uac_units.proofs.SampleLanesLemmas.{saturated-zip2, handed, handed-samples, handed-gains}
 use Rattle.uac_units.proofs.eights.scale_eight.Goals as goal
 
 pub multiply_eight-requires-clause-samples : goal.multiply_eight-requires-clause-samples

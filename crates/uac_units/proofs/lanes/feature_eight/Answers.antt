@@ -1,8 +1,8 @@
 use Rattle.std.proofs.Common.{◌≡◌, ◌∙◌, ap, arith, ◌+◌, ◌*◌, slice_index}
 use Rattle.uac_gain.specs.Gain.{scaled}
-use Rattle.uac_units.specs.Lanes.{eight}
+use Rattle.uac_units.specs.SampleLanes.{eight}
 use Rattle.uac_units.specs.Rendering.{input}
-use Rattle.uac_units.proofs.LanesLemmas.{eight-same, handed-samples, scaled-eight}
+use Rattle.uac_units.proofs.SampleLanesLemmas.{eight-same, handed-samples, scaled-eight}
 use Rattle.uac_units.proofs.lanes.feature_eight.Goals as goal
 
 pub returns-clause-lanes : goal.returns-clause-lanes

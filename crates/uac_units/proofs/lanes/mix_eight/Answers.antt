@@ -2,9 +2,9 @@ use Rattle.std.proofs.Common.{◌≡◌, ◌∙◌, ap, arith, sym, subst, map, 
 use Rattle.std.specs.Simd.Lanes.{Each1, zip2}
 use Rattle.std.proofs.lemmas.Int.{to_z-of_z}
 use Rattle.uac_gain.specs.Gain.{scaled, saturated}
-use Rattle.uac_units.specs.Lanes.{HasRoom, eight}
+use Rattle.uac_units.specs.SampleLanes.{HasRoom, eight}
 use Rattle.uac_units.specs.Rendering.{input}
-use Rattle.uac_units.proofs.LanesLemmas.{handed, handed-samples, room-lanes}
+use Rattle.uac_units.proofs.SampleLanesLemmas.{handed, handed-samples, room-lanes}
 use Rattle.uac_units.proofs.Mixing.{mixed_front, mixed-room, nodes-more}
 use Rattle.uac_units.proofs.lanes.mix_eight.Goals as goal
 

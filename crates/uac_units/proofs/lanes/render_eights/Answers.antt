@@ -2,9 +2,9 @@ use Rattle.std.proofs.Common.{◌≡◌, ◌∙◌, ap, arith, sym, subst, lengt
 use Rattle.std.specs.Simd.Lanes.{Each1}
 use Rattle.std.proofs.lemmas.List.FromFn.{length-map-range_with_len}
 use Rattle.uac_pcm.proofs.Packing.{where_ok}
-use Rattle.uac_units.specs.Lanes.{eight}
+use Rattle.uac_units.specs.SampleLanes.{eight}
 use Rattle.uac_units.specs.Rendering.{pins_sample}
-use Rattle.uac_units.proofs.LanesLemmas.{eight_more, handed-narrow, handed-samples}
+use Rattle.uac_units.proofs.SampleLanesLemmas.{eight_more, handed-narrow, handed-samples}
 use Rattle.uac_units.proofs.lanes.render_eights.Goals as goal
 
 pub loop-block-preserved : goal.loop-block-preserved

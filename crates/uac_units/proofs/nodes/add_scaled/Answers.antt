@@ -2,8 +2,8 @@ use Rattle.std.proofs.Common.{◌∙◌, ap, map, subst, sym, FitsSigned, to_z, 
 use Rattle.std.specs.Simd.Lanes.{Each1, zip2}
 use Rattle.std.proofs.lemmas.Int.{to_z-of_z}
 use Rattle.uac_gain.specs.Gain.{scaled}
-use Rattle.uac_units.specs.Lanes.{HasRoom, together}
-use Rattle.uac_units.proofs.LanesLemmas.{given, handed, handed-samples, room-lanes}
+use Rattle.uac_units.specs.SampleLanes.{HasRoom, together}
+use Rattle.uac_units.proofs.SampleLanesLemmas.{given, handed, handed-samples, room-lanes}
 use Rattle.uac_units.proofs.NodeLanes.{each-below, more-sums, silent-sums}
 use Rattle.uac_units.proofs.nodes.add_scaled.Goals as goal
 use Rattle.uac_units.proofs.nodes.add_scaled.Goals.{then-bits-eq0, else-bits-eq0}

@@ -1,7 +1,7 @@
 use Rattle.std.proofs.Common.{◌∙◌, subst, sym, FitsSigned, w32}
 use Rattle.std.specs.Simd.Lanes.{Each1}
-use Rattle.uac_units.specs.Lanes.{IsGain}
-use Rattle.uac_units.proofs.LanesLemmas.{handed}
+use Rattle.uac_units.specs.SampleLanes.{IsGain}
+use Rattle.uac_units.proofs.SampleLanesLemmas.{handed}
 use Rattle.uac_units.proofs.NodeLanes.{are-gains, low-is, low-products, scaled-fits}
 use Rattle.uac_units.proofs.nodes.scale_down.Goals as goal
 

@@ -1,6 +1,6 @@
 use Rattle.std.proofs.Common.{◌≡◌, ◌-◌, ℕ, ◌++◌, ◌∷◌, [], List, Vec, Global, refl, ◌+◌, get_or, take, set, arith, sym, ap, ◌∙◌, subst}
 use Rattle.std.proofs.lemmas.List.{get_or_read}
-use Rattle.uac_walk.specs.Settling.{Settles}
+use Rattle.uac_walk.specs.NodeSettling.{Settles}
 use Rattle.uac_walk.proofs.SettleStep.{waits_below, still_waits, settles_next, settles_later}
 use Rattle.uac_walk.proofs.order.settle.Goals as goal
 use Rattle.uac_walk.proofs.order.settle.Goals.{then-left-eq0+in_ok-push, else-left-eq0}

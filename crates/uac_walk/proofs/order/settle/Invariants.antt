@@ -1,5 +1,5 @@
 use Rattle.std.proofs.Common.{take}
-use Rattle.uac_walk.specs.Settling.{Settles}
+use Rattle.uac_walk.specs.NodeSettling.{Settles}
 use Rattle.uac_walk.proofs.order.settle.Given as goal
 
 abbrev pub invariant-loop-node : goal.invariant-loop-node

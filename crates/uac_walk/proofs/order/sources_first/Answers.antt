@@ -1,7 +1,7 @@
 use Rattle.std.proofs.Common.{◌≡◌, ℕ, List, [], ◌<◌, get_or, length, arith, sym, ap, ◌∙◌, subst}
 use Rattle.std.proofs.lemmas.List.{get_or_read}
 use Rattle.uac_walk.specs.Walk.{links}
-use Rattle.uac_walk.specs.Settling.{IsSettled}
+use Rattle.uac_walk.specs.NodeSettling.{IsSettled}
 use Rattle.uac_walk.proofs.Settled.{settled_none, settled_more, enough_wait, order_of_all, length-le}
 use Rattle.uac_walk.proofs.order.sources_first.Goals as goal
 

@@ -1,4 +1,4 @@
-use Rattle.uac_walk.specs.Settling.{IsSettled}
+use Rattle.uac_walk.specs.NodeSettling.{IsSettled}
 use Rattle.uac_walk.proofs.order.sources_first.Given as goal
 
 abbrev pub invariant-loop-done : goal.invariant-loop-done

@@ -1,5 +1,5 @@
 use Rattle.uac_words.proofs.AskedLemmas.{nothing_else_asks}
-use Rattle.uac_words.proofs.LineLemmas.{line_asks}
+use Rattle.uac_words.proofs.CommandLinesLemmas.{line_asks}
 use Rattle.uac_words.proofs.laws.command_lines_alone_ask.Goals as goal
 
 pub returns : goal.returns

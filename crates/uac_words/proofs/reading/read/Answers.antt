@@ -1,6 +1,6 @@
 use Rattle.std.proofs.Common.{rules}
 use Rattle.uac_words.proofs.AskedLemmas.{answers_line}
-use Rattle.uac_words.proofs.ClapLemmas.{answered_as_asked, refused_as_asked}
+use Rattle.uac_words.proofs.ByClapLemmas.{answered_as_asked, refused_as_asked}
 use Rattle.uac_words.proofs.PlainLemmas.{answers_plainly}
 use Rattle.uac_words.proofs.reading.read.Goals as goal
 

@@ -1,5 +1,5 @@
 use Rattle.std.proofs.Common.{◌≡◌, drop}
-use Rattle.uac_alt.specs.Settings.{setting_of}
+use Rattle.uac_alt.specs.AltSettings.{setting_of}
 use Rattle.uac_alt.proofs.settings.Settings.get.Given as goal
 
 abbrev pub invariant-loop-held : goal.invariant-loop-held

@@ -1,5 +1,5 @@
 use Rattle.std.proofs.Common.{◌≡◌, ◌∷◌, ◌+◌, length, map, take}
-use Rattle.uac_alt.specs.Settings.{in_first}
+use Rattle.uac_alt.specs.AltSettings.{in_first}
 use Rattle.uac_alt.proofs.settings.Settings.new.Given as goal
 
 abbrev pub invariant-loop-stream : goal.invariant-loop-stream

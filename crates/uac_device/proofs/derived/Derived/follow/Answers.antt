@@ -2,7 +2,7 @@ use Rattle.std.proofs.Common.{◌∙◌, ◌/◌, sym, subst, arith, List, ℤ}
 use Rattle.std.specs.List.{All}
 use Rattle.uac_store.specs.declared.keys.Key.{Key}
 use Rattle.uac_entities.specs.declared.entity.Entity.{Entity}
-use Rattle.uac_graph.specs.Controls.{held_in}
+use Rattle.uac_graph.specs.GraphControls.{held_in}
 use Rattle.uac_graph.specs.Jobs.{AreJobs}
 use Rattle.uac_device.specs.Following.{IsDerived, IsPace, renewed_pace}
 use Rattle.uac_device.proofs.Deriving.{renewed_paces, same_paces}

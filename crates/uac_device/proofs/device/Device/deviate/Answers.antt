@@ -2,10 +2,10 @@ use Rattle.std.proofs.Common.{◌≡◌, ◌∙◌, ◌++◌, ◌<◌, ap, arith
 use Rattle.std.proofs.lemmas.Int.{to_z-of_z}
 use Rattle.std.specs.List.{All}
 use Rattle.uac_device.specs.declared.clocks.Clock.{Clock}
-use Rattle.uac_device.specs.Kept.{DeviceFields, IsInRange, Stands}
-use Rattle.uac_device.specs.Turns.{deviated_clock}
+use Rattle.uac_device.specs.DeviceKept.{DeviceFields, IsInRange, Stands}
+use Rattle.uac_device.specs.DeviceTurns.{deviated_clock}
 use Rattle.uac_device.specs.contracts.device.Device.{the_view}
-use Rattle.uac_device.proofs.Kept.{deviated_domains, deviated_phases, deviated_range, deviated_stands}
+use Rattle.uac_device.proofs.DeviceKeptLemmas.{deviated_domains, deviated_phases, deviated_range, deviated_stands}
 use Rattle.uac_lanes.proofs.Turning.{put_back}
 use Rattle.uac_device.proofs.device.Device.deviate.Goals as goal
 
@@ -15,7 +15,7 @@ invariant_of-self c =
     ≡ map (deviated_clock c.args.domain c.args.ppm) c.self.inside.clocks.items =
     put_back c.self.inside.clocks.len c.deviate.new.clocks c.self.inside.clocks.items (omega arith)
     ∙ c.deviate.ensures
-    ∙ ap (λ (millionths : ℤ). map (deviated_clock c.args.domain millionths) c.deref_mut.result.now) (to_z-of_z w32 c.args.ppm c.ranges.ppm)
+    ∙ ap (λ (ppm : ℤ). map (deviated_clock c.args.domain ppm) c.deref_mut.result.now) (to_z-of_z w32 c.args.ppm c.ranges.ppm)
     ∙ ap (map (deviated_clock c.args.domain c.args.ppm)) c.deref_mut.ensures.value in (
       record {
         store = c.self.invariant.0.store;
@@ -42,6 +42,6 @@ returns-clause-stands c w stands =
     deviated_stands (the_view c.self.inside) _ c.args.domain c.args.ppm w
     (put_back c.self.inside.clocks.len c.deviate.new.clocks c.self.inside.clocks.items (omega arith)
     ∙ c.deviate.ensures
-    ∙ ap (λ (millionths : ℤ). map (deviated_clock c.args.domain millionths) c.deref_mut.result.now) (to_z-of_z w32 c.args.ppm c.ranges.ppm)
+    ∙ ap (λ (ppm : ℤ). map (deviated_clock c.args.domain ppm) c.deref_mut.result.now) (to_z-of_z w32 c.args.ppm c.ranges.ppm)
     ∙ ap (map (deviated_clock c.args.domain c.args.ppm)) c.deref_mut.ensures.value)
     (subst (λ (device : DeviceFields). Stands device w) (sym c.self.view_is) stands)

@@ -1,6 +1,6 @@
 use Rattle.std.proofs.Common.{subst, sym}
 use Rattle.uac_device.specs.DeviceWorld.{frames_in, packet_in}
-use Rattle.uac_device.specs.Kept.{DeviceFields, Stands}
+use Rattle.uac_device.specs.DeviceKept.{DeviceFields, Stands}
 use Rattle.uac_device.specs.contracts.device.Device.{the_view}
 use Rattle.uac_device.proofs.Streaming.{device_with_lanes, sent_stands}
 use Rattle.uac_device.proofs.device.Device.microframe_in.Goals as goal

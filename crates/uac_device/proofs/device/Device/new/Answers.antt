@@ -2,8 +2,8 @@ use Rattle.std.proofs.Common.{◌∙◌, ◌<◌, ap, map, subst, sym, List}
 use Rattle.std.specs.List.{All}
 use Rattle.uac_request.specs.Requests.{AreSettingsOf}
 use Rattle.uac_device.specs.declared.clocks.Clock.{Clock}
-use Rattle.uac_device.specs.Kept.{IsInRange}
-use Rattle.uac_device.proofs.Kept.{resting_domains, resting_phases, resting_range}
+use Rattle.uac_device.specs.DeviceKept.{IsInRange}
+use Rattle.uac_device.proofs.DeviceKeptLemmas.{resting_domains, resting_phases, resting_range}
 use Rattle.uac_lanes.specs.Lanes.{ports}
 use Rattle.uac_device.proofs.Played.{fresh_stands}
 use Rattle.uac_device.proofs.Streaming.{ports_idle}

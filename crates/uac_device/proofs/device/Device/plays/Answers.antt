@@ -2,7 +2,7 @@ use Rattle.std.proofs.Common.{◌≡◌, ◌∙◌, ap, get_or, subst, sym, List
 use Rattle.uac_entities.specs.declared.entity.Entity.{Entity}
 use Rattle.uac_graph.specs.Meaning.{entity}
 use Rattle.uac_device.specs.DeviceWorld.{is_output_jack}
-use Rattle.uac_device.specs.Kept.{DeviceFields}
+use Rattle.uac_device.specs.DeviceKept.{DeviceFields}
 use Rattle.uac_device.proofs.Played.{entity_found, jack_nowhere}
 use Rattle.uac_device.proofs.device.Device.plays.Goals as goal
 

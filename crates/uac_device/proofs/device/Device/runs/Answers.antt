@@ -4,7 +4,7 @@ use Rattle.uac_entities.specs.declared.stream.StreamInterface.{StreamInterface}
 use Rattle.uac_lanes.specs.InterfaceStreams.{runs_either}
 use Rattle.uac_lanes.specs.declared.lane.Port.{Port}
 use Rattle.uac_device.specs.DeviceWorld.{runs_one}
-use Rattle.uac_device.specs.Kept.{DeviceFields, Stands}
+use Rattle.uac_device.specs.DeviceKept.{DeviceFields, Stands}
 use Rattle.uac_device.proofs.Streaming.{one_port_runs}
 use Rattle.uac_device.proofs.device.Device.runs.Goals as goal
 

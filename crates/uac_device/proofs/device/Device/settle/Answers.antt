@@ -1,6 +1,6 @@
 use Rattle.std.proofs.Common.{subst, sym}
 use Rattle.uac_device.specs.DeviceWorld.{ZerosFitIn}
-use Rattle.uac_device.specs.Kept.{DeviceFields, Stands}
+use Rattle.uac_device.specs.DeviceKept.{DeviceFields, Stands}
 use Rattle.uac_device.specs.contracts.device.Device.{the_view}
 use Rattle.uac_device.proofs.Streaming.{device_with_lanes, settled_stands}
 use Rattle.uac_device.proofs.device.Device.settle.Goals as goal

@@ -5,7 +5,7 @@ use Rattle.std.specs.Option.{option_map}
 use Rattle.uac_graph.specs.Meaning.{entity}
 use Rattle.uac_graph.specs.Wiring.{frame_on, tone_frame}
 use Rattle.uac_device.specs.DeviceWorld.{is_input_jack, set_jack}
-use Rattle.uac_device.specs.Kept.{DeviceFields, Stands}
+use Rattle.uac_device.specs.DeviceKept.{DeviceFields, Stands}
 use Rattle.uac_device.specs.contracts.device.Device.{the_view}
 use Rattle.uac_device.proofs.Played.{jack_fits, jack_stands}
 use Rattle.uac_device.proofs.device.Device.sound.Goals as goal

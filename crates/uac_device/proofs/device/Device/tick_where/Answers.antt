@@ -1,23 +1,23 @@
 use Rattle.std.proofs.Common.{◌∙◌, ◌+◌, ◌<◌, ◌^◌, ap, length, subst, sym, ℕ, List}
 use Rattle.std.specs.List.{All}
 use Rattle.uac_entities.specs.declared.entity.Entity.{Entity}
-use Rattle.uac_graph.specs.Controls.{held_in}
+use Rattle.uac_graph.specs.GraphControls.{held_in}
 use Rattle.uac_graph.specs.Jobs.{AreJobs}
 use Rattle.uac_graph.specs.Needs.{depended, needed}
 use Rattle.uac_graph.specs.Wiring.{AreRendered, AreWiresOf, samples_on}
 use Rattle.uac_graph.proofs.Ends.{output_terminals}
 use Rattle.uac_graph.proofs.FromRules.{sound_graph}
 use Rattle.uac_units.specs.Panel.{readings}
-use Rattle.uac_device.specs.DeviceWorld.{after_frames, ticked}
-use Rattle.uac_device.specs.Kept.{DeviceFields, Stands}
+use Rattle.uac_device.specs.DeviceWorld.{after_frames, after_tick}
+use Rattle.uac_device.specs.DeviceKept.{DeviceFields, Stands}
 use Rattle.uac_lanes.specs.Lanes.{WiredOut}
-use Rattle.uac_device.specs.Turns.{frames_heard}
+use Rattle.uac_device.specs.DeviceTurns.{frames_heard}
 use Rattle.uac_device.specs.contracts.device.Device.{the_view}
 use Rattle.uac_device.proofs.LinkedLemmas.{linked}
 use Rattle.uac_device.proofs.Played.{Rendered, heard_in, renders_here}
 use Rattle.uac_device.proofs.Streaming.{ports_wired_in, ports_wired_out}
 use Rattle.uac_device.proofs.Stillness.{found_or_still, ticked_or_still}
-use Rattle.uac_device.proofs.TickLemmas.{device_with_wires, lanes_few, wires_kept}
+use Rattle.uac_device.proofs.TickInputs.{device_with_wires, lanes_few, wires_kept}
 use Rattle.uac_device.proofs.device.Device.tick_where.Goals as goal
 
 pub begin_unless-met-requires : goal.begin_unless-met-requires
@@ -99,7 +99,7 @@ returns-clause-heard g c w stands still =
     ∙ ap (λ jacks. after_frames (frames_heard c.tick_by.new.wires c.args.domain jacks) (readings (λ v x. (goal.Meter-dyn g (v, x)).reading_of x) c.args.meters.now))
     (c.jacks.ensures ∙ c.self.invariant.2.heard)
     ∙ ap (λ frames. after_frames frames (readings (λ v x. (goal.Meter-dyn g (v, x)).reading_of x) c.args.meters.now))
-    (heard_in (record (the_view c.self.inside) { wires = c.tick_by.new.wires; lanes = c.put_unless.new.lanes }) c.args.domain (ticked c.args.domain w) (sound_graph c.self.inside.function sound) after)
+    (heard_in (record (the_view c.self.inside) { wires = c.tick_by.new.wires; lanes = c.put_unless.new.lanes }) c.args.domain (after_tick c.args.domain w) (sound_graph c.self.inside.function sound) after)
 
 pub returns-clause-met : goal.returns-clause-met
 returns-clause-met g c w stands still =

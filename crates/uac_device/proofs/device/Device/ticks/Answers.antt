@@ -2,12 +2,12 @@ use Rattle.std.proofs.Common.{◌≡◌, ◌∙◌, ◌++◌, ◌<◌, ap, arith
 use Rattle.std.specs.List.{All}
 use Rattle.uac_store.specs.Rates.{rate_of}
 use Rattle.uac_device.specs.declared.clocks.Clock.{Clock}
-use Rattle.uac_device.specs.Kept.{DeviceFields, IsInRange, Stands}
-use Rattle.uac_device.specs.Turns.{advanced_clock, first_ticks}
+use Rattle.uac_device.specs.DeviceKept.{DeviceFields, IsInRange, Stands}
+use Rattle.uac_device.specs.DeviceTurns.{advanced_clock, first_ticks}
 use Rattle.uac_device.specs.contracts.device.Device.{the_view}
 use Rattle.uac_device.proofs.Fastest.{few_ticks, rated_nominal}
-use Rattle.uac_device.proofs.Kept.{advanced_domains, advanced_phases, advanced_range, advanced_stands, ticks_next}
-use Rattle.uac_flow.specs.Streams.{after_ticks}
+use Rattle.uac_device.proofs.DeviceKeptLemmas.{advanced_domains, advanced_phases, advanced_range, advanced_stands, ticks_next}
+use Rattle.uac_flow.specs.FlowStreams.{after_ticks}
 use Rattle.uac_lanes.specs.InterfaceStreams.{changed_where}
 use Rattle.uac_device.specs.DeviceWorld.{is_on, next_ticks}
 use Rattle.uac_lanes.specs.Lanes.{KeepsStreams}

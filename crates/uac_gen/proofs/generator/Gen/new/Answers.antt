@@ -1,4 +1,4 @@
-use Rattle.uac_gen.proofs.LineLemmas.{begins}
+use Rattle.uac_gen.proofs.GeneratedScriptLemmas.{begins}
 use Rattle.uac_gen.proofs.generator.Gen.new.Goals as goal
 
 pub returns : goal.returns

@@ -1,5 +1,5 @@
 use Rattle.std.proofs.Common.{rules}
-use Rattle.uac_gen.specs.Script.{script_of}
+use Rattle.uac_gen.specs.GeneratedScript.{script_of}
 use Rattle.uac_gen.proofs.source.GenSource.new.Goals as goal
 
 pub returns : goal.returns

@@ -1,5 +1,5 @@
 use Rattle.std.proofs.Common.{refl, subst}
-use Rattle.uac_grammar.specs.Reading.{IsUnstopped}
+use Rattle.uac_grammar.specs.ReaderKept.{IsUnstopped}
 use Rattle.uac_grammar.proofs.Readings.{unstopped}
 use Rattle.uac_grammar.proofs.reader.Reader.feed.Goals as goal
 

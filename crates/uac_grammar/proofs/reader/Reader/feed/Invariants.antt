@@ -1,5 +1,5 @@
 use Rattle.std.proofs.Common.{◌≡◌, ◌++◌, length}
-use Rattle.uac_grammar.specs.Reading.{IsUnstopped}
+use Rattle.uac_grammar.specs.ReaderKept.{IsUnstopped}
 use Rattle.uac_grammar.proofs.reader.Reader.feed.Given as goal
 
 abbrev pub invariant-loop-rest : goal.invariant-loop-rest

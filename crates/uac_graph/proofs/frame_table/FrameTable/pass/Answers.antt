@@ -1,7 +1,7 @@
 use Rattle.std.proofs.Common.{◌≡◌, ◌∙◌, ap, sym, subst, arith, eqb, if◌then◌else◌, Some, None, length, get_or, set}
 use Rattle.std.specs.Option.{option_map}
 use Rattle.std.proofs.lemmas.List.{with_items_is}
-use Rattle.uac_graph.specs.Rows.{passed}
+use Rattle.uac_graph.specs.FrameRows.{passed}
 use Rattle.uac_graph.specs.Wiring.{Frames, frame_on, samples_on}
 use Rattle.uac_graph.proofs.RowsById.{passed_seen}
 use Rattle.uac_graph.proofs.frame_table.FrameTable.pass.Goals as goal

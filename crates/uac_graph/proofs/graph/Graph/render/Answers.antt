@@ -1,4 +1,4 @@
-use Rattle.uac_graph.specs.Controls.{held_in}
+use Rattle.uac_graph.specs.GraphControls.{held_in}
 use Rattle.uac_graph.proofs.Asking.{asked_at}
 use Rattle.uac_graph.proofs.graph.Graph.render.Goals as goal
 

@@ -1,6 +1,6 @@
 use Rattle.std.proofs.Common.{sym, subst, List}
 use Rattle.uac_entities.specs.declared.entity.Entity.{Entity}
-use Rattle.uac_graph.specs.Controls.{held_in}
+use Rattle.uac_graph.specs.GraphControls.{held_in}
 use Rattle.uac_graph.specs.Jobs.{AreJobs}
 use Rattle.uac_graph.proofs.graph.Graph.renew.Goals as goal
 

@@ -1,5 +1,5 @@
 use Rattle.std.proofs.Common.{◌≡◌, ◌+◌, length, take}
-use Rattle.uac_graph.specs.Controls.{held_in}
+use Rattle.uac_graph.specs.GraphControls.{held_in}
 use Rattle.uac_graph.specs.Needs.{needed}
 use Rattle.uac_graph.specs.Orders.{holds}
 use Rattle.uac_graph.specs.Wiring.{AreRendered, AreWiresOf, samples_on}

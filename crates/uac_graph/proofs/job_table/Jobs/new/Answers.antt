@@ -1,6 +1,6 @@
 use Rattle.std.proofs.Common.{◌≡◌, ◌<◌, ap, sym, subst, arith, get_or, length, ℕ, List}
 use Rattle.uac_entities.specs.declared.entity.Entity.{Entity}
-use Rattle.uac_graph.specs.Controls.{held_in}
+use Rattle.uac_graph.specs.GraphControls.{held_in}
 use Rattle.uac_graph.specs.Jobs.{AreFirstJobs}
 use Rattle.uac_graph.proofs.Asking.{askable, no_jobs, one_job_more}
 use Rattle.uac_topology_rules.proofs.TableSteps.{at_read}

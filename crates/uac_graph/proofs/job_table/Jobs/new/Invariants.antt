@@ -1,4 +1,4 @@
-use Rattle.uac_graph.specs.Controls.{held_in}
+use Rattle.uac_graph.specs.GraphControls.{held_in}
 use Rattle.uac_graph.specs.Jobs.{AreFirstJobs}
 use Rattle.uac_graph.proofs.job_table.Jobs.new.Given as goal
 

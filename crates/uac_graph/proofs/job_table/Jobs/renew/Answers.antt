@@ -1,5 +1,5 @@
 use Rattle.std.proofs.Common.{◌<◌, ap, sym, subst, refl, arith, length}
-use Rattle.uac_graph.specs.Controls.{held_in}
+use Rattle.uac_graph.specs.GraphControls.{held_in}
 use Rattle.uac_graph.specs.Jobs.{AreJobs}
 use Rattle.uac_graph.proofs.Asking.{none_renewed, one_renewed}
 use Rattle.uac_graph.proofs.job_table.Jobs.renew.Goals as goal

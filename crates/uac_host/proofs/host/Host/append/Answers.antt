@@ -1,7 +1,7 @@
 -- The lane of the interface is the world's, and no other changes.
 use Rattle.std.proofs.Common.{◌≡◌, None, Some}
 use Rattle.uac_host.specs.Calls.{with_samples}
-use Rattle.uac_host.proofs.StandsLemmas.{append_stands, left_alone, place_of, samples_turn}
+use Rattle.uac_host.proofs.StandsAfterCalls.{append_stands, left_alone, place_of, samples_turn}
 use Rattle.uac_host.proofs.host.Host.append.Goals as goal
 
 pub returns-in-Some-clause-stands : goal.returns-in-Some-clause-stands

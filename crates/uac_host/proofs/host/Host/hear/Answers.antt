@@ -2,7 +2,7 @@
 use Rattle.std.proofs.Common.{◌≡◌, ◌<◌, ◌↔◌, ℕ, true, None, Some, length, slice_get, ap, refl, subst, arith}
 use Rattle.std.specs.Bool.{OnTrue}
 use Rattle.uac_host.specs.Calls.{heard_in}
-use Rattle.uac_host.proofs.StandsLemmas.{heard_nothing, kept_at, no_stream, place_of}
+use Rattle.uac_host.proofs.StandsAfterCalls.{heard_nothing, kept_at, no_stream, place_of}
 use Rattle.uac_host.proofs.host.Host.hear.Goals as goal
 
 pub returns-in-Some-clause-there : goal.returns-in-Some-clause-there

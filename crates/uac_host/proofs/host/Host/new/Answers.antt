@@ -2,8 +2,8 @@
 use Rattle.std.proofs.Common.{◌∙◌, ap, arith, map, List}
 use Rattle.std.proofs.lemmas.List.{take_all}
 use Rattle.uac_entities.specs.declared.stream.StreamInterface.{StreamInterface}
-use Rattle.uac_host.specs.Kept.{resting_lane}
-use Rattle.uac_host.proofs.StandsLemmas.{stands_fresh}
+use Rattle.uac_host.specs.HostKept.{resting_lane}
+use Rattle.uac_host.proofs.StandsAfterCalls.{stands_fresh}
 use Rattle.uac_host.proofs.host.Host.new.Goals as goal
 
 pub returns : goal.returns

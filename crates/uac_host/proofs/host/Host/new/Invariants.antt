@@ -1,5 +1,5 @@
 use Rattle.std.proofs.Common.{◌≡◌, map, take}
-use Rattle.uac_host.specs.Kept.{resting_lane}
+use Rattle.uac_host.specs.HostKept.{resting_lane}
 use Rattle.uac_host.proofs.host.Host.new.Given as goal
 
 abbrev pub invariant-loop-stream : goal.invariant-loop-stream

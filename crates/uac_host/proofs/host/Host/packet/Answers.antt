@@ -1,8 +1,8 @@
 -- The lane of the interface is the world's, and no other changes.
 use Rattle.std.proofs.Common.{◌≡◌, ◌∙◌, ℕ, None, Some, ap}
 use Rattle.uac_host.specs.Calls.{after_packet, packet_of, size_of}
-use Rattle.uac_host.specs.Kept.{kept_lane}
-use Rattle.uac_host.proofs.StandsLemmas.{kept_at, left_alone, no_stream, packet_turns, place_of, put_back, unsent}
+use Rattle.uac_host.specs.HostKept.{kept_lane}
+use Rattle.uac_host.proofs.StandsAfterCalls.{kept_at, left_alone, no_stream, packet_turns, place_of, put_back, unsent}
 use Rattle.uac_host.proofs.host.Host.packet.Goals as goal
 
 pub returns-in-Some-clause-size : goal.returns-in-Some-clause-size

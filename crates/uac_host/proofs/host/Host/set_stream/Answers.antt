@@ -1,9 +1,9 @@
 -- The lane of the interface is the world's, and no other changes.
 use Rattle.std.proofs.Common.{◌≡◌, None, Some}
 use Rattle.std.specs.Option.{option_map}
-use Rattle.uac_alt.specs.Streams.{stream_fields}
+use Rattle.uac_alt.specs.AltStreams.{stream_fields}
 use Rattle.uac_host.specs.Calls.{with_stream}
-use Rattle.uac_host.proofs.StandsLemmas.{each_runnable, given_of, kept_at, left_alone, place_of, put_back, stream_lane, stream_turns}
+use Rattle.uac_host.proofs.StandsAfterCalls.{each_runnable, given_of, kept_at, left_alone, place_of, put_back, stream_lane, stream_turns}
 use Rattle.uac_host.proofs.host.Host.set_stream.Goals as goal
 
 pub run-requires : goal.run-requires

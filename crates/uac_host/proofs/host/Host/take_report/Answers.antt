@@ -1,7 +1,7 @@
 -- The lane of the interface is the world's, and no other changes.
 use Rattle.std.proofs.Common.{◌≡◌, None, Some}
 use Rattle.uac_host.specs.Calls.{with_report}
-use Rattle.uac_host.proofs.StandsLemmas.{kept_at, left_alone, place_of, put_back, report_kept, report_turns}
+use Rattle.uac_host.proofs.StandsAfterCalls.{kept_at, left_alone, place_of, put_back, report_kept, report_turns}
 use Rattle.uac_host.proofs.host.Host.take_report.Goals as goal
 
 pub returns-in-Some : goal.returns-in-Some

@@ -2,7 +2,7 @@
 use Rattle.std.proofs.Common.{◌≡◌, None, Some}
 use Rattle.uac_host.specs.declared.lanes.Lane.{Lane}
 use Rattle.uac_host.specs.Calls.{with_tone}
-use Rattle.uac_host.proofs.StandsLemmas.{kept_at, left_alone, place_of, put_back, tone_lane, tone_turns}
+use Rattle.uac_host.proofs.StandsAfterCalls.{kept_at, left_alone, place_of, put_back, tone_lane, tone_turns}
 use Rattle.uac_host.proofs.host.Host.track.Goals as goal
 
 pub returns-in-Some : goal.returns-in-Some

@@ -1,6 +1,6 @@
 -- The stream and the track of the lane are the world's.
 use Rattle.std.proofs.Common.{◌∙◌}
-use Rattle.uac_host.proofs.StandsLemmas.{lane_sends, rests_in, unsent}
+use Rattle.uac_host.proofs.StandsAfterCalls.{lane_sends, rests_in, unsent}
 use Rattle.uac_host.proofs.lanes.Lane.send.Goals as goal
 
 pub returns-in-Some-clause-size : goal.returns-in-Some-clause-size

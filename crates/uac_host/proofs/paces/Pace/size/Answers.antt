@@ -1,7 +1,7 @@
 -- A service interval has at most as many frames as fit the packet.
 use Rattle.std.proofs.Common.{◌*◌, ◌≤◌, arith, subst}
 use Rattle.std.proofs.Math.Nat.{mul-le-mul_right}
-use Rattle.uac_host.specs.Fields.{PaceFields}
+use Rattle.uac_host.specs.HostFields.{PaceFields}
 use Rattle.uac_host.proofs.paces.Pace.size.Goals as goal
 
 pub frames_of-requires-clause-slow : goal.frames_of-requires-clause-slow

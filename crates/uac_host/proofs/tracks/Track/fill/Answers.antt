@@ -5,9 +5,9 @@ use Rattle.std.specs.List.{All}
 use Rattle.uac_pcm.specs.Packets.{packed}
 use Rattle.uac_pcm.proofs.PacketsLemmas.{one_written}
 use Rattle.uac_host.specs.Calls.{after_frames, next_frames}
-use Rattle.uac_host.specs.Kept.{kept_track}
+use Rattle.uac_host.specs.HostKept.{kept_track}
 use Rattle.uac_host.proofs.CallsLemmas.{after_frames_more, after_frames_none, next_frames_more, next_frames_none}
-use Rattle.uac_host.proofs.KeptLemmas.{even_after}
+use Rattle.uac_host.proofs.HostKeptLemmas.{even_after}
 use Rattle.uac_host.proofs.tracks.Track.fill.Goals as goal
 
 pub loop-number-init : goal.loop-number-init

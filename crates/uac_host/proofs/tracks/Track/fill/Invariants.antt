@@ -3,7 +3,7 @@ use Rattle.std.specs.List.{All}
 use Rattle.uac_pcm.specs.Packets.{packed}
 use Rattle.uac_host.specs.HostWorld.{Track}
 use Rattle.uac_host.specs.Calls.{after_frames, next_frames}
-use Rattle.uac_host.specs.Kept.{kept_track}
+use Rattle.uac_host.specs.HostKept.{kept_track}
 use Rattle.uac_host.proofs.tracks.Track.fill.Given as goal
 
 abbrev pub invariant-loop-number : goal.invariant-loop-number

@@ -6,7 +6,7 @@ use Rattle.uac_pcm.specs.Tones.{tone_sample}
 use Rattle.uac_pcm.proofs.PacketsLemmas.{take_front}
 use Rattle.uac_host.specs.Calls.{tone_frame}
 use Rattle.uac_host.specs.contracts.tracks.Track.{the_view}
-use Rattle.uac_host.proofs.KeptLemmas.{next_sounds, next_waits}
+use Rattle.uac_host.proofs.HostKeptLemmas.{next_sounds, next_waits}
 use Rattle.uac_host.proofs.tracks.Track.next.Goals as goal
 
 pub returns-then-len-clause-stands : goal.returns-then-len-clause-stands

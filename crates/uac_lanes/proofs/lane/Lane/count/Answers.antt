@@ -1,4 +1,4 @@
-use Rattle.uac_lanes.proofs.LaneLemmas.{out_goes_on, out_sound}
+use Rattle.uac_lanes.proofs.OneLane.{out_goes_on, out_sound}
 use Rattle.uac_lanes.proofs.lane.Lane.count.Goals as goal
 
 pub returns-else-self-domain-clause-sound : goal.returns-else-self-domain-clause-sound

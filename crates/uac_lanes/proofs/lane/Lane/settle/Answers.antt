@@ -1,8 +1,8 @@
 use Rattle.std.proofs.Common.{ap}
 use Rattle.std.specs.Option.{option_map}
-use Rattle.uac_flow.specs.Streams.{settled_in, settled_out}
+use Rattle.uac_flow.specs.FlowStreams.{settled_in, settled_out}
 use Rattle.uac_lanes.specs.declared.lane.Flow.TheVariants as flow
-use Rattle.uac_lanes.proofs.LaneLemmas.{in_goes_on, in_sound, known}
+use Rattle.uac_lanes.proofs.OneLane.{in_goes_on, in_sound, known}
 use Rattle.uac_lanes.proofs.lane.Lane.settle.Goals as goal
 
 pub returns-in-In-clause-stands : goal.returns-in-In-clause-stands

@@ -1,6 +1,6 @@
 use Rattle.std.proofs.Common.{◌≡◌, ◌∙◌, ◌==◌, arith, ap, subst, sym, List}
 use Rattle.std.specs.List.{All}
-use Rattle.uac_flow.specs.Streams.{after_ticks}
+use Rattle.uac_flow.specs.FlowStreams.{after_ticks}
 use Rattle.uac_lanes.specs.declared.lane.Lane.{Lane}
 use Rattle.uac_lanes.specs.InterfaceStreams.{changed_where}
 use Rattle.uac_lanes.specs.Lanes.{AreLanes, KeepsStreams, ports}

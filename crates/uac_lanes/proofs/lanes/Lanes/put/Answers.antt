@@ -1,7 +1,7 @@
 use Rattle.std.proofs.Common.{◌≡◌, ◌∙◌, ◌==◌, ◌≤◌, arith, ap, subst, sym, List, false, Some}
 use Rattle.std.specs.List.{All}
 use Rattle.uac_graph.specs.Wiring.{frame_on}
-use Rattle.uac_flow.specs.Streams.{after_putting}
+use Rattle.uac_flow.specs.FlowStreams.{after_putting}
 use Rattle.uac_lanes.specs.declared.lane.Lane.{Lane}
 use Rattle.uac_lanes.specs.InterfaceStreams.{changed_where}
 use Rattle.uac_lanes.specs.Lanes.{AreLanes, KeepsStreams, ports}

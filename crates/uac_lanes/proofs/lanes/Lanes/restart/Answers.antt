@@ -1,7 +1,7 @@
 use Rattle.std.proofs.Common.{◌≡◌, ◌∙◌, Option, Some, None, ap, refl, subst, sym}
 use Rattle.std.specs.Option.{option_and_then, option_map}
-use Rattle.uac_alt.specs.Streams.{stream_fields}
-use Rattle.uac_flow.specs.Streams.{InStream, OutStream}
+use Rattle.uac_alt.specs.AltStreams.{stream_fields}
+use Rattle.uac_flow.specs.FlowStreams.{InStream, OutStream}
 use Rattle.uac_lanes.specs.InterfaceStreams.{in_from, out_from, replaced_at}
 use Rattle.uac_lanes.specs.Lanes.{KeepsLane, lane_at}
 use Rattle.uac_lanes.proofs.LanesLemmas.{are_at, begins_nowhere, fits_lane, keeps_nowhere, ports_at, replaced_here, replaced_others, written_at}

@@ -1,5 +1,5 @@
 use Rattle.std.proofs.Common.{◌≡◌, Option, Some, refl, subst, sym}
-use Rattle.uac_flow.specs.Streams.{InStream, after_sending}
+use Rattle.uac_flow.specs.FlowStreams.{InStream, after_sending}
 use Rattle.uac_lanes.specs.InterfaceStreams.{changed_at}
 use Rattle.uac_lanes.specs.Lanes.{KeepsLane, lane_at}
 use Rattle.uac_lanes.proofs.LanesLemmas.{are_at, asked_at, changed_here, changed_others, ports_at, written_at}

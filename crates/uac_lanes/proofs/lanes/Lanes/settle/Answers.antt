@@ -1,6 +1,6 @@
 use Rattle.std.proofs.Common.{◌≡◌, Option, Some, subst, sym}
 use Rattle.std.specs.Option.{option_map}
-use Rattle.uac_flow.specs.Streams.{InStream, OutStream, settled_in, settled_out}
+use Rattle.uac_flow.specs.FlowStreams.{InStream, OutStream, settled_in, settled_out}
 use Rattle.uac_lanes.specs.InterfaceStreams.{changed_at}
 use Rattle.uac_lanes.specs.Lanes.{KeepsLane, lane_at}
 use Rattle.uac_lanes.proofs.LanesLemmas.{are_at, changed_here, changed_others, ports_at, written_at}

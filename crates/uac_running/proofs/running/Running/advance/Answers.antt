@@ -1,5 +1,5 @@
 use Rattle.std.proofs.Common.{◌∙◌, ap, sym, subst, refl}
-use Rattle.uac_running.specs.Kept.{RunningFields, Stands, more_counted}
+use Rattle.uac_running.specs.RunningKept.{RunningFields, Stands, more_counted}
 use Rattle.uac_lanes.proofs.Turning.{turned_back}
 use Rattle.uac_running.proofs.Counting.{clocks_of, clocks-more, domains_kept}
 use Rattle.uac_running.proofs.JackSteps.{jacks_kept}

@@ -1,8 +1,8 @@
 use Rattle.std.proofs.Common.{sym, subst, refl}
 use Rattle.uac_host.specs.Calls.{with_samples}
-use Rattle.uac_streaming.specs.Kept as streaming
+use Rattle.uac_streaming.specs.StreamingKept as streaming
 use Rattle.uac_running.specs.RunningWorld.{streaming_of, with_samples_on}
-use Rattle.uac_running.specs.Kept.{RunningFields, Stands, StandsBetween}
+use Rattle.uac_running.specs.RunningKept.{RunningFields, Stands, StandsBetween}
 use Rattle.uac_running.proofs.SoFar.{ok_then}
 use Rattle.uac_running.proofs.Steps.{hosted}
 use Rattle.uac_running.specs.contracts.running.Running.{the_view}

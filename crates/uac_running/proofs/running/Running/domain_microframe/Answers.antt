@@ -1,8 +1,8 @@
 use Rattle.std.proofs.Common.{subst}
-use Rattle.uac_device.specs.DeviceWorld.{advanced}
+use Rattle.uac_device.specs.DeviceWorld.{after_advance}
 use Rattle.uac_units.specs.Panel.{readings}
 use Rattle.uac_running.specs.Events.{Told}
-use Rattle.uac_running.specs.Kept.{Tells}
+use Rattle.uac_running.specs.RunningKept.{Tells}
 use Rattle.uac_running.proofs.Steps.{domain_told}
 use Rattle.uac_running.proofs.running.Running.domain_microframe.Goals as goal
 
@@ -11,4 +11,4 @@ returns-clause-tells g c r stands =
     let shown = readings (λ v x. (goal.Meter-dyn g (v, x)).reading_of x) c.args.meters.now in
     subst (λ (told : Told). Tells told c.ticks.new.self (readings (λ v x. (goal.Meter-dyn g (v, x)).reading_of x) c.ticks.new.meters) (g.K.Sink.written c.args.sink.now) (g.K.Sink.written c.ticks.new.sink) c.ticks.result)
     (domain_told c.args.clock c.advance-ticks.result r (c.advance-ticks.ensures.ticks shown r stands))
-    (c.ticks.ensures.tells (record r { device = advanced c.args.clock r.device }) (c.advance-ticks.ensures.stands shown r stands))
+    (c.ticks.ensures.tells (record r { device = after_advance c.args.clock r.device }) (c.advance-ticks.ensures.stands shown r stands))

@@ -6,7 +6,7 @@ use Rattle.uac_edges.specs.Writing.{AppendsFront}
 use Rattle.uac_transcript.specs.Printing.{text_of}
 use Rattle.uac_running.specs.RunningWorld.{RunningWorld}
 use Rattle.uac_running.specs.Events.{domain_microframe, domain_microframes}
-use Rattle.uac_running.specs.Kept.{Stands}
+use Rattle.uac_running.specs.RunningKept.{Stands}
 use Rattle.uac_running.proofs.SoFar.{begun, finished, one_more, stopped}
 use Rattle.uac_running.proofs.Steps.{domains_end, domains_split}
 use Rattle.uac_transcript.proofs.PrintingLemmas.{Tells-handed_on}

@@ -2,7 +2,7 @@ use Rattle.std.proofs.Common.{◌≡◌, drop}
 use Rattle.uac_units.specs.Panel.{readings}
 use Rattle.uac_running.specs.RunningWorld.{RunningWorld}
 use Rattle.uac_running.specs.Events.{domain_microframes}
-use Rattle.uac_running.specs.Kept.{Stands}
+use Rattle.uac_running.specs.RunningKept.{Stands}
 use Rattle.uac_running.proofs.SoFar.{SoFar}
 use Rattle.uac_running.proofs.running.Running.domain_microframes.Given as goal
 

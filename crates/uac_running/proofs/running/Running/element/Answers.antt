@@ -1,11 +1,11 @@
 use Rattle.std.proofs.Common.{ap, sym, subst}
 use Rattle.std.specs.Str.{bytes_eq}
-use Rattle.uac_mixer.specs.Elements.{name_of}
+use Rattle.uac_mixer.specs.MixerElements.{name_of}
 use Rattle.uac_mixer.specs.ViewWorld.{ViewWorld}
 use Rattle.uac_mixer.specs.declared.element.Element.{Element}
-use Rattle.uac_running.specs.Kept.{RunningFields, Stands}
-use Rattle.uac_running.specs.Transfers.{element_named}
-use Rattle.uac_running.proofs.TransferLemmas.{found_at}
+use Rattle.uac_running.specs.RunningKept.{RunningFields, Stands}
+use Rattle.uac_running.specs.RunningTransfers.{element_named}
+use Rattle.uac_running.proofs.RunningTransfersLemmas.{found_at}
 use Rattle.uac_running.proofs.running.Running.element.Goals as goal
 
 pub returns-clause-named : goal.returns-clause-named

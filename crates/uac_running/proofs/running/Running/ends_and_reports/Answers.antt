@@ -2,7 +2,7 @@ use Rattle.std.proofs.Common.{map, subst, sym}
 use Rattle.uac_script.specs.Line.{said_mark}
 use Rattle.uac_streaming.specs.StreamingWorld.{all_reported, all_settled}
 use Rattle.uac_running.specs.Events.{ends_and_reports, of_streams}
-use Rattle.uac_running.specs.Kept.{RunningFields, Stands}
+use Rattle.uac_running.specs.RunningKept.{RunningFields, Stands}
 use Rattle.uac_running.proofs.Quiet.{quiet_ends_told}
 use Rattle.uac_running.proofs.SoFar.{front_then, tells_then}
 use Rattle.uac_transcript.proofs.PrintingLemmas.{Tells-handed_on}
@@ -17,17 +17,17 @@ returns-then-not-runs-clause-tells g c meters r stands fits =
 pub returns-in_err-settle-clause-tells : goal.returns-in_err-settle-clause-tells
 unfolding ends_and_reports
 returns-in_err-settle-clause-tells g c meters r stands fits =
-    let losses = map said_mark c.args.marks.now in
+    let marks = map said_mark c.args.marks.now in
     Tells-handed_on _ _ (g.K.Sink.written c.args.sink.now) (g.K.Sink.written c.settle.new.sink) c.from_residual.result _ c.from_residual.ensures.1 (
-    front_then (of_streams (all_settled r.detail)) (of_streams (all_reported r.detail losses)) r
+    front_then (of_streams (all_settled r.detail)) (of_streams (all_reported r.detail marks)) r
     (g.K.Sink.written c.args.sink.now) (g.K.Sink.written c.settle.new.sink) (c.in_err-settle.ensures.tells meters r stands fits).0
     )
 
 pub returns-clause-tells : goal.returns-clause-tells
 unfolding ends_and_reports
 returns-clause-tells g c meters r stands fits =
-    let losses = map said_mark c.args.marks.now in
+    let marks = map said_mark c.args.marks.now in
     let first = c.in_ok-settle.ensures.tells meters r stands fits in
-    tells_then (of_streams (all_settled r.detail)) (of_streams (all_reported r.detail losses)) r c.reports.new.self meters
+    tells_then (of_streams (all_settled r.detail)) (of_streams (all_reported r.detail marks)) r c.reports.new.self meters
     (g.K.Sink.written c.args.sink.now) (g.K.Sink.written c.settle.new.sink) (g.K.Sink.written c.reports.new.sink) c.reports.result first.0
     (c.reports.ensures.tells meters (of_streams (all_settled r.detail) r).world first.1)

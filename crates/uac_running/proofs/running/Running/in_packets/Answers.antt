@@ -1,9 +1,9 @@
 use Rattle.std.proofs.Common.{sym, subst, refl, ℕ, map}
 use Rattle.uac_script.specs.Line.{said_mark}
-use Rattle.uac_streaming.specs.Kept as streaming
+use Rattle.uac_streaming.specs.StreamingKept as streaming
 use Rattle.uac_streaming.specs.StreamingWorld.{in_packets}
 use Rattle.uac_running.specs.RunningWorld.{streaming_of}
-use Rattle.uac_running.specs.Kept.{RunningFields, Stands}
+use Rattle.uac_running.specs.RunningKept.{RunningFields, Stands}
 use Rattle.uac_running.proofs.Counting.{domains_kept}
 use Rattle.uac_running.proofs.JackSteps.{jacks_kept}
 use Rattle.uac_running.proofs.Steps.{streams_told, view_still}

@@ -37,12 +37,12 @@ pub returns-clause-tells : goal.returns-clause-tells
 returns-clause-tells g c r stands =
     let shown = readings (λ v x. (goal.Meter-dyn g (v, x)).reading_of x) c.args.meters.now in
     let showing = readings (λ v x. (goal.Meter-dyn g (v, x)).reading_of x) c.packets_and_ticks.new.meters in
-    let losses = map said_mark c.args.marks.now in
+    let marks = map said_mark c.args.marks.now in
     let later = passed shown r c.args.self.now c.pass.new.self stands.now c.pass.ensures in
     let said = number_line r c.pass.new.self shown later in
     let number = subst (λ (lines : List Said). Appends (g.K.Sink.written c.args.sink.now) (g.K.Sink.written c.write_number.new.sink) (text_of lines)) said c.in_ok-write_number.ensures.printed in
     let small = subst HaveSmallNumbers stands.now.streaming.device.function c.requires.small in
     let first = c.in_ok-packets_and_ticks.ensures.tells (numbered r) later in
-    microframe_told losses r c.ends_and_reports.new.self showing (g.K.Sink.written c.args.sink.now) (g.K.Sink.written c.write_number.new.sink) (g.K.Sink.written c.packets_and_ticks.new.sink)
-    (g.K.Sink.written c.ends_and_reports.new.sink) c.ends_and_reports.result (one_microframe losses r small stands.room) number first.0
-    (c.ends_and_reports.ensures.tells showing (packets_and_ticks losses (numbered r)).world first.1 (zeros_fit_in losses (numbered r) stands.room))
+    microframe_told marks r c.ends_and_reports.new.self showing (g.K.Sink.written c.args.sink.now) (g.K.Sink.written c.write_number.new.sink) (g.K.Sink.written c.packets_and_ticks.new.sink)
+    (g.K.Sink.written c.ends_and_reports.new.sink) c.ends_and_reports.result (one_microframe marks r small stands.room) number first.0
+    (c.ends_and_reports.ensures.tells showing (packets_and_ticks marks (numbered r)).world first.1 (zeros_fit_in marks (numbered r) stands.room))

@@ -3,7 +3,7 @@ use Rattle.uac_script.specs.Line.{said_mark}
 use Rattle.uac_units.specs.Panel.{readings}
 use Rattle.uac_running.specs.Events.{microframe, microframes}
 use Rattle.uac_streaming.proofs.RoomOfDevices.{HaveSmallNumbers}
-use Rattle.uac_running.specs.Kept.{RunningFields, StandsBetween}
+use Rattle.uac_running.specs.RunningKept.{RunningFields, StandsBetween}
 use Rattle.uac_running.proofs.SoFar.{begun, finished, one_more, stopped}
 use Rattle.uac_running.proofs.Steps.{microframes_end, microframes_split}
 use Rattle.uac_transcript.proofs.PrintingLemmas.{Tells-handed_on}

@@ -3,7 +3,7 @@ use Rattle.uac_script.specs.Line.{said_mark}
 use Rattle.uac_units.specs.Panel.{readings}
 use Rattle.uac_running.specs.RunningWorld.{RunningWorld}
 use Rattle.uac_running.specs.Events.{microframes}
-use Rattle.uac_running.specs.Kept.{StandsBetween}
+use Rattle.uac_running.specs.RunningKept.{StandsBetween}
 use Rattle.uac_running.proofs.SoFar.{SoFar}
 use Rattle.uac_running.proofs.running.Running.microframes.Given as goal
 

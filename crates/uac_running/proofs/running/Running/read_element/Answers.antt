@@ -1,14 +1,14 @@
 use Rattle.std.proofs.Common.{◌≡◌, ◌∙◌, ap, sym, subst, rules, true, [], ℕ, List, Some, Ok, slice_get, to_z, of_z, w32, is_some}
 use Rattle.uac_edges.specs.Writing.{Writes}
 use Rattle.uac_transcript.specs.Transcript.{has_value, says_view, spelled, was_broken}
-use Rattle.uac_mixer.specs.Elements.{name_of}
-use Rattle.uac_mixer.specs.Transfers.{get_of}
+use Rattle.uac_mixer.specs.MixerElements.{name_of}
+use Rattle.uac_mixer.specs.ViewTransfers.{get_of}
 use Rattle.uac_mixer.specs.ViewWorld.{ViewWorld}
-use Rattle.uac_running.specs.Kept.{StandsBetween}
-use Rattle.uac_running.specs.Transfers.{IsRead, read_element, read_sight, transferred}
+use Rattle.uac_running.specs.RunningKept.{StandsBetween}
+use Rattle.uac_running.specs.RunningTransfers.{IsRead, read_element, read_sight, after_transfer}
 use Rattle.uac_running.proofs.SoFar.{at_ok}
 use Rattle.uac_running.proofs.RoomSteps.{transferred_room}
-use Rattle.uac_running.proofs.OutcomeLemmas.{read_broken, read_value, same_element, sight_printed}
+use Rattle.uac_running.proofs.PrintedOutcomes.{read_broken, read_value, same_element, sight_printed}
 use Rattle.uac_running.proofs.running.Running.read_element.Goals as goal
 
 pub returns-in-Ok-clause-tells : goal.returns-in-Ok-clause-tells
@@ -22,7 +22,7 @@ returns-in-Ok-clause-tells g c meters r x stands at =
           (has_value (name_of x) (to_z w32 (of_z w32 c.in-Ok.value))) (read_value x r c.in-Ok.value is ∙ ap (has_value (name_of x)) (sym exact))
           (subst (λ (name : List ℕ). Writes (g.K.Sink.written c.args.sink.now) (g.K.Sink.written c.write_value.new.sink) c.write_value.result (spelled (says_view (has_value name (to_z w32 (of_z w32 c.in-Ok.value))))))
           (c.as_bytes.ensures.text ∙ c.name-name.ensures ∙ ap name_of same) c.write_value.ensures.written),
-      at_ok (StandsBetween c.read.new.self meters (transferred (get_of r.device.function.control_interface x) [] r)) c.write_value.result
+      at_ok (StandsBetween c.read.new.self meters (after_transfer (get_of r.device.function.control_interface x) [] r)) c.write_value.result
           (record { now = c.in-Ok.ensures.stands meters r x stands.now at; room = transferred_room (get_of r.device.function.control_interface x) [] r stands.room }),
     )
 
@@ -32,6 +32,6 @@ returns-in-Err-clause-tells g c meters r x stands at =
     let is : is_some r.breaks ≡ true = c.in-Err.ensures.value meters r x stands.now at in (
       sight_printed (g.K.Sink.written c.args.sink.now) (g.K.Sink.written c.write_view_broken.new.sink) c.write_view_broken.result (read_sight x r) was_broken
           (read_broken x r is) c.write_view_broken.ensures.written,
-      at_ok (StandsBetween c.read.new.self meters (transferred (get_of r.device.function.control_interface x) [] r)) c.write_view_broken.result
+      at_ok (StandsBetween c.read.new.self meters (after_transfer (get_of r.device.function.control_interface x) [] r)) c.write_view_broken.result
           (record { now = c.in-Err.ensures.stands meters r x stands.now at; room = transferred_room (get_of r.device.function.control_interface x) [] r stands.room }),
     )

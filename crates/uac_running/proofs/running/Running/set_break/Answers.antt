@@ -1,8 +1,8 @@
 use Rattle.std.proofs.Common.{sym, subst, ap, Some}
 use Rattle.uac_mixer.specs.declared.link.When.{When}
-use Rattle.uac_running.specs.Kept.{RunningFields, Stands}
-use Rattle.uac_running.specs.Transfers.{with_break}
-use Rattle.uac_running.proofs.TransferLemmas.{break_set}
+use Rattle.uac_running.specs.RunningKept.{RunningFields, Stands}
+use Rattle.uac_running.specs.RunningTransfers.{with_break}
+use Rattle.uac_running.proofs.RunningTransfersLemmas.{break_set}
 use Rattle.uac_running.specs.contracts.running.Running.{the_view}
 use Rattle.uac_running.proofs.running.Running.set_break.Goals as goal
 

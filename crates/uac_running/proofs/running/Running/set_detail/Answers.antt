@@ -1,6 +1,6 @@
 use Rattle.std.proofs.Common.{sym, subst, refl}
 use Rattle.uac_running.specs.RunningWorld.{with_detail}
-use Rattle.uac_running.specs.Kept.{RunningFields, Stands}
+use Rattle.uac_running.specs.RunningKept.{RunningFields, Stands}
 use Rattle.uac_running.proofs.Steps.{detailed}
 use Rattle.uac_running.specs.contracts.running.Running.{the_view}
 use Rattle.uac_running.proofs.running.Running.set_detail.Goals as goal

@@ -1,6 +1,6 @@
 use Rattle.std.proofs.Common.{sym, subst, refl}
-use Rattle.uac_running.specs.RunningWorld.{toned, with_tone}
-use Rattle.uac_running.specs.Kept.{RunningFields, Stands}
+use Rattle.uac_running.specs.RunningWorld.{jack_with_tone, with_tone}
+use Rattle.uac_running.specs.RunningKept.{RunningFields, Stands}
 use Rattle.uac_lanes.proofs.Turning.{turned_back}
 use Rattle.uac_running.proofs.Counting.{domains_kept}
 use Rattle.uac_running.proofs.JackSteps.{jacks_toned}
@@ -10,7 +10,7 @@ use Rattle.uac_running.proofs.running.Running.set_tone.Goals as goal
 
 pub invariant_of-self : goal.invariant_of-self
 invariant_of-self c =
-    let jacks = turned_back (toned c.args.terminal c.args.tone) c.self.inside.jacks.len c.self.inside.jacks.items c.deref_mut.result.now c.set_tone.new.jacks
+    let jacks = turned_back (jack_with_tone c.args.terminal c.args.tone) c.self.inside.jacks.len c.self.inside.jacks.items c.deref_mut.result.now c.set_tone.new.jacks
     c.set_tone.ensures c.deref_mut.ensures.value c.deref_mut.ensures.len in (
       jacks_toned c.args.terminal c.args.tone (the_view c.self.inside) _ refl jacks c.self.invariant.0,
       domains_kept (the_view c.self.inside) _ refl refl c.self.invariant.1,
@@ -20,7 +20,7 @@ invariant_of-self c =
 pub returns-clause-stands : goal.returns-clause-stands
 unfolding with_tone
 returns-clause-stands c meters r stands =
-    let jacks = turned_back (toned c.args.terminal c.args.tone) c.self.inside.jacks.len c.self.inside.jacks.items c.deref_mut.result.now c.set_tone.new.jacks
+    let jacks = turned_back (jack_with_tone c.args.terminal c.args.tone) c.self.inside.jacks.len c.self.inside.jacks.items c.deref_mut.result.now c.set_tone.new.jacks
     c.set_tone.ensures c.deref_mut.ensures.value c.deref_mut.ensures.len in
     record {
       now = toned_on meters r (the_view c.self.inside) _ (subst (λ (p : RunningFields). Stands p meters r) (sym c.self.view_is) stands.now) c.args.terminal c.args.tone _ jacks refl;

@@ -2,9 +2,9 @@ use Rattle.std.proofs.Common.{◌≡◌, ◌∙◌, ap, sym, subst, rules, ℕ, 
 use Rattle.uac_edges.specs.Writing.{Writes}
 use Rattle.uac_transcript.specs.Transcript.{has_value, is_unknown, says_view, spelled}
 use Rattle.uac_mixer.specs.declared.element.Element.{Element}
-use Rattle.uac_mixer.specs.Elements.{name_of}
-use Rattle.uac_running.specs.Transfers.{shown_sight}
-use Rattle.uac_running.proofs.OutcomeLemmas.{same_element, sight_printed}
+use Rattle.uac_mixer.specs.MixerElements.{name_of}
+use Rattle.uac_running.specs.RunningTransfers.{shown_sight}
+use Rattle.uac_running.proofs.PrintedOutcomes.{same_element, sight_printed}
 use Rattle.uac_running.proofs.running.Running.show_element.Goals as goal
 
 pub returns-in-Some-clause-printed : goal.returns-in-Some-clause-printed

@@ -1,9 +1,9 @@
 use Rattle.std.proofs.Common.{◌≡◌, ◌∙◌, ◌+◌, ap, sym, subst, refl, true, zero-add}
-use Rattle.uac_device.specs.Kept as device
+use Rattle.uac_device.specs.DeviceKept as device
 use Rattle.uac_device.specs.DeviceWorld.{renders_of}
 use Rattle.uac_units.specs.Panel.{readings}
 use Rattle.uac_running.specs.Events.{after_one, gone_on}
-use Rattle.uac_running.specs.Kept.{RunningFields, Stands}
+use Rattle.uac_running.specs.RunningKept.{RunningFields, Stands}
 use Rattle.uac_lanes.proofs.Turning.{turned_back}
 use Rattle.uac_running.proofs.Counting.{domains_kept}
 use Rattle.uac_running.proofs.JackSteps.{jacks_gone_on}

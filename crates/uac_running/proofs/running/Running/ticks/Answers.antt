@@ -1,9 +1,9 @@
 use Rattle.std.proofs.Common.{◌∙◌, ap, arith, rules, ◌+◌, ◌-◌, refl, false, not, subst, sym}
 use Rattle.uac_units.specs.Panel.{readings}
 use Rattle.uac_running.specs.Events.{tick, tick_times}
-use Rattle.uac_running.specs.Kept.{RunningFields, Stands}
+use Rattle.uac_running.specs.RunningKept.{RunningFields, Stands}
 use Rattle.uac_running.proofs.SoFar.{begun, finished, one_more_to, stopped}
-use Rattle.uac_running.proofs.Resting.{RestsSo, after_tick, begun_to_tick}
+use Rattle.uac_running.proofs.Resting.{RestsSo, after_one_tick, begun_to_tick}
 use Rattle.uac_running.proofs.Steps.{ticks_end, ticks_split}
 use Rattle.uac_transcript.proofs.PrintingLemmas.{Tells-handed_on}
 use Rattle.uac_running.proofs.running.Running.ticks.Goals as goal
@@ -38,7 +38,7 @@ loop-ticked-preserved g c = record {
       (λ w s.
       let t = c.in_ok-tick.ensures.tells w s.now s.rests s.stills in (
         t.0,
-        after_tick (not c.one_sounds-silent.result) (not c.runs-still.result) c.loop-ticked.rest.jacks c.loop-ticked.rest.lanes c.args.clock c.loop-ticked.self c.tick.new.self (readings (λ v x. (goal.Meter-dyn g (v, x)).reading_of x) c.loop-ticked.meters)
+        after_one_tick (not c.one_sounds-silent.result) (not c.runs-still.result) c.loop-ticked.rest.jacks c.loop-ticked.rest.lanes c.args.clock c.loop-ticked.self c.tick.new.self (readings (λ v x. (goal.Meter-dyn g (v, x)).reading_of x) c.loop-ticked.meters)
             (readings (λ v x. (goal.Meter-dyn g (v, x)).reading_of x) c.tick.new.meters) w s t.1
             (c.tick.ensures.rests (readings (λ v x. (goal.Meter-dyn g (v, x)).reading_of x) c.loop-ticked.meters) w s.now),
       ));

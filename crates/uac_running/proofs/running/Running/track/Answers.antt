@@ -1,7 +1,7 @@
 use Rattle.std.proofs.Common.{sym, subst, refl}
 use Rattle.uac_host.specs.Calls as calls
 use Rattle.uac_running.specs.RunningWorld.{streaming_of, with_track}
-use Rattle.uac_running.specs.Kept.{RunningFields, Stands}
+use Rattle.uac_running.specs.RunningKept.{RunningFields, Stands}
 use Rattle.uac_running.proofs.Steps.{hosted}
 use Rattle.uac_running.specs.contracts.running.Running.{the_view}
 use Rattle.uac_running.proofs.running.Running.track.Goals as goal

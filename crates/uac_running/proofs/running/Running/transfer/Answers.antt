@@ -4,11 +4,11 @@ use Rattle.uac_topology.specs.Function.{FunctionFields}
 use Rattle.uac_store.specs.declared.keys.Key.{Key}
 use Rattle.uac_request.specs.Requests.{AnswerFields}
 use Rattle.uac_request.specs.Requests as requests
-use Rattle.uac_device.specs.Kept as device
+use Rattle.uac_device.specs.DeviceKept as device
 use Rattle.uac_device.specs.DeviceWorld.{sets_interface, stream_in_setting, tells_done}
-use Rattle.uac_running.specs.Kept.{RunningFields, Stands}
-use Rattle.uac_running.specs.Transfers.{holds_setting}
-use Rattle.uac_running.proofs.TransferLemmas.{begun_is, came_back, followed_stand, rested_stand, setting_held, transfer_stands}
+use Rattle.uac_running.specs.RunningKept.{RunningFields, Stands}
+use Rattle.uac_running.specs.RunningTransfers.{holds_setting}
+use Rattle.uac_running.proofs.RunningTransfersLemmas.{begun_is, came_back, followed_stand, rested_stand, setting_held, transfer_stands}
 use Rattle.uac_running.specs.contracts.running.Running.{the_view}
 use Rattle.uac_running.proofs.running.Running.transfer.Goals as goal
 

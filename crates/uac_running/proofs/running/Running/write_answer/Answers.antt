@@ -3,8 +3,8 @@ use Rattle.uac_request.specs.Requests.{answer_fields}
 use Rattle.uac_request.specs.declared.told.Answer.{Answer}
 use Rattle.uac_edges.specs.Writing.{Writes}
 use Rattle.uac_transcript.specs.Transcript.{gave, says_answer, spelled, stalled, was_done}
-use Rattle.uac_running.specs.Transfers.{outcome_of, piece}
-use Rattle.uac_running.proofs.OutcomeLemmas.{outcome_printed}
+use Rattle.uac_running.specs.RunningTransfers.{outcome_of, piece}
+use Rattle.uac_running.proofs.PrintedOutcomes.{outcome_printed}
 use Rattle.uac_running.proofs.running.Running.write_answer.Goals as goal
 
 pub returns-in-Bytes-clause-printed : goal.returns-in-Bytes-clause-printed

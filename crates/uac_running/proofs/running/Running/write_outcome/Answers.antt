@@ -1,10 +1,10 @@
 use Rattle.std.proofs.Common.{ap, sym, Result}
 use Rattle.uac_request.specs.declared.told.Answer.{Answer}
 use Rattle.uac_mixer.specs.declared.link.Broken.{Broken}
-use Rattle.uac_mixer.specs.Transfers.{came_of}
+use Rattle.uac_mixer.specs.ViewTransfers.{came_of}
 use Rattle.uac_transcript.specs.Transcript.{broke}
-use Rattle.uac_running.specs.Transfers.{outcome_of}
-use Rattle.uac_running.proofs.OutcomeLemmas.{outcome_printed, outcome_seen}
+use Rattle.uac_running.specs.RunningTransfers.{outcome_of}
+use Rattle.uac_running.proofs.PrintedOutcomes.{outcome_printed, outcome_seen}
 use Rattle.uac_running.proofs.running.Running.write_outcome.Goals as goal
 
 pub returns-in-Ok-clause-printed : goal.returns-in-Ok-clause-printed

@@ -1,6 +1,6 @@
 use Rattle.std.proofs.Common.{◌≡◌, ◌+◌, ◌-◌, ◌≤◌, ◌++◌, ℕ, List, length, None}
 use Rattle.std.specs.Io.KnownBytes.{Consumes}
-use Rattle.uac_script.specs.Lines.{most_of_input, IsTold, StopsAtLine, head_of}
+use Rattle.uac_script.specs.ScriptLines.{most_of_input, IsTold, StopsAtLine, head_of}
 use Rattle.uac_script.specs.Looking.{line_end}
 use Rattle.uac_script.proofs.lines.Lines.next.Given as goal
 

@@ -1,6 +1,6 @@
 use Rattle.std.proofs.Common.{refl, sym, subst}
 use Rattle.uac_host.specs.Calls.{with_samples}
-use Rattle.uac_streaming.specs.Kept.{StreamingFields, Stands}
+use Rattle.uac_streaming.specs.StreamingKept.{StreamingFields, Stands}
 use Rattle.uac_streaming.specs.contracts.streaming.Streaming.{the_view}
 use Rattle.uac_streaming.proofs.Standing.{hosted, where_ok}
 use Rattle.uac_streaming.proofs.streaming.Streaming.append.Goals as goal

@@ -5,7 +5,7 @@ use Rattle.uac_script.specs.Line.{said_mark}
 use Rattle.uac_transcript.specs.Printing.{text_of}
 use Rattle.uac_streaming.specs.Telling.{Telling, in_turn}
 use Rattle.uac_streaming.specs.StreamingWorld.{StreamingWorld, inward_turn}
-use Rattle.uac_streaming.specs.Kept.{StreamingFields, Stands}
+use Rattle.uac_streaming.specs.StreamingKept.{StreamingFields, Stands}
 use Rattle.uac_streaming.proofs.SoFar.{at_place, begun, turn_more, turn_stopped, turns_finished}
 use Rattle.uac_streaming.proofs.Turned.{in_packets_are}
 use Rattle.uac_transcript.proofs.PrintingLemmas.{Tells-handed_on}

@@ -1,5 +1,5 @@
 use Rattle.std.proofs.Common.{◌∙◌, ap}
-use Rattle.uac_streaming.specs.Kept.{StreamingFields}
+use Rattle.uac_streaming.specs.StreamingKept.{StreamingFields}
 use Rattle.uac_streaming.proofs.Counted.{counts_met}
 use Rattle.uac_streaming.proofs.streaming.Streaming.met_on.Goals as goal
 

@@ -1,5 +1,5 @@
 use Rattle.std.proofs.Common.{◌∙◌, ap, filter, subst, sym, List}
-use Rattle.uac_host.specs.Kept as hosts
+use Rattle.uac_host.specs.HostKept as hosts
 use Rattle.uac_host.specs.HostWorld.{fresh_host}
 use Rattle.uac_host.specs.declared.lanes.Lane.{Lane}
 use Rattle.uac_streaming.specs.StreamingWorld.{comes_in, goes_out}

@@ -6,14 +6,14 @@ use Rattle.uac_streaming.proofs.streaming.Streaming.out_packet.Goals as goal
 
 pub returns-then-not-due-clause-tells : goal.returns-then-not-due-clause-tells
 returns-then-not-due-clause-tells g c = λ w stands.
-    let losses = map said_mark c.args.marks.now in
-    rests (outward_turn c.args.detail losses c.args.interface w) c.args.self.now c.args.device.now (g.K.Sink.written c.args.sink.now) w
-    (out_rests c.args.detail c.args.interface losses w c.due.result (c.due.ensures w.device stands.device) c.if-not-due.true) stands
+    let marks = map said_mark c.args.marks.now in
+    rests (outward_turn c.args.detail marks c.args.interface w) c.args.self.now c.args.device.now (g.K.Sink.written c.args.sink.now) w
+    (out_rests c.args.detail c.args.interface marks w c.due.result (c.due.ensures w.device stands.device) c.if-not-due.true) stands
 
 pub returns-clause-tells : goal.returns-clause-tells
 returns-clause-tells g c = λ w stands.
-    let losses = map said_mark c.args.marks.now in
-    out_told c.args.detail c.args.interface losses w c.due.result (c.due.ensures w.device stands.device) c.send-sent.new.self c.send-sent.new.device
+    let marks = map said_mark c.args.marks.now in
+    out_told c.args.detail c.args.interface marks w c.due.result (c.due.ensures w.device stands.device) c.send-sent.new.self c.send-sent.new.device
     (g.K.Sink.written c.args.sink.now) (g.K.Sink.written c.write_sent.new.sink) c.write_sent.result c.send-sent.result.frames c.send-sent.result.arrival c.loses_out.result
     c.if-not-due.false c.loses_out.ensures (c.send-sent.ensures.frames w stands) (c.send-sent.ensures.arrival w stands) (c.send-sent.ensures.stands w stands)
     c.write_sent.ensures.printed

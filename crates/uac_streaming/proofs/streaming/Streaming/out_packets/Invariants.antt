@@ -1,7 +1,7 @@
 use Rattle.std.proofs.Common.{◌≡◌, map}
 use Rattle.uac_script.specs.Line.{said_mark}
 use Rattle.uac_streaming.specs.StreamingWorld.{StreamingWorld, outward_turn}
-use Rattle.uac_streaming.specs.Kept.{Stands}
+use Rattle.uac_streaming.specs.StreamingKept.{Stands}
 use Rattle.uac_streaming.proofs.SoFar.{InTurn}
 use Rattle.uac_streaming.proofs.streaming.Streaming.out_packets.Given as goal
 

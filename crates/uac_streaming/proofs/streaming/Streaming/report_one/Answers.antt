@@ -6,9 +6,9 @@ use Rattle.uac_streaming.proofs.streaming.Streaming.report_one.Goals as goal
 
 pub returns-in_default-clause-tells : goal.returns-in_default-clause-tells
 returns-in_default-clause-tells g c = λ w stands.
-    let losses = map said_mark c.args.marks.now in
-    rests (report_turn c.args.detail losses c.args.interface w) c.args.self.now c.args.device.now (g.K.Sink.written c.args.sink.now) w
-    (report_rests c.args.detail c.args.interface losses w c.feedback.result (c.feedback.ensures w.device stands.device) c.in_default.is) stands
+    let marks = map said_mark c.args.marks.now in
+    rests (report_turn c.args.detail marks c.args.interface w) c.args.self.now c.args.device.now (g.K.Sink.written c.args.sink.now) w
+    (report_rests c.args.detail c.args.interface marks w c.feedback.result (c.feedback.ensures w.device stands.device) c.in_default.is) stands
 
 pub returns-clause-tells : goal.returns-clause-tells
 returns-clause-tells g c = λ w stands.

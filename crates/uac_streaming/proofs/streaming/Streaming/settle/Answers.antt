@@ -4,7 +4,7 @@ use Rattle.uac_edges.specs.Writing.{AppendsFront}
 use Rattle.uac_transcript.specs.Printing.{text_of}
 use Rattle.uac_streaming.specs.Telling.{Telling, in_turn}
 use Rattle.uac_streaming.specs.StreamingWorld.{StreamingWorld, settled_turn}
-use Rattle.uac_streaming.specs.Kept.{StreamingFields, Stands}
+use Rattle.uac_streaming.specs.StreamingKept.{StreamingFields, Stands}
 use Rattle.uac_streaming.proofs.SoFar.{at_place, begun, turn_more, turn_stopped, turns_finished}
 use Rattle.uac_streaming.proofs.Turned.{StandsBefore, all_settled_are, settled_failed, settled_next}
 use Rattle.uac_transcript.proofs.PrintingLemmas.{Tells-handed_on}

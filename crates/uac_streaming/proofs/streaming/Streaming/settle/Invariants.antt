@@ -1,7 +1,7 @@
 use Rattle.std.proofs.Common.{◌≡◌, ℕ}
 use Rattle.uac_device.specs.DeviceWorld.{ZerosFitIn}
 use Rattle.uac_streaming.specs.StreamingWorld.{StreamingWorld, settled_turn}
-use Rattle.uac_streaming.specs.Kept.{Stands}
+use Rattle.uac_streaming.specs.StreamingKept.{Stands}
 use Rattle.uac_streaming.proofs.SoFar.{InTurn}
 use Rattle.uac_streaming.proofs.Turned.{StandsBefore}
 use Rattle.uac_streaming.proofs.streaming.Streaming.settle.Given as goal

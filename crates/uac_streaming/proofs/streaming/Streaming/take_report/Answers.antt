@@ -1,6 +1,6 @@
 use Rattle.std.proofs.Common.{refl, sym, subst, Bool, if◌then◌else◌}
 use Rattle.uac_host.specs.Calls.{with_report}
-use Rattle.uac_streaming.specs.Kept.{StreamingFields, Stands}
+use Rattle.uac_streaming.specs.StreamingKept.{StreamingFields, Stands}
 use Rattle.uac_streaming.specs.contracts.streaming.Streaming.{the_view}
 use Rattle.uac_streaming.proofs.Standing.{hosted}
 use Rattle.uac_streaming.proofs.streaming.Streaming.take_report.Goals as goal

@@ -1,0 +1,13 @@
+use Rattle.std.proofs.Common.{ap, ◌∙◌}
+use Rattle.std.specs.Vec.Iter.{into_iter_items, into_iter_len}
+use Rattle.std.proofs.lemmas.Iterator.{items_from_collect}
+use Rattle.std.proofs.lemmas.Iterator.Adapters.{YieldsList-from_vec, YieldsList-from_skip}
+use Rattle.uac_cli.proofs.arguments.words_after_the_first.Goals as goal
+
+pub returns : goal.returns
+returns c =
+    let given = c.args.args in
+    items_from_collect c.collect.result c.collect.ensures.ran
+    (YieldsList-from_skip 1
+    (YieldsList-from_vec (into_iter_items given) (ap into_iter_items c.skip.ensures.source) (ap into_iter_len c.skip.ensures.source ∙ given.rest.ok.0))
+    c.skip.ensures.count)

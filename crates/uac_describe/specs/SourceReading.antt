@@ -1,0 +1,44 @@
+-- What reading a descriptor from a source comes to (profile).
+use Rattle.std.specs.Prelude.{◌≡◌, ◌≤◌, ℕ, ◌⊎◌, List, ◌++◌, length, Option, None, Some}
+use Rattle.std.specs.Io.KnownBytes.{Consumes, IsAtEnd}
+use Rattle.uac_sentence.specs.Grammar.{first_fault}
+use Rattle.uac_sentence.specs.Sentence.{IsSentence}
+use Rattle.uac_grammar.specs.declared.fault.ReadStop.TheVariants.{Fault, NoMemory}
+use Rattle.uac_grammar.specs.Stop.{shown_fault}
+use Rattle.uac_edges.specs.Faults.{Rose}
+use Rattle.uac_describe.specs.declared.reading.SourceEnd.{SourceEnd}
+use Rattle.uac_describe.specs.declared.reading.SourceEnd.TheVariants.{Whole, Stopped, Failed}
+
+-- at the end of the bytes: the verdict on all of them
+abbrev pub Finishes : List ℕ → SourceEnd → Type 0
+Finishes taken (Whole blocks) = IsSentence taken blocks.items
+Finishes taken (Stopped (Fault fault)) = first_fault taken ≡ Some fault
+Finishes taken (Stopped NoMemory) = Unit {0}
+Finishes taken Failed = ⊥
+
+-- what is known of the bytes taken, by what came of them
+abbrev pub Comes : SourceEnd → List ℕ → Option (List ℕ) → ℕ → ℕ → Type 0
+Comes (Whole blocks) taken left before after = IsAtEnd left × IsSentence taken blocks.items
+Comes (Stopped (Fault fault)) taken left before after =
+    (shown_fault taken ≡ Some fault) ⊎ (IsAtEnd left × (first_fault taken ≡ Some fault))
+Comes (Stopped NoMemory) taken left before after = Unit {0}
+Comes Failed taken left before after = Rose before after × (shown_fault taken ≡ None)
+
+-- the most bytes that one call of the source is asked for
+abbrev pub piece_size : ℕ
+piece_size = 4096
+
+-- Taking stopped at the fault: nothing was shown before the last piece.
+pub record StopsThere (taken : List ℕ) : Type 0 where
+  pub front : List ℕ
+  pub piece : List ℕ
+  pub parts : taken ≡ front ++ piece
+  pub quiet : shown_fault front ≡ None
+  pub short : length piece ≤ piece_size
+
+-- These bytes were taken, and this came of them.
+pub record Reads (old new : Option (List ℕ)) (before after : ℕ) (reading : SourceEnd) : Type 0 where
+  pub taken : List ℕ
+  pub consumed : Consumes old new taken
+  pub prompt : StopsThere taken
+  pub comes : Comes reading taken new before after

@@ -1,0 +1,65 @@
+-- What a device keeps, and for which worlds it stands.
+use Rattle.std.specs.Prelude.{◌≡◌, ℕ, ◌%◌, ◌<◌, ◌==◌, ◌≤ℤ◌, true, false, ℤ, pos, negsuc, List, map, sum, None, Some}
+use Rattle.std.specs.List.{All, find}
+use Rattle.uac_topology_rules.specs.Clusters.{is_input}
+use Rattle.uac_topology_rules.specs.Rules.{is_output}
+use Rattle.uac_topology.specs.Function.{FunctionFields}
+use Rattle.uac_store.specs.declared.keys.Key.{Key}
+use Rattle.uac_store.specs.StoreControls.{IsStoreOf}
+use Rattle.uac_request.specs.Requests.{AreSettingsOf, AnswerFields, after_request, held_by, reply_of}
+use Rattle.uac_request.specs.declared.setup.Setup.{Setup}
+use Rattle.uac_alt.specs.declared.settings.InterfaceSetting.{InterfaceSetting}
+use Rattle.uac_graph.specs.Wiring.{Frames, AreWiresOf, frame_on, silence}
+use Rattle.uac_device.specs.declared.clocks.Clock.{Clock}
+use Rattle.uac_lanes.specs.declared.lane.Lane.{Lane}
+use Rattle.uac_device.specs.DeviceWorld.{Domain, DeviceWorld, after_control, entity_in, is_jack}
+use Rattle.uac_lanes.specs.Lanes.{KeepsStreams, port_of, ports}
+
+-- what a device is seen as: of its clocks it keeps the phase alone, and its frames are those on the wires
+pub record DeviceFields : Type 0 where
+  pub function : FunctionFields
+  pub controls : List (Key × ℤ)
+  pub settings : List InterfaceSetting
+  pub clocks : List Clock
+  pub wires : Frames
+  pub lanes : List Lane
+
+-- how a clock domain is kept: the remainder of its steps stands for them all
+abbrev pub kept : Domain → Clock
+kept d = record { clock = d.clock; ppm = d.deviation; phase = sum d.steps % 65536 }
+
+-- the device stands for this world. What the input terminals gave last is on their wires; a terminal of the bus to which no interface
+-- links only ever gave silence
+pub record Stands (device : DeviceFields) (w : DeviceWorld) : Type 0 where
+  pub function : device.function ≡ w.function
+  pub controls : device.controls ≡ w.controls
+  pub settings : device.settings ≡ w.settings
+  pub clocks : device.clocks ≡ map kept w.domains
+  pub streams : KeepsStreams device.lanes w.outs w.ins
+  pub unlinked :
+      (id : ℕ) → is_input (entity_in w id).kind ≡ true → is_jack (entity_in w id) ≡ false
+      → find (λ s. s.terminal == id) w.function.streams ≡ None → w.given id ≡ silence (entity_in w id).cluster.channels
+  pub inputs : (id : ℕ) → is_input (entity_in w id).kind ≡ true → frame_on device.wires id ≡ Some (w.given id)
+  pub outputs : (id : ℕ) → is_output (entity_in w id).kind ≡ true → frame_on device.wires id ≡ Some (w.played id)
+
+-- a clock is off by at most a tenth
+abbrev pub IsInRange : ℤ → Type 0
+IsInRange ppm = (negsuc 99999 ≤ℤ ppm) × (ppm ≤ℤ pos 100000)
+
+-- what every device keeps: a value for each control of its function, a setting for each interface, a frame for each wire, a clock
+-- for each of its domains, in range, none a frame past its last tick, and a lane for each streaming interface in block order
+pub record IsDevice (device : DeviceFields) : Type 0 where
+  pub store : IsStoreOf device.function.entities device.controls
+  pub interfaces : AreSettingsOf device.function device.settings
+  pub wires : AreWiresOf device.function.entities device.wires
+  pub domains : map (λ c. c.clock) device.clocks ≡ device.function.domains
+  pub clocks : All (λ c. IsInRange c.ppm) device.clocks
+  pub phases : All (λ c. c.phase < 65536) device.clocks
+  pub ports : ports device.lanes ≡ map (port_of device.function.entities) device.function.streams
+
+-- what a control request makes of a device, and what it is told
+pub record IsControlled (p : Setup) (bytes : List ℕ) (told : AnswerFields) (old new : DeviceFields) : Type 0 where
+  pub answer : told ≡ reply_of old.function (held_by old.controls old.settings) p bytes
+  pub held : held_by new.controls new.settings ≡ after_request old.function (held_by old.controls old.settings) p bytes
+  pub function : new.function ≡ old.function
+  pub stands : (w : DeviceWorld) → Stands old w → Stands new (after_control p bytes w)

@@ -1,0 +1,241 @@
+-- The controls that elements stand for, by an entity's kind and the selector.
+use Rattle.std.proofs.Common.{◌≡◌, ◌∙◌, refl, ap, sym, subst, ℕ, ◌%◌, ◌/◌, suc, ◌≤◌, ◌==◌, ◌&&◌, nat_lt, nat_le, Bool, true, false, if◌then◌else◌, ℤ, pos, negsuc, List, Option, Some, None, is_some, arith, rules, inl, inr, [], ◌∷◌, w32, FitsSigned}
+use Rattle.std.specs.Option.{option_and_then}
+use Rattle.std.proofs.lemmas.Bool.{cases_Bool, eqb-true}
+use Rattle.uac_clock.specs.Nominal.{is_listed}
+use Rattle.uac_gain.specs.Gain.{decibel_gain, gain_of, half_above, half_below, raised_gain}
+use Rattle.uac_entities.specs.declared.entity.Entity.{Entity}
+use Rattle.uac_entities.specs.declared.entity.EntityKind.{EntityKind}
+use Rattle.uac_entities.specs.declared.entity.EntityKind.TheVariants as kind
+use Rattle.uac_store.specs.declared.keys.Key.{Key}
+use Rattle.uac_store.specs.declared.controls.Control.{Control}
+use Rattle.uac_store.specs.ControlTable.{choices, control_of, is_frequency, is_one_to, is_switch, selectors_of, takes_by}
+use Rattle.uac_store.proofs.Tabled.{one_or_two}
+use Rattle.uac_request.specs.Requests.{entity_bytes, entity_width, is_signed, kept_bytes}
+use Rattle.uac_mixer.specs.declared.kinds.ElementKind.{ElementKind}
+use Rattle.uac_mixer.specs.declared.kinds.ElementKind.TheVariants as shown
+use Rattle.uac_mixer.specs.MixerElements.{element_of, fits_element, is_below, is_gain, is_signed_word, kind_at, width_of}
+
+-- ---- values that are taken fit
+
+frequency : (attributes : ℕ) (v : ℤ) → is_frequency attributes v ≡ true → is_below 2147483648 v ≡ true
+frequency attributes (negsuc n) taken = cc
+frequency attributes (pos n) taken = elim (cases_Bool (nat_lt (attributes % 4) 2)) [
+  | inl fixed ↦ (let is : (n == 48000) ≡ true = rw fixed at taken in let few : n ≤ 192000 = grind arith in grind arith)
+  | inr listed ↦ (let is : is_listed n ≡ true = rw listed at taken in let few : n ≤ 192000 = grind arith in grind arith)
+]
+
+one_to : (most : ℕ) (v : ℤ) → most ≤ 255 → is_one_to most v ≡ true → is_below 256 v ≡ true
+one_to most (pos n) few taken = grind arith
+one_to most (negsuc n) few taken = cc
+
+few_choices : (pins : ℕ) → choices pins ≤ 255
+few_choices pins = elim (cases_Bool (nat_lt pins 256)) [
+  | inl below ↦ (rw below (grind arith))
+  | inr above ↦ (rw above (omega arith))
+]
+
+multiple : (v : ℤ) → is_one_to 8 v ≡ true → is_below 65536 v ≡ true
+multiple (pos n) taken = grind arith
+multiple (negsuc n) taken = cc
+
+switch : (v : ℤ) → is_switch v ≡ true → is_below 256 v ≡ true
+switch (pos n) taken = grind arith
+switch (negsuc n) taken = cc
+
+-- a gain lies within 16 bits
+above : (n : ℕ) (a b : Bool) (x y : ℕ) → (a ≡ true → n ≤ 3072) → (b ≡ true → n ≤ 3072)
+    → is_some (if a then Some x else if b then Some y else None) ≡ true → n ≤ 3072
+above n true b x y first second there = first refl
+above n false true x y first second there = second refl
+above n false false x y first second there = cc
+
+below : (n : ℕ) (c a b : Bool) (x y z : ℕ) → (c ≡ true → n ≤ 32767) → (a ≡ true → n ≤ 32767) → (b ≡ true → n ≤ 32767)
+    → is_some (if c then Some z else if a then Some x else if b then Some y else None) ≡ true → n ≤ 32767
+below n true a b x y z silent first second there = silent refl
+below n false true b x y z silent first second there = first refl
+below n false false true x y z silent first second there = second refl
+below n false false false x y z silent first second there = cc
+
+le_from : (a : Bool) (n m : ℕ) → (a && nat_le n m) ≡ true → n ≤ m
+le_from true n m h = grind arith
+le_from false n m h = cc
+
+in_gain : (v : ℤ) → is_some (gain_of v) ≡ true → is_signed_word v ≡ true
+in_gain (pos n) there =
+    let few : n ≤ 3072 =
+    above n (n % 256 == 0 && nat_le n 3072) (n % 256 == 128 && nat_le n 2944) (raised_gain (n / 256)) (half_above (raised_gain (n / 256)))
+    (λ is. le_from (n % 256 == 0) n 3072 is) (λ is. (let low : n ≤ 2944 = le_from (n % 256 == 128) n 2944 is in omega arith)) there in
+    grind arith
+in_gain (negsuc n) there =
+    let few : n ≤ 32767 =
+    below n (n == 32767) (suc n % 256 == 0 && nat_le (suc n) 24576) (suc n % 256 == 128 && nat_le (suc n) 8064) (decibel_gain (suc n / 256)) (half_below (decibel_gain (suc n / 256))) 0
+    (λ is. (let it : n ≡ 32767 = eqb-true n 32767 is in omega arith)) (λ is. (let low : suc n ≤ 24576 = le_from (suc n % 256 == 0) (suc n) 24576 is in omega arith)) (λ is. (let low : suc n ≤ 8064 = le_from (suc n % 256 == 128) (suc n) 8064 is in omega arith)) there in
+    grind arith
+
+-- ---- what is so of a control by its kind
+
+pub record Agrees (k : EntityKind) (s : ℕ) (x : ElementKind) : Type 0 where
+  pub width : entity_width k s ≡ Some (width_of x)
+  pub signed : is_signed k s ≡ is_gain x
+  pub above : nat_lt 0 s ≡ true
+  pub kept : nat_le s (selectors_of k) ≡ true
+  pub fits : (pins attributes : ℕ) (v : ℤ) → takes_by k pins attributes s v ≡ true → fits_element x v ≡ true
+  pub told : (e : Entity) (controls : List (Key × ℤ)) (key : Key) → e.kind ≡ k → key.selector ≡ s → entity_bytes k e controls key ≡ kept_bytes controls key (Some (width_of x))
+
+-- the control of a clock source that keeps a value isn't its validity
+of_source : (b : Bool) (s : ℕ) (xs ys zs : List ℕ) → (s == 2) ≡ b → s ≡ 1 → ys ≡ zs → (if b then xs else ys) ≡ zs
+of_source true s xs ys zs is one same = (let two : s ≡ 2 = eqb-true s 2 is in let no : 1 ≡ 2 = sym one ∙ two in absurd (omega arith))
+of_source false s xs ys zs is one same = same
+
+width_told : (k : EntityKind) (s : ℕ) (x : ElementKind) (e : Entity) (controls : List (Key × ℤ)) (key : Key) → entity_width k s ≡ Some (width_of x) → e.kind ≡ k → key.selector ≡ s
+    → kept_bytes controls key (entity_width e.kind key.selector) ≡ kept_bytes controls key (Some (width_of x))
+width_told k s x e controls key wide kind is =
+    ap (λ (w : Option ℕ). kept_bytes controls key w) (ap (λ (l : EntityKind). entity_width l key.selector) kind ∙ ap (entity_width k) is ∙ wide)
+
+rate : Agrees kind.ClockSource 1 shown.Rate
+rate = record {
+  width = refl;
+  signed = refl;
+  above = refl;
+  kept = refl;
+  fits = λ pins attributes v taken. frequency attributes v taken;
+  told = λ e controls key of is. of_source (key.selector == 2) key.selector (1 ∷ []) (kept_bytes controls key (entity_width e.kind key.selector)) (kept_bytes controls key (Some 4)) refl is (width_told kind.ClockSource 1 shown.Rate e controls key refl of is);
+}
+
+clock : Agrees kind.ClockSelector 1 shown.Clock
+clock = record {
+  width = refl;
+  signed = refl;
+  above = refl;
+  kept = refl;
+  fits = λ pins attributes v taken. one_to (choices pins) v (few_choices pins) taken;
+  told = λ e controls key of is. width_told kind.ClockSelector 1 shown.Clock e controls key refl of is;
+}
+
+times : Agrees kind.ClockMultiplier 1 shown.Times
+times = record {
+  width = refl;
+  signed = refl;
+  above = refl;
+  kept = refl;
+  fits = λ pins attributes v taken. multiple v taken;
+  told = λ e controls key of is. width_told kind.ClockMultiplier 1 shown.Times e controls key refl of is;
+}
+
+over : Agrees kind.ClockMultiplier 2 shown.Over
+over = record {
+  width = refl;
+  signed = refl;
+  above = refl;
+  kept = refl;
+  fits = λ pins attributes v taken. multiple v taken;
+  told = λ e controls key of is. width_told kind.ClockMultiplier 2 shown.Over e controls key refl of is;
+}
+
+mix : Agrees kind.Mixer 1 shown.Mix
+mix = record {
+  width = refl;
+  signed = refl;
+  above = refl;
+  kept = refl;
+  fits = λ pins attributes v taken. in_gain v taken;
+  told = λ e controls key of is. width_told kind.Mixer 1 shown.Mix e controls key refl of is;
+}
+
+select : Agrees kind.Selector 1 shown.Select
+select = record {
+  width = refl;
+  signed = refl;
+  above = refl;
+  kept = refl;
+  fits = λ pins attributes v taken. one_to (choices pins) v (few_choices pins) taken;
+  told = λ e controls key of is. width_told kind.Selector 1 shown.Select e controls key refl of is;
+}
+
+mute : Agrees kind.Feature 1 shown.Mute
+mute = record {
+  width = refl;
+  signed = refl;
+  above = refl;
+  kept = refl;
+  fits = λ pins attributes v taken. switch v taken;
+  told = λ e controls key of is. width_told kind.Feature 1 shown.Mute e controls key refl of is;
+}
+
+volume : Agrees kind.Feature 2 shown.Volume
+volume = record {
+  width = refl;
+  signed = refl;
+  above = refl;
+  kept = refl;
+  fits = λ pins attributes v taken. in_gain v taken;
+  told = λ e controls key of is. width_told kind.Feature 2 shown.Volume e controls key refl of is;
+}
+
+enable : Agrees kind.Effect 1 shown.Enable
+enable = record {
+  width = refl;
+  signed = refl;
+  above = refl;
+  kept = refl;
+  fits = λ pins attributes v taken. switch v taken;
+  told = λ e controls key of is. width_told kind.Effect 1 shown.Enable e controls key refl of is;
+}
+
+-- the only kind that an element is
+the_one : (k : EntityKind) (s : ℕ) (a x : ElementKind) → Agrees k s a → Some a ≡ Some x → Agrees k s x
+the_one k s a x agrees is = (let same : a ≡ x = cc in subst (λ y. Agrees k s y) same agrees)
+
+first_agrees : (k : EntityKind) (x : ElementKind) → kind_at k 1 ≡ Some x → Agrees k 1 x
+first_agrees kind.ClockSource x is = the_one kind.ClockSource 1 shown.Rate x rate is
+first_agrees kind.ClockSelector x is = the_one kind.ClockSelector 1 shown.Clock x clock is
+first_agrees kind.ClockMultiplier x is = the_one kind.ClockMultiplier 1 shown.Times x times is
+first_agrees kind.InputTerminal x is = cc
+first_agrees kind.OutputTerminal x is = cc
+first_agrees kind.Mixer x is = the_one kind.Mixer 1 shown.Mix x mix is
+first_agrees kind.Selector x is = the_one kind.Selector 1 shown.Select x select is
+first_agrees kind.Feature x is = the_one kind.Feature 1 shown.Mute x mute is
+first_agrees kind.Effect x is = the_one kind.Effect 1 shown.Enable x enable is
+
+second_agrees : (k : EntityKind) (x : ElementKind) → kind_at k 2 ≡ Some x → Agrees k 2 x
+second_agrees kind.ClockSource x is = cc
+second_agrees kind.ClockSelector x is = cc
+second_agrees kind.ClockMultiplier x is = the_one kind.ClockMultiplier 2 shown.Over x over is
+second_agrees kind.InputTerminal x is = cc
+second_agrees kind.OutputTerminal x is = cc
+second_agrees kind.Mixer x is = cc
+second_agrees kind.Selector x is = cc
+second_agrees kind.Feature x is = the_one kind.Feature 2 shown.Volume x volume is
+second_agrees kind.Effect x is = cc
+
+shown_some : (o : Option Control) (x : ElementKind) → option_and_then element_of o ≡ Some x → is_some o ≡ true
+shown_some None x is = cc
+shown_some (Some c) x is = refl
+
+pub agrees : (k : EntityKind) (s : ℕ) (x : ElementKind) → kind_at k s ≡ Some x → Agrees k s x
+agrees k s x is = elim (one_or_two k s (shown_some (control_of k s) x is)) [
+  | inl one ↦ subst (λ n. kind_at k n ≡ Some x → Agrees k n x) (sym one) (first_agrees k x) is
+  | inr two ↦ subst (λ n. kind_at k n ≡ Some x → Agrees k n x) (sym two) (second_agrees k x) is
+]
+
+-- a value that fits is one of 32 bits
+pub narrow : (x : ElementKind) (v : ℤ) → fits_element x v ≡ true → FitsSigned w32 v
+narrow shown.Rate (pos n) fits = (let few : n ≤ 2147483647 = grind arith in search rules)
+narrow shown.Clock (pos n) fits = (let few : n ≤ 2147483647 = grind arith in search rules)
+narrow shown.Times (pos n) fits = (let few : n ≤ 2147483647 = grind arith in search rules)
+narrow shown.Over (pos n) fits = (let few : n ≤ 2147483647 = grind arith in search rules)
+narrow shown.Mix (pos n) fits = (let few : n ≤ 2147483647 = grind arith in search rules)
+narrow shown.Select (pos n) fits = (let few : n ≤ 2147483647 = grind arith in search rules)
+narrow shown.Mute (pos n) fits = (let few : n ≤ 2147483647 = grind arith in search rules)
+narrow shown.Volume (pos n) fits = (let few : n ≤ 2147483647 = grind arith in search rules)
+narrow shown.Enable (pos n) fits = (let few : n ≤ 2147483647 = grind arith in search rules)
+narrow shown.Rate (negsuc n) fits = cc
+narrow shown.Clock (negsuc n) fits = cc
+narrow shown.Times (negsuc n) fits = cc
+narrow shown.Over (negsuc n) fits = cc
+narrow shown.Mix (negsuc n) fits = (let few : n ≤ 2147483647 = grind arith in search rules)
+narrow shown.Select (negsuc n) fits = cc
+narrow shown.Mute (negsuc n) fits = cc
+narrow shown.Volume (negsuc n) fits = (let few : n ≤ 2147483647 = grind arith in search rules)
+narrow shown.Enable (negsuc n) fits = cc

@@ -1,7 +1,0 @@
-use Rattle.std.proofs.Common.{◌≡◌, take}
-use Rattle.std.specs.List.{flat_map}
-use Rattle.uac_mixer.specs.Elements.{entity_elements}
-use Rattle.uac_mixer.proofs.listing.listed.Given as goal
-
-abbrev pub invariant-loop-entity : goal.invariant-loop-entity
-invariant-loop-entity l = l.elements.items ≡ flat_map (entity_elements l.function.entities) (take l.entity-index l.function.entities)

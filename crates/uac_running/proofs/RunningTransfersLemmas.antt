@@ -1,0 +1,295 @@
+-- What a transfer of a running device brings back, and the worlds after it, from what its link and its view are seen to do.
+use Rattle.std.proofs.Common.{◌≡◌, ◌∙◌, sym, ap, subst, refl, ℕ, Bool, true, false, if◌then◌else◌, ℤ, List, [], ◌&&◌, map, Option, None, Some, is_some}
+use Rattle.std.specs.Prelude.{◌<◌, ◌==◌, zero, suc, ◌∷◌, position, slice_get, length, not, Result, Ok, Err, IfOk, IfSome}
+use Rattle.std.specs.Option.{option_and_then, option_map, option_map_or}
+use Rattle.std.specs.List.{find}
+use Rattle.std.proofs.Common.{arith}
+use Rattle.std.proofs.lemmas.List.Folds.{find_at}
+use Rattle.std.proofs.lemmas.Option.{slice_get_past}
+use Rattle.uac_topology_rules.proofs.Found.{position_is, position_none}
+use Rattle.uac_store.specs.Keyed.{value_of}
+use Rattle.uac_mixer.specs.ViewTransfers.{came_of_get}
+use Rattle.uac_mixer.specs.declared.element.Element.{Element}
+use Rattle.uac_mixer.specs.declared.link.Broken.{Broken}
+use Rattle.uac_alt.specs.declared.settings.InterfaceSetting.{InterfaceSetting}
+use Rattle.uac_store.specs.declared.keys.Key.{Key}
+use Rattle.uac_request.specs.Requests.{AnswerFields, held_by, rate_at, reply_of}
+use Rattle.uac_request.specs.declared.setup.Setup.{Setup}
+use Rattle.uac_topology.specs.Function.{FunctionFields}
+use Rattle.uac_units.specs.Hearing.{Reading}
+use Rattle.uac_device.specs.DeviceKept as device
+use Rattle.uac_alt.specs.AltStreams.{StreamFields, stream_fields, stream_of}
+use Rattle.uac_alt.specs.declared.values.Stream.{Stream}
+use Rattle.uac_entities.specs.declared.stream.StreamInterface.{StreamInterface}
+use Rattle.uac_host.specs.Calls.{IsStreamOf}
+use Rattle.uac_device.specs.DeviceWorld.{DeviceWorld, after_control, after_restart, sets_interface, stream_in_setting, tells_done}
+use Rattle.uac_mixer.specs.Agreement.{IsMade}
+use Rattle.uac_mixer.specs.ViewLinks.{BreaksAs, IsAnswered, IsAsTold, IsUntouched, LinkFields}
+use Rattle.uac_mixer.specs.ViewTransfers.{view_after}
+use Rattle.uac_mixer.specs.ViewWorld.{ViewWorld}
+use Rattle.uac_mixer.specs.declared.link.When.{When}
+use Rattle.uac_mixer.specs.declared.link.When.TheVariants as when
+use Rattle.uac_streaming.specs.StreamingKept as streaming
+use Rattle.uac_streaming.specs.StreamingWorld.{StreamingWorld, after_following, met_in, numbers, numbers_in, numbers_out}
+use Rattle.uac_running.specs.RunningWorld.{RunningWorld, streaming_of}
+use Rattle.uac_running.specs.RunningTransfers.{IsRead, acts, break_at, breaks_before, comes_back, holds_setting, reply_in, streams_follow, after_transfer, with_break}
+use Rattle.uac_running.specs.RunningKept.{RunningFields, Stands, counted}
+
+-- what a device that stands for a world would answer
+replies : (d : device.DeviceFields) (r : RunningWorld) (p : Setup) (sent : List ℕ) → device.Stands d r.device
+    → reply_of d.function (held_by d.controls d.settings) p sent ≡ reply_in p sent r
+replies d r p sent stands =
+    ap (λ (f : FunctionFields). reply_of f (held_by d.controls d.settings) p sent) stands.function
+    ∙ ap (λ (c : List (Key × ℤ)). reply_of r.device.function (held_by c d.settings) p sent) stands.controls
+    ∙ ap (λ (s : List InterfaceSetting). reply_of r.device.function (held_by r.device.controls s) p sent) stands.settings
+
+-- what comes back over a link that tells its fault
+came_by : (fault : Option When) (came : Option AnswerFields) (p : Setup) (sent : List ℕ) (old new : LinkFields) (reply : AnswerFields)
+    → IsAsTold fault p sent came old new → IsAnswered p sent came old new
+    → reply_of old.device.function (held_by old.device.controls old.device.settings) p sent ≡ reply
+    → came ≡ (if is_some fault then None else Some reply)
+came_by None None p sent old new reply told answered is = absurd (let some = told.breaks.0 refl in cc)
+came_by None (Some t) p sent old new reply told answered is = ap Some (answered.device.answer ∙ is)
+came_by (Some w) came p sent old new reply told answered is = told.breaks.1 refl
+
+-- what the device behind it stands for
+acted : (fault : Option When) (came : Option AnswerFields) (p : Setup) (sent : List ℕ) (old new : LinkFields) (w : DeviceWorld)
+    → IsAsTold fault p sent came old new → IsAnswered p sent came old new → device.Stands old.device w
+    → device.Stands new.device (acts fault w (after_control p sent w))
+acted None None p sent old new w told answered stands = absurd (let some = told.breaks.0 refl in cc)
+acted None (Some t) p sent old new w told answered stands = answered.device.stands w stands
+acted (Some when.Before) came p sent old new w told answered stands =
+    let kept : IsUntouched old new = told.at when.Before refl in
+    subst (λ (d : device.DeviceFields). device.Stands d w) (sym kept.device) stands
+acted (Some when.After) came p sent old new w told answered stands =
+    let stream_fields : BreaksAs when.After p sent old new = told.at when.After refl in
+    stream_fields.1.device.stands w stands
+
+-- ---- what no request changes
+
+either : {X : Type 0} (f : DeviceWorld → X) (v : X) (b : Bool) (x y : DeviceWorld) → f x ≡ v → f y ≡ v → f (if b then x else y) ≡ v
+either f v true x y is other = is
+either f v false x y is other = other
+
+pub controlled_function : (p : Setup) (sent : List ℕ) (w : DeviceWorld) → (after_control p sent w).function ≡ w.function
+unfolding after_control after_restart
+controlled_function p sent w = either (λ d. d.function) w.function _ _ _ refl refl
+
+pub controlled_domains : (p : Setup) (sent : List ℕ) (w : DeviceWorld) → (after_control p sent w).domains ≡ w.domains
+unfolding after_control after_restart
+controlled_domains p sent w = either (λ d. d.domains) w.domains _ _ _ refl refl
+
+pub acts_kept : {X : Type 0} (f : DeviceWorld → X) (fault : Option When) (w c : DeviceWorld) → f c ≡ f w → f (acts fault w c) ≡ f w
+acts_kept f None w c is = is
+acts_kept f (Some when.Before) w c is = refl
+acts_kept f (Some when.After) w c is = is
+
+-- ---- streams
+
+-- a host and its device, where the device is another
+abbrev pub with_device : DeviceWorld → StreamingWorld → StreamingWorld
+with_device w s = record s { device = w }
+
+-- streams that stand beside a device stand beside one that acted
+pub beside : (s : streaming.StreamingFields) (d e : device.DeviceFields) (w : StreamingWorld) (v : DeviceWorld) → streaming.Stands s d w → device.Stands e v
+    → v.function ≡ w.device.function → streaming.Stands s e (with_device v w)
+beside s d e w v stands acted same = record {
+  device = acted;
+  host = stands.host;
+  same = stands.same ∙ sym same;
+  order = stands.order ∙ ap numbers (sym same);
+  outs = stands.outs ∙ ap numbers_out (sym same);
+  ins = stands.ins ∙ ap numbers_in (sym same);
+  met = stands.met ∙ ap (met_in w.met) (sym same);
+  steady = stands.steady;
+}
+
+-- the last answer over a link that tells its fault was that the device was done: it acted and was
+told_done : (fault : Option When) (came : Option AnswerFields) (p : Setup) (sent : List ℕ) (old new : LinkFields) (reply : AnswerFields)
+    → IsAsTold fault p sent came old new → IsAnswered p sent came old new → old.last ≡ None
+    → reply_of old.device.function (held_by old.device.controls old.device.settings) p sent ≡ reply
+    → option_map_or tells_done new.last false ≡ (not (breaks_before fault) && tells_done reply)
+told_done None None p sent old new reply told answered unanswered is = absurd (let some = told.breaks.0 refl in cc)
+told_done None (Some t) p sent old new reply told answered unanswered is =
+    ap (λ (o : Option AnswerFields). option_map_or tells_done o false) answered.last ∙ ap tells_done (answered.device.answer ∙ is)
+told_done (Some when.Before) came p sent old new reply told answered unanswered is =
+    let kept : IsUntouched old new = told.at when.Before refl in
+    ap (λ (o : Option AnswerFields). option_map_or tells_done o false) (kept.last ∙ unanswered)
+told_done (Some when.After) came p sent old new reply told answered unanswered is =
+    let stream_fields : BreaksAs when.After p sent old new = told.at when.After refl in
+    ap (λ (o : Option AnswerFields). option_map_or tells_done o false) stream_fields.1.last ∙ ap tells_done (stream_fields.1.device.answer ∙ is)
+
+-- a stream that is asked for is one of its interface
+asked_is : (f : FunctionFields) (controls : List (Key × ℤ)) (interface setting : ℕ) (x : StreamFields)
+    → stream_in_setting f controls interface setting ≡ Some x → IsStreamOf f interface x
+unfolding stream_in_setting
+asked_is f controls interface setting x asked = of_carrier (find (λ s. s.number == interface) f.streams) asked
+  where
+    at_rate : (o : Option ℕ) → option_and_then (λ rate. stream_of f rate interface setting) o ≡ Some x → IsStreamOf f interface x
+    at_rate None is = absurd (let none : None ≡ Some x = is in cc)
+    at_rate (Some rate) is = record { rate = rate; setting = setting; is = is }
+
+    of_carrier : (o : Option StreamInterface)
+        → option_and_then (λ s. option_and_then (λ rate. stream_of f rate interface setting) (rate_at f controls s)) o ≡ Some x → IsStreamOf f interface x
+    of_carrier None is = absurd (let none : None ≡ Some x = is in cc)
+    of_carrier (Some s) is = at_rate (rate_at f controls s) is
+
+pub begun_is : (begun : Option Stream) (f g : FunctionFields) (controls : List (Key × ℤ)) (interface setting : ℕ)
+    → option_map stream_fields begun ≡ stream_in_setting f controls interface setting → f ≡ g → IfSome begun (λ s. IsStreamOf g interface (stream_fields s))
+begun_is None f g controls interface setting asked same = tt
+begun_is (Some s) f g controls interface setting asked same =
+    subst (λ (h : FunctionFields). IsStreamOf h interface (stream_fields s)) same (asked_is f controls interface setting (stream_fields s) (sym asked))
+
+-- following a device changes the host's side alone
+follow_device : (b : Bool) (interface : ℕ) (begun : Option StreamFields) (s : StreamingWorld) → (if b then after_following interface begun s else s).device ≡ s.device
+unfolding after_following
+follow_device true interface begun s = refl
+follow_device false interface begun s = refl
+
+-- all but the device, the streams, the view and the break is as it was
+pub record IsRest (p q : RunningFields) : Type 0 where
+  pub configuration : q.configuration ≡ p.configuration
+  pub jacks : q.jacks ≡ p.jacks
+  pub counts : q.counts ≡ p.counts
+  pub time : q.time ≡ p.time
+  pub detail : q.detail ≡ p.detail
+  pub renders : q.renders ≡ p.renders
+
+module _ (meters : List Reading) (r : RunningWorld) (p q : RunningFields) (setup : Setup) (sent : List ℕ) (came : Option AnswerFields) (old new : LinkFields)
+    (stands : Stands p meters r) (lent : old.device ≡ p.device) (fault : old.fault ≡ Some p.breaks)
+    (made : IsMade setup sent came p.view q.view old new) where
+  stands_lent : device.Stands old.device r.device
+  stands_lent = subst (λ (d : device.DeviceFields). device.Stands d r.device) (sym lent) stands.streaming.device
+
+  pub came_back : came ≡ comes_back setup sent r
+  unfolding comes_back
+  came_back =
+      came_by p.breaks came setup sent old new (reply_in setup sent r) (made.transfer.told p.breaks fault) made.transfer.answered (replies old.device r setup sent stands_lent)
+      ∙ ap (λ (o : Option When). if is_some o then None else Some (reply_in setup sent r)) stands.breaks
+
+  -- the setting is held where the request sets one and the last answer is that the device was done
+  pub setting_held : old.last ≡ None → (sets_interface setup && option_map_or tells_done new.last false) ≡ holds_setting setup sent r
+  setting_held unanswered =
+      ap (λ (b : Bool). sets_interface setup && b)
+      (told_done p.breaks came setup sent old new (reply_in setup sent r) (made.transfer.told p.breaks fault) made.transfer.answered unanswered (replies old.device r setup sent stands_lent)
+      ∙ ap (λ (o : Option When). not (breaks_before o) && tells_done (reply_in setup sent r)) stands.breaks)
+
+  pub function_kept : (acts r.breaks r.device (after_control setup sent r.device)).function ≡ r.device.function
+  function_kept = acts_kept (λ d. d.function) r.breaks r.device (after_control setup sent r.device) (controlled_function setup sent r.device)
+
+  domains_kept : (acts r.breaks r.device (after_control setup sent r.device)).domains ≡ r.device.domains
+  domains_kept = acts_kept (λ d. d.domains) r.breaks r.device (after_control setup sent r.device) (controlled_domains setup sent r.device)
+
+  device_stands : device.Stands new.device (acts r.breaks r.device (after_control setup sent r.device))
+  device_stands =
+      subst (λ (o : Option When). device.Stands new.device (acts o r.device (after_control setup sent r.device))) stands.breaks
+      (acted p.breaks came setup sent old new r.device (made.transfer.told p.breaks fault) made.transfer.answered stands_lent)
+
+  -- before the host's streams follow
+  pub streams_stand : streaming.Stands p.streaming new.device (with_device (acts r.breaks r.device (after_control setup sent r.device)) (streaming_of r))
+  streams_stand =
+      beside p.streaming p.device new.device (streaming_of r) (acts r.breaks r.device (after_control setup sent r.device)) stands.streaming device_stands function_kept
+
+  -- the streams that followed, where the setting is held, and those that didn't, where it isn't
+  pub followed_stand : (s : streaming.StreamingFields) (begun : Option StreamFields) (f : FunctionFields) → holds_setting setup sent r ≡ true
+      → begun ≡ stream_in_setting r.device.function r.device.controls setup.index setup.value → f ≡ new.device.function
+      → ((d : device.DeviceFields) (w : StreamingWorld) → streaming.Stands p.streaming d w → w.device.function ≡ f → streaming.Stands s d (after_following setup.index begun w))
+      → streaming.Stands s new.device
+      (streams_follow setup sent r (with_device (acts r.breaks r.device (after_control setup sent r.device)) (streaming_of r)))
+  followed_stand s begun f holds asked same follows =
+      let world : StreamingWorld = with_device (acts r.breaks r.device (after_control setup sent r.device)) (streaming_of r) in
+      let function = function_kept ∙ sym stands_lent.function ∙ sym made.function ∙ sym same in
+      subst (λ (b : Bool). streaming.Stands s new.device
+      (if b then after_following setup.index (stream_in_setting r.device.function r.device.controls setup.index setup.value) world else world)) (sym holds)
+      (subst (λ (o : Option StreamFields). streaming.Stands s new.device (after_following setup.index o world)) asked (follows new.device world streams_stand function))
+
+  pub rested_stand : holds_setting setup sent r ≡ false → streaming.Stands p.streaming new.device
+      (streams_follow setup sent r (with_device (acts r.breaks r.device (after_control setup sent r.device)) (streaming_of r)))
+  rested_stand rests =
+      let world : StreamingWorld = with_device (acts r.breaks r.device (after_control setup sent r.device)) (streaming_of r) in
+      subst (λ (b : Bool). streaming.Stands p.streaming new.device
+      (if b then after_following setup.index (stream_in_setting r.device.function r.device.controls setup.index setup.value) world else world)) (sym rests) streams_stand
+
+  pub transfer_stands : q.device ≡ new.device → q.breaks ≡ None → IsRest p q
+      → streaming.Stands q.streaming new.device
+      (streams_follow setup sent r (with_device (acts r.breaks r.device (after_control setup sent r.device)) (streaming_of r)))
+      → Stands q meters (after_transfer setup sent r)
+  unfolding after_transfer
+  transfer_stands kept used rest follows = record {
+    streaming =
+        subst (λ (d : device.DeviceFields). streaming.Stands q.streaming d
+        (streams_follow setup sent r (with_device (acts r.breaks r.device (after_control setup sent r.device)) (streaming_of r)))) (sym kept) follows;
+    view =
+        made.view
+        ∙ ap (λ (f : FunctionFields). view_after f.control_interface setup sent came p.view) stands_lent.function
+        ∙ ap (λ (v : ViewWorld). view_after r.device.function.control_interface setup sent came v) stands.view
+        ∙ ap (λ (o : Option AnswerFields). view_after r.device.function.control_interface setup sent o r.view) came_back;
+    configuration = rest.configuration ∙ stands.configuration;
+    breaks = used;
+    jacks = rest.jacks ∙ stands.jacks;
+    counts =
+        rest.counts
+        ∙ stands.counts
+        ∙ ap (map counted) (sym domains_kept)
+        ∙ ap (λ (d : DeviceWorld). map counted d.domains)
+        (sym (follow_device (holds_setting setup sent r) setup.index (stream_in_setting r.device.function r.device.controls setup.index setup.value)
+        (with_device (acts r.breaks r.device (after_control setup sent r.device)) (streaming_of r))));
+    time = rest.time ∙ stands.time;
+    detail = rest.detail ∙ stands.detail;
+    meters = stands.meters;
+    renders = rest.renders ∙ stands.renders;
+  }
+
+-- a break is set
+pub break_set : (meters : List Reading) (r : RunningWorld) (p q : RunningFields) (after : Bool) → Stands p meters r → q ≡ record p { breaks = Some (break_at after) }
+    → Stands q meters (with_break after r)
+unfolding with_break
+break_set meters r p q after stands is =
+    subst (λ (f : RunningFields). Stands f meters (with_break after r)) (sym is)
+    (record {
+      streaming = stands.streaming;
+      view = stands.view;
+      configuration = stands.configuration;
+      breaks = refl;
+      jacks = stands.jacks;
+      counts = stands.counts;
+      time = stands.time;
+      detail = stands.detail;
+      meters = stands.meters;
+      renders = stands.renders;
+    })
+
+-- ---- elements
+
+-- there is an element at a place
+pub an_element : (xs : List Element) (at : ℕ) → at < length xs → (x : Element) × (slice_get xs at ≡ Some x)
+an_element [] at below = absurd (omega arith)
+an_element (x ∷ xs) zero below = (x, refl)
+an_element (x ∷ xs) (suc n) below = an_element xs n (omega arith)
+
+-- the first that passes a test, by its place
+pub found_at : (p : Element → Bool) (xs ys : List Element) (at : Option ℕ) → xs ≡ ys → at ≡ position p xs → option_and_then (slice_get ys) at ≡ find p ys
+found_at p xs ys at same is =
+    ap (option_and_then (slice_get ys)) (is ∙ ap (position p) same) ∙ first p ys
+  where
+    from : (p : Element → Bool) (ys : List Element) (o : Option ℕ) → position p ys ≡ o → option_and_then (slice_get ys) o ≡ find p ys
+    from p ys (Some k) found = (let w = position_is p ys k found in ap (slice_get ys) (sym w.1) ∙ sym (find_at p ys))
+    from p ys None none = sym (find_at p ys ∙ ap (slice_get ys) (position_none p ys none) ∙ slice_get_past ys (length ys) (omega arith))
+
+    first : (p : Element → Bool) (ys : List Element) → option_and_then (slice_get ys) (position p ys) ≡ find p ys
+    first p ys = from p ys (position p ys) refl
+
+-- what a read of an element answers
+pub read_told : (x : Element) (result : Result ℤ Broken) (r : RunningWorld) (p : Setup) (sent : List ℕ) → came_of_get x result ≡ comes_back p sent r
+    → (controls : List (Key × ℤ)) → controls ≡ r.device.controls → IfOk result (λ value. value_of controls x.key ≡ Some value) → IsRead x r result
+unfolding comes_back
+read_told x (Ok value) r p sent came controls same is = (unbroken (is_some r.breaks) refl, subst (λ (cs : List (Key × ℤ)). value_of cs x.key ≡ Some value) same is)
+  where
+    unbroken : (b : Bool) → is_some r.breaks ≡ b → is_some r.breaks ≡ false
+    unbroken false test = test
+    unbroken true test = (let none : came_of_get x (Ok value) ≡ None = came ∙ ap (λ (c : Bool). if c then None else Some (reply_in p sent r)) test in cc)
+read_told x (Err broken) r p sent came controls same is = broke (is_some r.breaks) refl
+  where
+    broke : (b : Bool) → is_some r.breaks ≡ b → is_some r.breaks ≡ true
+    broke true test = test
+    broke false test = (let some : came_of_get x (Err broken) ≡ Some (reply_in p sent r) = came ∙ ap (λ (c : Bool). if c then None else Some (reply_in p sent r)) test in cc)

@@ -1,0 +1,197 @@
+-- Profile: the table of lines, read from the words after the first one. `proofs/Grammar.antt` shows that it reads exactly what `Spells`
+-- spells.
+use Rattle.std.specs.Prelude.{ℕ, ◌==◌, ◌&&◌, Bool, true, false, if◌then◌else◌, List, [], ◌∷◌, map, length, slice_index, codes, ℤ, pos}
+use Rattle.std.specs.Prelude.{Option, Some, None, is_some, unwrap_or, Result, Ok, Err}
+use Rattle.std.specs.List.{list_all}
+use Rattle.std.specs.Option.{option_map}
+use Rattle.std.specs.Str.{bytes_eq}
+use Rattle.uac_pcm.specs.declared.tones.Tone.{Tone}
+use Rattle.uac_script.specs.declared.line.MarkKind.{MarkKind}
+use Rattle.uac_script.specs.declared.line.MarkKind.TheVariants.{Out, In, Feedback}
+use Rattle.uac_script.specs.declared.line.Line.{Line}
+use Rattle.uac_script.specs.Words.{Word, words_of, is_idle, hex_of}
+use Rattle.uac_script.specs.ScriptNumerals.{is_number, value_of}
+use Rattle.uac_script.specs.Phrase.{SaidTone, silent, ramps, hisses, SaidMark}
+use Rattle.uac_script.specs.Phrase.{Phrase, idle, feeds, goes, controls, gets, sets, shows, breaks}
+use Rattle.uac_script.specs.Phrase.{appends, tracks, jacks, deviates, runs, details, reports, is_id, is_signed, is_tone_in_range}
+use Rattle.uac_script.specs.Phrase.{is_in_range}
+use Rattle.uac_script.specs.Line.{phrase_of, said_tone_of}
+
+-- nothing, or exactly one word
+abbrev pub when_empty : {A : Type 0} → A → List Word → Option A
+when_empty x [] = Some x
+when_empty x (word ∷ words) = None
+
+abbrev pub only_of : List Word → Option Word
+only_of [] = None
+only_of (word ∷ []) = Some word
+only_of (word ∷ next ∷ words) = None
+
+-- exactly two words
+abbrev pub pair_of : List Word → Option (Word × Word)
+pair_of [] = None
+pair_of (word ∷ []) = None
+pair_of (word ∷ next ∷ []) = Some (word, next)
+pair_of (word ∷ next ∷ third ∷ words) = None
+
+abbrev pub then_of : {A B : Type 0} → (A → Option B) → Option A → Option B
+then_of f None = None
+then_of f (Some x) = f x
+
+-- a name: any word but the empty one
+abbrev pub name_in : Word → Option Word
+name_in [] = None
+name_in (c ∷ name) = Some (c ∷ name)
+
+abbrev pub numbered : {A : Type 0} → (ℤ → A) → Word → Option A
+numbered f word = if is_number word then Some (f (value_of word)) else None
+
+abbrev pub feeds_of : List Word → Option Phrase
+feeds_of words = then_of (λ word. option_map feeds (hex_of word)) (only_of words)
+
+abbrev pub setup_of : Word → Option (List ℕ)
+setup_of word = then_of (λ bytes. if length bytes == 8 then Some bytes else None) (hex_of word)
+
+-- the bytes sent: none, or one word of them
+abbrev pub sent_of : List Word → Option (List ℕ)
+sent_of [] = Some []
+sent_of (word ∷ words) = then_of hex_of (only_of (word ∷ words))
+
+abbrev pub controls_of : List Word → Option Phrase
+controls_of [] = None
+controls_of (word ∷ words) = then_of (λ setup. option_map (controls setup) (sent_of words)) (setup_of word)
+
+abbrev pub sets_of : Word × Word → Option Phrase
+sets_of (name, numeral) = if is_number numeral then option_map (λ word. sets word (value_of numeral)) (name_in name) else None
+
+abbrev pub element_of : List Word → Option Phrase
+element_of [] = None
+element_of (verb ∷ words) =
+    if bytes_eq verb (codes "get") then option_map gets (then_of name_in (only_of words))
+    else if bytes_eq verb (codes "set") then then_of sets_of (pair_of words)
+    else if bytes_eq verb (codes "show") then option_map shows (then_of name_in (only_of words))
+    else None
+
+abbrev pub break_at : Word → Option Phrase
+break_at word =
+    if bytes_eq word (codes "before") then Some (breaks false)
+    else if bytes_eq word (codes "after") then Some (breaks true)
+    else None
+
+abbrev pub breaks_of : List Word → Option Phrase
+breaks_of words = then_of break_at (only_of words)
+
+abbrev pub appends_of : List Word → Option Phrase
+appends_of [] = None
+appends_of (word ∷ []) = None
+appends_of (word ∷ sample ∷ samples) =
+    if is_number word && list_all is_number (sample ∷ samples) then Some (appends (value_of word) (map value_of (sample ∷ samples)))
+    else None
+
+abbrev pub ramp_of : Word × Word → Option SaidTone
+ramp_of (start, step) = if is_number start && is_number step then Some (ramps (value_of start) (value_of step)) else None
+
+abbrev pub tone_read : List Word → Option SaidTone
+tone_read [] = None
+tone_read (kind ∷ words) =
+    if bytes_eq kind (codes "none") then when_empty silent words
+    else if bytes_eq kind (codes "ramp") then then_of ramp_of (pair_of words)
+    else if bytes_eq kind (codes "noise") then then_of (numbered hisses) (only_of words)
+    else None
+
+-- an id and its tone
+abbrev pub signal_of : List Word → Option (ℤ × SaidTone)
+signal_of [] = None
+signal_of (word ∷ words) = if is_number word then option_map (λ tone. (value_of word, tone)) (tone_read words) else None
+
+abbrev pub tracks_of : List Word → Option Phrase
+tracks_of words = option_map (λ signal. tracks signal.0 signal.1) (signal_of words)
+
+abbrev pub jacks_of : List Word → Option Phrase
+jacks_of words = option_map (λ signal. jacks signal.0 signal.1) (signal_of words)
+
+abbrev pub deviation_of : Word × Word → Option Phrase
+deviation_of (domain, ppm) = if is_number domain && is_number ppm then Some (deviates (value_of domain) (value_of ppm)) else None
+
+abbrev pub deviates_of : List Word → Option Phrase
+deviates_of words = then_of deviation_of (pair_of words)
+
+abbrev pub kind_of : ℕ → Option MarkKind
+kind_of letter = if letter == 111 then Some Out else if letter == 105 then Some In else if letter == 102 then Some Feedback else None
+
+-- a mark: the letter of a kind, and a number
+abbrev pub is_mark : Word → Bool
+is_mark [] = false
+is_mark (letter ∷ word) = is_some (kind_of letter) && is_number word
+
+abbrev pub mark_of : Word → SaidMark
+mark_of [] = record { letter = Out; place = pos 0 }
+mark_of (letter ∷ word) = record { letter = unwrap_or (kind_of letter) Out; place = value_of word }
+
+abbrev pub runs_of : List Word → Option Phrase
+runs_of [] = None
+runs_of (word ∷ words) = if is_number word && list_all is_mark words then Some (runs (value_of word) (map mark_of words)) else None
+
+abbrev pub details_of : List Word → Option Phrase
+details_of words = then_of (numbered details) (only_of words)
+
+-- the row of this letter, read from the words after it; no row has another letter
+abbrev pub row_of : ℕ → List Word → Option (Option Phrase)
+row_of letter words =
+    if letter == 100 then Some (feeds_of words)
+    else if letter == 103 then Some (when_empty goes words)
+    else if letter == 99 then Some (controls_of words)
+    else if letter == 104 then Some (element_of words)
+    else if letter == 98 then Some (breaks_of words)
+    else if letter == 97 then Some (appends_of words)
+    else if letter == 116 then Some (tracks_of words)
+    else if letter == 106 then Some (jacks_of words)
+    else if letter == 107 then Some (deviates_of words)
+    else if letter == 109 then Some (runs_of words)
+    else if letter == 118 then Some (details_of words)
+    else if letter == 113 then Some (when_empty reports words)
+    else None
+
+-- what is spelt is misspelt, out of range, or itself
+abbrev pub judged_by : {A : Type 0} → (A → Bool) → Option A → Result A ℕ
+judged_by is_right None = Err 3
+judged_by is_right (Some x) = if is_right x then Ok x else Err 4
+
+abbrev pub judged : Option Phrase → Result Phrase ℕ
+judged row = judged_by is_in_range row
+
+abbrev pub judged_tone : Option SaidTone → Result SaidTone ℕ
+judged_tone tone = judged_by is_tone_in_range tone
+
+abbrev pub judged_signal : Option (ℤ × SaidTone) → Result (ℤ × SaidTone) ℕ
+judged_signal signal = judged_by (λ s. is_id s.0 && is_tone_in_range s.1) signal
+
+abbrev pub judged_row : Option (Option Phrase) → Result Phrase ℕ
+judged_row None = Err 2
+judged_row (Some row) = judged row
+
+-- what the words of a line answer: the first one is a letter
+abbrev pub answer_of : List Word → Result Phrase ℕ
+answer_of [] = Err 2
+answer_of (word ∷ words) = if length word == 1 then judged_row (row_of (slice_index word 0) words) else Err 2
+
+-- what a text is answered: the line that it says, or the first of rules S2 to S4 that it breaks
+unfoldable pub answer : List ℕ → Result Phrase ℕ
+answer text = if is_idle text then Ok idle else answer_of (words_of text)
+
+-- a value's phrase in place of the value
+abbrev pub said : Result Line ℕ → Result Phrase ℕ
+said (Ok line) = Ok (phrase_of line)
+said (Err rule) = Err rule
+
+abbrev pub said_tone : Result Tone ℕ → Result SaidTone ℕ
+said_tone (Ok tone) = Ok (said_tone_of tone)
+said_tone (Err rule) = Err rule
+
+abbrev pub said_signal : Result (ℕ × Tone) ℕ → Result (ℤ × SaidTone) ℕ
+said_signal (Ok signal) = Ok (pos signal.0, said_tone_of signal.1)
+said_signal (Err rule) = Err rule
+
+-- the samples of these words: each in range, or nothing
+abbrev pub samples_of : List Word → Option (List ℤ)
+samples_of words = if list_all is_signed (map value_of words) then Some (map value_of words) else None

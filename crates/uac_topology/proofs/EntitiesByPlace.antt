@@ -1,0 +1,36 @@
+-- The entity with an id, by its place.
+use Rattle.std.proofs.Common.{◌≡◌, ℕ, ◌<◌, ◌==◌, nat_lt, Bool, true, false, cond, List, length, position, slice_get, get_or, is_some, IfSome, Bor, Option, Some, None, refl, sym, ap, ◌∙◌}
+use Rattle.std.specs.Option.{option_and_then, option_map}
+use Rattle.std.specs.List.{position_or_len}
+use Rattle.std.proofs.lemmas.Bool.{ltb-false, ltb-true}
+use Rattle.std.proofs.lemmas.List.Folds.{find_at}
+use Rattle.std.proofs.lemmas.Option.{slice_get_past, slice_get-get_or}
+use Rattle.uac_entities.specs.EntityStreams.{named}
+use Rattle.uac_entities.specs.declared.entity.Entity.{Entity}
+
+named_is_found : (entities : List Entity) (id : ℕ) → option_and_then (slice_get entities) (position (λ e. e.id == id) entities) ≡ named entities id
+unfolding named
+named_is_found entities id = from (nat_lt place (length entities)) refl ∙ sym (find_at (λ (e : Entity). e.id == id) entities) where
+  place : ℕ
+  place = position_or_len (λ (e : Entity). e.id == id) entities
+
+  from : (b : Bool) → nat_lt place (length entities) ≡ b
+      → option_and_then (slice_get entities) (cond (nat_lt place (length entities)) (Some place) None) ≡ slice_get entities place
+  from true here = ap (λ (b : Bool). option_and_then (slice_get entities) (cond b (Some place) None)) here
+  from false past =
+      ap (λ (b : Bool). option_and_then (slice_get entities) (cond b (Some place) None)) past
+      ∙ sym (slice_get_past entities place (ltb-false place (length entities) past))
+
+pub named_at : (entities : List Entity) (id place : ℕ) → position (λ e. e.id == id) entities ≡ Some place → slice_get entities place ≡ named entities id
+named_at entities id place is = ap (option_and_then (slice_get entities)) (sym is) ∙ named_is_found entities id
+
+pub named_nowhere : (entities : List Entity) (id : ℕ) → position (λ e. e.id == id) entities ≡ None → None ≡ named entities id
+named_nowhere entities id is = ap (option_and_then (slice_get entities)) (sym is) ∙ named_is_found entities id
+
+-- an element that is looked up, behind its reference
+pub looked_up : (r : Option (Bor Entity)) (xs : List Entity) (i : ℕ) → is_some r ≡ nat_lt i (length xs) → IfSome r (λ x. x.now ≡ get_or xs i x.now)
+    → option_map (λ e. e.now) r ≡ slice_get xs i
+looked_up None xs i there at = sym (slice_get_past xs i (ltb-false i (length xs) (sym there)))
+looked_up (Some x) xs i there at =
+    let within : i < length xs = ltb-true i (length xs) (sym there) in
+    ap (λ (y : Entity). Some y) at ∙ sym (slice_get-get_or xs i x.now within)

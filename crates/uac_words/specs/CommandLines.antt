@@ -1,0 +1,73 @@
+-- Profile: the command lines, as they are written.
+use Rattle.std.specs.Prelude.{◌≡◌, ◌⊎◌, ◌^◌, ◌<◌, ⊤, List, [], ◌∷◌, ◌++◌, codes, decimal, Some, Result, Ok, Err}
+use Rattle.std.specs.List.{AllByRecursion}
+use Rattle.std.specs.Str.{IsUtf8}
+use Rattle.uac_words.specs.declared.commands.Command.{Command}
+use Rattle.uac_words.specs.declared.commands.Command.TheVariants.{Check, Show, Elements, Run, Gen, Settle}
+use Rattle.uac_words.specs.declared.commands.RackChoice.{RackChoice}
+use Rattle.uac_words.specs.declared.commands.RackChoice.TheVariants.{Plain, Lanes}
+use Rattle.uac_words.specs.declared.commands.Words.{Words}
+use Rattle.uac_words.specs.declared.commands.WordsFault.{WordsFault}
+use Rattle.uac_words.specs.declared.commands.WordsFault.TheVariants.{NoMemory, Usage}
+use Rattle.uac_words.specs.ByClap.{asked}
+use Rattle.uac_words.specs.Plain.{Text, plainly}
+
+-- a command, as it is written: NUMBER is in decimal without leading zeros
+abbrev pub spelled : Command → List Text
+spelled Check = codes "check" ∷ []
+spelled Show = codes "show" ∷ []
+spelled Elements = codes "elements" ∷ []
+spelled Run = codes "run" ∷ []
+spelled (Gen number) = codes "gen" ∷ decimal number ∷ []
+spelled Settle = codes "settle" ∷ []
+
+-- a NUMBER has 32 bits
+abbrev pub IsInRange : Command → Type 0
+IsInRange (Gen number) = number < 2 ^ 32
+IsInRange Check = ⊤
+IsInRange Show = ⊤
+IsInRange Elements = ⊤
+IsInRange Run = ⊤
+IsInRange Settle = ⊤
+
+abbrev pub rack_name : RackChoice → Text
+rack_name Plain = codes "plain"
+rack_name Lanes = codes "lanes"
+
+-- the words that choose a rack: `--rack` and its name as two words, or as one with `=` between; none at all choose the plain one
+abbrev pub Chooses : List Text → RackChoice → Type 0
+Chooses option rack =
+    (option ≡ []) × (rack ≡ Plain) ⊎ ((option ≡ codes "--rack" ∷ rack_name rack ∷ []) ⊎ (option ≡ (codes "--rack=" ++ rack_name rack) ∷ []))
+
+-- the words are the command's own, in their order, with those that choose the rack anywhere among them, and perhaps a word `--` anywhere
+-- after those
+pub record IsLine (words : List Text) (line : Words) : Type 0 where
+  pub before : List Text
+  pub option : List Text
+  pub between : List Text
+  pub dashes : List Text
+  pub following : List Text
+  pub whole : words ≡ before ++ (option ++ (between ++ (dashes ++ following)))
+  pub command : before ++ (between ++ following) ≡ spelled line.command
+  pub range : IsInRange line.command
+  pub rack : Chooses option line.rack
+  pub end : (dashes ≡ []) ⊎ (dashes ≡ codes "--" ∷ [])
+
+-- each command line asks for its command over its rack
+abbrev pub LinesAsk : Type 0
+LinesAsk = (words : List Text) (line : Words) → IsLine words line → plainly words ≡ Some line
+
+-- and no other words ask for anything
+abbrev pub NothingElseAsks : Type 0
+NothingElseAsks = (words : List Text) (line : Words) → plainly words ≡ Some line → IsLine words line
+
+-- the answer to these words is right: a command line is answered by what it is, and what is no command line is refused. Want of
+-- memory may come with any words
+abbrev pub AnswersLine : List Text → Result Words WordsFault → Type 0
+AnswersLine words (Ok line) = IsLine words line
+AnswersLine words (Err Usage) = (line : Words) → ¬ (IsLine words line)
+AnswersLine words (Err NoMemory) = ⊤
+
+-- by the simple command's own rules texts ask for the same
+abbrev pub RulesAskTheSame : Type 0
+RulesAskTheSame = (words : List Text) → AllByRecursion IsUtf8 words → asked words ≡ plainly words
