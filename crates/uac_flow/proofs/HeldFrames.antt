@@ -76,19 +76,13 @@ frames_put (Ok u) channels ring after frame whole put kept frames =
     subst (λ (r : List (List ℤ)). AreFrames channels r) (sym put) (All-push (λ (f : List ℤ). length f ≡ channels) ring frame frames whole)
 frames_put (Err e) channels ring after frame whole put kept frames = subst (λ (r : List (List ℤ)). AreFrames channels r) (sym kept) frames
 
--- the oldest frame of those that are left
-oldest_at : (n : ℕ) (frames : List (List ℤ)) → slice_get (drop n frames) 0 ≡ slice_get frames n
-oldest_at zero frames = refl
-oldest_at (suc n) [] = refl
-oldest_at (suc n) (f ∷ fs) = oldest_at n fs
-
 -- the frames whose bytes a packet has, and one more
 pub packed_further : (channels size bits start n : ℕ) (frames : List (List ℤ)) (frame : List ℤ) (old new rest : List ℕ) → AreFrames channels frames
-    → start ≡ n * (channels * size) → start ≤ length old → Some frame ≡ slice_get (drop n frames) 0 → take start old ≡ packed size bits (take n frames)
+    → start ≡ n * (channels * size) → start ≤ length old → Some frame ≡ slice_get frames n → take start old ≡ packed size bits (take n frames)
     → new ≡ take start old ++ (bytes_of_frame size bits frame ++ rest)
     → take ((n + 1) * (channels * size)) new ≡ packed size bits (take (n + 1) frames)
-packed_further channels size bits start n frames frame old new rest whole is_start inside oldest so_far written =
-    let there : slice_get frames n ≡ Some frame = sym (oldest_at n frames) ∙ sym oldest in
+packed_further channels size bits start n frames frame old new rest whole is_start inside at so_far written =
+    let there : slice_get frames n ≡ Some frame = sym at in
     let wide : length frame ≡ channels =
     ap length (sym (get_or_from_slice_get frames n frame frame there)) ∙ whole n frame (slice_get_within frames n frame there) in
     one_written channels size bits start n (take n frames) (take (n + 1) frames) frame old new rest wide is_start inside (one_more n frames frame there)

@@ -44,10 +44,10 @@ pub(crate) fn take_frames(ring: &mut Ring, format: &Format, count: u32, packet: 
 {
     let size = format.frame_bytes();
     resize(packet, count as usize * size);
-    for number in 0..count as usize {
-        if let Some(frame) = ring.front() {
-            format.write_at(frame, packet, number * size);
+    for number in 0..count {
+        if let Some(frame) = ring.at(number) {
+            format.write_at(frame, packet, number as usize * size);
         }
-        ring.drop_front();
     }
+    ring.drop_oldest(count);
 }

@@ -116,6 +116,27 @@ impl Ring {
         self.frames.front()
     }
 
+    /// The frame at a place, where the oldest has place 0, lent; None exactly where the ring holds no more frames than that.
+    pub fn at(&self, place: u32) -> Option<&Frame>
+        ensures none { IsNone result ↔ (length self.now ≤ place) }
+        ensures frame { option_map (λ frame. frame.now.items) result ≡ slice_get self.now place }
+    {
+        self.frames.get(place as usize)
+    }
+
+    /// Lets the oldest frames go, so many; all, where there are no more.
+    pub fn drop_oldest(&mut self, count: u32)
+        ensures { self.new ≡ drop count self.old }
+    {
+        let level = self.level();
+        if count >= level {
+            // The next frames lie where these lay, in memory that is near.
+            self.clear();
+        } else {
+            self.frames.truncate_front((level - count) as usize);
+        }
+    }
+
     /// Lets the oldest frame go; where there is none, the ring stays empty.
     pub fn drop_front(&mut self)
         ensures others { self.new ≡ drop 1 self.old }

@@ -1,4 +1,4 @@
-use Rattle.std.proofs.Common.{◌≡◌, ◌*◌, drop, length, take}
+use Rattle.std.proofs.Common.{◌≡◌, ◌*◌, length, take}
 use Rattle.uac_pcm.specs.Packets.{packed}
 use Rattle.uac_flow.proofs.frames.take_frames.Given as goal
 
@@ -6,5 +6,4 @@ abbrev pub invariant-loop-number : goal.invariant-loop-number
 invariant-loop-number l = record {
   sized : length l.packet.items ≡ l.count * (l.format.channels * l.format.subslot);
   written : take (l.number * (l.format.channels * l.format.subslot)) l.packet.items ≡ packed l.format.subslot l.format.bits (take l.number l.initial.ring);
-  ring : l.ring ≡ drop l.number l.initial.ring;
 }
