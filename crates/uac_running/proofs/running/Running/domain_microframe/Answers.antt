@@ -10,5 +10,5 @@ pub returns-clause-tells : goal.returns-clause-tells
 returns-clause-tells g c r stands =
     let shown = readings (λ v x. (goal.Meter-dyn g (v, x)).reading_of x) c.args.meters.now in
     subst (λ (told : Told). Tells told c.ticks.new.self (readings (λ v x. (goal.Meter-dyn g (v, x)).reading_of x) c.ticks.new.meters) (g.K.Sink.written c.args.sink.now) (g.K.Sink.written c.ticks.new.sink) c.ticks.result)
-    (domain_told c.args.clock c.advance-ticks.result r (c.advance-ticks.ensures.ticks shown r stands))
-    (c.ticks.ensures.tells (record r { device = after_advance c.args.clock r.device }) (c.advance-ticks.ensures.stands shown r stands))
+    (domain_told c.args.domain c.advance-ticks.result r (c.advance-ticks.ensures.ticks shown r stands))
+    (c.ticks.ensures.tells (record r { device = after_advance c.args.domain r.device }) (c.advance-ticks.ensures.stands shown r stands))

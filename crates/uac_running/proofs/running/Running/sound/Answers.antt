@@ -15,10 +15,10 @@ use Rattle.uac_running.proofs.running.Running.sound.Goals as goal
 
 pub invariant_of-self : goal.invariant_of-self
 invariant_of-self g c =
-    let jacks = turned_back (after_one c.args.clock) c.self.inside.jacks.len c.self.inside.jacks.items c.deref_mut.result.now c.next_frames.new.jacks
+    let jacks = turned_back (after_one c.args.domain) c.self.inside.jacks.len c.self.inside.jacks.items c.deref_mut.result.now c.next_frames.new.jacks
     c.next_frames.ensures.jacks c.deref_mut.ensures.value c.deref_mut.ensures.len in
     let function = c.tick_where-found.ensures.function ∙ c.next_frames.ensures.function in (
-      jacks_gone_on c.args.clock (the_view c.self.inside) _ function jacks c.self.invariant.0,
+      jacks_gone_on c.args.domain (the_view c.self.inside) _ function jacks c.self.invariant.0,
       domains_kept (the_view c.self.inside) _ function refl c.self.invariant.1,
       view_still c.self.inside.device.function _ c.self.inside.view function c.self.invariant.2,
     )
@@ -27,28 +27,28 @@ pub returns-clause-stands : goal.returns-clause-stands
 returns-clause-stands g c r stands rests stills =
     let shown = readings (λ v x. (goal.Meter-dyn g (v, x)).reading_of x) c.args.meters.now in
     let showing = readings (λ v x. (goal.Meter-dyn g (v, x)).reading_of x) c.tick_where-found.new.meters in
-    let jacks = turned_back (after_one c.args.clock) c.self.inside.jacks.len c.self.inside.jacks.items c.deref_mut.result.now c.next_frames.new.jacks
+    let jacks = turned_back (after_one c.args.domain) c.self.inside.jacks.len c.self.inside.jacks.items c.deref_mut.result.now c.next_frames.new.jacks
     c.next_frames.ensures.jacks c.deref_mut.ensures.value c.deref_mut.ensures.len in
     let own = subst (λ (p : RunningFields). Stands p shown r) (sym c.self.view_is) stands in
-    let still = λ (is : c.args.rest.lanes ≡ true). still_gave c.args.clock shown r (the_view c.self.inside) own c.self.invariant.0 (stills is) in
-    let w = gave c.args.clock r in
-    let rendered : device.Stands c.next_frames.new.device w → c.count.result ≡ renders_of c.args.clock w =
-    λ kept. c.count.ensures ∙ c.tick_where-found.ensures.once w kept ∙ ap (λ n. n + renders_of c.args.clock w) c.new-steps.ensures ∙ zero-add (renders_of c.args.clock w) in
-    sounded c.args.rest.jacks c.args.clock c.count.result shown showing r (the_view c.self.inside) _ c.deref_mut.result.now c.next_frames.new.device c.tick_where-found.result c.function-2.result.now own rests c.deref_mut.ensures.value
+    let still = λ (is : c.args.rest.lanes ≡ true). still_gave c.args.domain shown r (the_view c.self.inside) own c.self.invariant.0 (stills is) in
+    let w = gave c.args.domain r in
+    let rendered : device.Stands c.next_frames.new.device w → c.count.result ≡ renders_of c.args.domain w =
+    λ kept. c.count.ensures ∙ c.tick_where-found.ensures.once w kept ∙ ap (λ n. n + renders_of c.args.domain w) c.new-steps.ensures ∙ zero-add (renders_of c.args.domain w) in
+    sounded c.args.rest.jacks c.args.domain c.count.result shown showing r (the_view c.self.inside) _ c.deref_mut.result.now c.next_frames.new.device c.tick_where-found.result c.function-2.result.now own rests c.deref_mut.ensures.value
     c.function-2.ensures c.next_frames.ensures.stands (λ kept. c.tick_where-found.ensures.stands w kept still) (λ kept. c.tick_where-found.ensures.heard w kept still) rendered
     (λ kept. c.tick_where-found.ensures.met w kept still)
-    (λ v before. c.find.ensures c.tick_where-found.new.self v before c.args.clock)
-    (jacks ∙ ap (gone_on c.args.clock) (sym c.deref_mut.ensures.value)) refl refl refl c.saturating_add-self-inside.ensures (record { view = refl; configuration = refl; breaks = refl })
+    (λ v before. c.find.ensures c.tick_where-found.new.self v before c.args.domain)
+    (jacks ∙ ap (gone_on c.args.domain) (sym c.deref_mut.ensures.value)) refl refl refl c.saturating_add-self-inside.ensures (record { view = refl; configuration = refl; breaks = refl })
 
 pub returns-clause-found : goal.returns-clause-found
 returns-clause-found g c r stands rests stills =
     let shown = readings (λ v x. (goal.Meter-dyn g (v, x)).reading_of x) c.args.meters.now in
     let own = subst (λ (p : RunningFields). Stands p shown r) (sym c.self.view_is) stands in
-    let still = λ (is : c.args.rest.lanes ≡ true). still_gave c.args.clock shown r (the_view c.self.inside) own c.self.invariant.0 (stills is) in
-    sounded_found c.args.rest.jacks c.args.clock shown r (the_view c.self.inside) c.deref_mut.result.now c.next_frames.new.device c.tick_where-found.result own rests c.deref_mut.ensures.value
-    c.next_frames.ensures.stands (λ kept. c.tick_where-found.ensures.met (gave c.args.clock r) kept still)
+    let still = λ (is : c.args.rest.lanes ≡ true). still_gave c.args.domain shown r (the_view c.self.inside) own c.self.invariant.0 (stills is) in
+    sounded_found c.args.rest.jacks c.args.domain shown r (the_view c.self.inside) c.deref_mut.result.now c.next_frames.new.device c.tick_where-found.result own rests c.deref_mut.ensures.value
+    c.next_frames.ensures.stands (λ kept. c.tick_where-found.ensures.met (gave c.args.domain r) kept still)
 
 pub returns-clause-rests : goal.returns-clause-rests
 returns-clause-rests g c meters r stands quiet =
     let own = subst (λ (p : RunningFields). Stands p meters r) (sym c.self.view_is) stands in
-    rests_after c.args.clock meters r (the_view c.self.inside) own c.self.invariant.0 quiet
+    rests_after c.args.domain meters r (the_view c.self.inside) own c.self.invariant.0 quiet

@@ -10,7 +10,7 @@ use Rattle.uac_running.proofs.running.Running.ticks.Given as goal
 abbrev pub invariant-loop-ticked : goal.invariant-loop-ticked
 invariant-loop-ticked g l = record {
   told : (r : RunningWorld) → Stands l.initial.self (readings (λ v x. (goal.Meter-dyn g (v, x)).reading_of x) l.initial.meters) r
-      → SoFar (RestsSo l.silent l.still l.rest.jacks l.rest.lanes l.clock) (tick_times l.count l.clock r) (tick_times (l.count - l._ticked) l.clock) l.self
+      → SoFar (RestsSo l.silent l.still l.rest.jacks l.rest.lanes l.domain) (tick_times l.count l.domain r) (tick_times (l.count - l._ticked) l.domain) l.self
       (readings (λ v x. (goal.Meter-dyn g (v, x)).reading_of x) l.meters) (g.K.Sink.written l.fn.sink) (g.K.Sink.written l.sink);
   faultless : g.K.Sink.faults l.sink ≡ g.K.Sink.faults l.fn.sink;
   function : l.self.device.function ≡ l.initial.self.device.function;
