@@ -94,7 +94,7 @@ def packets_of(data):
 
 
 def burst_of_pcap(order, packet, device):
-    """The packets of a burst: their number stands in the head, and 16 bytes for each behind it."""
+    """The packets of a burst: their number stands in the head, and 16 bytes for each after it."""
     seconds, part, status = struct.unpack(order + "qii", packet[16:32])
     failed, count = struct.unpack(order + "ii", packet[40:48])
     start, told = struct.unpack(order + "i4xI", packet[52:64])
@@ -107,7 +107,7 @@ def burst_of_pcap(order, packet, device):
 
 
 def of_pcap(data):
-    """usbmon's own header of 64 bytes, in the order of the machine that captured it, and the data behind it."""
+    """usbmon's own header of 64 bytes, in the order of the machine that captured it, and the data after it."""
     waiting = {}
     for order, packet in packets_of(data):
         if len(packet) < 64 or packet[9] not in (0, 2):

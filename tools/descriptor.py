@@ -2,7 +2,7 @@
 
 The layouts are those of docs/DESCRIPTORS.md. Nothing here decides what is sound: that is the program's."""
 
-# The fields of each kind behind length, type and (for class blocks) subtype: a name and a number of bytes. A name that ends in * is a list.
+# The fields of each kind after length, type and (for class blocks) subtype: a name and a number of bytes. A name that ends in * is a list.
 LAYOUTS = {
     "device": [("release", 2), ("class", 1), ("subclass", 1), ("protocol", 1), ("packet", 1), ("vendor", 2), ("product", 2), ("version", 2),
                ("manufacturer", 1), ("product_name", 1), ("serial", 1), ("configurations", 1)],
@@ -102,7 +102,7 @@ def kind_of(data, context):
 
 
 def cut(data):
-    """The blocks of these bytes, as far as they can be cut, and what is left behind them."""
+    """The blocks of these bytes, as far as they can be cut, and what is left after them."""
     blocks, place, context = [], 0, None
     while place + 2 <= len(data) and data[place] >= 2 and place + data[place] <= len(data):
         piece = data[place:place + data[place]]

@@ -49,7 +49,7 @@ class Microframes:
         return burst.ended // MICROSECONDS - length - self.begun
 
     def place_of(self, key, burst, length):
-        """The microframe of a burst's first packet: behind the one before, and later by what the host's own count skipped."""
+        """The microframe of a burst's first packet: after the one before, and later by what the host's own count skipped."""
         if key not in self.next:
             return self.by_time(burst, length)
         at, before = self.next[key], self.starts.get(key)

@@ -19,7 +19,7 @@ def options_of(words, flags=(), values=()):
             found.add(word)
         elif word in values:
             if not words:
-                raise Refused(f"a value is wanted behind {word}")
+                raise Refused(f"a value is wanted after {word}")
             given[word] = words.pop(0)
         elif word.startswith("-") and word != "-":
             raise Refused(f"no option {word}; --help says how")

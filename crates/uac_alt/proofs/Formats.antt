@@ -4,7 +4,7 @@ use Rattle.std.specs.List.{All, find}
 use Rattle.std.specs.Option.{option_map_or}
 use Rattle.std.proofs.lemmas.Bool.{and_parts}
 use Rattle.uac_descriptor.specs.declared.streaming.General.{General}
-use Rattle.uac_entities.specs.EntityStreams.{channels_of, named}
+use Rattle.uac_entities.specs.EntityInterfaces.{channels_of, entity_by_id}
 use Rattle.uac_entities.specs.declared.entity.Entity.{Entity}
 use Rattle.uac_entities.specs.declared.entity.EntityKind.{EntityKind}
 use Rattle.uac_entities.specs.declared.entity.EntityKind.TheVariants as kind
@@ -36,7 +36,7 @@ no_clock kind.Effect is = absurd (cc)
 -- a link to a terminal of a sound function brings its channels
 linked_width : (function : FunctionFields) (s : StreamInterface) (link : ℕ) → IsSoundFunction function → IsLink function.entities s.terminal link
     → (1 ≤ linked_channels function s) × (linked_channels function s ≤ 32)
-unfolding linked_channels channels_of named
+unfolding linked_channels channels_of entity_by_id
 linked_width function s link sound is =
     subst (λ (o : Option Entity). (1 ≤ option_map_or (λ e. e.cluster.channels) o 0) × (option_map_or (λ e. e.cluster.channels) o 0 ≤ 32)) (sym is.there)
     (all_found (λ (e : Entity). is_clock e.kind ≡ false → (1 ≤ e.cluster.channels) × (e.cluster.channels ≤ 32)) (λ e. e.id == s.terminal)

@@ -10,7 +10,7 @@ use Rattle.uac_descriptor.specs.Endpoints.{synchronization_type, usage_type, pac
 use Rattle.uac_descriptor.specs.declared.standard.Endpoint.{Endpoint}
 use Rattle.uac_descriptor.specs.declared.streaming.General.{General}
 use Rattle.uac_descriptor.specs.declared.streaming.TypeOne.{TypeOne}
-use Rattle.uac_entities.specs.EntityStreams.{channels_of}
+use Rattle.uac_entities.specs.EntityInterfaces.{channels_of}
 use Rattle.uac_entities.specs.declared.stream.Setting.{Setting}
 use Rattle.uac_entities.specs.declared.stream.StreamInterface.{StreamInterface}
 use Rattle.uac_topology.specs.Function.{FunctionFields, interface_in}

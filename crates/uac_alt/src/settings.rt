@@ -18,7 +18,7 @@ pub struct InterfaceSetting {
 /// The alternate setting of the control interface and of each streaming interface.
 #[derive(Drop)]
 pub struct Settings {
-    held: ArrayVec<InterfaceSetting, 9>,
+    list: ArrayVec<InterfaceSetting, 9>,
 }
 
 impl Model for Settings {
@@ -27,7 +27,7 @@ impl Model for Settings {
 
     ghost Value = { List InterfaceSetting };
 
-    ghost view = { λ s. s.held.items };
+    ghost view = { λ s. s.list.items };
 }
 
 impl Settings {
@@ -38,12 +38,12 @@ impl Settings {
     {
         functions_are_sound(function);
         sound_functions_are_small();
-        let mut held = ArrayVec::new();
-        held.push(in_first(function.control_interface()));
+        let mut list = ArrayVec::new();
+        list.push(in_first(function.control_interface()));
         for stream in function.streams() {
-            held.push(in_first(stream.number));
+            list.push(in_first(stream.number));
         }
-        Settings { held }
+        Settings { list }
     }
 
     /// The setting of an interface; None exactly for numbers of no interface of the audio function.
@@ -51,7 +51,7 @@ impl Settings {
     pub fn get(&self, interface: u8) -> Option<u8>
         ensures { result ≡ setting_of self.now interface }
     {
-        for held in self.held.as_slice() {
+        for held in self.list.as_slice() {
             if held.interface == interface {
                 return Some(held.setting);
             }
@@ -66,14 +66,14 @@ impl Settings {
         ensures value { self.new ≡ with_setting self.old interface setting }
         ensures setting { (n : ℕ) → setting_of self.new n ≡ (if n == interface then Some setting else setting_of self.old n) }
     {
-        change(self.held.as_mut_slice(), interface, setting);
+        change(self.list.as_mut_slice(), interface, setting);
     }
 
     /// Whether some interface is in a setting other than 0.
     pub fn running(&self) -> bool
         ensures { result ≡ is_running self.now }
     {
-        self.held.as_slice().iter().any(|held| held.setting != 0)
+        self.list.as_slice().iter().any(|held| held.setting != 0)
     }
 }
 

@@ -6,7 +6,7 @@ use Rattle.std.proofs.lemmas.Bool.{and_parts, leb-true, true≢false}
 use Rattle.std.proofs.lemmas.Option.{option_and_then_some}
 use Rattle.uac_clock.specs.Nominal.{nominal_of}
 use Rattle.uac_descriptor.specs.declared.standard.Endpoint.{Endpoint}
-use Rattle.uac_entities.specs.EntityStreams.{named}
+use Rattle.uac_entities.specs.EntityInterfaces.{entity_by_id}
 use Rattle.uac_entities.specs.declared.entity.Entity.{Entity}
 use Rattle.uac_entities.specs.declared.stream.StreamInterface.{StreamInterface}
 use Rattle.uac_topology.specs.Function.{FunctionFields}
@@ -99,13 +99,13 @@ pub record IsAsked (function : FunctionFields) (controls : List (Key × ℤ)) (i
 
 rated_by : (function : FunctionFields) (controls : List (Key × ℤ)) (s : StreamInterface) (rate : ℕ) → rate_at function controls s ≡ Some rate
     → rate_of function.entities controls (entity function.entities s.terminal).clock ≡ Some rate
-rated_by function controls s rate is = by (named function.entities s.terminal) refl is
+rated_by function controls s rate is = by (entity_by_id function.entities s.terminal) refl is
   where
-    by : (o : Option Entity) → named function.entities s.terminal ≡ o → option_and_then (λ e. rate_of function.entities controls e.clock) o ≡ Some rate
+    by : (o : Option Entity) → entity_by_id function.entities s.terminal ≡ o → option_and_then (λ e. rate_of function.entities controls e.clock) o ≡ Some rate
         → rate_of function.entities controls (entity function.entities s.terminal).clock ≡ Some rate
     by None none found = absurd (cc)
     by (Some e) some found =
-        ap (λ (n : ℕ). rate_of function.entities controls n) (sym (ap (λ (p : Port). p.clock) (port_named function.entities s e some))) ∙ found
+        ap (λ (n : ℕ). rate_of function.entities controls n) (sym (ap (λ (p : Port). p.domain) (port_named function.entities s e some))) ∙ found
 
 pub asked_of : (function : FunctionFields) (controls : List (Key × ℤ)) (interface number : ℕ) (stream : StreamFields)
     → stream_in_setting function controls interface number ≡ Some stream → IsAsked function controls interface number stream

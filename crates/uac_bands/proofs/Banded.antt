@@ -5,8 +5,8 @@ use Rattle.std.proofs.lemmas.List.{length-replicate}
 use Rattle.std.proofs.lemmas.Nat.{mul-le}
 use Rattle.uac_clock.specs.declared.values.Nominal.{Nominal}
 use Rattle.uac_clock.specs.Nominal.{HasRoom}
-use Rattle.uac_clock.proofs.Listed.{has_room}
-use Rattle.uac_rate.specs.Levels.{FallsDue, Fills, Interval, IsHeld, IsInterval, IsJustPrimed, IsPriming, Point, Within, came_of}
+use Rattle.uac_clock.proofs.NominalLemmas.{has_room}
+use Rattle.uac_rate.specs.Levels.{FallsDue, Fills, Interval, IsSafeLevel, IsInterval, IsJustPrimed, IsPriming, Point, Within, came_of}
 use Rattle.uac_rate.specs.Steadiness.{latest_run}
 use Rattle.uac_rate.proofs.LevelsLemmas.{falls_due, filled, interval_robust, interval_size, primed_robust, rates_band, robust_near, whole_packets}
 use Rattle.uac_alt.specs.AltStreams.{StreamFields}
@@ -14,7 +14,7 @@ use Rattle.uac_flow.specs.FlowStreams.{OutStream, after_packet, after_ticks, arr
 use Rattle.uac_flow.specs.declared.arrival.Arrival.TheVariants as arrival
 use Rattle.uac_host.specs.Calls.{next_size, pace_after_packet}
 use Rattle.uac_bands.specs.Life.{Life, life_after, ticks_taken, with_end, with_feedback, with_step}
-use Rattle.uac_bands.specs.Bands.{EndsNear, HasTicked, HoldsBetween, HoldsEnough, InBand, IsAt, IsFollowing, IsFilling, IsSteadyMicroframe, NeverDry, NeverOver, StartsInBand, StaysInBand, microframes_since_due, played, ticks_then}
+use Rattle.uac_bands.specs.Bands.{EndsNear, HasTicked, HoldsBetween, HoldsEnough, InBand, IsAt, IsFollowing, IsFilling, IsSteadyMicroframe, NeverDry, NeverOver, StartsInBand, StaysInBand, microframes_since_due, stream_at_tick, ticks_then}
 use Rattle.uac_bands.proofs.Numbers.{IsPlacedAt, clock_goes, no_report, packet_frames, placed_at, slight_goes}
 use Rattle.uac_bands.proofs.Played.{came_for, ended_out, fits_ring, got, got_is, got_stays, not_dry, not_zero, out_due, out_not_due, taken_by, ticks_played, waited_out}
 use Rattle.uac_bands.proofs.Steady.{HasEnded, HasEndedAt, enough, held_range, is_some_more, is_zero, no_feedback, primed_reported, priming_reported, reports_by, times_none}
@@ -128,7 +128,7 @@ module _ (l : Life) (packet : Option (List ℕ)) (step : ℕ) (band : InBand l) 
   module _ (target : ℕ) (p : Point) (b : IsFollowing l target p) where
     -- after so many of its ticks, and with so many frames of its packet
     plays : (came i : ℕ) → came ≤ (sum l.pace.used % 65536 + s * l.pace.value) / 65536 → i ≤ n
-        → (l.out.taken + i ≤ length l.out.arrived + came) × IsHeld s (length l.out.arrived + came - (l.out.taken + i))
+        → (l.out.taken + i ≤ length l.out.arrived + came) × IsSafeLevel s (length l.out.arrived + came - (l.out.taken + i))
     plays came i some few =
         let all = so_many p.clock b.ticked in
         let whole = band.taken in
@@ -140,7 +140,7 @@ module _ (l : Life) (packet : Option (List ℕ)) (step : ℕ) (band : InBand l) 
         (slight_after p.clock b.ticked) (omega arith) (inl frames) in
         let level = b.level in (
           omega (arith, holds.fits),
-          subst (IsHeld s)
+          subst (IsSafeLevel s)
               (let same : p.level + came - (l.out.ticks + i) ≡ length l.out.arrived + came - (l.out.taken + i) = omega (arith, holds.fits) in same)
               holds.held,
         )
@@ -229,9 +229,9 @@ module _ (l : Life) (packet : Option (List ℕ)) (step : ℕ) (band : InBand l) 
   }
 
   -- a primed stream is after the same point, with one step more
-  pub behind_not_due : is_due l.out.stream l.out.microframes ≡ false → (target : ℕ) (p : Point) (b : IsFollowing l target p)
+  pub after_not_due : is_due l.out.stream l.out.microframes ≡ false → (target : ℕ) (p : Point) (b : IsFollowing l target p)
       → (on : IsFollowing (waited_life n) target p) × (on.ticked.steps ≡ b.ticked.steps + step)
-  behind_not_due due target p b =
+  after_not_due due target p b =
       let holds = (plays target p b 0 n (omega arith) (omega arith)).0 in
       let whole = band.taken in (
         record {
@@ -256,7 +256,7 @@ module _ (l : Life) (packet : Option (List ℕ)) (step : ℕ) (band : InBand l) 
     ticked = ticked_on due filling.clock filling.ticked 0;
   }
   place_not_due (Some target) following due =
-      (following.0, (behind_not_due due target following.0 following.1).0)
+      (following.0, (after_not_due due target following.0 following.1).0)
 
   stays_not_due : is_due l.out.stream l.out.microframes ≡ false → (lost : Bool) → InBand (life_after packet step lost l)
   stays_not_due due lost = subst InBand (sym (lived_not_due l.out.target refl band.at due lost)) (record {
@@ -494,7 +494,7 @@ module _ (l : Life) (packet : Option (List ℕ)) (step : ℕ) (band : InBand l) 
 
   -- the stream after some of its ticks
   played_due : (o : Option ℕ) → l.out.target ≡ o → IsAt o l → is_due l.out.stream l.out.microframes ≡ true → (i : ℕ) → i ≤ n
-      → played i packet step l ≡ record (after_ticks n (got packet l.out)) { taken = l.out.taken + taken_by o i }
+      → stream_at_tick i packet step l ≡ record (after_ticks n (got packet l.out)) { taken = l.out.taken + taken_by o i }
   played_due o is place due i few =
       ap (λ (b : Bool). ticks_taken i (after_ticks n
       (if b then record l { out = after_packet packet l.out; pace = pace_after_packet l.pace } else l).out)) due
@@ -505,49 +505,49 @@ module _ (l : Life) (packet : Option (List ℕ)) (step : ℕ) (band : InBand l) 
       omega (arith, holds))) n
 
   played_not_due : (o : Option ℕ) → l.out.target ≡ o → IsAt o l → is_due l.out.stream l.out.microframes ≡ false → (i : ℕ) → i ≤ n
-      → played i packet step l ≡ record (after_ticks n l.out) { taken = l.out.taken + taken_by o i }
+      → stream_at_tick i packet step l ≡ record (after_ticks n l.out) { taken = l.out.taken + taken_by o i }
   played_not_due o is place due i few =
       ap (λ (b : Bool). ticks_taken i (after_ticks n
       (if b then record l { out = after_packet packet l.out; pace = pace_after_packet l.pace } else l).out)) due
       ∙ ticks_played i (after_ticks n l.out) o is
       (λ primed. let holds = holds_at o place 0 i (omega arith) few primed in omega (arith, holds))
 
-  holds : (target : ℕ) → l.out.target ≡ Some target → (i : ℕ) → i ≤ n → IsHeld s (out_level (played i packet step l))
+  holds : (target : ℕ) → l.out.target ≡ Some target → (i : ℕ) → i ≤ n → IsSafeLevel s (out_level (stream_at_tick i packet step l))
   holds target is i few = by (is_due l.out.stream l.out.microframes) refl
     where
       following : IsAt (Some target) l
       following = subst (λ (o : Option ℕ). IsAt o l) is band.at
 
-      by : (b : Bool) → is_due l.out.stream l.out.microframes ≡ b → IsHeld s (out_level (played i packet step l))
+      by : (b : Bool) → is_due l.out.stream l.out.microframes ≡ b → IsSafeLevel s (out_level (stream_at_tick i packet step l))
       by true due =
           let there = plays target following.0 following.1 (frames_in packet l.out) i (frames_fit due) few in
-          subst (λ (x : OutStream). IsHeld s (out_level x)) (sym (played_due (Some target) is following due i few))
-          (subst (λ (k : ℕ). IsHeld s (k - (l.out.taken + i))) (sym (got_size packet l.out)) there.1)
+          subst (λ (x : OutStream). IsSafeLevel s (out_level x)) (sym (played_due (Some target) is following due i few))
+          (subst (λ (k : ℕ). IsSafeLevel s (k - (l.out.taken + i))) (sym (got_size packet l.out)) there.1)
       by false due =
           let there = plays target following.0 following.1 0 i (omega arith) few in
-          subst (λ (x : OutStream). IsHeld s (out_level x)) (sym (played_not_due (Some target) is following due i few))
-          (subst (λ (k : ℕ). IsHeld s (k - (l.out.taken + i)))
+          subst (λ (x : OutStream). IsSafeLevel s (out_level x)) (sym (played_not_due (Some target) is following due i few))
+          (subst (λ (k : ℕ). IsSafeLevel s (k - (l.out.taken + i)))
           (let same : length l.out.arrived + 0 ≡ length l.out.arrived = omega arith in same) there.1)
 
-  not_dry_held : (x : OutStream) → IsHeld s (out_level x) → is_dry x ≡ false
+  not_dry_held : (x : OutStream) → IsSafeLevel s (out_level x) → is_dry x ≡ false
   not_dry_held x there = let range = held_range s (out_level x) band.intervals.serves there in not_dry x (omega (arith, range.0))
 
   stays_priming_none : (i : ℕ) → i ≤ n → l.out.target ≡ None → (b : Bool) → is_due l.out.stream l.out.microframes ≡ b
-      → (played i packet step l).target ≡ None
+      → (stream_at_tick i packet step l).target ≡ None
   stays_priming_none i few is true due =
       ap (λ (x : OutStream). x.target) (played_due None is (subst (λ (o : Option ℕ). IsAt o l) is band.at) due i few)
       ∙ got_target packet l.out ∙ is
   stays_priming_none i few is false due =
       ap (λ (x : OutStream). x.target) (played_not_due None is (subst (λ (o : Option ℕ). IsAt o l) is band.at) due i few) ∙ is
 
-  never : (i : ℕ) → i ≤ n → is_dry (played i packet step l) ≡ false
+  never : (i : ℕ) → i ≤ n → is_dry (stream_at_tick i packet step l) ≡ false
   never i few = by l.out.target refl
     where
-      by : (o : Option ℕ) → l.out.target ≡ o → is_dry (played i packet step l) ≡ false
+      by : (o : Option ℕ) → l.out.target ≡ o → is_dry (stream_at_tick i packet step l) ≡ false
       by None is =
-          ap (λ (o : Option ℕ). is_some o && out_level (played i packet step l) == 0)
+          ap (λ (o : Option ℕ). is_some o && out_level (stream_at_tick i packet step l) == 0)
           (stays_priming_none i few is (is_due l.out.stream l.out.microframes) refl)
-      by (Some target) is = not_dry_held (played i packet step l) (holds target is i few)
+      by (Some target) is = not_dry_held (stream_at_tick i packet step l) (holds target is i few)
 
   never_over : is_due l.out.stream l.out.microframes ≡ true → arrival_of packet l.out ≡ arrival.Over → ⊥
   never_over due = by packet refl
@@ -606,12 +606,12 @@ never_over_full l packet step band given due over = never_over l packet step ban
 -- ---- between two microframes
 
 -- where a primed stream is
-behind_of : (l : Life) (target : ℕ) → InBand l → l.out.target ≡ Some target → (p : Point) × IsFollowing l target p
-behind_of l target band is = subst (λ (o : Option ℕ). IsAt o l) is band.at
+after_of : (l : Life) (target : ℕ) → InBand l → l.out.target ≡ Some target → (p : Point) × IsFollowing l target p
+after_of l target band is = subst (λ (o : Option ℕ). IsAt o l) is band.at
 
 pub holds_between : HoldsBetween
 holds_between l target band is =
-    let following = behind_of l target band is in
+    let following = after_of l target band is in
     let p : Point = following.0 in
     let b = following.1 in
     let at = placed_at l.out.stream.service l.out.microframes band.intervals.serves in
@@ -619,11 +619,11 @@ holds_between l target band is =
     let there = enough l.out.stream.nominal l.out.stream.service l.out.stream.period p (microframes_since_due l.out) b.ticked.steps 0 l.out.ticks
     (has_room l.out.stream.nominal band.nominal) band.intervals b.robust (omega arith) b.ticked.slight
     (omega (arith, b.ticked.ticks)) (inl (omega arith)) in
-    subst (IsHeld l.out.stream.service) (let same : p.level + 0 - l.out.ticks ≡ out_level l.out = omega (arith, b.level) in same) there.held
+    subst (IsSafeLevel l.out.stream.service) (let same : p.level + 0 - l.out.ticks ≡ out_level l.out = omega (arith, b.level) in same) there.held
 
 pub ends_near : EndsNear
 ends_near l target band is ended =
-    let following = behind_of l target band is in
+    let following = after_of l target band is in
     let p : Point = following.0 in
     let b = following.1 in
     let e = times_none (microframes_since_due l.out) l.out.stream.nominal.e ended in

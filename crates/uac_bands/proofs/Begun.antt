@@ -20,7 +20,7 @@ use Rattle.uac_device.specs.DeviceWorld.{Domain, after_deviation, fresh}
 use Rattle.uac_streaming.specs.StreamingWorld.{place_of}
 use Rattle.uac_running.specs.RunningWorld.{RunningWorld, at_start, with_detail, with_deviation, with_samples_on, with_tone, with_track}
 use Rattle.uac_running.specs.RunningTransfers.{with_break}
-use Rattle.uac_bands.specs.Life.{Life, clock_on, domain_on, life_of}
+use Rattle.uac_bands.specs.Life.{Life, domain_id_on, domain_on, life_of}
 use Rattle.uac_bands.specs.Beginnings.{CallsKeepBands, RunsStartInBand}
 use Rattle.uac_bands.specs.BandRun.{RunInBand, StreamInBand}
 use Rattle.uac_bands.proofs.Ordered.{deviations_keep_order, starts_are_ordered}
@@ -37,7 +37,7 @@ runs_start_in_band descriptor function meters sound numbers = record {
 -- ---- what is nothing to it
 
 -- a run is in its bands by its device, its host, and what was given
-pub carry : (r other : RunningWorld) → RunInBand r → RunInBand (record other { device = r.device; host = r.host; given = r.given })
+pub carry : (r other : RunningWorld) → RunInBand r → RunInBand (record other { device = r.device; host = r.host; history = r.history })
 unfolding life_of
 carry r other band = record {
   ordered = band.ordered;
@@ -147,37 +147,37 @@ track_keeps interface tone r = rehosted r (calls.with_tone interface tone r.host
 
 module _ (clock : ℕ) (ppm : ℤ) where
   abbrev pub off : Domain → Domain
-  off d = if d.clock == clock then record d { deviation = ppm } else d
+  off d = if d.id == clock then record d { deviation = ppm } else d
 
-  pub off_clock : (d : Domain) → (off d).clock ≡ d.clock
-  off_clock d = by (d.clock == clock)
+  pub off_clock : (d : Domain) → (off d).id ≡ d.id
+  off_clock d = by (d.id == clock)
     where
-      by : (b : Bool) → (if b then record d { deviation = ppm } else d).clock ≡ d.clock
+      by : (b : Bool) → (if b then record d { deviation = ppm } else d).id ≡ d.id
       by true = refl
       by false = refl
 
   off_steps : (d : Domain) → (off d).steps ≡ d.steps
-  off_steps d = by (d.clock == clock)
+  off_steps d = by (d.id == clock)
     where
       by : (b : Bool) → (if b then record d { deviation = ppm } else d).steps ≡ d.steps
       by true = refl
       by false = refl
 
   pub off_slight : (d : Domain) → is_slight ppm ≡ true → is_slight d.deviation ≡ true → is_slight (off d).deviation ≡ true
-  off_slight d slight before = by (d.clock == clock)
+  off_slight d slight before = by (d.id == clock)
     where
       by : (b : Bool) → is_slight (if b then record d { deviation = ppm } else d).deviation ≡ true
       by true = slight
       by false = before
 
-  pub found_off : (c : ℕ) (ds : List Domain) → find (λ d. d.clock == c) (map off ds) ≡ option_map off (find (λ d. d.clock == c) ds)
+  pub found_off : (c : ℕ) (ds : List Domain) → find (λ d. d.id == c) (map off ds) ≡ option_map off (find (λ d. d.id == c) ds)
   found_off c [] = refl
   found_off c (x ∷ xs) =
-      ap (λ (n : ℕ). cond (n == c) (Some (off x)) (find (λ d. d.clock == c) (map off xs))) (off_clock x)
-      ∙ by (x.clock == c) (found_off c xs)
+      ap (λ (n : ℕ). cond (n == c) (Some (off x)) (find (λ d. d.id == c) (map off xs))) (off_clock x)
+      ∙ by (x.id == c) (found_off c xs)
     where
-      by : (b : Bool) → find (λ d. d.clock == c) (map off xs) ≡ option_map off (find (λ d. d.clock == c) xs)
-          → cond b (Some (off x)) (find (λ d. d.clock == c) (map off xs)) ≡ option_map off (cond b (Some x) (find (λ d. d.clock == c) xs))
+      by : (b : Bool) → find (λ d. d.id == c) (map off xs) ≡ option_map off (find (λ d. d.id == c) xs)
+          → cond b (Some (off x)) (find (λ d. d.id == c) (map off xs)) ≡ option_map off (cond b (Some x) (find (λ d. d.id == c) xs))
       by true rest = refl
       by false rest = rest
 
@@ -187,17 +187,17 @@ module _ (clock : ℕ) (ppm : ℤ) where
 
     domain_off : domain_on after k ≡ option_map off (domain_on r k)
     unfolding with_deviation after_deviation
-    domain_off = by (clock_on r k)
+    domain_off = by (domain_id_on r k)
       where
         by : (o : Option ℕ)
-            → option_and_then (λ c. find (λ d. d.clock == c) (map off r.device.domains)) o
-            ≡ option_map off (option_and_then (λ c. find (λ d. d.clock == c) r.device.domains) o)
+            → option_and_then (λ c. find (λ d. d.id == c) (map off r.device.domains)) o
+            ≡ option_map off (option_and_then (λ c. find (λ d. d.id == c) r.device.domains) o)
         by None = refl
         by (Some c) = found_off c r.device.domains
 
     abbrev with_domain : OutStream → Pace → Option Domain → Option Life
     with_domain out pace o =
-        option_and_then (λ d. option_map (λ place. record { out = out; pace = pace; steps = d.steps; reports = r.given.feedback place }) (place_of r.device.function k)) o
+        option_and_then (λ d. option_map (λ place. record { out = out; pace = pace; steps = d.steps; reports = r.history.feedback place }) (place_of r.device.function k)) o
 
     pub life_off : life_of after k ≡ life_of r k
     unfolding life_of with_deviation after_deviation
@@ -206,7 +206,7 @@ module _ (clock : ℕ) (ppm : ℤ) where
         off_nothing : (out : OutStream) (pace : Pace) (o : Option Domain) → with_domain out pace (option_map off o) ≡ with_domain out pace o
         off_nothing out pace None = refl
         off_nothing out pace (Some d) =
-            ap (λ (steps : List ℕ). option_map (λ place. record { out = out; pace = pace; steps = steps; reports = r.given.feedback place }) (place_of r.device.function k)) (off_steps d)
+            ap (λ (steps : List ℕ). option_map (λ place. record { out = out; pace = pace; steps = steps; reports = r.history.feedback place }) (place_of r.device.function k)) (off_steps d)
 
         by : (o : Option OutStream) (q : Option Pace)
             → option_and_then (λ out. option_and_then (λ pace. with_domain out pace (domain_on (with_deviation clock ppm r) k)) q) o

@@ -8,10 +8,10 @@ use Rattle.std.proofs.lemmas.List.FromFn.{length-range_with_len}
 use Rattle.std.proofs.lemmas.Option.{option_and_then_some}
 use Rattle.uac_clock.specs.Ticks.{ticks_in}
 use Rattle.uac_pcm.specs.Frames.{IsFormat}
-use Rattle.uac_pcm.specs.Packets.{packed, whole_frames}
+use Rattle.uac_pcm.specs.Packets.{bytes_of_frames, whole_frames}
 use Rattle.uac_pcm.specs.Tones.{tone_sample}
 use Rattle.uac_pcm.specs.declared.tones.Tone.{Tone}
-use Rattle.uac_pcm.proofs.PacketsLemmas.{frame_bytes-pos, length-unpacked, whole_frames-packed}
+use Rattle.uac_pcm.proofs.PacketsLemmas.{frame_bytes-pos, length-frames_of_bytes, whole_frames-bytes_of_frames}
 use Rattle.uac_topology.specs.Function.{FunctionFields}
 use Rattle.uac_alt.specs.AltStreams.{StreamFields}
 use Rattle.uac_rate.specs.Steadiness.{one_more}
@@ -149,26 +149,26 @@ next_even channels n t even =
 
 -- what is packed has as many frames
 packed_frames : (stream : StreamFields) (frames : List (List ℤ)) → 0 < stream.channels * stream.subslot → All (λ frame. length frame ≡ stream.channels) frames
-    → length (frames_of stream (packed stream.subslot stream.bits frames)) ≡ length frames
+    → length (frames_of stream (bytes_of_frames stream.subslot stream.bits frames)) ≡ length frames
 packed_frames stream frames wide even =
-    let bytes : List ℕ = packed stream.subslot stream.bits frames in
-    length-unpacked stream.channels stream.subslot stream.bits bytes
+    let bytes : List ℕ = bytes_of_frames stream.subslot stream.bits frames in
+    length-frames_of_bytes stream.channels stream.subslot stream.bits bytes
     ∙ ap (whole_frames stream.channels stream.subslot) (sym (append-nil bytes))
-    ∙ whole_frames-packed stream.channels stream.subslot stream.bits frames [] even wide
+    ∙ whole_frames-bytes_of_frames stream.channels stream.subslot stream.bits frames [] even wide
 
 pub packets_have_their_frames : PacketsHaveTheirFrames
 unfolding life_of packet_of
 packets_have_their_frames r interface l lives fed =
-    option_and_then_some _ (r.device.outs interface) l lives (λ out outs behind_out.
-    option_and_then_some _ (r.host.paces interface) l behind_out (λ pace paces behind_pace.
-    option_and_then_some _ (domain_on r interface) l behind_pace (λ d domain behind_domain.
-    (let placed = mapped _ (place_of r.device.function interface) l behind_domain in
+    option_and_then_some _ (r.device.outs interface) l lives (λ out outs after_out.
+    option_and_then_some _ (r.host.paces interface) l after_out (λ pace paces after_pace.
+    option_and_then_some _ (domain_on r interface) l after_pace (λ d domain after_domain.
+    (let placed = mapped _ (place_of r.device.function interface) l after_domain in
     let t : Track = r.host.tracks interface in
     let own : r.host.paces interface ≡ Some l.pace = paces ∙ ap (λ (m : Life). Some m.pace) placed.2 in
     let s : StreamFields = l.pace.stream in
     let linked : channels_at r.host.function interface ≡ s.channels = sym (channels_of r.host.function interface s fed.streams) in
     let waits : All (λ frame. length frame ≡ s.channels) t.waiting = subst (λ (n : ℕ). All (λ frame. length frame ≡ n) t.waiting) linked fed.whole in
-    ap (λ (o : Option Pace). length (frames_of l.out.stream (option_map_or (λ p. packed p.stream.subslot p.stream.bits (next_frames p.stream.channels (next_size p) t)) o []))) own
-    ∙ ap (λ (of : StreamFields). length (frames_of of (packed s.subslot s.bits (next_frames s.channels (next_size l.pace) t)))) (sym fed.same)
+    ap (λ (o : Option Pace). length (frames_of l.out.stream (option_map_or (λ p. bytes_of_frames p.stream.subslot p.stream.bits (next_frames p.stream.channels (next_size p) t)) o []))) own
+    ∙ ap (λ (of : StreamFields). length (frames_of of (bytes_of_frames s.subslot s.bits (next_frames s.channels (next_size l.pace) t)))) (sym fed.same)
     ∙ packed_frames s (next_frames s.channels (next_size l.pace) t) (frame_bytes-pos s.channels s.subslot s.bits fed.format) (next_even s.channels (next_size l.pace) t waits)
     ∙ length_next s.channels (next_size l.pace) t))))

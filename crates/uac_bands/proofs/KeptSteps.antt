@@ -10,7 +10,7 @@ use Rattle.uac_streaming.specs.Telling.{at_rest}
 use Rattle.uac_streaming.specs.StreamingWorld.{StreamingWorld, all_reported, all_settled, fetched_lines, found_counts, in_packet_turn, in_packets, is_in_due, is_out_due, loses_in, loses_out, loses_report, numbers, out_packets, out_turn, packet_fetched, packet_sent, report_lines, report_made, report_turn, sent_lines, settled_turn}
 use Rattle.uac_running.specs.declared.jacks.Jack.{Jack}
 use Rattle.uac_running.specs.RunningWorld.{RunningWorld, streaming_of, with_streaming}
-use Rattle.uac_running.specs.Events.{all_given, domain_microframe, domain_microframes, ends_and_reports, microframe, next_frame, packets_and_ticks, tick, tick_times}
+use Rattle.uac_running.specs.Events.{after_all_jacks, domain_microframe, domain_microframes, ends_and_reports, microframe, next_frame, packets_and_ticks, tick, tick_times}
 use Rattle.uac_bands.proofs.Once.{turns_keep}
 
 -- each step leaves it so
@@ -89,14 +89,14 @@ module _ (P : StreamingWorld → Type 0) (each : IsKeptByEach P) where
   jacks_keep (j ∷ js) w is =
       jacks_keep js (record w { device = set_jack j.terminal (next_frame j) w.device }) (each.jacks j.terminal (next_frame j) w is)
 
-  pub given_keeps : (c : ℕ) (r : RunningWorld) → Now r → P (record (streaming_of r) { device = all_given c r })
-  unfolding all_given
-  given_keeps c r is = jacks_keep (filter (λ (j : Jack). j.clock == c) r.jacks) (streaming_of r) is
+  pub given_keeps : (c : ℕ) (r : RunningWorld) → Now r → P (record (streaming_of r) { device = after_all_jacks c r })
+  unfolding after_all_jacks
+  given_keeps c r is = jacks_keep (filter (λ (j : Jack). j.domain == c) r.jacks) (streaming_of r) is
 
   pub tick_keeps : (c : ℕ) (r : RunningWorld) → Now r → Now (tick c r).world
   unfolding tick
   tick_keeps c r is =
-      each.ticks c (found_counts c (all_given c r) r.met) (record (streaming_of r) { device = all_given c r }) (given_keeps c r is)
+      each.ticks c (found_counts c (after_all_jacks c r) r.met) (record (streaming_of r) { device = after_all_jacks c r }) (given_keeps c r is)
 
   pub advanced_keeps : (c : ℕ) (r : RunningWorld) → Now r → Now (record r { device = after_advance c r.device })
   advanced_keeps c r is = each.goes_on c (streaming_of r) is

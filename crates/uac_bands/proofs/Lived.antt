@@ -15,7 +15,7 @@ use Rattle.uac_script.specs.Phrase.{SaidMark}
 use Rattle.uac_streaming.specs.StreamingWorld.{StreamingWorld, all_reported, all_settled, goes_out, in_packet_turn, in_packets, loses_out, loses_report, numbers, out_packets, out_turn, packet_to, place_of, goes_out, report_turn, settled_turn}
 use Rattle.uac_running.specs.RunningWorld.{RunningWorld, streaming_of, with_streaming}
 use Rattle.uac_running.specs.Events.{domain_microframes, ends_and_reports, microframe, packets_and_ticks}
-use Rattle.uac_bands.specs.Life.{Life, clock_on, domain_on, life_after, life_of, with_end, with_feedback, with_packet, with_step}
+use Rattle.uac_bands.specs.Life.{Life, domain_id_on, domain_on, life_after, life_of, with_end, with_feedback, with_packet, with_step}
 use Rattle.uac_bands.specs.Projection.{IsOrdered, MicroframesAreLived, Runs, TracksGoOn, next_domain, next_life, next_track}
 use Rattle.uac_bands.proofs.Once.{Among, clock_among, known_among, numbers_differ, turns_keep, turns_once}
 use Rattle.uac_bands.proofs.Shown.{IsPlace, Place, Shows, in_any, out_here, out_other, packet_at, packet_shown, report_here, report_other, settled_here, settled_other, track_after}
@@ -106,11 +106,11 @@ pub opened : {R : Type 0} (r : RunningWorld) (interface : ℕ) (l : Life) (d : D
     → R
 unfolding life_of
 opened r interface l d runs goes_on =
-    option_and_then_some _ (clock_on r interface) d runs.domain (λ clock on_clock found.
-    option_and_then_some _ (r.device.outs interface) l runs.life (λ out outs behind_out.
-    option_and_then_some _ (r.host.paces interface) l behind_out (λ pace paces behind_pace.
-    option_and_then_some _ (domain_on r interface) l behind_pace (λ d' domain behind_domain.
-    (let placed = mapped _ (place_of r.device.function interface) l behind_domain in
+    option_and_then_some _ (domain_id_on r interface) d runs.domain (λ clock on_clock found.
+    option_and_then_some _ (r.device.outs interface) l runs.life (λ out outs after_out.
+    option_and_then_some _ (r.host.paces interface) l after_out (λ pace paces after_pace.
+    option_and_then_some _ (domain_on r interface) l after_pace (λ d' domain after_domain.
+    (let placed = mapped _ (place_of r.device.function interface) l after_domain in
     let one : d' ≡ d = let both : Some d' ≡ Some d = sym domain ∙ runs.domain in cc in
     let steps : d.steps ≡ l.steps = sym (ap (λ (e : Domain). e.steps) one) ∙ ap (λ (m : Life). m.steps) placed.2 in
     goes_on clock placed.0 (sym steps) (record { out = runs.out; on_clock = on_clock; placed = placed.1 }) (record {
@@ -138,7 +138,7 @@ closed r p l t is s = record {
 }
   where
     life : OutStream → Pace → Domain → ℕ → Life
-    life out pace d place = record { out = out; pace = pace; steps = d.steps; reports = r.given.feedback place }
+    life out pace d place = record { out = out; pace = pace; steps = d.steps; reports = r.history.feedback place }
 
     in_turn : Option ℕ
     in_turn = place_of r.device.function p.interface
@@ -148,8 +148,8 @@ closed r p l t is s = record {
 
     domain : domain_on r p.interface ≡ Some (record p.domain { steps = l.steps })
     domain =
-        ap (λ (f : FunctionFields). option_and_then (λ clock. find (λ d. d.clock == clock) r.device.domains) (option_map (λ s. (entity f.entities s.terminal).clock) (interface_in f p.interface))) s.function
-        ∙ ap (λ (o : Option ℕ). option_and_then (λ clock. find (λ d. d.clock == clock) r.device.domains) o) is.on_clock
+        ap (λ (f : FunctionFields). option_and_then (λ clock. find (λ d. d.id == clock) r.device.domains) (option_map (λ s. (entity f.entities s.terminal).clock) (interface_in f p.interface))) s.function
+        ∙ ap (λ (o : Option ℕ). option_and_then (λ clock. find (λ d. d.id == clock) r.device.domains) o) is.on_clock
         ∙ s.domain
 
     placed : place_of r.device.function p.interface ≡ Some p.place

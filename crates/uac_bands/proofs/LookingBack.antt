@@ -3,7 +3,7 @@ use Rattle.std.proofs.Common.{◌≡◌, sym, refl, ℕ, zero, suc, ◌==◌, �
 use Rattle.std.specs.List.{list_all}
 use Rattle.std.proofs.lemmas.Bool.{and_from, and_parts, true≢false}
 use Rattle.std.proofs.lemmas.List.Elements.{All-append, All-nil}
-use Rattle.uac_rate.specs.Steadiness.{Given, eight_streams, has_four_lost, is_slight, is_steady, with_deviation_given, one_more, with_report_given, with_restart_given, run}
+use Rattle.uac_rate.specs.Steadiness.{SteadyHistory, eight_streams, has_four_lost, is_slight, is_steady, with_deviation_given, one_more, with_report_given, with_restart_given, run}
 use Rattle.uac_alt.specs.AltStreams.{StreamFields}
 use Rattle.uac_request.specs.declared.setup.Setup.{Setup}
 use Rattle.uac_device.specs.DeviceWorld.{DeviceWorld, after_control, stream_in_setting}
@@ -41,7 +41,7 @@ all_before P Q back (n ∷ ns) h =
     let parts = and_parts (Q n) (list_all Q ns) h in
     and_from (P n) (list_all P ns) (back n parts.0) (all_before P Q back ns parts.1)
 
-report_before : (place : ℕ) (lost : Bool) (given : Given) → is_steady (with_report_given place lost given) ≡ true → is_steady given ≡ true
+report_before : (place : ℕ) (lost : Bool) (given : SteadyHistory) → is_steady (with_report_given place lost given) ≡ true → is_steady given ≡ true
 report_before place lost given h =
     let parts = and_parts (list_all is_slight given.deviations) _ h in
     and_from (list_all is_slight given.deviations) (list_all (λ n. keeps (given.feedback n)) eight_streams) parts.0
@@ -54,11 +54,11 @@ report_before place lost given h =
 -- ---- a microframe
 
 -- what is steady came from this
-module _ (g : Given) where
+module _ (g : SteadyHistory) where
   abbrev Leads : StreamingWorld → Type 0
-  Leads w = is_steady w.given ≡ true → is_steady g ≡ true
+  Leads w = is_steady w.history ≡ true → is_steady g ≡ true
 
-  placed : (lost : Bool) (given : Given) → (is_steady given ≡ true → is_steady g ≡ true) → (o : Option ℕ)
+  placed : (lost : Bool) (given : SteadyHistory) → (is_steady given ≡ true → is_steady g ≡ true) → (o : Option ℕ)
       → is_steady (given_at o (λ place. with_report_given place lost) given) ≡ true → is_steady g ≡ true
   placed lost given leads None h = leads h
   placed lost given leads (Some place) h = leads (report_before place lost given h)
@@ -69,7 +69,7 @@ module _ (g : Given) where
     sends = λ lost n w leads. leads;
     fetches = λ lost n w leads. leads;
     ends = λ n w leads. leads;
-    reports = λ lost value n w leads. placed lost w.given leads (place_of w.device.function n);
+    reports = λ lost value n w leads. placed lost w.history leads (place_of w.device.function n);
     jacks = λ terminal frame w leads. leads;
     ticks = λ c met w leads. leads;
     goes_on = λ c w leads. leads;
@@ -85,7 +85,7 @@ module _ (g : Given) where
   microframes_lead marks (suc count) r leads = microframes_lead marks count (microframe marks r).world (microframe_leads marks r leads)
 
 pub looks_back : SteadinessLooksBack
-looks_back marks r steady = microframe_leads r.given marks r (λ h. h) steady
+looks_back marks r steady = microframe_leads r.history marks r (λ h. h) steady
 
 -- ---- so many microframes
 
@@ -94,7 +94,7 @@ unfolding microframes
 stay_steady marks zero r band steady = record { stays = band; no_under = All-nil IsNoUnder; near = All-nil IsNearLevel }
 stay_steady marks (suc count) r band steady =
     let next : RunningWorld = (microframe marks r).world in
-    let now : is_steady next.given ≡ true = microframes_lead next.given marks count next (λ h. h) steady in
+    let now : is_steady next.history ≡ true = microframes_lead next.history marks count next (λ h. h) steady in
     let rest = stay_steady marks count next (keep_bands marks r band now) steady in
     record {
       stays = rest.stays;
@@ -104,14 +104,14 @@ stay_steady marks (suc count) r band steady =
 
 -- ---- between microframes
 
-deviation_before : (ppm : ℤ) (given : Given) → is_steady (with_deviation_given ppm given) ≡ true
+deviation_before : (ppm : ℤ) (given : SteadyHistory) → is_steady (with_deviation_given ppm given) ≡ true
     → (is_slight ppm ≡ true) × (is_steady given ≡ true)
 deviation_before ppm given h =
     let parts = and_parts (list_all is_slight (ppm ∷ given.deviations)) _ h in
     let slight = and_parts (is_slight ppm) (list_all is_slight given.deviations) parts.0 in
     (slight.0, and_from (list_all is_slight given.deviations) (list_all (λ n. keeps (given.feedback n)) eight_streams) slight.1 parts.1)
 
-start_before : (place : ℕ) (given : Given) → is_steady (with_restart_given place given) ≡ true → is_steady given ≡ true
+start_before : (place : ℕ) (given : SteadyHistory) → is_steady (with_restart_given place given) ≡ true → is_steady given ≡ true
 start_before place given h =
     let parts = and_parts (list_all is_slight given.deviations) _ h in
     and_from (list_all is_slight given.deviations) (list_all (λ n. keeps (given.feedback n)) eight_streams) parts.0
@@ -121,12 +121,12 @@ start_before place given h =
     by n true kept = kept
     by n false kept = kept
 
-deviation_looks_back : (r : RunningWorld) (clock : ℕ) (ppm : ℤ) → is_steady (with_deviation clock ppm r).given ≡ true
-    → (is_slight ppm ≡ true) × (is_steady r.given ≡ true)
+deviation_looks_back : (r : RunningWorld) (clock : ℕ) (ppm : ℤ) → is_steady (with_deviation clock ppm r).history ≡ true
+    → (is_slight ppm ≡ true) × (is_steady r.history ≡ true)
 unfolding with_deviation
-deviation_looks_back r clock ppm h = deviation_before ppm r.given h
+deviation_looks_back r clock ppm h = deviation_before ppm r.history h
 
-transfer_looks_back : (r : RunningWorld) (p : Setup) (bytes : List ℕ) → is_steady (after_transfer p bytes r).given ≡ true → is_steady r.given ≡ true
+transfer_looks_back : (r : RunningWorld) (p : Setup) (bytes : List ℕ) → is_steady (after_transfer p bytes r).history ≡ true → is_steady r.history ≡ true
 unfolding after_transfer after_following
 transfer_looks_back r p bytes h = by (holds_setting p bytes r) h
   where
@@ -136,18 +136,18 @@ transfer_looks_back r p bytes h = by (holds_setting p bytes r) h
     begun : Option StreamFields
     begun = stream_in_setting r.device.function r.device.controls p.index p.value
 
-    at : (o : Option ℕ) → is_steady (given_at o with_restart_given r.given) ≡ true → is_steady r.given ≡ true
+    at : (o : Option ℕ) → is_steady (given_at o with_restart_given r.history) ≡ true → is_steady r.history ≡ true
     at None steady = steady
-    at (Some place) steady = start_before place r.given steady
+    at (Some place) steady = start_before place r.history steady
 
-    begins : (b : Bool) → is_steady (if b then given_at (place_of device.function p.index) with_restart_given r.given else r.given) ≡ true
-        → is_steady r.given ≡ true
+    begins : (b : Bool) → is_steady (if b then given_at (place_of device.function p.index) with_restart_given r.history else r.history) ≡ true
+        → is_steady r.history ≡ true
     begins true steady = at (place_of device.function p.index) steady
     begins false steady = steady
 
     by : (b : Bool)
-        → is_steady (let s = record (streaming_of r) { device = device } in if b then after_following p.index begun s else s).given ≡ true
-        → is_steady r.given ≡ true
+        → is_steady (let s = record (streaming_of r) { device = device } in if b then after_following p.index begun s else s).history ≡ true
+        → is_steady r.history ≡ true
     by true steady = begins (is_some begun) steady
     by false steady = steady
 

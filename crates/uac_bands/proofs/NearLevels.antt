@@ -17,7 +17,7 @@ use Rattle.uac_script.specs.Phrase.{SaidMark}
 use Rattle.uac_transcript.specs.Transcript.{Said, says_level, says_over, says_under}
 use Rattle.uac_streaming.specs.StreamingWorld.{StreamingWorld, all_settled, finds_empty, finds_full, goes_out, loses_out, loses_report, numbers, out_packets, settled_turn}
 use Rattle.uac_running.specs.RunningWorld.{RunningWorld, streaming_of}
-use Rattle.uac_running.specs.Events.{all_given, domain_microframe, domain_microframes, microframe, tick}
+use Rattle.uac_running.specs.Events.{after_all_jacks, domain_microframe, domain_microframes, microframe, tick}
 use Rattle.uac_bands.specs.Life.{Life, life_after, with_end, with_feedback, with_packet, with_step}
 use Rattle.uac_bands.specs.Bands.{microframes_since_due}
 use Rattle.uac_bands.specs.Projection.{next_life}
@@ -30,7 +30,7 @@ use Rattle.uac_bands.proofs.Fed.{ended_streams}
 use Rattle.uac_bands.proofs.Steady.{is_zero}
 use Rattle.uac_bands.proofs.Banded.{ends_near}
 use Rattle.uac_bands.proofs.Unstarted.{RestsNow, RunsNone, before_the_end_none, settled_none}
-use Rattle.uac_bands.proofs.SteadyRun.{few_behind, next_in_band}
+use Rattle.uac_bands.proofs.SteadyRun.{few_following, next_in_band}
 use Rattle.uac_bands.proofs.Quiet.{IsQuiet, domains_say, each_says, fetched, maybe_one, microframe_says, numbered, outs_say, tick_says, ticked_on, ticks_say, turns_once_say}
 
 module _ (Q : ℕ → ℕ → Type 0) (k : ℕ) where
@@ -56,8 +56,8 @@ module _ (Q : ℕ → ℕ → Type 0) (k : ℕ) where
   tick_near : (c : ℕ) (r : RunningWorld) → All IsNear (tick c r).lines
   tick_near c r =
       tick_says IsNear quiet c r
-      (each_says IsNear says_under (finds_empty c (all_given c r)) (λ n passes level target same. absurd (cc)))
-      (each_says IsNear says_over (finds_full c (all_given c r)) (λ n passes level target same. absurd (cc)))
+      (each_says IsNear says_under (finds_empty c (after_all_jacks c r)) (λ n passes level target same. absurd (cc)))
+      (each_says IsNear says_over (finds_full c (after_all_jacks c r)) (λ n passes level target same. absurd (cc)))
 
   domain_near : (c : ℕ) (r : RunningWorld) → ⊤ → All IsNear (domain_microframe c r).lines
   unfolding domain_microframe
@@ -207,5 +207,5 @@ tell_near marks r band steady j said below k level target = by (r.device.outs k)
         let stream = band.streams k o there in
         let l : Life = stream.0 in
         let d : Domain = stream.1 in
-        let next = next_in_band marks r k l d stream.3 (few_behind marks r band steady k l d stream.3.runs) in
+        let next = next_in_band marks r k l d stream.3 (few_following marks r band steady k l d stream.3.runs) in
         some_near (Within 130) marks r k l d band stream.3 (λ target ends is. ends_near (next_life marks r k l d) target next is ends)

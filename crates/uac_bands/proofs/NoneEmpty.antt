@@ -17,7 +17,7 @@ use Rattle.uac_transcript.specs.Transcript.{Said, says_over, says_under}
 use Rattle.uac_streaming.specs.StreamingWorld.{StreamingWorld, all_settled, finds_empty, finds_full, loses_out, out_packets}
 use Rattle.uac_running.specs.declared.jacks.Jack.{Jack}
 use Rattle.uac_running.specs.RunningWorld.{RunningWorld, streaming_of}
-use Rattle.uac_running.specs.Events.{all_given, domain_microframe, domain_microframes, microframe, tick, tick_times}
+use Rattle.uac_running.specs.Events.{after_all_jacks, domain_microframe, domain_microframes, microframe, tick, tick_times}
 use Rattle.uac_bands.specs.Life.{Life, ticks_taken, with_packet, with_step}
 use Rattle.uac_bands.specs.Bands.{IsSteadyMicroframe}
 use Rattle.uac_bands.specs.BandRun.{MicroframesFindNoneEmpty, RunInBand, StreamInBand}
@@ -52,18 +52,18 @@ module _ (k : ℕ) where
   ends_not = ends_say NotUnder quiet (λ interface level target same. cc)
 
   -- where it isn't its ring
-  tick_not : (c : ℕ) (r : RunningWorld) → finds_empty c (all_given c r) k ≡ false → All NotUnder (tick c r).lines
+  tick_not : (c : ℕ) (r : RunningWorld) → finds_empty c (after_all_jacks c r) k ≡ false → All NotUnder (tick c r).lines
   tick_not c r fails =
       tick_says NotUnder quiet c r
-      (each_says NotUnder says_under (finds_empty c (all_given c r)) (λ n passes same.
-      (let number : n ≡ k = cc in true≢false (sym passes ∙ ap (finds_empty c (all_given c r)) number ∙ fails))))
-      (each_says NotUnder says_over (finds_full c (all_given c r)) (λ n passes same. cc))
+      (each_says NotUnder says_under (finds_empty c (after_all_jacks c r)) (λ n passes same.
+      (let number : n ≡ k = cc in true≢false (sym passes ∙ ap (finds_empty c (after_all_jacks c r)) number ∙ fails))))
+      (each_says NotUnder says_over (finds_full c (after_all_jacks c r)) (λ n passes same. cc))
 
   -- ---- where it runs no stream
 
   none_tick : (c : ℕ) (r : RunningWorld) → RestsNow k r → All NotUnder (tick c r).lines
   none_tick c r none =
-      let w : DeviceWorld = all_given c r in
+      let w : DeviceWorld = after_all_jacks c r in
       tick_not c r
       (ap (λ (o : Option OutStream). is_on w c k && option_map_or is_dry o false) (given_none k c r none) ∙ and-false (is_on w c k))
 
@@ -87,14 +87,14 @@ module _ (p : Place) (is : IsPlace p) where
   Not = NotUnder p.interface
 
   given_shows : (c : ℕ) (r : RunningWorld) (l : Life) (t : Track) → Shows p (streaming_of r) l t
-      → Shows p (record (streaming_of r) { device = all_given c r }) l t
-  unfolding all_given
-  given_shows c r l t s = jacks_show p (filter (λ (j : Jack). j.clock == c) r.jacks) r.device r l t s
+      → Shows p (record (streaming_of r) { device = after_all_jacks c r }) l t
+  unfolding after_all_jacks
+  given_shows c r l t s = jacks_show p (filter (λ (j : Jack). j.domain == c) r.jacks) r.device r l t s
 
   other_tick : (c : ℕ) (r : RunningWorld) (l : Life) (t : Track) → (p.clock == c) ≡ false → Shows p (streaming_of r) l t
       → All Not (tick c r).lines
   other_tick c r l t other s =
-      let w : DeviceWorld = all_given c r in
+      let w : DeviceWorld = after_all_jacks c r in
       let there = given_shows c r l t s in
       tick_not p.interface c r
       (ap (λ (b : Bool). b && option_map_or is_dry (w.outs p.interface) false) (on_clock_only p is w c there.function ∙ other))
@@ -102,7 +102,7 @@ module _ (p : Place) (is : IsPlace p) where
   own_tick : (r : RunningWorld) (l : Life) (t : Track) → Shows p (streaming_of r) l t → is_dry l.out ≡ false
       → All Not (tick p.clock r).lines
   own_tick r l t s holds =
-      let w : DeviceWorld = all_given p.clock r in
+      let w : DeviceWorld = after_all_jacks p.clock r in
       let there = given_shows p.clock r l t s in
       tick_not p.interface p.clock r
       (ap (λ (o : Option OutStream). is_on w p.clock p.interface && option_map_or is_dry o false) there.out

@@ -176,15 +176,15 @@ known_among function k s numbered known =
 -- ---- domains
 
 -- the clock of a domain that is there is one of theirs
-pub clock_among : (clock : ℕ) (ds : List Domain) (d : Domain) → find (λ d. d.clock == clock) ds ≡ Some d → Among clock (map (λ d. d.clock) ds)
+pub clock_among : (clock : ℕ) (ds : List Domain) (d : Domain) → find (λ d. d.id == clock) ds ≡ Some d → Among clock (map (λ d. d.id) ds)
 unfolding Among
 clock_among clock [] d e = absurd (cc)
-clock_among clock (x ∷ xs) d e = by (x.clock == clock) refl e (clock_among clock xs d)
+clock_among clock (x ∷ xs) d e = by (x.id == clock) refl e (clock_among clock xs d)
   where
-    by : (b : Bool) → (x.clock == clock) ≡ b → cond b (Some x) (find (λ d. d.clock == clock) xs) ≡ Some d
-        → (find (λ d. d.clock == clock) xs ≡ Some d → Among clock (map (λ d. d.clock) xs))
-        → (x.clock ≡ clock) ⊎ Among clock (map (λ d. d.clock) xs)
-    by true same _ _ = inl (eqb-true x.clock clock same)
+    by : (b : Bool) → (x.id == clock) ≡ b → cond b (Some x) (find (λ d. d.id == clock) xs) ≡ Some d
+        → (find (λ d. d.id == clock) xs ≡ Some d → Among clock (map (λ d. d.id) xs))
+        → (x.id ≡ clock) ⊎ Among clock (map (λ d. d.id) xs)
+    by true same _ _ = inl (eqb-true x.id clock same)
     by false _ later rest = inr (rest later)
 
 pub not_this : (i j k : ℕ) → (i == j) ≡ true → (k == j) ≡ false → (i == k) ≡ false
@@ -192,39 +192,39 @@ not_this i j k same different = grind arith
 
 module _ (more : Domain → List ℕ) where
   abbrev pub stepped : ℕ → Domain → Domain
-  stepped c d = if d.clock == c then record d { steps = more d } else d
+  stepped c d = if d.id == c then record d { steps = more d } else d
 
   -- of the domain whose clock goes on
-  pub domain_same : (c : ℕ) (ds : List Domain) (d : Domain) → find (λ d. d.clock == c) ds ≡ Some d
-      → find (λ d. d.clock == c) (map (stepped c) ds) ≡ Some (record d { steps = more d })
+  pub domain_same : (c : ℕ) (ds : List Domain) (d : Domain) → find (λ d. d.id == c) ds ≡ Some d
+      → find (λ d. d.id == c) (map (stepped c) ds) ≡ Some (record d { steps = more d })
   domain_same c [] d e = absurd (cc)
-  domain_same c (x ∷ xs) d e = by (x.clock == c) refl e (domain_same c xs d)
+  domain_same c (x ∷ xs) d e = by (x.id == c) refl e (domain_same c xs d)
     where
-      by : (b : Bool) → (x.clock == c) ≡ b → cond b (Some x) (find (λ d. d.clock == c) xs) ≡ Some d
-          → (find (λ d. d.clock == c) xs ≡ Some d → find (λ d. d.clock == c) (map (stepped c) xs) ≡ Some (record d { steps = more d }))
+      by : (b : Bool) → (x.id == c) ≡ b → cond b (Some x) (find (λ d. d.id == c) xs) ≡ Some d
+          → (find (λ d. d.id == c) xs ≡ Some d → find (λ d. d.id == c) (map (stepped c) xs) ≡ Some (record d { steps = more d }))
           → (let x' : Domain = if b then record x { steps = more x } else x in
-          cond (x'.clock == c) (Some x') (find (λ d. d.clock == c) (map (stepped c) xs)) ≡ Some (record d { steps = more d }))
+          cond (x'.id == c) (Some x') (find (λ d. d.id == c) (map (stepped c) xs)) ≡ Some (record d { steps = more d }))
       by true it found rest =
           let x' : Domain = record x { steps = more x } in
           let change : Domain → Domain = λ d. record d { steps = more d } in
           let same : Some x ≡ Some d = found in
-          ap (λ (b : Bool). cond b (Some x') (find (λ d. d.clock == c) (map (stepped c) xs))) it
+          ap (λ (b : Bool). cond b (Some x') (find (λ d. d.id == c) (map (stepped c) xs))) it
           ∙ ap (λ (o : Option Domain). option_map change o) same
-      by false not_it found rest = ap (λ (b : Bool). cond b (Some x) (find (λ d. d.clock == c) (map (stepped c) xs))) not_it ∙ rest found
+      by false not_it found rest = ap (λ (b : Bool). cond b (Some x) (find (λ d. d.id == c) (map (stepped c) xs))) not_it ∙ rest found
 
   -- of another
   pub domain_other : (c clock : ℕ) (ds : List Domain) → (clock == c) ≡ false
-      → find (λ d. d.clock == clock) (map (stepped c) ds) ≡ find (λ d. d.clock == clock) ds
+      → find (λ d. d.id == clock) (map (stepped c) ds) ≡ find (λ d. d.id == clock) ds
   domain_other c clock [] other = refl
-  domain_other c clock (x ∷ xs) other = by (x.clock == c) refl (domain_other c clock xs other)
+  domain_other c clock (x ∷ xs) other = by (x.id == c) refl (domain_other c clock xs other)
     where
-      by : (b : Bool) → (x.clock == c) ≡ b
-          → find (λ d. d.clock == clock) (map (stepped c) xs) ≡ find (λ d. d.clock == clock) xs
+      by : (b : Bool) → (x.id == c) ≡ b
+          → find (λ d. d.id == clock) (map (stepped c) xs) ≡ find (λ d. d.id == clock) xs
           → (let x' : Domain = if b then record x { steps = more x } else x in
-          cond (x'.clock == clock) (Some x') (find (λ d. d.clock == clock) (map (stepped c) xs)) ≡ cond (x.clock == clock) (Some x) (find (λ d. d.clock == clock) xs))
+          cond (x'.id == clock) (Some x') (find (λ d. d.id == clock) (map (stepped c) xs)) ≡ cond (x.id == clock) (Some x) (find (λ d. d.id == clock) xs))
       by true it rest =
           let x' : Domain = record x { steps = more x } in
-          let not_it : (x.clock == clock) ≡ false = not_this x.clock c clock it other in
-          ap (λ (b : Bool). cond b (Some x') (find (λ d. d.clock == clock) (map (stepped c) xs))) not_it ∙ rest
-          ∙ sym (ap (λ (b : Bool). cond b (Some x) (find (λ d. d.clock == clock) xs)) not_it)
-      by false _ rest = ap (λ (o : Option Domain). cond (x.clock == clock) (Some x) o) rest
+          let not_it : (x.id == clock) ≡ false = not_this x.id c clock it other in
+          ap (λ (b : Bool). cond b (Some x') (find (λ d. d.id == clock) (map (stepped c) xs))) not_it ∙ rest
+          ∙ sym (ap (λ (b : Bool). cond b (Some x) (find (λ d. d.id == clock) xs)) not_it)
+      by false _ rest = ap (λ (o : Option Domain). cond (x.id == clock) (Some x) o) rest

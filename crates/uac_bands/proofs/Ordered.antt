@@ -1,7 +1,7 @@
 -- Devices are ordered at the start, and stay so.
 use Rattle.std.proofs.Common.{◌≡◌, ◌∙◌, refl, ap, ℕ, ◌==◌, ◌&&◌, Bool, true, false, if◌then◌else◌, ℤ, List, [], ◌∷◌, map, Option, Some, None}
 use Rattle.uac_alt.specs.AltStreams.{StreamFields}
-use Rattle.uac_request.specs.Requests.{after_request, held_by, reply_of}
+use Rattle.uac_request.specs.Requests.{after_request, request_state, reply_of}
 use Rattle.uac_device.specs.DeviceWorld.{DeviceWorld, Domain, at_rest, after_control, after_deviation, fresh, after_restart, sets_interface, stream_in_setting, tells_done}
 use Rattle.uac_mixer.specs.declared.link.When.{When}
 use Rattle.uac_mixer.specs.declared.link.When.TheVariants as when
@@ -11,7 +11,7 @@ use Rattle.uac_running.specs.RunningWorld.{streaming_of}
 use Rattle.uac_running.specs.RunningTransfers.{acts, holds_setting, after_transfer}
 use Rattle.uac_bands.specs.Projection.{DeviationsKeepOrder, IsOrdered, RequestsKeepOrder, StartsAreOrdered, TransfersKeepOrder}
 
-pub resting_clocks : (clocks : List ℕ) → map (λ d. d.clock) (map at_rest clocks) ≡ clocks
+pub resting_clocks : (clocks : List ℕ) → map (λ d. d.id) (map at_rest clocks) ≡ clocks
 resting_clocks [] = refl
 resting_clocks (c ∷ cs) = ap (λ (ns : List ℕ). c ∷ ns) (resting_clocks cs)
 
@@ -24,20 +24,20 @@ starts_are_ordered function sound numbers = record {
 }
 
 abbrev pub clocks_of : List Domain → List ℕ
-clocks_of ds = map (λ d. d.clock) ds
+clocks_of ds = map (λ d. d.id) ds
 
 off_clocks : (clock : ℕ) (ppm : ℤ) (ds : List Domain)
-    → clocks_of (map {A = Domain} (λ d. if d.clock == clock then record d { deviation = ppm } else d) ds) ≡ map (λ d. d.clock) ds
+    → clocks_of (map {A = Domain} (λ d. if d.id == clock then record d { deviation = ppm } else d) ds) ≡ map (λ d. d.id) ds
 off_clocks clock ppm [] = refl
-off_clocks clock ppm (d ∷ ds) = by (d.clock == clock) (off_clocks clock ppm ds)
+off_clocks clock ppm (d ∷ ds) = by (d.id == clock) (off_clocks clock ppm ds)
   where
     rest : List ℕ
-    rest = clocks_of (map {A = Domain} (λ d. if d.clock == clock then record d { deviation = ppm } else d) ds)
+    rest = clocks_of (map {A = Domain} (λ d. if d.id == clock then record d { deviation = ppm } else d) ds)
 
-    by : (b : Bool) → rest ≡ map (λ d. d.clock) ds
-        → (let d' : Domain = if b then record d { deviation = ppm } else d in d'.clock ∷ rest) ≡ d.clock ∷ map (λ d. d.clock) ds
-    by true same = ap (λ (ns : List ℕ). d.clock ∷ ns) same
-    by false same = ap (λ (ns : List ℕ). d.clock ∷ ns) same
+    by : (b : Bool) → rest ≡ map (λ d. d.id) ds
+        → (let d' : Domain = if b then record d { deviation = ppm } else d in d'.id ∷ rest) ≡ d.id ∷ map (λ d. d.id) ds
+    by true same = ap (λ (ns : List ℕ). d.id ∷ ns) same
+    by false same = ap (λ (ns : List ℕ). d.id ∷ ns) same
 
 pub deviations_keep_order : DeviationsKeepOrder
 unfolding after_deviation
@@ -49,13 +49,13 @@ deviations_keep_order clock ppm w ordered = record {
 
 pub requests_keep_order : RequestsKeepOrder
 unfolding after_control after_restart
-requests_keep_order p bytes w ordered = by (sets_interface p && tells_done (reply_of w.function (held_by w.controls w.settings) p bytes))
+requests_keep_order p bytes w ordered = by (sets_interface p && tells_done (reply_of w.function (request_state w.controls w.settings) p bytes))
   where
     begun : Option StreamFields
     begun = stream_in_setting w.function w.controls p.index p.value
 
     by : (b : Bool)
-        → (let after = after_request w.function (held_by w.controls w.settings) p bytes in
+        → (let after = after_request w.function (request_state w.controls w.settings) p bytes in
         let asked : DeviceWorld = record w { controls = after.controls; settings = after.settings } in
         IsOrdered (if b then after_restart p.index begun asked else asked))
     by true = record { apart = ordered.apart; clocks = ordered.clocks; numbers = ordered.numbers }

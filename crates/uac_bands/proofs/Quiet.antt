@@ -12,19 +12,19 @@ use Rattle.uac_flow.specs.declared.arrival.Arrival.TheVariants as arrivals
 use Rattle.uac_device.specs.DeviceWorld.{DeviceWorld, arrival_in, feedback_in, frames_in, is_due_in, level_of, packet_in, after_settling, target_of, after_tick}
 use Rattle.uac_host.specs.Calls.{heard_in, size_of}
 use Rattle.uac_script.specs.Phrase.{SaidMark}
-use Rattle.uac_transcript.specs.declared.packets.Arrival as printed
+use Rattle.uac_transcript.specs.declared.packets.PrintedArrival as printed
 use Rattle.uac_transcript.specs.Transcript.{Said, says_feedback, says_frame, says_in, says_level, says_out, says_over, says_played, says_time, says_under}
 use Rattle.uac_streaming.specs.Telling.{Telling, at_rest, in_turn}
 use Rattle.uac_streaming.specs.StreamingWorld.{StreamingWorld, all_reported, all_settled, arrived_as, fetched_lines, finds_empty, finds_full, found_lines, goes_out, in_lines, in_packet_turn, in_packets, is_in_due, is_out_due, loses_in, loses_out, loses_report, numbers, out_lines, out_packets, out_turn, over_lines, packet_fetched, packet_sent, packet_to, report_lines, report_made, report_turn, sent_lines, settled_turn}
 use Rattle.uac_units.specs.Hearing.{at_most_u64}
 use Rattle.uac_running.specs.RunningWorld.{RunningWorld, streaming_of, with_streaming}
-use Rattle.uac_running.specs.Events.{all_domains, all_given, domain_microframe, domain_microframes, ends_and_reports, followed_by, microframe, number_said, of_streams, packets_and_ticks, tick, tick_times}
+use Rattle.uac_running.specs.Events.{all_domains, after_all_jacks, domain_microframe, domain_microframes, ends_and_reports, followed_by, microframe, number_said, of_streams, packets_and_ticks, tick, tick_times}
 use Rattle.uac_running.specs.RunningLines.{output_jacks, played_line, played_lines}
 
 -- it holds of every line that a microframe says but those of rings found empty or full, and of levels
 pub record IsQuiet (N : Said → Type 0) : Type 0 where
   pub time : (number : ℕ) → N (says_time number)
-  pub out : (interface frames : ℕ) (arrival : printed.Arrival) → N (says_out interface frames arrival)
+  pub out : (interface frames : ℕ) (arrival : printed.PrintedArrival) → N (says_out interface frames arrival)
   pub in_ : (interface frames : ℕ) (lost : Bool) → N (says_in interface frames lost)
   pub frame : (interface : ℕ) (samples : List ℤ) → N (says_frame interface samples)
   pub played : (terminal : ℕ) (samples : List ℤ) → N (says_played terminal samples)
@@ -213,12 +213,12 @@ module _ (N : Said → Type 0) (quiet : IsQuiet N) where
   jacks_quiet w (e ∷ es) = All-cons N (played_line w e) (map (played_line w) es) (quiet.played e.id (w.played e.id)) (jacks_quiet w es)
 
   pub tick_says : (c : ℕ) (r : RunningWorld)
-      → ((ss : List StreamInterface) → All N (map (λ s. says_under s.number) (filter (λ s. finds_empty c (all_given c r) s.number) ss)))
-      → ((ss : List StreamInterface) → All N (map (λ s. says_over s.number) (filter (λ s. finds_full c (all_given c r) s.number) ss)))
+      → ((ss : List StreamInterface) → All N (map (λ s. says_under s.number) (filter (λ s. finds_empty c (after_all_jacks c r) s.number) ss)))
+      → ((ss : List StreamInterface) → All N (map (λ s. says_over s.number) (filter (λ s. finds_full c (after_all_jacks c r) s.number) ss)))
       → All N (tick c r).lines
   unfolding tick found_lines played_lines
   tick_says c r unders overs =
-      let w : DeviceWorld = all_given c r in
+      let w : DeviceWorld = after_all_jacks c r in
       let device : DeviceWorld = after_tick c w in
       All-append N (found_lines c w) (if nat_le 1 r.detail then played_lines c device else [])
       (All-append N (map (λ s. says_under s.number) (filter (λ s. finds_empty c w s.number) w.function.streams))

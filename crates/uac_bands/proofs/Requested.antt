@@ -1,9 +1,9 @@
 -- What a control transfer makes of a run: its request acts alone, or a stream starts anew or stops, or it breaks before the device acts.
 use Rattle.std.proofs.Common.{◌≡◌, refl, ℕ, ◌&&◌, not, Bool, true, false, if◌then◌else◌, List, Option, Some, None, is_some}
-use Rattle.uac_rate.specs.Steadiness.{Given}
+use Rattle.uac_rate.specs.Steadiness.{SteadyHistory}
 use Rattle.uac_rate.specs.Steadiness as steadiness
 use Rattle.uac_alt.specs.AltStreams.{StreamFields}
-use Rattle.uac_request.specs.Requests.{Held, after_request, held_by, reply_of}
+use Rattle.uac_request.specs.Requests.{RequestState, after_request, request_state, reply_of}
 use Rattle.uac_request.specs.declared.setup.Setup.{Setup}
 use Rattle.uac_host.specs.Calls.{with_stream}
 use Rattle.uac_device.specs.DeviceWorld.{DeviceWorld, after_control, after_restart, sets_interface, stream_in_setting, tells_done}
@@ -16,17 +16,17 @@ use Rattle.uac_running.specs.RunningWorld.{RunningWorld, streaming_of, with_stre
 use Rattle.uac_running.specs.RunningTransfers.{acts, breaks_before, comes_back, after_transfer}
 
 module _ (p : Setup) (bytes : List ℕ) (r : RunningWorld) where
-  abbrev pub held : Held
-  held = held_by r.device.controls r.device.settings
+  abbrev pub held : RequestState
+  held = request_state r.device.controls r.device.settings
 
   -- what is held after the request
-  abbrev pub after : Held
+  abbrev pub after : RequestState
   after = after_request r.device.function held p bytes
 
   abbrev pub done : Bool
   done = tells_done (reply_of r.device.function held p bytes)
 
-  -- the device behind a request that acts alone
+  -- the device after a request that acts alone
   abbrev pub asked_device : DeviceWorld
   asked_device = record r.device { controls = after.controls; settings = after.settings }
 
@@ -34,8 +34,8 @@ module _ (p : Setup) (bytes : List ℕ) (r : RunningWorld) where
   abbrev pub begun : Option StreamFields
   begun = stream_in_setting r.device.function r.device.controls p.index p.value
 
-  abbrev pub given_then : Given
-  given_then = if is_some begun then given_at (place_of r.device.function p.index) steadiness.with_restart_given r.given else r.given
+  abbrev pub given_then : SteadyHistory
+  given_then = if is_some begun then given_at (place_of r.device.function p.index) steadiness.with_restart_given r.history else r.history
 
   abbrev pub view_then : ViewWorld
   view_then = view_after r.device.function.control_interface p bytes (comes_back p bytes r) r.view
@@ -47,7 +47,7 @@ module _ (p : Setup) (bytes : List ℕ) (r : RunningWorld) where
   -- what holds in each case holds after the transfer
   pub transferred_so : (P : RunningWorld → Type 0)
       → ((sets_interface p && done) ≡ true
-      → P (record seen { device = after_restart p.index begun asked_device; host = with_stream p.index begun r.host; given = given_then }))
+      → P (record seen { device = after_restart p.index begun asked_device; host = with_stream p.index begun r.host; history = given_then }))
       → ((sets_interface p && done) ≡ false → P (record seen { device = asked_device })) → P seen → P (after_transfer p bytes r)
   unfolding after_transfer after_following after_control after_restart
   transferred_so P restarts alone rests = by r.breaks

@@ -4,11 +4,11 @@ use Rattle.std.specs.List.{find, position}
 use Rattle.std.specs.Option.{option_and_then, option_map, option_map_or}
 use Rattle.std.proofs.lemmas.Bool.{cases_Bool, eqb-false, eqb-true, true≢false}
 use Rattle.std.proofs.lemmas.List.Quantifiers.{position-Some}
-use Rattle.uac_pcm.specs.Packets.{packed}
+use Rattle.uac_pcm.specs.Packets.{bytes_of_frames}
 use Rattle.uac_entities.specs.declared.stream.StreamInterface.{StreamInterface}
 use Rattle.uac_topology.specs.Function.{FunctionFields, interface_in}
 use Rattle.uac_store.specs.declared.keys.Key.{Key}
-use Rattle.uac_rate.specs.Steadiness.{Given}
+use Rattle.uac_rate.specs.Steadiness.{SteadyHistory}
 use Rattle.uac_rate.specs.Steadiness as steadiness
 use Rattle.uac_graph.specs.Meaning.{entity}
 use Rattle.uac_flow.specs.FlowStreams.{OutStream, after_packet, feedback_of, is_due, settled_out}
@@ -48,8 +48,8 @@ pub record Shows (p : Place) (w : StreamingWorld) (l : Life) (t : Track) : Type 
   pub out : w.device.outs p.interface ≡ Some l.out
   pub pace : w.host.paces p.interface ≡ Some l.pace
   pub track : w.host.tracks p.interface ≡ t
-  pub domain : find (λ d. d.clock == p.clock) w.device.domains ≡ Some (record p.domain { steps = l.steps })
-  pub reports : w.given.feedback p.place ≡ l.reports
+  pub domain : find (λ d. d.id == p.clock) w.device.domains ≡ Some (record p.domain { steps = l.steps })
+  pub reports : w.history.feedback p.place ≡ l.reports
 
 pub if_true : {A : Type 0} (b : Bool) (x y : A) → b ≡ true → (if b then x else y) ≡ x
 if_true true x y e = refl
@@ -63,7 +63,7 @@ if_false false x y e = refl
 
 -- the bytes of the packet that a pace and a track give
 abbrev pub packet_at : Pace → Track → List ℕ
-packet_at q t = packed q.stream.subslot q.stream.bits (next_frames q.stream.channels (next_size q) t)
+packet_at q t = bytes_of_frames q.stream.subslot q.stream.bits (next_frames q.stream.channels (next_size q) t)
 
 -- the track after a packet where that is due
 abbrev pub track_after : Life → Track → Track
@@ -196,7 +196,7 @@ place_other k n i j ss other first second = elim (cases_Bool (i == j)) [
 ]
 
 module _ (p : Place) (is : IsPlace p) (detail : ℕ) (marks : List SaidMark) where
-  given_other : (lost : Bool) (n : ℕ) (given : Given) → (p.interface == n) ≡ false
+  given_other : (lost : Bool) (n : ℕ) (given : SteadyHistory) → (p.interface == n) ≡ false
       → (given_at (place_of p.function n) (λ place. steadiness.with_report_given place lost) given).feedback p.place ≡ given.feedback p.place
   given_other lost n given other = by (place_of p.function n) refl
     where
@@ -229,8 +229,8 @@ module _ (p : Place) (is : IsPlace p) (detail : ℕ) (marks : List SaidMark) whe
         track = tracked (loses_report marks n) value;
         domain = s.domain;
         reports =
-            ap (λ (f : FunctionFields). (given_at (place_of f n) (λ place. steadiness.with_report_given place (loses_report marks n)) w.given).feedback p.place) s.function
-            ∙ given_other (loses_report marks n) n w.given other ∙ s.reports;
+            ap (λ (f : FunctionFields). (given_at (place_of f n) (λ place. steadiness.with_report_given place (loses_report marks n)) w.history).feedback p.place) s.function
+            ∙ given_other (loses_report marks n) n w.history other ∙ s.reports;
       }
 
   pub report_here : (w : StreamingWorld) (l : Life) (t : Track) → Shows p w l t
@@ -267,8 +267,8 @@ module _ (p : Place) (is : IsPlace p) (detail : ℕ) (marks : List SaidMark) whe
         track = tracked lost value;
         domain = s.domain;
         reports =
-            ap (λ (f : FunctionFields). (given_at (place_of f p.interface) (λ place. steadiness.with_report_given place lost) w.given).feedback p.place) s.function
-            ∙ ap (λ (o : Option ℕ). (given_at o (λ place. steadiness.with_report_given place lost) w.given).feedback p.place) is.placed
-            ∙ if_true (p.place == p.place) _ (w.given.feedback p.place) (own_number p.place)
+            ap (λ (f : FunctionFields). (given_at (place_of f p.interface) (λ place. steadiness.with_report_given place lost) w.history).feedback p.place) s.function
+            ∙ ap (λ (o : Option ℕ). (given_at o (λ place. steadiness.with_report_given place lost) w.history).feedback p.place) is.placed
+            ∙ if_true (p.place == p.place) _ (w.history.feedback p.place) (own_number p.place)
             ∙ ap (steadiness.one_more lost) s.reports;
       }

@@ -46,7 +46,7 @@ record Keeps (r : RunningWorld) (w : StreamingWorld) : Type 0 where
 
 stepped_deviations : (more : Domain → List ℕ) (c : ℕ) (ds : List Domain) → deviations_of (map (stepped more c) ds) ≡ deviations_of ds
 stepped_deviations more c [] = refl
-stepped_deviations more c (d ∷ ds) = by (d.clock == c) (stepped_deviations more c ds)
+stepped_deviations more c (d ∷ ds) = by (d.id == c) (stepped_deviations more c ds)
   where
     by : (b : Bool) → deviations_of (map (stepped more c) ds) ≡ deviations_of ds
         → (let d' : Domain = if b then record d { steps = more d } else d in d'.deviation ∷ deviations_of (map (stepped more c) ds))
@@ -99,12 +99,12 @@ unmapped test (d ∷ ds) all =
     (unmapped test ds (All-tail (λ m. test m ≡ true) d.deviation (deviations_of ds) all))
 
 -- whether a clock is a domain's, by their clocks
-pub known_clock : (c : ℕ) (ds : List Domain) → is_some (find (λ d. d.clock == c) ds) ≡ list_any (λ n. n == c) (map (λ d. d.clock) ds)
+pub known_clock : (c : ℕ) (ds : List Domain) → is_some (find (λ d. d.id == c) ds) ≡ list_any (λ n. n == c) (map (λ d. d.id) ds)
 known_clock c [] = refl
-known_clock c (d ∷ ds) = by (d.clock == c) (known_clock c ds)
+known_clock c (d ∷ ds) = by (d.id == c) (known_clock c ds)
   where
-    by : (b : Bool) → is_some (find (λ d. d.clock == c) ds) ≡ list_any (λ n. n == c) (map (λ d. d.clock) ds)
-        → is_some (cond b (Some d) (find (λ d. d.clock == c) ds)) ≡ (b || list_any (λ n. n == c) (map (λ d. d.clock) ds))
+    by : (b : Bool) → is_some (find (λ d. d.id == c) ds) ≡ list_any (λ n. n == c) (map (λ d. d.id) ds)
+        → is_some (cond b (Some d) (find (λ d. d.id == c) ds)) ≡ (b || list_any (λ n. n == c) (map (λ d. d.id) ds))
     by true rest = refl
     by false rest = rest
 
@@ -199,7 +199,7 @@ deviation_keeps clock ppm r slight sound = record {
   slight = all_off clock ppm r.device.domains slight sound.slight;
   clocked = λ k c goes on.
       ap is_some (found_off clock ppm c r.device.domains)
-      ∙ mapped_some (off clock ppm) (find (λ (d : Domain). d.clock == c) r.device.domains) ∙ sound.clocked k c goes on;
+      ∙ mapped_some (off clock ppm) (find (λ (d : Domain). d.id == c) r.device.domains) ∙ sound.clocked k c goes on;
 }
 
 pub calls_keep_sound : CallsKeepSound

@@ -10,13 +10,13 @@ use Rattle.uac_entities.specs.declared.entity.Entity.{Entity}
 use Rattle.uac_entities.specs.declared.entity.EntityKind.{EntityKind}
 use Rattle.uac_entities.specs.declared.entity.EntityKind.TheVariants as kind
 use Rattle.uac_entities.specs.declared.stream.StreamInterface.{StreamInterface}
-use Rattle.uac_topology_rules.specs.Clusters.{cluster_of, clustered, is_input}
+use Rattle.uac_topology_rules.specs.Clusters.{cluster_of, with_own_clusters, is_input}
 use Rattle.uac_topology_rules.specs.Domains.{clock_named, domains_of, each_once}
 use Rattle.uac_topology_rules.specs.Links.{is_terminal}
 use Rattle.uac_topology_rules.specs.Table.{at, nothing, place_of, with_cluster}
 use Rattle.uac_topology.specs.Function.{FunctionFields, interface_in}
 use Rattle.uac_topology.specs.Topology.{IsSoundFunction}
-use Rattle.uac_topology.proofs.Clustered.{clustered-at, length-clustered}
+use Rattle.uac_topology.proofs.Clustered.{with_own_clusters-at, length-with_own_clusters}
 use Rattle.uac_topology.proofs.Pins.{have_pins}
 use Rattle.uac_rate.specs.Steadiness.{is_slight}
 use Rattle.uac_graph.specs.Meaning.{entity}
@@ -80,22 +80,22 @@ input_is_terminal kind.Effect is = absurd (true≢false (sym is))
 -- entities of a kind of terminals
 module _ (is_kind : EntityKind → Bool) (terminal : (k : EntityKind) → is_kind k ≡ true → is_terminal k ≡ true)
     (none : is_kind nothing.kind ≡ false) where
-  terminal_clock : (es : List Entity) (id : ℕ) → is_kind (entity (clustered es) id).kind ≡ true
-      → Among (entity (clustered es) id).clock (domains_of es)
+  terminal_clock : (es : List Entity) (id : ℕ) → is_kind (entity (with_own_clusters es) id).kind ≡ true
+      → Among (entity (with_own_clusters es) id).clock (domains_of es)
   unfolding entity at place_of domains_of
-  terminal_clock es id is = elim (cases_lt (position_or_len (λ (e : Entity). e.id == id) (clustered es)) (length (clustered es))) [
+  terminal_clock es id is = elim (cases_lt (position_or_len (λ (e : Entity). e.id == id) (with_own_clusters es)) (length (with_own_clusters es))) [
     | inl below ↦
-        (let i : ℕ = position_or_len (λ (e : Entity). e.id == id) (clustered es) in
-        let size : length (clustered es) ≡ length es = length-clustered es in
+        (let i : ℕ = position_or_len (λ (e : Entity). e.id == id) (with_own_clusters es) in
+        let size : length (with_own_clusters es) ≡ length es = length-with_own_clusters es in
         let within : i < length es = omega arith in
-        let there : get_or (clustered es) i nothing ≡ with_cluster (at es i) (cluster_of es i) = clustered-at es i nothing within in
+        let there : get_or (with_own_clusters es) i nothing ≡ with_cluster (at es i) (cluster_of es i) = with_own_clusters-at es i nothing within in
         let here : is_kind (get_or es i nothing).kind ≡ true = sym (ap (λ (e : Entity). is_kind e.kind) there) ∙ is in
         let named = clocks_named es i nothing within (terminal (get_or es i nothing).kind here) in
         subst (λ (c : ℕ). Among c (each_once (filter_map clock_named es))) (sym (ap (λ (e : Entity). e.clock) there))
         (once_each (get_or es i nothing).clock (filter_map clock_named es) named))
     | inr past ↦
-        absurd (let missing : get_or (clustered es) (position_or_len (λ (e : Entity). e.id == id) (clustered es)) nothing ≡ nothing =
-        get_or_past (clustered es) (position_or_len (λ (e : Entity). e.id == id) (clustered es)) nothing past in
+        absurd (let missing : get_or (with_own_clusters es) (position_or_len (λ (e : Entity). e.id == id) (with_own_clusters es)) nothing ≡ nothing =
+        get_or_past (with_own_clusters es) (position_or_len (λ (e : Entity). e.id == id) (with_own_clusters es)) nothing past in
         true≢false (sym is ∙ ap (λ (e : Entity). is_kind e.kind) missing ∙ none))
   ]
 
@@ -107,7 +107,7 @@ module _ (is_kind : EntityKind → Bool) (terminal : (k : EntityKind) → is_kin
       let there = terminal_clock es s.terminal
       (subst (λ (all : List Entity). is_kind (entity all s.terminal).kind ≡ true) sound.2.entities is) in
       subst (λ (all : List Entity). Among (entity all s.terminal).clock function.domains) (sym sound.2.entities)
-      (subst (λ (ds : List ℕ). Among (entity (clustered es) s.terminal).clock ds) (sym sound.2.domains) there)
+      (subst (λ (ds : List ℕ). Among (entity (with_own_clusters es) s.terminal).clock ds) (sym sound.2.domains) there)
 
 -- ---- a domain for each interface to the device
 
@@ -136,7 +136,7 @@ found_stream P k (x ∷ xs) s all e = by (x.number == k) e (found_stream P k xs 
 clocked_at_start : (function : FunctionFields) → IsSoundFunction function → (k clock : ℕ) (o : Option StreamInterface)
     → interface_in function k ≡ o → option_map_or (λ s. s.out) o false ≡ true
     → option_map (λ s. (entity function.entities s.terminal).clock) o ≡ Some clock
-    → is_some (find (λ d. d.clock == clock) (map at_rest function.domains)) ≡ true
+    → is_some (find (λ d. d.id == clock) (map at_rest function.domains)) ≡ true
 clocked_at_start function sound k clock None there goes on = absurd (true≢false (sym goes))
 clocked_at_start function sound k clock (Some s) there goes on =
     let same : (entity function.entities s.terminal).clock ≡ clock = cc in

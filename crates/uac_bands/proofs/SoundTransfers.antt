@@ -10,7 +10,7 @@ use Rattle.uac_alt.specs.AltStreams.{StreamFields}
 use Rattle.uac_alt.specs.AltSettings.{setting_of, with_setting}
 use Rattle.uac_alt.specs.declared.settings.InterfaceSetting.{InterfaceSetting}
 use Rattle.uac_alt.proofs.Changed.{setting_of_changed}
-use Rattle.uac_request.specs.Requests.{AreSettingsOf, Held, AnswerFields, after_request, answered, controls_set, cur_named, first_broken, gets_cur, gets_descriptor, gets_interface, gets_range, is_done, is_stalled, left_by, ranges_named, reply_of, sets_cur, with_bytes, with_descriptor}
+use Rattle.uac_request.specs.Requests.{AreSettingsOf, RequestState, AnswerFields, after_request, unbroken_reply, controls_set, cur_named, first_broken, gets_cur, gets_descriptor, gets_interface, gets_range, is_done, is_stalled, left_by, ranges_named, reply_of, sets_cur, with_bytes, with_descriptor}
 use Rattle.uac_request.specs.declared.setup.Setup.{Setup}
 use Rattle.uac_request.proofs.Lasting.{settings_stay, store_stays}
 use Rattle.uac_flow.specs.FlowStreams.{OutStream}
@@ -59,13 +59,13 @@ differs n m is other = ap (λ (k : ℕ). k == m) (eqb-true n 1 is) ∙ other
 
 -- ---- a request
 
-module _ (function : FunctionFields) (held : Held) (p : Setup) (bytes : List ℕ) where
+module _ (function : FunctionFields) (held : RequestState) (p : Setup) (bytes : List ℕ) where
   -- what is done breaks no rule
   pub none_broken : tells_done (reply_of function held p bytes) ≡ true → first_broken function held p bytes ≡ None
   unfolding reply_of
   none_broken done = by (first_broken function held p bytes) done
     where
-      by : (o : Option ℕ) → tells_done (option_map_or is_stalled o (answered function held p)) ≡ true → o ≡ None
+      by : (o : Option ℕ) → tells_done (option_map_or is_stalled o (unbroken_reply function held p)) ≡ true → o ≡ None
       by None is = refl
       by (Some rule) is = absurd (true≢false (sym is))
 
@@ -94,8 +94,8 @@ module _ (function : FunctionFields) (held : Held) (p : Setup) (bytes : List ℕ
     last false false false false w x y z a_not b_not c_not d_not = refl
 
     -- and what sets an interface and breaks none is done
-    is_answered : tells_done (answered function held p) ≡ true
-    unfolding answered
+    is_answered : tells_done (unbroken_reply function held p) ≡ true
+    unfolding unbroken_reply
     is_answered =
         last (gets_cur p) (gets_range p) (gets_descriptor p) (gets_interface p) (with_bytes (take p.length (cur_named function held p)))
         (with_bytes (take p.length (ranges_named function p)))
@@ -108,7 +108,7 @@ module _ (function : FunctionFields) (held : Held) (p : Setup) (bytes : List ℕ
 
     told_done : first_broken function held p bytes ≡ None → tells_done (reply_of function held p bytes) ≡ true
     unfolding reply_of
-    told_done none = ap (λ (o : Option ℕ). tells_done (option_map_or is_stalled o (answered function held p))) none ∙ is_answered
+    told_done none = ap (λ (o : Option ℕ). tells_done (option_map_or is_stalled o (unbroken_reply function held p))) none ∙ is_answered
 
   -- another request leaves all settings as they are
   pub same_settings : (sets_interface p && tells_done (reply_of function held p bytes)) ≡ false
@@ -137,7 +137,7 @@ module _ (function : FunctionFields) (held : Held) (p : Setup) (bytes : List ℕ
       by None none = by_cur (sets_cur p) none
       by (Some rule) broken = refl
 
--- ---- the device behind it
+-- ---- the device after it
 
 module _ (p : Setup) (bytes : List ℕ) (r : RunningWorld) (set : (sets_interface p && done p bytes r) ≡ true) where
   pub settings_are : (after p bytes r).settings ≡ with_setting r.device.settings p.index p.value
@@ -209,5 +209,5 @@ module _ (p : Setup) (bytes : List ℕ) (r : RunningWorld) (sound : IsSoundRun r
 pub transfers_keep_sound : TransfersKeepSound
 transfers_keep_sound p bytes r sound =
     transferred_so p bytes r IsSoundRun
-    (restarts p bytes r sound (record (seen p bytes r) { given = given_then p bytes r }))
+    (restarts p bytes r sound (record (seen p bytes r) { history = given_then p bytes r }))
     (acts_alone p bytes r sound (seen p bytes r)) (carried r (seen p bytes r) sound)

@@ -21,12 +21,12 @@ Stay r w = Stays r (with_streaming r w)
 
 stepped_clocks : (more : Domain → List ℕ) (c : ℕ) (ds : List Domain) → clocks_of (map (stepped more c) ds) ≡ clocks_of ds
 stepped_clocks more c [] = refl
-stepped_clocks more c (d ∷ ds) = by (d.clock == c) (stepped_clocks more c ds)
+stepped_clocks more c (d ∷ ds) = by (d.id == c) (stepped_clocks more c ds)
   where
     by : (b : Bool) → clocks_of (map (stepped more c) ds) ≡ clocks_of ds
-        → (let d' : Domain = if b then record d { steps = more d } else d in d'.clock ∷ clocks_of (map (stepped more c) ds)) ≡ d.clock ∷ clocks_of ds
-    by true rest = ap (λ (cs : List ℕ). d.clock ∷ cs) rest
-    by false rest = ap (λ (cs : List ℕ). d.clock ∷ cs) rest
+        → (let d' : Domain = if b then record d { steps = more d } else d in d'.id ∷ clocks_of (map (stepped more c) ds)) ≡ d.id ∷ clocks_of ds
+    by true rest = ap (λ (cs : List ℕ). d.id ∷ cs) rest
+    by false rest = ap (λ (cs : List ℕ). d.id ∷ cs) rest
 
 -- ---- a microframe
 

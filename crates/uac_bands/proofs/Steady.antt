@@ -4,8 +4,8 @@ use Rattle.std.specs.Option.{option_map_or}
 use Rattle.std.proofs.lemmas.Bool.{cases_lt}
 use Rattle.uac_clock.specs.declared.values.Nominal.{Nominal}
 use Rattle.uac_clock.specs.Nominal.{HasRoom, IsNominal}
-use Rattle.uac_clock.proofs.Listed.{has_room}
-use Rattle.uac_rate.specs.Levels.{AreIntervals, IsHeld, IsInterval, IsRobust, Point, Reported, Within, lost_after, value_after}
+use Rattle.uac_clock.proofs.NominalLemmas.{has_room}
+use Rattle.uac_rate.specs.Levels.{AreIntervals, IsSafeLevel, IsInterval, IsRobust, Point, TakesReport, Within, lost_after, value_after}
 use Rattle.uac_rate.specs.Reports.{report_of}
 use Rattle.uac_rate.specs.Steadiness.{latest_run, one_more}
 use Rattle.uac_rate.proofs.LevelsLemmas.{interval_size, moment_held, rates_band, report_held, report_robust}
@@ -17,13 +17,13 @@ use Rattle.uac_bands.specs.Bands.{HasTicked, InBand, IsAt, IsFollowing, microfra
 
 -- ---- what a primed ring holds
 
-not_empty : (s : ℕ) → IsInterval s → IsHeld s 0 → ⊥
+not_empty : (s : ℕ) → IsInterval s → IsSafeLevel s 0 → ⊥
 not_empty s serves h = elim (cases_lt 1 s) [
   | inl more ↦ absurd (let few = h.longer more in omega arith)
   | inr less ↦ absurd (let size = interval_size s serves in let few = h.single (omega arith) in omega arith)
 ]
 
-pub held_range : (s n : ℕ) → IsInterval s → IsHeld s n → (101 ≤ n) × (n ≤ 1041)
+pub held_range : (s n : ℕ) → IsInterval s → IsSafeLevel s n → (101 ≤ n) × (n ≤ 1041)
 held_range s n serves h = elim (cases_lt 1 s) [
   | inl more ↦ (let few = h.longer more in (omega arith, omega arith))
   | inr less ↦ (let size = interval_size s serves in let few = h.single (omega arith) in (omega arith, omega arith))
@@ -32,7 +32,7 @@ held_range s n serves h = elim (cases_lt 1 s) [
 -- of a level and what came so many ticks may be played, and the rest is enough
 pub record IsEnough (s level came played : ℕ) : Type 0 where
   pub fits : played ≤ level + came
-  pub held : IsHeld s (level + came - played)
+  pub held : IsSafeLevel s (level + came - played)
 
 pub enough : (values : Nominal) (s period : ℕ) (p : Point) (gone steps came played : ℕ) → HasRoom values → AreIntervals s period
     → IsRobust values 65 s period p → gone ≤ s → Within (gone * values.e) steps (gone * values.f) → played ≤ (p.clock + steps) / 65536
@@ -46,7 +46,7 @@ enough values s period p gone steps came played room intervals robust within sli
       }
     ]
   where
-    held_by : (n some : ℕ) → some ≤ (p.clock + steps) / 65536 → n + some ≡ p.level + came → IsHeld s n
+    held_by : (n some : ℕ) → some ≤ (p.clock + steps) / 65536 → n + some ≡ p.level + came → IsSafeLevel s n
     held_by n some few is = moment_held values s period p n room intervals robust
         (record { passed = gone; within = within; steps = steps; slight = slight; played = some; some_ticks = few; came = came; some_frames = some_frames; held_is = is })
 
@@ -251,11 +251,11 @@ value_there m false target q at =
     ∙ sym (ap (λ (s : StreamFields). within_nominal s (report_of values target (out_level m.out))) at.ended.same)
 
 -- a primed stream after the end of an interval: the point there is that of the end, or that after the report which fell due
-pub record Goes (m : Life) (lost : Bool) (target : ℕ) (q : Point) (behind_it : Life) : Type 0 where
-  pub band : InBand behind_it
+pub record Goes (m : Life) (lost : Bool) (target : ℕ) (q : Point) (after_it : Life) : Type 0 where
+  pub band : InBand after_it
   pub point : Point
-  pub following : IsFollowing behind_it target point
-  pub ends : ((q.waited < m.out.stream.period) × (point ≡ q)) ⊎ Reported m.out.stream.nominal m.out.stream.period lost q point
+  pub following : IsFollowing after_it target point
+  pub ends : ((q.waited < m.out.stream.period) × (point ≡ q)) ⊎ TakesReport m.out.stream.nominal m.out.stream.period lost q point
 
 -- a primed one goes on by the report of its level
 pub primed_goes : (m : Life) (lost : Bool) (target : ℕ) (q : Point) → HasEndedAt m target q
@@ -301,7 +301,7 @@ primed_goes m lost target q at few = by (m.out.microframes % m.out.stream.period
         let runs : lost_after lost q.lost ≡ latest_run (one_more lost m.reports) = ap (lost_after lost) at.lost
         ∙ sym (runs_on lost m.reports) in
         let after : Point = point_after lost values q in
-        let report : Reported values m.out.stream.period lost q after = record {
+        let report : TakesReport values m.out.stream.period lost q after = record {
           due = due.0;
           waited_is = refl;
           lost_is = refl;

@@ -7,7 +7,7 @@ use Rattle.std.proofs.lemmas.List.Quantifiers.{position-Some}
 use Rattle.std.proofs.lemmas.Option.{option_and_then_some}
 use Rattle.uac_clock.specs.Nominal.{nominal_of, step_of}
 use Rattle.uac_clock.specs.declared.values.Nominal.{Nominal}
-use Rattle.uac_rate.specs.Steadiness.{Given, eight_streams, has_four_lost, is_slight, latest_run, run}
+use Rattle.uac_rate.specs.Steadiness.{SteadyHistory, eight_streams, has_four_lost, is_slight, latest_run, run}
 use Rattle.uac_rate.specs.Steadiness as steadiness
 use Rattle.uac_rate.proofs.LevelsLemmas.{slight_step}
 use Rattle.uac_entities.specs.declared.stream.StreamInterface.{StreamInterface}
@@ -50,7 +50,7 @@ latest_few : (lists : List (List Bool)) → list_all (λ reports. not (has_four_
 latest_few [] h = omega arith
 latest_few (latest ∷ earlier) h = few_lost latest (not_lost (has_four_lost latest) (and_parts (not (has_four_lost latest)) _ h).0)
 
-steady_few : (given : Given) (place : ℕ) → place < 8 → steadiness.is_steady given ≡ true → latest_run (given.feedback place) ≤ 3
+steady_few : (given : SteadyHistory) (place : ℕ) → place < 8 → steadiness.is_steady given ≡ true → latest_run (given.feedback place) ≤ 3
 steady_few given place below steady =
     let both = and_parts (list_all is_slight given.deviations) _ steady in
     latest_few (given.feedback place)
@@ -63,15 +63,15 @@ pub record IsLived (r : RunningWorld) (interface : ℕ) (l : Life) : Type 0 wher
   pub out : r.device.outs interface ≡ Some l.out
   pub place : ℕ
   pub placed : place_of r.device.function interface ≡ Some place
-  pub reports : r.given.feedback place ≡ l.reports
+  pub reports : r.history.feedback place ≡ l.reports
 
 pub lived : (r : RunningWorld) (interface : ℕ) (l : Life) → life_of r interface ≡ Some l → IsLived r interface l
 unfolding life_of
 lived r interface l life =
-    option_and_then_some _ (r.device.outs interface) l life (λ out outs behind_out.
-    option_and_then_some _ (r.host.paces interface) l behind_out (λ pace paces behind_pace.
-    option_and_then_some _ (domain_on r interface) l behind_pace (λ d domain behind_domain.
-    (let placed = mapped _ (place_of r.device.function interface) l behind_domain in
+    option_and_then_some _ (r.device.outs interface) l life (λ out outs after_out.
+    option_and_then_some _ (r.host.paces interface) l after_out (λ pace paces after_pace.
+    option_and_then_some _ (domain_on r interface) l after_pace (λ d domain after_domain.
+    (let placed = mapped _ (place_of r.device.function interface) l after_domain in
     record {
       out = outs ∙ ap (λ (m : Life). Some m.out) placed.2;
       place = placed.0;
@@ -86,11 +86,11 @@ placed_below function interface place s is few =
     omega (arith, there.0)
 
 life_few : (r : RunningWorld) (interface : ℕ) (l : Life) (s : StreamInterface) → life_of r interface ≡ Some l
-    → length r.device.function.streams ≤ 8 → steadiness.is_steady r.given ≡ true → latest_run l.reports ≤ 3
+    → length r.device.function.streams ≤ 8 → steadiness.is_steady r.history ≡ true → latest_run l.reports ≤ 3
 life_few r interface l s life few steady =
     let there = lived r interface l life in
     subst (λ (lists : List (List Bool)). latest_run lists ≤ 3) there.reports
-    (steady_few r.given there.place (placed_below r.device.function interface there.place s there.placed few) steady)
+    (steady_few r.history there.place (placed_below r.device.function interface there.place s there.placed few) steady)
 
 -- ---- one stream
 
@@ -128,8 +128,8 @@ module _ (marks : List SaidMark) (r : RunningWorld) (k : ℕ) (l : Life) (d : Do
         fed = microframes_keep_fed marks r k l d ordered s.runs s.fed;
         band = next_in_band few;
         rate =
-            ap (λ (f : FunctionFields). option_and_then nominal_of (rate_of f.entities after.device.controls d.clock)) stays.function
-            ∙ ap (λ (cs : List (Key × ℤ)). option_and_then nominal_of (rate_of r.device.function.entities cs d.clock)) stays.controls
+            ap (λ (f : FunctionFields). option_and_then nominal_of (rate_of f.entities after.device.controls d.id)) stays.function
+            ∙ ap (λ (cs : List (Key × ℤ)). option_and_then nominal_of (rate_of r.device.function.entities cs d.id)) stays.controls
             ∙ s.rate ∙ ap (λ (of : StreamFields). Some of.nominal) (sym same);
         slight = s.slight;
       }
@@ -144,9 +144,9 @@ interface_of r k l d runs = by (find (λ s. s.number == k) r.device.function.str
 
 -- ---- all
 
-pub few_behind : (marks : List SaidMark) (r : RunningWorld) → RunInBand r → steadiness.is_steady (microframe marks r).world.given ≡ true
+pub few_following : (marks : List SaidMark) (r : RunningWorld) → RunInBand r → steadiness.is_steady (microframe marks r).world.history ≡ true
     → (k : ℕ) (l : Life) (d : Domain) → Runs r k l d → latest_run (next_life marks r k l d).reports ≤ 3
-few_behind marks r band steady k l d runs =
+few_following marks r band steady k l d runs =
     let stays = microframes_keep_the_rest marks r in
     let after : RunningWorld = (microframe marks r).world in
     life_few after k (next_life marks r k l d) (interface_of r k l d runs) (microframes_are_lived marks r k l d band.ordered runs).life
@@ -172,7 +172,7 @@ keep_bands marks r band steady =
         let stream = band.streams k out was in
         let l : Life = stream.0 in
         let d : Domain = stream.1 in
-        let few = few_behind marks r band steady k l d stream.3.runs in
+        let few = few_following marks r band steady k l d stream.3.runs in
         let next = next_stream marks r k l d stream.3 band.ordered few in
         let here : Some (next_life marks r k l d).out ≡ Some o =
         sym (lived after k (next_life marks r k l d) next.runs.life).out ∙ there in

@@ -15,7 +15,7 @@ use Rattle.uac_device.specs.DeviceWorld.{DeviceWorld, Domain, after_advance, is_
 use Rattle.uac_streaming.specs.StreamingWorld.{StreamingWorld}
 use Rattle.uac_running.specs.declared.jacks.Jack.{Jack}
 use Rattle.uac_running.specs.RunningWorld.{RunningWorld, streaming_of}
-use Rattle.uac_running.specs.Events.{all_given, domain_microframe, domain_microframes, given, next_frame, tick, tick_times}
+use Rattle.uac_running.specs.Events.{after_all_jacks, domain_microframe, domain_microframes, after_jacks, next_frame, tick, tick_times}
 use Rattle.uac_bands.specs.Life.{Life, ticks_taken, with_step}
 use Rattle.uac_bands.proofs.Once.{Among, domain_other, domain_same, own_number, row_once, where_false, where_true}
 use Rattle.uac_bands.proofs.Shown.{IsPlace, Place, Shows}
@@ -50,7 +50,7 @@ a_row (c ∷ cs) r = a_row cs (domain_microframe c r).world
 abbrev pub step_at : Place → ℕ
 step_at p =
     option_map_or (λ values. step_of values p.domain.deviation)
-    (option_and_then nominal_of (rate_of p.function.entities p.controls p.domain.clock)) 0
+    (option_and_then nominal_of (rate_of p.function.entities p.controls p.domain.id)) 0
 
 module _ (p : Place) where
   pub jacks_show : (jacks : List Jack) (w : DeviceWorld) (r : RunningWorld) (l : Life) (t : Track) → Shows p (record (streaming_of r) { device = w }) l t
@@ -69,10 +69,10 @@ module _ (p : Place) where
 
   pub tick_other : IsPlace p → (c : ℕ) (r : RunningWorld) (l : Life) (t : Track) → (p.clock == c) ≡ false → Shows p (streaming_of r) l t
       → Shows p (streaming_of (tick c r).world) l t
-  unfolding tick all_given after_tick
+  unfolding tick after_all_jacks after_tick
   tick_other is c r l t other before =
-      let w : DeviceWorld = given c r.jacks r.device in
-      let s = jacks_show (filter (λ (j : Jack). j.clock == c) r.jacks) r.device r l t before in
+      let w : DeviceWorld = after_jacks c r.jacks r.device in
+      let s = jacks_show (filter (λ (j : Jack). j.domain == c) r.jacks) r.device r l t before in
       record {
         function = s.function;
         controls = s.controls;
@@ -85,10 +85,10 @@ module _ (p : Place) where
 
   pub tick_own : IsPlace p → (r : RunningWorld) (l : Life) (t : Track) → Shows p (streaming_of r) l t
       → Shows p (streaming_of (tick p.clock r).world) (record l { out = after_taking l.out }) t
-  unfolding tick all_given after_tick
+  unfolding tick after_all_jacks after_tick
   tick_own is r l t before =
-      let w : DeviceWorld = given p.clock r.jacks r.device in
-      let s = jacks_show (filter (λ (j : Jack). j.clock == p.clock) r.jacks) r.device r l t before in
+      let w : DeviceWorld = after_jacks p.clock r.jacks r.device in
+      let s = jacks_show (filter (λ (j : Jack). j.domain == p.clock) r.jacks) r.device r l t before in
       record {
         function = s.function;
         controls = s.controls;
@@ -117,8 +117,8 @@ module _ (p : Place) where
   pub step_shown : (w : StreamingWorld) (l : Life) (t : Track) → Shows p w l t → step_in w.device (record p.domain { steps = l.steps }) ≡ step_at p
   unfolding step_in
   step_shown w l t s =
-      ap (λ (f : FunctionFields). option_map_or (λ values. step_of values p.domain.deviation) (option_and_then nominal_of (rate_of f.entities w.device.controls p.domain.clock)) 0) s.function
-      ∙ ap (λ (cs : List (Key × ℤ)). option_map_or (λ values. step_of values p.domain.deviation) (option_and_then nominal_of (rate_of p.function.entities cs p.domain.clock)) 0) s.controls
+      ap (λ (f : FunctionFields). option_map_or (λ values. step_of values p.domain.deviation) (option_and_then nominal_of (rate_of f.entities w.device.controls p.domain.id)) 0) s.function
+      ∙ ap (λ (cs : List (Key × ℤ)). option_map_or (λ values. step_of values p.domain.deviation) (option_and_then nominal_of (rate_of p.function.entities cs p.domain.id)) 0) s.controls
 
   pub advanced_elsewhere : IsPlace p → (c : ℕ) (r : RunningWorld) (l : Life) (t : Track) → (p.clock == c) ≡ false → Shows p (streaming_of r) l t
       → Shows p (streaming_of (record r { device = after_advance c r.device })) l t

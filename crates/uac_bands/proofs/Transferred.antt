@@ -7,7 +7,7 @@ use Rattle.std.proofs.lemmas.List.Elements.{All-head, All-tail}
 use Rattle.std.proofs.lemmas.List.Folds.{find_at}
 use Rattle.std.proofs.lemmas.Option.{cond_some, option_and_then_some, slice_get_past}
 use Rattle.uac_clock.specs.Nominal.{nominal_of}
-use Rattle.uac_rate.specs.Steadiness.{Given, is_slight}
+use Rattle.uac_rate.specs.Steadiness.{SteadyHistory, is_slight}
 use Rattle.uac_rate.specs.Steadiness as steadiness
 use Rattle.uac_entities.specs.declared.entity.Entity.{Entity}
 use Rattle.uac_entities.specs.declared.stream.StreamInterface.{StreamInterface}
@@ -19,7 +19,7 @@ use Rattle.uac_alt.specs.AltStreams.{StreamFields, stream_of}
 use Rattle.uac_alt.specs.AltSettings.{is_running, setting_of, with_setting}
 use Rattle.uac_alt.proofs.Formats.{stream_format}
 use Rattle.uac_alt.specs.declared.settings.InterfaceSetting.{InterfaceSetting}
-use Rattle.uac_request.specs.Requests.{Held, after_request, controls_set, first_broken, left_by, sets_cur}
+use Rattle.uac_request.specs.Requests.{RequestState, after_request, controls_set, first_broken, left_by, sets_cur}
 use Rattle.uac_request.specs.declared.setup.Setup.{Setup}
 use Rattle.uac_request.proofs.Lasting.{rates_stay}
 use Rattle.uac_flow.specs.FlowStreams.{InStream, OutStream, started_out}
@@ -29,7 +29,7 @@ use Rattle.uac_lanes.specs.InterfaceStreams.{in_from, out_from, replaced_at}
 use Rattle.uac_device.specs.DeviceWorld.{Domain, after_restart, sets_interface}
 use Rattle.uac_streaming.specs.StreamingWorld.{given_at, goes_out, place_of}
 use Rattle.uac_running.specs.RunningWorld.{RunningWorld}
-use Rattle.uac_bands.specs.Life.{Life, clock_on, domain_on, life_of}
+use Rattle.uac_bands.specs.Life.{Life, domain_id_on, domain_on, life_of}
 use Rattle.uac_bands.specs.Bands.{started_life}
 use Rattle.uac_bands.specs.Projection.{Runs}
 use Rattle.uac_bands.specs.BandRun.{RunInBand, StreamInBand}
@@ -51,15 +51,15 @@ record HasLife (r : RunningWorld) (k : ℕ) (l : Life) (d : Domain) : Type 0 whe
   steps : d.steps ≡ l.steps
   place : ℕ
   placed : place_of r.device.function k ≡ Some place
-  reports : r.given.feedback place ≡ l.reports
+  reports : r.history.feedback place ≡ l.reports
 
 has_life : (r : RunningWorld) (k : ℕ) (l : Life) (d : Domain) → Runs r k l d → HasLife r k l d
 unfolding life_of
 has_life r k l d runs =
-    option_and_then_some _ (r.device.outs k) l runs.life (λ out outs behind_out.
-    option_and_then_some _ (r.host.paces k) l behind_out (λ pace paces behind_pace.
-    option_and_then_some _ (domain_on r k) l behind_pace (λ d' domain behind_domain.
-    (let placed = mapped _ (place_of r.device.function k) l behind_domain in
+    option_and_then_some _ (r.device.outs k) l runs.life (λ out outs after_out.
+    option_and_then_some _ (r.host.paces k) l after_out (λ pace paces after_pace.
+    option_and_then_some _ (domain_on r k) l after_pace (λ d' domain after_domain.
+    (let placed = mapped _ (place_of r.device.function k) l after_domain in
     let one : d' ≡ d = let both : Some d' ≡ Some d = sym domain ∙ runs.domain in cc in
     record {
       out = outs ∙ ap (λ (m : Life). Some m.out) placed.2;
@@ -78,11 +78,11 @@ lives r k l d h =
     ∙ ap (option_and_then (λ pace. option_and_then (λ d. option_map (life l.out pace d) in_turn) at_domain)) h.pace
     ∙ ap (option_and_then (λ d. option_map (life l.out l.pace d) in_turn)) h.domain
     ∙ ap (option_map (life l.out l.pace d)) h.placed
-    ∙ ap (λ (steps : List ℕ). Some (record { out = l.out; pace = l.pace; steps = steps; reports = r.given.feedback h.place })) h.steps
+    ∙ ap (λ (steps : List ℕ). Some (record { out = l.out; pace = l.pace; steps = steps; reports = r.history.feedback h.place })) h.steps
     ∙ ap (λ (reports : List (List Bool)). Some (record l { reports = reports })) h.reports
   where
     life : OutStream → Pace → Domain → ℕ → Life
-    life out pace d place = record { out = out; pace = pace; steps = d.steps; reports = r.given.feedback place }
+    life out pace d place = record { out = out; pace = pace; steps = d.steps; reports = r.history.feedback place }
 
     in_turn : Option ℕ
     in_turn = place_of r.device.function k
@@ -92,16 +92,16 @@ lives r k l d h =
 
 -- ---- what is found
 
-pub found_domain : (P : Domain → Type 0) (clock : ℕ) (ds : List Domain) (d : Domain) → All P ds → find (λ d. d.clock == clock) ds ≡ Some d
-    → P d × (d.clock ≡ clock)
+pub found_domain : (P : Domain → Type 0) (clock : ℕ) (ds : List Domain) (d : Domain) → All P ds → find (λ d. d.id == clock) ds ≡ Some d
+    → P d × (d.id ≡ clock)
 found_domain P clock [] d all e = absurd (cc)
-found_domain P clock (x ∷ xs) d all e = by (x.clock == clock) refl e (found_domain P clock xs d (All-tail P x xs all))
+found_domain P clock (x ∷ xs) d all e = by (x.id == clock) refl e (found_domain P clock xs d (All-tail P x xs all))
   where
-    by : (b : Bool) → (x.clock == clock) ≡ b → cond b (Some x) (find (λ d. d.clock == clock) xs) ≡ Some d
-        → (find (λ d. d.clock == clock) xs ≡ Some d → P d × (d.clock ≡ clock)) → P d × (d.clock ≡ clock)
+    by : (b : Bool) → (x.id == clock) ≡ b → cond b (Some x) (find (λ d. d.id == clock) xs) ≡ Some d
+        → (find (λ d. d.id == clock) xs ≡ Some d → P d × (d.id ≡ clock)) → P d × (d.id ≡ clock)
     by true is found rest =
         let same : x ≡ d = cc in
-        (subst P same (All-head P x xs all), ap (λ (e : Domain). e.clock) (sym same) ∙ eqb-true x.clock clock is)
+        (subst P same (All-head P x xs all), ap (λ (e : Domain). e.id) (sym same) ∙ eqb-true x.id clock is)
     by false is found rest = rest found
 
 pub some_of : {A : Type 0} (o : Option A) → is_some o ≡ true → (x : A) × (o ≡ Some x)
@@ -145,7 +145,7 @@ running_by (s ∷ ss) k n is other = by (s.interface == k) is (running_by ss k n
 -- ---- controls
 
 -- a request that sets an interface leaves all controls as they are
-pub controls_same : (function : FunctionFields) (held : Held) (p : Setup) (bytes : List ℕ) → sets_interface p ≡ true
+pub controls_same : (function : FunctionFields) (held : RequestState) (p : Setup) (bytes : List ℕ) → sets_interface p ≡ true
     → (after_request function held p bytes).controls ≡ held.controls
 unfolding after_request left_by
 controls_same function held p bytes sets = by (is_some (first_broken function held p bytes)) (sets_cur p) not_cur
@@ -172,12 +172,12 @@ controls_same function held p bytes sets = by (is_some (first_broken function he
 -- ---- another world by the same function, domains and tracks
 
 module _ (r other : RunningWorld) (cs : List (Key × ℤ)) (ss : List InterfaceSetting) (outs : ℕ → Option OutStream) (ins : ℕ → Option InStream)
-    (paces : ℕ → Option Pace) (given : Given) where
+    (paces : ℕ → Option Pace) (given : SteadyHistory) where
   abbrev changed : RunningWorld
   changed = record other {
     device = record r.device { controls = cs; settings = ss; outs = outs; ins = ins };
     host = record r.host { paces = paces };
-    given = given;
+    history = given;
   }
 
   abbrev entities : List Entity
@@ -187,8 +187,8 @@ module _ (r other : RunningWorld) (cs : List (Key × ℤ)) (ss : List InterfaceS
   IsThere k o = (l : Life) × (d : Domain) × (l.out ≡ o) × StreamInBand changed k l d
 
   stays_there : (k : ℕ) (l : Life) (d : Domain) → StreamInBand r k l d → outs k ≡ r.device.outs k → paces k ≡ r.host.paces k
-      → ((place : ℕ) → place_of r.device.function k ≡ Some place → given.feedback place ≡ r.given.feedback place)
-      → rate_of entities cs d.clock ≡ rate_of entities r.device.controls d.clock → StreamInBand changed k l d
+      → ((place : ℕ) → place_of r.device.function k ≡ Some place → given.feedback place ≡ r.history.feedback place)
+      → rate_of entities cs d.id ≡ rate_of entities r.device.controls d.id → StreamInBand changed k l d
   stays_there k l d s out pace reports rate =
       let h = has_life r k l d s.runs in
       record {
@@ -213,20 +213,20 @@ module _ (r other : RunningWorld) (cs : List (Key × ℤ)) (ss : List InterfaceS
 
   starts_there : (k number : ℕ) (s : StreamFields) → RunInBand r → IsSoundRun r → IsAsked r.device.function r.device.controls k number s
       → s.out ≡ true → outs k ≡ Some (started_out s) → paces k ≡ Some (fresh_pace s)
-      → ((place : ℕ) → place_of r.device.function k ≡ Some place → given.feedback place ≡ [] ∷ r.given.feedback place)
+      → ((place : ℕ) → place_of r.device.function k ≡ Some place → given.feedback place ≡ [] ∷ r.history.feedback place)
       → ((id : ℕ) → rate_of entities cs id ≡ rate_of entities r.device.controls id) → IsThere k (started_out s)
   starts_there k number s band sound asked goes out pace reports rates =
       let function : FunctionFields = r.device.function in
       let place = found_place k function.streams asked.streaming_interface asked.there in
       let clock : ℕ = (entity entities asked.streaming_interface.terminal).clock in
-      let on_clock : clock_on r k ≡ Some clock = ap (option_map (λ (c : StreamInterface). (entity entities c.terminal).clock)) asked.there in
+      let on_clock : domain_id_on r k ≡ Some clock = ap (option_map (λ (c : StreamInterface). (entity entities c.terminal).clock)) asked.there in
       let parts = parts_of function asked.rate k number s asked.of in
       let to_device : goes_out function k ≡ true = ap (λ (o : Option StreamInterface). option_map_or (λ c. c.out) o false) parts.there ∙ sym parts.out ∙ goes in
-      let found = some_of (find (λ (d : Domain). d.clock == clock) r.device.domains) (sound.clocked k clock to_device on_clock) in
+      let found = some_of (find (λ (d : Domain). d.id == clock) r.device.domains) (sound.clocked k clock to_device on_clock) in
       let d : Domain = found.0 in
       let here = found_domain (λ d. is_slight d.deviation ≡ true) clock r.device.domains d sound.slight found.1 in
-      let domain : domain_on r k ≡ Some d = ap (option_and_then (λ (c : ℕ). find (λ (d : Domain). d.clock == c) r.device.domains)) on_clock ∙ found.1 in
-      let l : Life = started_life s d.steps (r.given.feedback place.0) in (
+      let domain : domain_on r k ≡ Some d = ap (option_and_then (λ (c : ℕ). find (λ (d : Domain). d.id == c) r.device.domains)) on_clock ∙ found.1 in
+      let l : Life = started_life s d.steps (r.history.feedback place.0) in (
         l,
         d,
         refl,
@@ -247,8 +247,8 @@ module _ (r other : RunningWorld) (cs : List (Key × ℤ)) (ss : List InterfaceS
             format = stream_format function asked.rate k number s sound.sound asked.of;
             whole = sound.whole k;
           };
-          band = starts_in_band s d.steps (r.given.feedback place.0) (asked.rate, parts.nominal) (parts.intervals goes);
-          rate = ap (option_and_then nominal_of) (rates d.clock ∙ ap (rate_of entities r.device.controls) here.1 ∙ asked.at) ∙ parts.nominal;
+          band = starts_in_band s d.steps (r.history.feedback place.0) (asked.rate, parts.nominal) (parts.intervals goes);
+          rate = ap (option_and_then nominal_of) (rates d.id ∙ ap (rate_of entities r.device.controls) here.1 ∙ asked.at) ∙ parts.nominal;
           slight = here.0;
         },
       )
@@ -271,38 +271,38 @@ module _ (p : Setup) (bytes : List ℕ) (r : RunningWorld) (band : RunInBand r) 
       let set = sound.running k o there in
       rates_stay r.device.function (held p bytes r) p bytes sound.store (running_by r.device.settings k set.0 set.1 set.2) id
 
-  acts_alone : (other : RunningWorld) → RunInBand (record other { device = asked_device p bytes r; host = r.host; given = r.given })
+  acts_alone : (other : RunningWorld) → RunInBand (record other { device = asked_device p bytes r; host = r.host; history = r.history })
   acts_alone other =
-      changed_in_band r other (after p bytes r).controls (after p bytes r).settings r.device.outs r.device.ins r.host.paces r.given band (λ k o there.
+      changed_in_band r other (after p bytes r).controls (after p bytes r).settings r.device.outs r.device.ins r.host.paces r.history band (λ k o there.
       (let stream = band.streams k o there in (
         stream.0,
         stream.1,
         stream.2,
-        stays_there r other (after p bytes r).controls (after p bytes r).settings r.device.outs r.device.ins r.host.paces r.given k stream.0 stream.1 stream.3 refl refl
-            (λ place placed. refl) (rates_last k o there stream.1.clock),
+        stays_there r other (after p bytes r).controls (after p bytes r).settings r.device.outs r.device.ins r.host.paces r.history k stream.0 stream.1 stream.3 refl refl
+            (λ place placed. refl) (rates_last k o there stream.1.id),
       )))
 
   pub reports_elsewhere : (k place : ℕ) → (k == p.index) ≡ false → place_of r.device.function k ≡ Some place
-      → (given_then p bytes r).feedback place ≡ r.given.feedback place
+      → (given_then p bytes r).feedback place ≡ r.history.feedback place
   reports_elsewhere k place other placed = by (is_some (begun p bytes r))
     where
       at : (o : Option ℕ) → place_of r.device.function p.index ≡ o
-          → (given_at o steadiness.with_restart_given r.given).feedback place ≡ r.given.feedback place
+          → (given_at o steadiness.with_restart_given r.history).feedback place ≡ r.history.feedback place
       at None there = refl
       at (Some j) there =
-          if_false (place == j) _ (r.given.feedback place) (place_other k p.index place j r.device.function.streams other placed there)
+          if_false (place == j) _ (r.history.feedback place) (place_other k p.index place j r.device.function.streams other placed there)
 
       by : (b : Bool)
-          → (if b then given_at (place_of r.device.function p.index) steadiness.with_restart_given r.given else r.given).feedback place ≡ r.given.feedback place
+          → (if b then given_at (place_of r.device.function p.index) steadiness.with_restart_given r.history else r.history).feedback place ≡ r.history.feedback place
       by true = at (place_of r.device.function p.index) refl
       by false = refl
 
   reports_here : (s : StreamFields) (place : ℕ) → begun p bytes r ≡ Some s → place_of r.device.function p.index ≡ Some place
-      → (given_then p bytes r).feedback place ≡ [] ∷ r.given.feedback place
+      → (given_then p bytes r).feedback place ≡ [] ∷ r.history.feedback place
   reports_here s place is placed =
-      ap (λ (o : Option StreamFields). (if is_some o then given_at (place_of r.device.function p.index) steadiness.with_restart_given r.given else r.given).feedback place) is
-      ∙ ap (λ (o : Option ℕ). (given_at o steadiness.with_restart_given r.given).feedback place) placed
-      ∙ if_true (place == place) _ (r.given.feedback place) (own_number place)
+      ap (λ (o : Option StreamFields). (if is_some o then given_at (place_of r.device.function p.index) steadiness.with_restart_given r.history else r.history).feedback place) is
+      ∙ ap (λ (o : Option ℕ). (given_at o steadiness.with_restart_given r.history).feedback place) placed
+      ∙ if_true (place == place) _ (r.history.feedback place) (own_number place)
 
   module _ (other : RunningWorld) (sets : sets_interface p ≡ true) where
     abbrev outs_then : ℕ → Option OutStream
@@ -325,7 +325,7 @@ module _ (p : Setup) (bytes : List ℕ) (r : RunningWorld) (band : RunInBand r) 
           stream.2,
           stays_there r other (after p bytes r).controls (after p bytes r).settings outs_then ins_then paces_then (given_then p bytes r) k stream.0 stream.1 stream.3
               (if_false (k == p.index) _ (r.device.outs k) apart) (if_false (k == p.index) _ (r.host.paces k) apart)
-              (λ place placed. reports_elsewhere k place apart placed) (rates_last k o there stream.1.clock),
+              (λ place placed. reports_elsewhere k place apart placed) (rates_last k o there stream.1.id),
         )
 
     here : (o : OutStream) (b : Option StreamFields) → begun p bytes r ≡ b → option_and_then out_from b ≡ Some o → Then p.index o
@@ -342,7 +342,7 @@ module _ (p : Setup) (bytes : List ℕ) (r : RunningWorld) (band : RunInBand r) 
         (λ place placed. reports_here s place is placed)
         (λ id. ap (λ (cs : List (Key × ℤ)). rate_of r.device.function.entities cs id) same))
 
-    restarts : RunInBand (record other { device = after_restart p.index (begun p bytes r) (asked_device p bytes r); host = with_stream p.index (begun p bytes r) r.host; given = given_then p bytes r })
+    restarts : RunInBand (record other { device = after_restart p.index (begun p bytes r) (asked_device p bytes r); host = with_stream p.index (begun p bytes r) r.host; history = given_then p bytes r })
     unfolding after_restart with_stream
     restarts =
         changed_in_band r other (after p bytes r).controls (after p bytes r).settings outs_then ins_then paces_then (given_then p bytes r) band

@@ -6,7 +6,7 @@ use Rattle.uac_device.specs.DeviceWorld.{after_sending_packet as device_sends}
 use Rattle.uac_script.specs.Phrase.{SaidMark}
 use Rattle.uac_streaming.specs.StreamingWorld.{StreamingWorld, in_packets, out_packets, packet_fetched, packet_sent, packet_to, report_made, settled_turn}
 use Rattle.uac_running.specs.RunningWorld.{RunningWorld, streaming_of, with_streaming}
-use Rattle.uac_running.specs.Events.{all_given, domain_microframe, microframe, packets_and_ticks, tick}
+use Rattle.uac_running.specs.Events.{after_all_jacks, domain_microframe, microframe, packets_and_ticks, tick}
 use Rattle.uac_bands.proofs.Once.{none_at, none_where}
 use Rattle.uac_bands.proofs.KeptSteps.{IsKeptByEach, advanced_keeps, before_the_end_keep, before_ticks_keep, domain_keeps, given_keeps, microframe_keeps, tick_keeps}
 
@@ -36,7 +36,7 @@ module _ (k : ℕ) where
   unfolding settled_turn
   settled_none detail n w none = starts_none.ends n w none
 
-  pub given_none : (c : ℕ) (r : RunningWorld) → RestsNow r → (all_given c r).outs k ≡ None
+  pub given_none : (c : ℕ) (r : RunningWorld) → RestsNow r → (after_all_jacks c r).outs k ≡ None
   given_none = given_keeps RunsNone starts_none
 
   pub tick_none : (c : ℕ) (r : RunningWorld) → RestsNow r → RestsNow (tick c r).world

@@ -22,7 +22,7 @@ pub record StreamInBand (r : RunningWorld) (interface : ℕ) (l : Life) (d : Dom
   pub runs : Runs r interface l d
   pub fed : IsFed r interface l
   pub band : InBand l
-  pub rate : option_and_then nominal_of (rate_of r.device.function.entities r.device.controls d.clock) ≡ Some l.out.stream.nominal
+  pub rate : option_and_then nominal_of (rate_of r.device.function.entities r.device.controls d.id) ≡ Some l.out.stream.nominal
   pub slight : is_slight d.deviation ≡ true
 
 -- so it is for each that runs; there are at most eight streaming interfaces
@@ -44,7 +44,7 @@ IsNearLevel said = (interface level target : ℕ) → said ≡ says_level interf
 -- a microframe of a run that is steady after it keeps the streams in their bands
 abbrev pub SteadyMicroframesKeepBands : Type 0
 SteadyMicroframesKeepBands =
-    (marks : List SaidMark) (r : RunningWorld) → RunInBand r → steadiness.is_steady (microframe marks r).world.given ≡ true
+    (marks : List SaidMark) (r : RunningWorld) → RunInBand r → steadiness.is_steady (microframe marks r).world.history ≡ true
     → RunInBand (microframe marks r).world
 
 -- none finds a primed ring empty
@@ -54,14 +54,14 @@ MicroframesFindNoneEmpty = (marks : List SaidMark) (r : RunningWorld) → RunInB
 -- and one that is steady after it tells levels near their targets alone
 abbrev pub SteadyMicroframesTellNear : Type 0
 SteadyMicroframesTellNear =
-    (marks : List SaidMark) (r : RunningWorld) → RunInBand r → steadiness.is_steady (microframe marks r).world.given ≡ true
+    (marks : List SaidMark) (r : RunningWorld) → RunInBand r → steadiness.is_steady (microframe marks r).world.history ≡ true
     → All IsNearLevel (microframe marks r).lines
 
 -- a run that is steady after a microframe was so before it
 abbrev pub SteadinessLooksBack : Type 0
 SteadinessLooksBack =
-    (marks : List SaidMark) (r : RunningWorld) → steadiness.is_steady (microframe marks r).world.given ≡ true
-    → steadiness.is_steady r.given ≡ true
+    (marks : List SaidMark) (r : RunningWorld) → steadiness.is_steady (microframe marks r).world.history ≡ true
+    → steadiness.is_steady r.history ≡ true
 
 -- so many microframes of a run that is steady after them: the run is in its bands after them, and their lines tell of no ring that was
 -- found empty, and of levels near their targets
@@ -73,4 +73,4 @@ pub record StaysSteady (marks : List SaidMark) (count : ℕ) (r : RunningWorld) 
 abbrev pub SteadyRunsStaySteady : Type 0
 SteadyRunsStaySteady =
     (marks : List SaidMark) (count : ℕ) (r : RunningWorld) → RunInBand r
-    → steadiness.is_steady (microframes marks count r).world.given ≡ true → StaysSteady marks count r
+    → steadiness.is_steady (microframes marks count r).world.history ≡ true → StaysSteady marks count r

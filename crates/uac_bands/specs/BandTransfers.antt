@@ -18,7 +18,7 @@ use Rattle.uac_pcm.specs.declared.tones.Tone.{Tone}
 use Rattle.uac_running.specs.Events.{microframe}
 use Rattle.uac_running.specs.RunningWorld.{RunningWorld, at_start, with_detail, with_deviation, with_samples_on, with_tone, with_track}
 use Rattle.uac_running.specs.RunningTransfers.{after_transfer, with_break}
-use Rattle.uac_bands.specs.Life.{clock_on}
+use Rattle.uac_bands.specs.Life.{domain_id_on}
 use Rattle.uac_bands.specs.BandRun.{RunInBand}
 
 -- an interface is in a setting other than 0
@@ -35,8 +35,8 @@ pub record IsSoundRun (r : RunningWorld) : Type 0 where
   pub running : (interface : ℕ) (o : OutStream) → r.device.outs interface ≡ Some o → IsInSetting r interface
   pub whole : (interface : ℕ) → All (λ frame. length frame ≡ channels_at r.host.function interface) (r.host.tracks interface).waiting
   pub slight : All (λ d. is_slight d.deviation ≡ true) r.device.domains
-  pub clocked : (interface clock : ℕ) → goes_out r.device.function interface ≡ true → clock_on r interface ≡ Some clock
-      → is_some (find (λ d. d.clock == clock) r.device.domains) ≡ true
+  pub clocked : (interface clock : ℕ) → goes_out r.device.function interface ≡ true → domain_id_on r interface ≡ Some clock
+      → is_some (find (λ d. d.id == clock) r.device.domains) ≡ true
 
 -- a transfer keeps such a run in its bands, whether it breaks or not: a stream that it starts is in its band, and no other's rate changes
 abbrev pub TransfersKeepBands : Type 0
@@ -70,10 +70,10 @@ TransfersKeepSound = (p : Setup) (bytes : List ℕ) (r : RunningWorld) → IsSou
 
 -- what is steady after a deviation or a transfer was so before, and the deviation is at most a thousandth
 pub record LooksBack (r : RunningWorld) : Type 0 where
-  pub deviation : (clock : ℕ) (ppm : ℤ) → steadiness.is_steady (with_deviation clock ppm r).given ≡ true
-      → (is_slight ppm ≡ true) × (steadiness.is_steady r.given ≡ true)
-  pub transfer : (p : Setup) (bytes : List ℕ) → steadiness.is_steady (after_transfer p bytes r).given ≡ true
-      → steadiness.is_steady r.given ≡ true
+  pub deviation : (clock : ℕ) (ppm : ℤ) → steadiness.is_steady (with_deviation clock ppm r).history ≡ true
+      → (is_slight ppm ≡ true) × (steadiness.is_steady r.history ≡ true)
+  pub transfer : (p : Setup) (bytes : List ℕ) → steadiness.is_steady (after_transfer p bytes r).history ≡ true
+      → steadiness.is_steady r.history ≡ true
 
 abbrev pub CallsLookBack : Type 0
 CallsLookBack = (r : RunningWorld) → LooksBack r

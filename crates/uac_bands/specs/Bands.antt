@@ -5,7 +5,7 @@ use Rattle.std.specs.Prelude.{Some}
 use Rattle.uac_clock.specs.Nominal.{IsNominal}
 use Rattle.uac_clock.specs.Ticks.{ticks_in}
 use Rattle.uac_clock.specs.declared.values.Nominal.{Nominal}
-use Rattle.uac_rate.specs.Levels.{AreIntervals, IsHeld, IsRobust, Point, Within}
+use Rattle.uac_rate.specs.Levels.{AreIntervals, IsSafeLevel, IsRobust, Point, Within}
 use Rattle.uac_rate.specs.Steadiness.{latest_run}
 use Rattle.uac_alt.specs.AltStreams.{StreamFields}
 use Rattle.uac_flow.specs.FlowStreams.{OutStream, after_ticks, arrival_of, frames_of, is_dry, is_due, out_level, priming_level, started_out}
@@ -90,20 +90,20 @@ StaysInBand =
 abbrev pub ticks_then : ℕ → Life → ℕ
 ticks_then step l = ticks_in (l.steps ++ step ∷ [])
 
-abbrev pub played : ℕ → Option (List ℕ) → ℕ → Life → OutStream
-played i packet step l = ticks_taken i (after_ticks (ticks_then step l) (with_packet packet l).out)
+abbrev pub stream_at_tick : ℕ → Option (List ℕ) → ℕ → Life → OutStream
+stream_at_tick i packet step l = ticks_taken i (after_ticks (ticks_then step l) (with_packet packet l).out)
 
 -- what a primed ring holds before each tick of a steady microframe, and after the last
 abbrev pub HoldsEnough : Type 0
 HoldsEnough =
     (l : Life) (packet : Option (List ℕ)) (step : ℕ) (target : ℕ) → InBand l → IsSteadyMicroframe packet step l → l.out.target ≡ Some target
-    → (i : ℕ) → i ≤ ticks_then step l → IsHeld l.out.stream.service (out_level (played i packet step l))
+    → (i : ℕ) → i ≤ ticks_then step l → IsSafeLevel l.out.stream.service (out_level (stream_at_tick i packet step l))
 
 -- no tick of a steady microframe finds a primed ring empty
 abbrev pub NeverDry : Type 0
 NeverDry =
     (l : Life) (packet : Option (List ℕ)) (step : ℕ) → InBand l → IsSteadyMicroframe packet step l
-    → (i : ℕ) → i < ticks_then step l → is_dry (played i packet step l) ≡ false
+    → (i : ℕ) → i < ticks_then step l → is_dry (stream_at_tick i packet step l) ≡ false
 
 -- and its packet, where one is due, fits
 abbrev pub NeverOver : Type 0
@@ -118,4 +118,4 @@ EndsNear =
 
 -- between two microframes a primed ring holds enough
 abbrev pub HoldsBetween : Type 0
-HoldsBetween = (l : Life) (target : ℕ) → InBand l → l.out.target ≡ Some target → IsHeld l.out.stream.service (out_level l.out)
+HoldsBetween = (l : Life) (target : ℕ) → InBand l → l.out.target ≡ Some target → IsSafeLevel l.out.stream.service (out_level l.out)

@@ -22,12 +22,12 @@ pub record Life : Type 0 where
   pub reports : List (List Bool)
 
 -- the clock of the terminal to which an interface links; none where there is no such interface
-abbrev pub clock_on : RunningWorld → ℕ → Option ℕ
-clock_on r interface = option_map (λ s. (entity_in r.device s.terminal).clock) (interface_in r.device.function interface)
+abbrev pub domain_id_on : RunningWorld → ℕ → Option ℕ
+domain_id_on r interface = option_map (λ s. (entity_in r.device s.terminal).clock) (interface_in r.device.function interface)
 
 -- the domain of an interface's stream
 abbrev pub domain_on : RunningWorld → ℕ → Option Domain
-domain_on r interface = option_and_then (λ clock. find (λ d. d.clock == clock) r.device.domains) (clock_on r interface)
+domain_on r interface = option_and_then (λ clock. find (λ d. d.id == clock) r.device.domains) (domain_id_on r interface)
 
 -- the life of the stream to the device that an interface runs; none where it runs none
 unfoldable pub life_of : RunningWorld → ℕ → Option Life
@@ -35,7 +35,7 @@ life_of r interface =
     option_and_then (λ out.
     option_and_then (λ pace.
     option_and_then (λ d.
-    option_map (λ place. record { out = out; pace = pace; steps = d.steps; reports = r.given.feedback place })
+    option_map (λ place. record { out = out; pace = pace; steps = d.steps; reports = r.history.feedback place })
     (place_of r.device.function interface))
     (domain_on r interface))
     (r.host.paces interface))

@@ -18,7 +18,7 @@ use Rattle.uac_mixer.specs.declared.element.Element.{Element}
 use Rattle.uac_mixer.proofs.Agreed.{held_as}
 use Rattle.uac_mixer.proofs.Members.{IsElementOf, all_listed, none_read}
 use Rattle.uac_mixer.proofs.Stored.{starts}
-use Rattle.uac_script.specs.Phrase.{Phrase, feeds}
+use Rattle.uac_script.specs.Phrase.{Phrase, bytes_line}
 use Rattle.uac_units.specs.Hearing.{Reading}
 use Rattle.uac_running.specs.RunningWorld.{at_start}
 use Rattle.uac_device.specs.DeviceWorld.{fresh}
@@ -84,7 +84,7 @@ starts_begun bytes function meters sound =
 -- ---- lines
 
 pub describing_begins : (bytes : List ℕ) (meters : List Reading) (phrase : Phrase) → AreBytes bytes
-    → ((more : List ℕ) → phrase ≡ feeds more → AreBytes more) → Begins (step_describing bytes meters phrase)
+    → ((more : List ℕ) → phrase ≡ bytes_line more → AreBytes more) → Begins (step_describing bytes meters phrase)
 describing_begins bytes meters =
     describing_is (λ phrase s. Begins s) (λ phrase fault. tt) bytes meters (λ are. are) (λ more now are. are)
     (λ function is. starts_begun bytes function meters is.sound)

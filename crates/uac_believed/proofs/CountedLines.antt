@@ -14,7 +14,7 @@ use Rattle.uac_topology.proofs.Small.{small}
 use Rattle.uac_store.proofs.Soundness.{keyed}
 use Rattle.uac_alt.specs.AltStreams.{StreamFields}
 use Rattle.uac_units.specs.Hearing.{Reading}
-use Rattle.uac_request.specs.Requests.{after_request, held_by, reply_of, setup_of}
+use Rattle.uac_request.specs.Requests.{after_request, request_state, reply_of, setup_of}
 use Rattle.uac_request.specs.declared.setup.Setup.{Setup}
 use Rattle.uac_host.specs.HostWorld.{HostWorld}
 use Rattle.uac_device.specs.DeviceWorld.{DeviceWorld, Domain, at_rest, after_control, after_deviation, fresh, is_input_jack, after_restart, sets_interface, stream_in_setting, tells_done}
@@ -22,7 +22,7 @@ use Rattle.uac_device.specs.DeviceKept.{IsInRange}
 use Rattle.uac_mixer.specs.MixerElements.{fits_element}
 use Rattle.uac_mixer.specs.declared.link.When.{When}
 use Rattle.uac_mixer.specs.declared.link.When.TheVariants as when
-use Rattle.uac_script.specs.Phrase.{Phrase, idle, feeds, goes, controls, gets, sets, shows, breaks, appends, tracks, jacks, deviates, runs, details, reports, is_id, is_in_range, is_within}
+use Rattle.uac_script.specs.Phrase.{Phrase, nothing_line, bytes_line, go_line, control_line, get_line, set_line, show_line, break_line, append_line, track_line, jack_line, deviate_line, microframes_line, detail_line, report_line, is_id, is_in_range, is_within}
 use Rattle.uac_script.specs.Line.{Says}
 use Rattle.uac_script.specs.LineReading.{answer}
 use Rattle.uac_script.proofs.Answered.{answer_says}
@@ -31,12 +31,12 @@ use Rattle.uac_transcript.specs.declared.report.StreamCounts.{StreamCounts}
 use Rattle.uac_streaming.specs.StreamingWorld.{StreamingWorld, after_following}
 use Rattle.uac_running.specs.declared.jacks.Jack.{Jack}
 use Rattle.uac_running.specs.RunningWorld.{RunningWorld, at_start, silent_jack, streaming_of, jack_with_tone, with_detail, with_deviation, with_samples_on, with_tone, with_track}
-use Rattle.uac_running.specs.Naming.{are_frames, size_of}
+use Rattle.uac_running.specs.RunningNames.{are_frames, size_of}
 use Rattle.uac_running.specs.Events.{microframes}
 use Rattle.uac_running.specs.RunningLines.{ticks_since}
 use Rattle.uac_running.specs.RunningTransfers.{acts, element_named, holds_setting, read_element, set_element, show_element, transfer, after_transfer, with_break}
 use Rattle.uac_bus.specs.declared.fault.BusFault.{BusFault}
-use Rattle.uac_bus.specs.BusWorld.{Step, World, describing, done, refused, running, silently, start, step, step_describing, step_running, step_telling, tone_of, unless}
+use Rattle.uac_bus.specs.BusWorld.{Step, BusWorld, describing, done, refused, running, silently, start, step, step_describing, step_running, step_telling, tone_of, unless}
 use Rattle.uac_bus.specs.After.{after, and_then, said_step}
 use Rattle.uac_steady.proofs.Beginning.{IsDescribed, describing_is, feeds_bytes}
 use Rattle.uac_steady.proofs.Steps.{on_element_is, unless_is}
@@ -91,7 +91,7 @@ start_counted most bytes function meters is = record {
 asked_counted : (p : Setup) (bytes : List ℕ) (most : ℕ) (w : StreamingWorld) → HaveCounted most w
     → HaveCounted most (record w { device = after_control p bytes w.device })
 unfolding after_control after_restart
-asked_counted p bytes most w is = by (sets_interface p && tells_done (reply_of d.function (held_by d.controls d.settings) p bytes))
+asked_counted p bytes most w is = by (sets_interface p && tells_done (reply_of d.function (request_state d.controls d.settings) p bytes))
   where
     d : DeviceWorld
     d = w.device
@@ -100,7 +100,7 @@ asked_counted p bytes most w is = by (sets_interface p && tells_done (reply_of d
     begun = stream_in_setting d.function d.controls p.index p.value
 
     by : (b : Bool)
-        → (let after = after_request d.function (held_by d.controls d.settings) p bytes in
+        → (let after = after_request d.function (request_state d.controls d.settings) p bytes in
         let asked : DeviceWorld = record d { controls = after.controls; settings = after.settings } in
         HaveCounted most (record w { device = if b then after_restart p.index begun asked else asked }))
     by true = record { domains = is.domains; entities = is.entities; clocks = is.clocks; met = is.met }
@@ -149,8 +149,8 @@ toned_counted terminal tone most r is = record {
     by j false given = given
 
 off_timed : (clock : ℕ) (ppm : ℤ) (most : ℕ) → IsInRange ppm → (d : Domain) → IsTimed most d
-    → IsTimed most (if d.clock == clock then record d { deviation = ppm } else d)
-off_timed clock ppm most range d is = by (d.clock == clock)
+    → IsTimed most (if d.id == clock then record d { deviation = ppm } else d)
+off_timed clock ppm most range d is = by (d.id == clock)
   where
     by : (b : Bool) → IsTimed most (if b then record d { deviation = ppm } else d)
     by true = record { ticks = is.ticks; range = range }
@@ -163,8 +163,8 @@ deviated_counted clock ppm most r range is = record {
   streams = record {
     domains = is.streams.domains;
     entities = is.streams.entities;
-    clocks = All-map (IsTimed most) (λ (d : Domain). if d.clock == clock then record d { deviation = ppm } else d) r.device.domains
-        (All-weaker (IsTimed most) (λ (d : Domain). IsTimed most (if d.clock == clock then record d { deviation = ppm } else d))
+    clocks = All-map (IsTimed most) (λ (d : Domain). if d.id == clock then record d { deviation = ppm } else d) r.device.domains
+        (All-weaker (IsTimed most) (λ (d : Domain). IsTimed most (if d.id == clock then record d { deviation = ppm } else d))
         (off_timed clock ppm most range) r.device.domains is.streams.clocks);
     met = is.streams.met;
   };
@@ -185,7 +185,7 @@ hosted most r host is = record {
 -- ---- one line
 
 -- a descriptor's bytes are bytes; the counts of a running device go up to a bound
-abbrev CountsIn : ℕ → World → Type 0
+abbrev CountsIn : ℕ → BusWorld → Type 0
 CountsIn most (describing bytes meters) = AreBytes bytes
 CountsIn most (running r) = HasCounted most r
 
@@ -207,66 +207,66 @@ module _ (most : ℕ) (r : RunningWorld) (is : HasCounted most r) where
 
   running_adds : (phrase : Phrase) → is_in_range phrase ≡ true → Adds most (step_running r phrase)
   unfolding transfer read_element set_element show_element with_break with_samples_on with_track with_detail
-  running_adds idle range = more
-  running_adds (feeds bytes) range = tt
-  running_adds goes range = tt
-  running_adds (controls setup sent) range = transfers_counted (setup_of setup) sent _ r more
-  running_adds (gets name) range =
+  running_adds nothing_line range = more
+  running_adds (bytes_line bytes) range = tt
+  running_adds go_line range = tt
+  running_adds (control_line setup sent) range = transfers_counted (setup_of setup) sent _ r more
+  running_adds (get_line name) range =
       on_element_is (Adds most) refused_adds (element_named r name) (λ x. step_telling (read_element x r)) (λ x. transfers_counted _ _ _ r more)
-  running_adds (sets name value) range =
+  running_adds (set_line name value) range =
       on_element_is (Adds most) refused_adds (element_named r name) (λ x. unless (fits_element x.kind value) 7 (step_telling (set_element x value r)))
       (λ x. unless_is (Adds most) refused_adds (fits_element x.kind value) 7 (step_telling (set_element x value r)) (transfers_counted _ _ _ r more))
-  running_adds (shows name) range =
+  running_adds (show_line name) range =
       on_element_is (Adds most) refused_adds (element_named r name) (λ x. step_telling (show_element x r)) (λ x. more)
-  running_adds (breaks later) range = record { streams = more.streams; time = more.time; renders = more.renders; frames = more.frames }
-  running_adds (appends number samples) range =
+  running_adds (break_line later) range = record { streams = more.streams; time = more.time; renders = more.renders; frames = more.frames }
+  running_adds (append_line number samples) range =
       unless_is (Adds most) refused_adds _ 6
       (unless (are_frames r.device.function (size_of number) (length samples)) 7
       (silently (running (with_samples_on (size_of number) samples r))))
       (unless_is (Adds most) refused_adds _ 7 (silently (running (with_samples_on (size_of number) samples r))) (hosted _ r _ more))
-  running_adds (tracks number voice) range =
+  running_adds (track_line number voice) range =
       unless_is (Adds most) refused_adds _ 6 (silently (running (with_track (size_of number) (tone_of voice) r))) (hosted _ r _ more)
-  running_adds (jacks terminal voice) range =
+  running_adds (jack_line terminal voice) range =
       unless_is (Adds most) refused_adds _ 6 (silently (running (with_tone (size_of terminal) (tone_of voice) r)))
       (toned_counted (size_of terminal) (tone_of voice) _ r more)
-  running_adds (deviates clock ppm) range =
+  running_adds (deviate_line clock ppm) range =
       unless_is (Adds most) refused_adds _ 6 (silently (running (with_deviation (size_of clock) ppm r)))
       (deviated_counted (size_of clock) ppm _ r (within_means (negsuc 99999) (pos 100000) ppm (and_parts (is_id clock) _ range).1) more)
-  running_adds (runs count marks) range =
+  running_adds (microframes_line count marks) range =
       unless_is (Adds most) refused_adds _ 6 (step_telling (microframes marks (size_of count) r))
       (microframes_add marks (size_of count) most (most + 524288000) r
       (omega (arith, microframes_few count (and_parts (is_within (pos 1) (pos 8000) count) _ range).0)) is)
-  running_adds (details level) range = record { streams = more.streams; time = more.time; renders = more.renders; frames = more.frames }
-  running_adds reports range = more
+  running_adds (detail_line level) range = record { streams = more.streams; time = more.time; renders = more.renders; frames = more.frames }
+  running_adds report_line range = more
 
 describing_adds : (most : ℕ) (bytes : List ℕ) (meters : List Reading) (phrase : Phrase) → AreBytes bytes
-    → ((more : List ℕ) → phrase ≡ feeds more → AreBytes more) → Adds most (step_describing bytes meters phrase)
+    → ((more : List ℕ) → phrase ≡ bytes_line more → AreBytes more) → Adds most (step_describing bytes meters phrase)
 describing_adds most bytes meters =
     describing_is (λ phrase s. Adds most s) (λ phrase fault. tt) bytes meters (λ are. are) (λ more now are. are)
     (λ function is. start_counted (most + 524288000) bytes function meters is)
 
-step_adds : (most : ℕ) (phrase : Phrase) (w : World) → CountsIn most w → is_in_range phrase ≡ true
-    → ((more : List ℕ) → phrase ≡ feeds more → AreBytes more) → Adds most (step phrase w)
+step_adds : (most : ℕ) (phrase : Phrase) (w : BusWorld) → CountsIn most w → is_in_range phrase ≡ true
+    → ((more : List ℕ) → phrase ≡ bytes_line more → AreBytes more) → Adds most (step phrase w)
 unfolding step
 step_adds most phrase (describing bytes meters) is range feed = describing_adds most bytes meters phrase is feed
 step_adds most phrase (running r) is range feed = running_adds most r is phrase range
 
-said_adds : (most : ℕ) (text : List ℕ) (w : World) → CountsIn most w → Adds most (said_step (answer text) w)
+said_adds : (most : ℕ) (text : List ℕ) (w : BusWorld) → CountsIn most w → Adds most (said_step (answer text) w)
 said_adds most text w is = by (answer text) refl
   where
     by : (said : Result Phrase ℕ) → answer text ≡ said → Adds most (said_step said w)
     by (Ok phrase) same =
         step_adds most phrase w is (let says : Says text (Ok phrase) = subst (Says text) same (answer_says text) in says.1)
-        (λ more fed. feeds_bytes text more (let all : answer text ≡ Ok (feeds more) = cc in all))
+        (λ more fed. feeds_bytes text more (let all : answer text ≡ Ok (bytes_line more) = cc in all))
     by (Err rule) same = tt
 
 -- ---- lines in a row
 
-counts_within : (most limit : ℕ) → most ≤ limit → (w : World) → CountsIn most w → CountsIn limit w
+counts_within : (most limit : ℕ) → most ≤ limit → (w : BusWorld) → CountsIn most w → CountsIn limit w
 counts_within most limit up (describing bytes meters) is = is
 counts_within most limit up (running r) is = within most limit up r is
 
-lines_add : (texts : List (List ℕ)) (most limit : ℕ) (w : World) → most + length texts * 524288000 ≤ limit → CountsIn most w
+lines_add : (texts : List (List ℕ)) (most limit : ℕ) (w : BusWorld) → most + length texts * 524288000 ≤ limit → CountsIn most w
     → CountsIn limit (after (map answer texts) w).world
 unfolding after
 lines_add [] most limit w few is = counts_within most limit (omega arith) w is
@@ -275,7 +275,7 @@ lines_add (text ∷ texts) most limit w few is =
     (λ next counts. lines_add texts (most + 524288000) limit next (omega arith) counts)
   where
     by : (s : Step) → Adds most s
-        → ((next : World) → CountsIn (most + 524288000) next → CountsIn limit (after (map answer texts) next).world)
+        → ((next : BusWorld) → CountsIn (most + 524288000) next → CountsIn limit (after (map answer texts) next).world)
         → CountsIn limit (and_then s w (after (map answer texts))).world
     by (done next lines) adds rest = rest next adds
     by (refused fault) adds rest = counts_within most limit (omega arith) w is
@@ -301,7 +301,7 @@ module _ (most : ℕ) (low : most < 2 ^ 63) where
     met = λ k. met_far (r.met k) (is.streams.met k);
   }
 
-  far_in : (w : World) → CountsIn most w → IsFarIn w
+  far_in : (w : BusWorld) → CountsIn most w → IsFarIn w
   far_in (describing bytes meters) is = tt
   far_in (running r) is = run_far r is
 

@@ -23,7 +23,7 @@ use Rattle.uac_streaming.proofs.RoomLemmas.{next_few}
 use Rattle.uac_running.specs.declared.jacks.Jack.{Jack}
 use Rattle.uac_running.specs.RunningWorld.{RunningWorld, streaming_of, with_streaming}
 use Rattle.uac_bands.proofs.Once.{own_number}
-use Rattle.uac_running.specs.Events.{after_one, all_given, domain_microframe, domain_microframes, ends_and_reports, microframe, microframes, next_frame, packets_and_ticks, tick, tick_times}
+use Rattle.uac_running.specs.Events.{after_one, after_all_jacks, domain_microframe, domain_microframes, ends_and_reports, microframe, microframes, next_frame, packets_and_ticks, tick, tick_times}
 
 -- ---- counts up to a bound
 
@@ -292,12 +292,12 @@ jacks_counted most (j ∷ js) w is =
     jacks_counted most js (record w { device = set_jack j.terminal (next_frame j) w.device })
     (record { domains = is.domains; entities = is.entities; clocks = is.clocks; met = is.met })
 
-given_counted : (most clock : ℕ) (r : RunningWorld) → HasCounted most r → HaveCounted most (record (streaming_of r) { device = all_given clock r })
-unfolding all_given
-given_counted most clock r is = jacks_counted most (filter (λ (j : Jack). j.clock == clock) r.jacks) (streaming_of r) is.streams
+given_counted : (most clock : ℕ) (r : RunningWorld) → HasCounted most r → HaveCounted most (record (streaming_of r) { device = after_all_jacks clock r })
+unfolding after_all_jacks
+given_counted most clock r is = jacks_counted most (filter (λ (j : Jack). j.domain == clock) r.jacks) (streaming_of r) is.streams
 
 one_frame_adds : (most clock : ℕ) (j : Jack) → HasGiven most j → HasGiven (most + 256) (after_one clock j)
-one_frame_adds most clock j is = by (j.clock == clock)
+one_frame_adds most clock j is = by (j.domain == clock)
   where
     by : (b : Bool) → HasGiven (most + 256) (if b then record j { place = at_most_u64 (j.place + 1) } else j)
     by true = sum_adds j.place 1 most 256 is (omega arith)
@@ -311,7 +311,7 @@ renders_few clock w few = omega (arith, needed_few w.function.entities clock, fe
 tick_adds : (clock most : ℕ) (r : RunningWorld) → HasCounted most r → HasCounted (most + 256) (tick clock r).world
 unfolding tick after_tick
 tick_adds clock most r is =
-    let given = all_given clock r in
+    let given = after_all_jacks clock r in
     let counted = given_counted most clock r is in
     record {
       streams = record {
@@ -340,11 +340,11 @@ ticks_add (suc count) clock most limit r few is =
 next_few_of : (w : DeviceWorld) (d : Domain) → IsInRange d.deviation → ticks_in (steps_with_next w d) ≤ 27
 unfolding next_ticks step_in
 next_few_of w d range =
-    by (d.clock == d.clock) (own_number d.clock)
-    (next_few (record w { domains = d ∷ [] }) d.clock (All-cons (λ (e : Domain). IsInRange e.deviation) d [] range (All-nil (λ (e : Domain). IsInRange e.deviation))))
+    by (d.id == d.id) (own_number d.id)
+    (next_few (record w { domains = d ∷ [] }) d.id (All-cons (λ (e : Domain). IsInRange e.deviation) d [] range (All-nil (λ (e : Domain). IsInRange e.deviation))))
   where
     by : (b : Bool) → b ≡ true
-        → option_map_or (λ e. ticks_in (steps_with_next w e)) (cond b (Some d) (find (λ (e : Domain). e.clock == d.clock) [])) 0 ≤ 27
+        → option_map_or (λ e. ticks_in (steps_with_next w e)) (cond b (Some d) (find (λ (e : Domain). e.id == d.id) [])) 0 ≤ 27
         → ticks_in (steps_with_next w d) ≤ 27
     by true is few = few
     by false is few = absurd (cc)
@@ -357,8 +357,8 @@ steps_add steps step most few before =
     omega (arith, front, few, before)
 
 goes_on_adds : (most clock : ℕ) (w : DeviceWorld) (d : Domain) → IsTimed most d
-    → IsTimed (most + 27) (if d.clock == clock then record d { steps = steps_with_next w d } else d)
-goes_on_adds most clock w d is = by (d.clock == clock)
+    → IsTimed (most + 27) (if d.id == clock then record d { steps = steps_with_next w d } else d)
+goes_on_adds most clock w d is = by (d.id == clock)
   where
     by : (b : Bool) → IsTimed (most + 27) (if b then record d { steps = steps_with_next w d } else d)
     by true = record { ticks = steps_add d.steps (step_in w d) most (next_few_of w d is.range) is.ticks; range = is.range }
@@ -370,8 +370,8 @@ advanced_adds clock most r is = record {
   streams = record {
     domains = is.streams.domains;
     entities = is.streams.entities;
-    clocks = All-map (IsTimed (most + 27)) (λ (d : Domain). if d.clock == clock then record d { steps = steps_with_next r.device d } else d) r.device.domains
-        (All-weaker (IsTimed most) (λ (d : Domain). IsTimed (most + 27) (if d.clock == clock then record d { steps = steps_with_next r.device d } else d))
+    clocks = All-map (IsTimed (most + 27)) (λ (d : Domain). if d.id == clock then record d { steps = steps_with_next r.device d } else d) r.device.domains
+        (All-weaker (IsTimed most) (λ (d : Domain). IsTimed (most + 27) (if d.id == clock then record d { steps = steps_with_next r.device d } else d))
         (goes_on_adds most clock r.device) r.device.domains is.streams.clocks);
     met = λ k. met_within most (most + 27) (omega arith) (r.met k) (is.streams.met k);
   };
@@ -412,26 +412,26 @@ unfolding packets_and_ticks
 before_the_end_adds marks most r is =
     let sends = with_streaming r (out_packets r.detail marks (streaming_of r)).world in
     let fetches = with_streaming sends (in_packets r.detail marks (streaming_of sends)).world in
-    let behind_out : HasCounted (most + 256) sends =
+    let after_out : HasCounted (most + 256) sends =
     streamed most (most + 256) (omega arith) r (out_packets r.detail marks (streaming_of r)).world is
     (all_out_add r.detail marks most (streaming_of r) is.streams) in
-    let behind_in : HasCounted (most + 512) fetches =
-    streamed (most + 256) (most + 512) (omega arith) sends (in_packets r.detail marks (streaming_of sends)).world behind_out
+    let after_in : HasCounted (most + 512) fetches =
+    streamed (most + 256) (most + 512) (omega arith) sends (in_packets r.detail marks (streaming_of sends)).world after_out
     (streams_within (most + 256 + 256) (most + 512) (omega arith) (in_packets r.detail marks (streaming_of sends)).world
-    (all_in_add r.detail marks (most + 256) (streaming_of sends) behind_out.streams)) in
-    domains_add fetches.device.function.domains (most + 512) (most + 56024) fetches (omega (arith, behind_in.streams.domains)) behind_in
+    (all_in_add r.detail marks (most + 256) (streaming_of sends) after_out.streams)) in
+    domains_add fetches.device.function.domains (most + 512) (most + 56024) fetches (omega (arith, after_in.streams.domains)) after_in
 
 the_end_adds : (marks : List SaidMark) (most : ℕ) (r : RunningWorld) → HasCounted most r
     → HasCounted (most + 512) (ends_and_reports marks r).world
 unfolding ends_and_reports
 the_end_adds marks most r is =
     let ends = with_streaming r (all_settled r.detail (streaming_of r)).world in
-    let behind_ends : HasCounted (most + 256) ends =
+    let after_ends : HasCounted (most + 256) ends =
     streamed most (most + 256) (omega arith) r (all_settled r.detail (streaming_of r)).world is
     (all_settled_add r.detail marks most (streaming_of r) is.streams) in
-    streamed (most + 256) (most + 512) (omega arith) ends (all_reported r.detail marks (streaming_of ends)).world behind_ends
+    streamed (most + 256) (most + 512) (omega arith) ends (all_reported r.detail marks (streaming_of ends)).world after_ends
     (streams_within (most + 256 + 256) (most + 512) (omega arith) (all_reported r.detail marks (streaming_of ends)).world
-    (all_reported_add r.detail marks (most + 256) (streaming_of ends) behind_ends.streams))
+    (all_reported_add r.detail marks (most + 256) (streaming_of ends) after_ends.streams))
 
 pub microframe_adds : (marks : List SaidMark) (most : ℕ) (r : RunningWorld) → HasCounted most r
     → HasCounted (most + 65536) (microframe marks r).world

@@ -6,15 +6,15 @@ use Rattle.uac_descriptor.specs.BlockReading.{AreBytes}
 use Rattle.uac_mixer.specs.MixerElements.{fits_element, unread}
 use Rattle.uac_mixer.specs.ViewTransfers.{is_for}
 use Rattle.uac_mixer.specs.declared.element.Element.{Element}
-use Rattle.uac_script.specs.Phrase.{Phrase, idle, feeds, goes, controls, gets, sets, shows, breaks, appends, tracks, jacks, deviates, runs, details, reports}
+use Rattle.uac_script.specs.Phrase.{Phrase, nothing_line, bytes_line, go_line, control_line, get_line, set_line, show_line, break_line, append_line, track_line, jack_line, deviate_line, microframes_line, detail_line, report_line}
 use Rattle.uac_script.specs.LineReading.{answer}
 use Rattle.uac_request.specs.Requests.{setup_of}
 use Rattle.uac_running.specs.RunningWorld.{RunningWorld, with_detail, with_deviation, with_samples_on, with_tone, with_track}
-use Rattle.uac_running.specs.Naming.{are_frames, size_of}
+use Rattle.uac_running.specs.RunningNames.{are_frames, size_of}
 use Rattle.uac_running.specs.Events.{microframes}
 use Rattle.uac_running.specs.RunningTransfers.{element_named, read_element, set_element, show_element, transfer, with_break}
 use Rattle.uac_bus.specs.declared.fault.BusFault.{BusFault}
-use Rattle.uac_bus.specs.BusWorld.{Step, World, describing, done, on_element, refused, running, silently, start, step, step_running, step_telling, tone_of, unless}
+use Rattle.uac_bus.specs.BusWorld.{Step, BusWorld, describing, done, on_element, refused, running, silently, start, step, step_running, step_telling, tone_of, unless}
 use Rattle.uac_bus.specs.After.{after, and_then, said_step}
 use Rattle.uac_believed.specs.Unknown.{ElementsStay, Transfer, ValuesAreKnownAsTold, elements_in, get_by, if_done, last_or, set_by, tells, tells_in, told_of, transfer_of}
 use Rattle.uac_steady.proofs.Beginning.{feeds_bytes}
@@ -52,41 +52,41 @@ tells_on r (Some x) made of each = each x
 
 running_tells : (r : RunningWorld) (phrase : Phrase) → Tells (tells_in (running r) (Ok phrase)) r.view.elements (step_running r phrase)
 unfolding transfer read_element set_element show_element with_break with_samples_on with_track with_tone with_detail with_deviation
-running_tells r idle = none_told r.view.elements
-running_tells r (feeds more) = tt
-running_tells r goes = tt
-running_tells r (controls setup sent) = transfer_told r (record { setup = setup_of setup; sent = sent })
-running_tells r (gets name) =
+running_tells r nothing_line = none_told r.view.elements
+running_tells r (bytes_line more) = tt
+running_tells r go_line = tt
+running_tells r (control_line setup sent) = transfer_told r (record { setup = setup_of setup; sent = sent })
+running_tells r (get_line name) =
     tells_on r (element_named r name) (get_by r) (λ x. step_telling (read_element x r)) (λ x. transfer_told r (get_by r x))
-running_tells r (sets name value) =
+running_tells r (set_line name value) =
     tells_on r (element_named r name) (set_by value r) (λ x. unless (fits_element x.kind value) 7 (step_telling (set_element x value r)))
     (λ x. tells_unless (λ y. tells r y (set_by value r x)) r.view.elements (fits_element x.kind value) 7 (step_telling (set_element x value r))
     (transfer_told r (set_by value r x)))
-running_tells r (shows name) =
+running_tells r (show_line name) =
     on_element_is (TellsNone r.view.elements) (refused_tells (λ x. None) r.view.elements) (element_named r name)
     (λ x. step_telling (show_element x r)) (λ x. none_told r.view.elements)
-running_tells r (breaks later) = none_told r.view.elements
-running_tells r (appends number samples) =
+running_tells r (break_line later) = none_told r.view.elements
+running_tells r (append_line number samples) =
     tells_unless (λ x. None) r.view.elements _ 6
     (unless (are_frames r.device.function (size_of number) (length samples)) 7
     (silently (running (with_samples_on (size_of number) samples r))))
     (tells_unless (λ x. None) r.view.elements _ 7 (silently (running (with_samples_on (size_of number) samples r)))
     (none_told r.view.elements))
-running_tells r (tracks number voice) =
+running_tells r (track_line number voice) =
     tells_unless (λ x. None) r.view.elements _ 6 (silently (running (with_track (size_of number) (tone_of voice) r)))
     (none_told r.view.elements)
-running_tells r (jacks terminal voice) =
+running_tells r (jack_line terminal voice) =
     tells_unless (λ x. None) r.view.elements _ 6 (silently (running (with_tone (size_of terminal) (tone_of voice) r)))
     (none_told r.view.elements)
-running_tells r (deviates clock ppm) =
+running_tells r (deviate_line clock ppm) =
     tells_unless (λ x. None) r.view.elements _ 6 (silently (running (with_deviation (size_of clock) ppm r)))
     (none_told r.view.elements)
-running_tells r (runs count marks) =
+running_tells r (microframes_line count marks) =
     tells_unless (λ x. None) r.view.elements _ 6 (step_telling (microframes marks (size_of count) r))
     (subst (λ v. AllZip (λ x y. IsToldOf None x y) r.view.elements v.elements) (sym (microframes_view marks (size_of count) r))
     (none_told r.view.elements))
-running_tells r (details level) = none_told r.view.elements
-running_tells r reports = none_told r.view.elements
+running_tells r (detail_line level) = none_told r.view.elements
+running_tells r report_line = none_told r.view.elements
 
 said_tells : (r : RunningWorld) (said : Result Phrase ℕ) → Tells (tells_in (running r) said) r.view.elements (said_step said (running r))
 unfolding step
@@ -100,23 +100,23 @@ unfolding tells is_for
 tells_over r x None = refl
 tells_over r x (Some t) = refl
 
-tells_unread : (w : World) (said : Result Phrase ℕ) (x : Element) → tells_in w said (unread x) ≡ tells_in w said x
+tells_unread : (w : BusWorld) (said : Result Phrase ℕ) (x : Element) → tells_in w said (unread x) ≡ tells_in w said x
 tells_unread (describing bytes meters) said x = refl
 tells_unread (running r) (Ok phrase) x = tells_over r x (transfer_of phrase r)
 tells_unread (running r) (Err rule) x = refl
 
-told_unread : (saids : List (Result Phrase ℕ)) (w : World) (x : Element) → told_of saids w (unread x) ≡ told_of saids w x
+told_unread : (saids : List (Result Phrase ℕ)) (w : BusWorld) (x : Element) → told_of saids w (unread x) ≡ told_of saids w x
 unfolding told_of
 told_unread [] w x = refl
 told_unread (said ∷ saids) w x = by (said_step said w) (told_unread saids)
   where
-    by : (s : Step) → ((next : World) (y : Element) → told_of saids next (unread y) ≡ told_of saids next y)
+    by : (s : Step) → ((next : BusWorld) (y : Element) → told_of saids next (unread y) ≡ told_of saids next y)
         → if_done s (λ next. cons_option (tells_in w said (unread x)) (told_of saids next (unread x)))
         ≡ if_done s (λ next. cons_option (tells_in w said x) (told_of saids next x))
     by (done next lines) rest = (λ j. cons_option (tells_unread w said x j) (rest next x j))
     by (refused fault) rest = refl
 
-told_same : (saids : List (Result Phrase ℕ)) (w : World) (x y : Element) → unread y ≡ unread x → told_of saids w y ≡ told_of saids w x
+told_same : (saids : List (Result Phrase ℕ)) (w : BusWorld) (x y : Element) → unread y ≡ unread x → told_of saids w y ≡ told_of saids w x
 told_same saids w x y same = sym (told_unread saids w y) ∙ ap (told_of saids w) same ∙ told_unread saids w x
 
 -- ---- lines in a row
@@ -127,7 +127,7 @@ record IsLeft (saids : List (Result Phrase ℕ)) (r : RunningWorld) (x y : Eleme
   pub known : is_some y.value ≡ last_or (is_some x.value) (told_of saids (running r) x)
 
 -- the elements after lines are those before them, each left as was told of it
-abbrev AreLeft : List (Result Phrase ℕ) → RunningWorld → World → Type 0
+abbrev AreLeft : List (Result Phrase ℕ) → RunningWorld → BusWorld → Type 0
 AreLeft saids r (running last) = AllZip (IsLeft saids r) r.view.elements last.view.elements
 AreLeft saids r (describing bytes meters) = ⊥
 
@@ -149,10 +149,10 @@ unfolding last_or
 last_cons None known rest = refl
 last_cons (Some step_telling) known rest = refl
 
-left_behind : (saids : List (Result Phrase ℕ)) (r : RunningWorld) → AreLeft saids r (after saids (running r)).world
+left_following : (saids : List (Result Phrase ℕ)) (r : RunningWorld) → AreLeft saids r (after saids (running r)).world
 unfolding after told_of last_or
-left_behind [] r = zip_itself (IsLeft [] r) r.view.elements (λ x. record { same = refl; known = refl })
-left_behind (said ∷ saids) r = by (said_step said (running r)) refl (said_tells r said) (left_behind saids)
+left_following [] r = zip_itself (IsLeft [] r) r.view.elements (λ x. record { same = refl; known = refl })
+left_following (said ∷ saids) r = by (said_step said (running r)) refl (said_tells r said) (left_following saids)
   where
     -- the last that this line, which makes this step, and those after it tell of an element
     last_in : Element → Step → Bool
@@ -181,7 +181,7 @@ left_behind (said ∷ saids) r = by (said_step said (running r)) refl (said_tell
               ∙ sym (ap (last_in x) is);
         }
 
-        onward : (last : World) → AreLeft saids next last → AreLeft (said ∷ saids) r last
+        onward : (last : BusWorld) → AreLeft saids next last → AreLeft (said ∷ saids) r last
         onward (describing bytes meters) left = absurd left
         onward (running last) left =
             zip_both (λ x y. IsToldOf (tells_in (running r) said x) x y) (IsLeft saids next) (IsLeft (said ∷ saids) r) both r.view.elements
@@ -197,16 +197,16 @@ zip_maps f R each (x ∷ xs) [] all = absurd all
 zip_maps f R each (x ∷ xs) (y ∷ ys) all = (λ j. each x y all.0 j ∷ zip_maps f R each xs ys all.1 j)
 
 pub elements_stay : ElementsStay
-elements_stay saids r = by (after saids (running r)).world (left_behind saids r)
+elements_stay saids r = by (after saids (running r)).world (left_following saids r)
   where
-    by : (last : World) → AreLeft saids r last → map unread (elements_in last) ≡ map unread r.view.elements
+    by : (last : BusWorld) → AreLeft saids r last → map unread (elements_in last) ≡ map unread r.view.elements
     by (describing bytes meters) left = absurd left
     by (running last) left = zip_maps unread (IsLeft saids r) (λ x y is. is.same) r.view.elements last.view.elements left
 
 -- ---- from the start on
 
 -- each element is known or unknown as was told of it last, and known where nothing was
-abbrev AreKnown : List (Result Phrase ℕ) → World → World → Type 0
+abbrev AreKnown : List (Result Phrase ℕ) → BusWorld → BusWorld → Type 0
 AreKnown saids w last = AllByRecursion (λ (x : Element). is_some x.value ≡ last_or true (told_of saids w x)) (elements_in last)
 
 zip_known : (saids : List (Result Phrase ℕ)) (r : RunningWorld) (xs ys : List Element)
@@ -223,9 +223,9 @@ zip_known saids r (x ∷ xs) (y ∷ ys) known left = (
 
 begun_known : (saids : List (Result Phrase ℕ)) (r : RunningWorld) → AllByRecursion (λ (x : Element). is_some x.value ≡ true) r.view.elements
     → AreKnown saids (running r) (after saids (running r)).world
-begun_known saids r known = by (after saids (running r)).world (left_behind saids r)
+begun_known saids r known = by (after saids (running r)).world (left_following saids r)
   where
-    by : (last : World) → AreLeft saids r last → AreKnown saids (running r) last
+    by : (last : BusWorld) → AreLeft saids r last → AreKnown saids (running r) last
     by (describing bytes meters) left = absurd left
     by (running last) left = zip_known saids r r.view.elements last.view.elements known left
 
@@ -236,15 +236,15 @@ said_begins text bytes meters are = by (answer text) refl
     by : (said : Result Phrase ℕ) → answer text ≡ said → Begins (said_step said (describing bytes meters))
     by (Ok phrase) is =
         describing_begins bytes meters phrase are
-        (λ more same. feeds_bytes text more (let all : answer text ≡ Ok (feeds more) = cc in all))
+        (λ more same. feeds_bytes text more (let all : answer text ≡ Ok (bytes_line more) = cc in all))
     by (Err rule) is = tt
 
-known_behind : (texts : List (List ℕ)) (bytes : List ℕ) (meters : List Reading) → AreBytes bytes
+known_following : (texts : List (List ℕ)) (bytes : List ℕ) (meters : List Reading) → AreBytes bytes
     → AreKnown (map answer texts) (describing bytes meters) (after (map answer texts) (describing bytes meters)).world
 unfolding after told_of
-known_behind [] bytes meters are = tt
-known_behind (text ∷ texts) bytes meters are =
-    by (said_step (answer text) (describing bytes meters)) (said_begins text bytes meters are) (known_behind texts)
+known_following [] bytes meters are = tt
+known_following (text ∷ texts) bytes meters are =
+    by (said_step (answer text) (describing bytes meters)) (said_begins text bytes meters are) (known_following texts)
   where
     saids : List (Result Phrase ℕ)
     saids = map answer texts
@@ -261,7 +261,7 @@ known_behind (text ∷ texts) bytes meters are =
 pub values_are_known_as_told : ValuesAreKnownAsTold
 values_are_known_as_told texts shown =
     All-from_recursion (λ (x : Element). is_some x.value ≡ last_or true (told_of (map answer texts) (start shown) x))
-    (elements_in (after (map answer texts) (start shown)).world) (known_behind texts [] shown no_bytes)
+    (elements_in (after (map answer texts) (start shown)).world) (known_following texts [] shown no_bytes)
   where
     no_bytes : AreBytes []
     no_bytes i = search rules

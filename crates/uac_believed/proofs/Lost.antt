@@ -5,7 +5,7 @@ use Rattle.std.proofs.lemmas.List.Elements.{All-weaker}
 use Rattle.uac_mixer.specs.declared.element.Element.{Element}
 use Rattle.uac_script.specs.Phrase.{Phrase}
 use Rattle.uac_script.specs.LineReading.{answer}
-use Rattle.uac_bus.specs.BusWorld.{Step, World, done, refused, start}
+use Rattle.uac_bus.specs.BusWorld.{Step, BusWorld, done, refused, start}
 use Rattle.uac_bus.specs.After.{after, and_then, said_step}
 use Rattle.uac_believed.specs.Unknown.{IsLost, UnknownValuesAreLost, elements_in, if_done, last_or, tells_in, told_of}
 use Rattle.uac_believed.proofs.Known.{last_cons, values_are_known_as_told}
@@ -21,14 +21,14 @@ unfolding last_or
 last_of_more None known told rest = refl
 last_of_more (Some first) known told rest = refl
 
-found : (saids : List Said) (w : World) (x : Element) → last_or true (told_of saids w x) ≡ false → IsLost saids w x
+found : (saids : List Said) (w : BusWorld) (x : Element) → last_or true (told_of saids w x) ≡ false → IsLost saids w x
 unfolding told_of last_or after
 found [] w x last = absurd (cc)
 found (said ∷ saids) w x last = by (said_step said w) refl last (found saids)
   where
     by : (s : Step) → said_step said w ≡ s
         → last_or true (if_done s (λ next. cons_option (tells_in w said x) (told_of saids next x))) ≡ false
-        → ((next : World) (y : Element) → last_or true (told_of saids next y) ≡ false → IsLost saids next y)
+        → ((next : BusWorld) (y : Element) → last_or true (told_of saids next y) ≡ false → IsLost saids next y)
         → IsLost (said ∷ saids) w x
     by (refused fault) is last rest = absurd (cc)
     by (done next lines) is last rest = here (told_of saids next x) refl (tells_in w said x) refl last
@@ -62,7 +62,7 @@ found (said ∷ saids) w x last = by (said_step said w) refl last (found saids)
 
 -- ---- and the other way round
 
-lost_at : (before : List Said) (said : Said) (following : List Said) (w : World) (x : Element) (known : Bool)
+lost_at : (before : List Said) (said : Said) (following : List Said) (w : BusWorld) (x : Element) (known : Bool)
     → (after (before ++ said ∷ []) w).refusal ≡ None → tells_in (after before w).world said x ≡ Some false
     → told_of following (after (before ++ said ∷ []) w).world x ≡ [] → last_or known (told_of (before ++ said ∷ following) w x) ≡ false
 unfolding told_of last_or after
@@ -80,7 +80,7 @@ lost_at (first ∷ before) said following w x known whole broke since =
     by : (s : Step) → (and_then s w (after (before ++ said ∷ []))).refusal ≡ None
         → tells_in (and_then s w (after before)).world said x ≡ Some false
         → told_of following (and_then s w (after (before ++ said ∷ []))).world x ≡ []
-        → ((next : World) (y : Element) (b : Bool) → (after (before ++ said ∷ []) next).refusal ≡ None
+        → ((next : BusWorld) (y : Element) (b : Bool) → (after (before ++ said ∷ []) next).refusal ≡ None
         → tells_in (after before next).world said y ≡ Some false → told_of following (after (before ++ said ∷ []) next).world y ≡ []
         → last_or b (told_of (before ++ said ∷ following) next y) ≡ false)
         → last_or known (if_done s (λ next. cons_option (tells_in w first x) (told_of (before ++ said ∷ following) next x))) ≡ false
@@ -89,7 +89,7 @@ lost_at (first ∷ before) said following w x known whole broke since =
         last_cons (tells_in w first x) known (told_of (before ++ said ∷ following) next x)
         ∙ rest next x (unwrap_or (tells_in w first x) known) whole broke since
 
-lost : (saids : List Said) (w : World) (x : Element) → IsLost saids w x → last_or true (told_of saids w x) ≡ false
+lost : (saids : List Said) (w : BusWorld) (x : Element) → IsLost saids w x → last_or true (told_of saids w x) ≡ false
 lost saids w x l =
     ap (λ (ss : List Said). last_or true (told_of ss w x)) l.cut ∙ lost_at l.before l.said l.following w x true l.whole l.broke l.since
 
@@ -99,7 +99,7 @@ none_is : {X : Type 0} (o : Option X) → is_some o ≡ false → o ≡ None
 none_is None is = refl
 none_is (Some v) is = absurd (cc)
 
-one : (saids : List Said) (w : World) (x : Element)
+one : (saids : List Said) (w : BusWorld) (x : Element)
     → is_some x.value ≡ last_or true (told_of saids w x) → (x.value ≡ None) ↔ IsLost saids w x
 one saids w x known = (
   λ none. found saids w x (sym known ∙ ap is_some none),

@@ -2,7 +2,7 @@
 use Rattle.std.proofs.Common.{ℕ, ◌&&◌, Bool, true, false, if◌then◌else◌, List, Option, None, Some, is_some}
 use Rattle.uac_alt.specs.AltStreams.{StreamFields}
 use Rattle.uac_store.proofs.Soundness.{keyed}
-use Rattle.uac_request.specs.Requests.{Held, AnswerFields, after_request, held_by, reply_of}
+use Rattle.uac_request.specs.Requests.{RequestState, AnswerFields, after_request, request_state, reply_of}
 use Rattle.uac_request.specs.declared.setup.Setup.{Setup}
 use Rattle.uac_device.specs.DeviceWorld.{DeviceWorld, after_control, after_restart, sets_interface, stream_in_setting, tells_done}
 use Rattle.uac_mixer.specs.Agreement.{IsAgreed, StaysAgreed}
@@ -38,8 +38,8 @@ restarts false interface begun w view agree = agree
 -- ---- a transfer
 
 module _ (p : Setup) (bytes : List ℕ) (r : RunningWorld) (agree : IsBelieved r) where
-  abbrev holds : Held
-  holds = held_by r.device.controls r.device.settings
+  abbrev holds : RequestState
+  holds = request_state r.device.controls r.device.settings
 
   abbrev asked : DeviceWorld
   asked =

@@ -6,14 +6,14 @@ use Rattle.uac_entities.specs.declared.entity.EntityKind.TheVariants as kind
 use Rattle.uac_topology.specs.Function.{FunctionFields}
 use Rattle.uac_mixer.specs.declared.element.Element.{Element}
 use Rattle.uac_mixer.specs.declared.kinds.ElementKind.TheVariants as shown
-use Rattle.uac_script.specs.Phrase.{Phrase, breaks, controls}
+use Rattle.uac_script.specs.Phrase.{Phrase, break_line, control_line}
 use Rattle.uac_running.specs.RunningWorld.{RunningWorld, at_start}
 use Rattle.uac_bus.specs.BusWorld.{running}
-use Rattle.uac_entities.specs.EntityStreams.{named}
+use Rattle.uac_entities.specs.EntityInterfaces.{entity_by_id}
 use Rattle.uac_store.specs.StoreControls.{channels_at, controls_of, count_of, first_channels, has_on, initial_controls, start_of, takes, takes_on}
 use Rattle.uac_store.specs.Keyed.{value_of, with_value}
 use Rattle.uac_store.specs.StoreValues.{is_legal, ranges_of}
-use Rattle.uac_request.specs.Requests.{answered, breaks_q1, breaks_q2, breaks_q3, breaks_q4, breaks_q5, breaks_q6, breaks_q7, breaks_q8, breaks_q9, breaks_q10, breaks_q11, breaks_q12, after_request, cur_bytes, first_broken, left_by, owner_of, reply_of, value_bytes, value_from}
+use Rattle.uac_request.specs.Requests.{unbroken_reply, breaks_q1, breaks_q2, breaks_q3, breaks_q4, breaks_q5, breaks_q6, breaks_q7, breaks_q8, breaks_q9, breaks_q10, breaks_q11, breaks_q12, after_request, cur_bytes, first_broken, left_by, owner_of, reply_of, value_bytes, value_from}
 use Rattle.uac_device.specs.DeviceWorld.{after_control, fresh}
 use Rattle.uac_mixer.specs.ViewTransfers.{is_for, value_after, view_after}
 use Rattle.uac_running.specs.RunningTransfers.{comes_back, transfer, after_transfer, with_break}
@@ -56,23 +56,23 @@ world = record (at_start [] device []) { view = record { elements = volume ∷ m
 
 -- the volume of the first channel is set to -10 dB, and one byte of it is got, and both
 set_it : Result Phrase ℕ
-set_it = Ok (controls (33 ∷ 1 ∷ 1 ∷ 2 ∷ 0 ∷ 3 ∷ 2 ∷ 0 ∷ []) (0 ∷ 246 ∷ []))
+set_it = Ok (control_line (33 ∷ 1 ∷ 1 ∷ 2 ∷ 0 ∷ 3 ∷ 2 ∷ 0 ∷ []) (0 ∷ 246 ∷ []))
 
 get_one : Result Phrase ℕ
-get_one = Ok (controls (161 ∷ 1 ∷ 1 ∷ 2 ∷ 0 ∷ 3 ∷ 1 ∷ 0 ∷ []) [])
+get_one = Ok (control_line (161 ∷ 1 ∷ 1 ∷ 2 ∷ 0 ∷ 3 ∷ 1 ∷ 0 ∷ []) [])
 
 get_both : Result Phrase ℕ
-get_both = Ok (controls (161 ∷ 1 ∷ 1 ∷ 2 ∷ 0 ∷ 3 ∷ 2 ∷ 0 ∷ []) [])
+get_both = Ok (control_line (161 ∷ 1 ∷ 1 ∷ 2 ∷ 0 ∷ 3 ∷ 2 ∷ 0 ∷ []) [])
 
 break : Result Phrase ℕ
-break = Ok (breaks true)
+break = Ok (break_line true)
 
 -- a set that broke, though the device acted
 broken : List (Result Phrase ℕ)
 broken = break ∷ set_it ∷ []
 
-values_behind : List (Result Phrase ℕ) → List (Option ℤ)
-values_behind lines = map (λ x. x.value) (elements_in (after lines (running world)).world)
+values_following : List (Result Phrase ℕ) → List (Option ℤ)
+values_following lines = map (λ x. x.value) (elements_in (after lines (running world)).world)
 
 -- the broken set tells that the value is unknown, the get of one byte nothing, that of both bytes that it is known; so does a set that is
 -- done; and a break that is spent on a get tells nothing. Of the mute nothing was told.
@@ -82,14 +82,14 @@ told : (told_of broken (running world) volume ≡ false ∷ [])
     × (told_of (broken ++ set_it ∷ []) (running world) volume ≡ false ∷ true ∷ [])
     × (told_of (break ∷ get_both ∷ []) (running world) volume ≡ [])
     × (told_of (broken ++ get_one ∷ get_both ∷ []) (running world) mute ≡ [])
-unfolding told_of after broken break set_it get_one get_both values_behind world device volume mute at_start step transfer after_transfer tells is_for comes_back with_break reply_of first_broken breaks_q1 breaks_q2 breaks_q3 breaks_q4 breaks_q5 breaks_q6 breaks_q7 breaks_q8 breaks_q9 breaks_q10 breaks_q11 breaks_q12 owner_of named count_of fresh after_control answered cur_bytes value_bytes value_of initial_controls controls_of channels_at first_channels start_of has_on ranges_of is_legal value_from view_after value_after after_request with_value left_by takes takes_on
+unfolding told_of after broken break set_it get_one get_both values_following world device volume mute at_start step transfer after_transfer tells is_for comes_back with_break reply_of first_broken breaks_q1 breaks_q2 breaks_q3 breaks_q4 breaks_q5 breaks_q6 breaks_q7 breaks_q8 breaks_q9 breaks_q10 breaks_q11 breaks_q12 owner_of entity_by_id count_of fresh after_control unbroken_reply cur_bytes value_bytes value_of initial_controls controls_of channels_at first_channels start_of has_on ranges_of is_legal value_from view_after value_after after_request with_value left_by takes takes_on
 told = (refl, refl, refl, refl, refl, refl)
 
 -- and the view's values, the volume's first
-values : (values_behind broken ≡ None ∷ Some (pos 0) ∷ [])
-    × (values_behind (broken ++ get_one ∷ []) ≡ None ∷ Some (pos 0) ∷ [])
-    × (values_behind (broken ++ get_one ∷ get_both ∷ []) ≡ Some (negsuc 2559) ∷ Some (pos 0) ∷ [])
-    × (values_behind (broken ++ set_it ∷ []) ≡ Some (negsuc 2559) ∷ Some (pos 0) ∷ [])
-    × (values_behind (break ∷ get_both ∷ []) ≡ Some (pos 0) ∷ Some (pos 0) ∷ [])
-unfolding told_of after broken break set_it get_one get_both values_behind world device volume mute at_start step transfer after_transfer tells is_for comes_back with_break reply_of first_broken breaks_q1 breaks_q2 breaks_q3 breaks_q4 breaks_q5 breaks_q6 breaks_q7 breaks_q8 breaks_q9 breaks_q10 breaks_q11 breaks_q12 owner_of named count_of fresh after_control answered cur_bytes value_bytes value_of initial_controls controls_of channels_at first_channels start_of has_on ranges_of is_legal value_from view_after value_after after_request with_value left_by takes takes_on
+values : (values_following broken ≡ None ∷ Some (pos 0) ∷ [])
+    × (values_following (broken ++ get_one ∷ []) ≡ None ∷ Some (pos 0) ∷ [])
+    × (values_following (broken ++ get_one ∷ get_both ∷ []) ≡ Some (negsuc 2559) ∷ Some (pos 0) ∷ [])
+    × (values_following (broken ++ set_it ∷ []) ≡ Some (negsuc 2559) ∷ Some (pos 0) ∷ [])
+    × (values_following (break ∷ get_both ∷ []) ≡ Some (pos 0) ∷ Some (pos 0) ∷ [])
+unfolding told_of after broken break set_it get_one get_both values_following world device volume mute at_start step transfer after_transfer tells is_for comes_back with_break reply_of first_broken breaks_q1 breaks_q2 breaks_q3 breaks_q4 breaks_q5 breaks_q6 breaks_q7 breaks_q8 breaks_q9 breaks_q10 breaks_q11 breaks_q12 owner_of entity_by_id count_of fresh after_control unbroken_reply cur_bytes value_bytes value_of initial_controls controls_of channels_at first_channels start_of has_on ranges_of is_legal value_from view_after value_after after_request with_value left_by takes takes_on
 values = (refl, refl, refl, refl, refl)

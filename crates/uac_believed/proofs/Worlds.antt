@@ -10,7 +10,7 @@ use Rattle.uac_mixer.specs.Agreement.{IsAgreed}
 use Rattle.uac_mixer.specs.ViewWorld.{IsViewOf, ViewWorld}
 use Rattle.uac_mixer.specs.declared.element.Element.{Element}
 use Rattle.uac_running.specs.RunningWorld.{RunningWorld}
-use Rattle.uac_bus.specs.BusWorld.{Step, World, describing, done, refused, running}
+use Rattle.uac_bus.specs.BusWorld.{Step, BusWorld, describing, done, refused, running}
 use Rattle.uac_believed.specs.Believed.{IsSoIn}
 
 -- a sound function, a value for each of its controls, and a view of it that knows these values alone
@@ -25,11 +25,11 @@ abbrev pub IsBelieved : RunningWorld → Type 0
 IsBelieved r = Agree r.device.function r.device.controls r.view
 
 -- a descriptor's bytes are bytes, until the device runs
-abbrev pub IsGood : World → Type 0
+abbrev pub IsGood : BusWorld → Type 0
 IsGood (describing bytes meters) = AreBytes bytes
 IsGood (running r) = IsBelieved r
 
-pub is_so : (w : World) → IsGood w → IsSoIn w
+pub is_so : (w : BusWorld) → IsGood w → IsSoIn w
 is_so (describing bytes meters) good = tt
 is_so (running r) good = good.agreed
 

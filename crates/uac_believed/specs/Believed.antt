@@ -3,12 +3,12 @@ use Rattle.std.specs.Prelude.{ℕ, List, map}
 use Rattle.uac_units.specs.Hearing.{Reading}
 use Rattle.uac_script.specs.LineReading.{answer}
 use Rattle.uac_mixer.specs.Agreement.{IsAgreed}
-use Rattle.uac_bus.specs.BusWorld.{World, describing, running, start}
+use Rattle.uac_bus.specs.BusWorld.{BusWorld, describing, running, start}
 use Rattle.uac_bus.specs.After.{after}
 
 -- what the host knows of a control is the device's value: each element of its view has the value of the device's control, or none where
 -- that is unknown. Before the descriptor's end there is no device yet, and nothing is known.
-abbrev pub IsSoIn : World → Type 0
+abbrev pub IsSoIn : BusWorld → Type 0
 IsSoIn (describing bytes meters) = Unit {0}
 IsSoIn (running r) = IsAgreed r.device.controls r.view
 

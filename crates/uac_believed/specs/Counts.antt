@@ -8,7 +8,7 @@ use Rattle.uac_script.specs.LineReading.{answer}
 use Rattle.uac_transcript.specs.declared.report.StreamCounts.{StreamCounts}
 use Rattle.uac_running.specs.RunningWorld.{RunningWorld}
 use Rattle.uac_running.specs.RunningLines.{ticks_since}
-use Rattle.uac_bus.specs.BusWorld.{World, describing, running, start}
+use Rattle.uac_bus.specs.BusWorld.{BusWorld, describing, running, start}
 use Rattle.uac_bus.specs.After.{after}
 
 -- a count that is far from the greatest number of 64 bits
@@ -32,7 +32,7 @@ pub record IsFarFromTheEnd (r : RunningWorld) : Type 0 where
   pub met : (interface : ℕ) → AreFar (r.met interface)
 
 -- the counts in a world are far from it; before the descriptor's end nothing is counted
-abbrev pub IsFarIn : World → Type 0
+abbrev pub IsFarIn : BusWorld → Type 0
 IsFarIn (describing bytes meters) = Unit {0}
 IsFarIn (running r) = IsFarFromTheEnd r
 

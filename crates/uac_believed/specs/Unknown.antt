@@ -10,12 +10,13 @@ use Rattle.uac_mixer.specs.MixerElements.{unread, width_of}
 use Rattle.uac_mixer.specs.ViewTransfers as mixer
 use Rattle.uac_mixer.specs.ViewTransfers.{get_of, set_of}
 use Rattle.uac_mixer.specs.declared.element.Element.{Element}
-use Rattle.uac_script.specs.Phrase.{Phrase, idle, feeds, goes, controls, gets, sets, shows, breaks, appends, tracks, jacks, deviates, runs}
-use Rattle.uac_script.specs.Phrase.{details, reports}
+use Rattle.uac_script.specs.Phrase.{Phrase, nothing_line, bytes_line, go_line, control_line, get_line, set_line, show_line, break_line}
+use Rattle.uac_script.specs.Phrase.{append_line, track_line, jack_line, deviate_line, microframes_line}
+use Rattle.uac_script.specs.Phrase.{detail_line, report_line}
 use Rattle.uac_script.specs.LineReading.{answer}
 use Rattle.uac_running.specs.RunningWorld.{RunningWorld}
 use Rattle.uac_running.specs.RunningTransfers.{comes_back, element_named}
-use Rattle.uac_bus.specs.BusWorld.{Step, World, describing, done, refused, running, start}
+use Rattle.uac_bus.specs.BusWorld.{Step, BusWorld, describing, done, refused, running, start}
 use Rattle.uac_bus.specs.After.{after, said_step}
 
 -- ---- the transfer that a line makes
@@ -34,21 +35,21 @@ set_by value r x = record { setup = set_of r.device.function.control_interface x
 
 -- the transfer that a line makes of a running device, if it makes one
 abbrev pub transfer_of : Phrase → RunningWorld → Option Transfer
-transfer_of (controls setup sent) r = Some (record { setup = setup_of setup; sent = sent })
-transfer_of (gets name) r = option_map (get_by r) (element_named r name)
-transfer_of (sets name value) r = option_map (set_by value r) (element_named r name)
-transfer_of idle r = None
-transfer_of (feeds bytes) r = None
-transfer_of goes r = None
-transfer_of (shows name) r = None
-transfer_of (breaks later) r = None
-transfer_of (appends interface samples) r = None
-transfer_of (tracks interface voice) r = None
-transfer_of (jacks terminal voice) r = None
-transfer_of (deviates clock ppm) r = None
-transfer_of (runs count marks) r = None
-transfer_of (details level) r = None
-transfer_of reports r = None
+transfer_of (control_line setup sent) r = Some (record { setup = setup_of setup; sent = sent })
+transfer_of (get_line name) r = option_map (get_by r) (element_named r name)
+transfer_of (set_line name value) r = option_map (set_by value r) (element_named r name)
+transfer_of nothing_line r = None
+transfer_of (bytes_line bytes) r = None
+transfer_of go_line r = None
+transfer_of (show_line name) r = None
+transfer_of (break_line later) r = None
+transfer_of (append_line interface samples) r = None
+transfer_of (track_line interface tone) r = None
+transfer_of (jack_line terminal tone) r = None
+transfer_of (deviate_line domain ppm) r = None
+transfer_of (microframes_line count marks) r = None
+transfer_of (detail_line level) r = None
+transfer_of report_line r = None
 
 -- ---- what it tells of an element
 
@@ -94,18 +95,18 @@ tells r x t =
 -- ---- what lines tell
 
 -- what a line tells of an element, by the transfer that it makes of a running device
-abbrev pub tells_in : World → Result Phrase ℕ → Element → Option Bool
+abbrev pub tells_in : BusWorld → Result Phrase ℕ → Element → Option Bool
 tells_in (describing bytes meters) said x = None
 tells_in (running r) (Ok phrase) x = option_and_then (tells r x) (transfer_of phrase r)
 tells_in (running r) (Err rule) x = None
 
 -- of what a line made of the world, where it was done
-abbrev pub if_done : Step → (World → List Bool) → List Bool
+abbrev pub if_done : Step → (BusWorld → List Bool) → List Bool
 if_done (done next lines) go = go next
 if_done (refused fault) go = []
 
 -- what lines told of an element, in order, up to the first line that is refused
-unfoldable pub told_of : List (Result Phrase ℕ) → World → Element → List Bool
+unfoldable pub told_of : List (Result Phrase ℕ) → BusWorld → Element → List Bool
 told_of [] w x = []
 told_of (said ∷ saids) w x = if_done (said_step said w) (λ next. cons_option (tells_in w said x) (told_of saids next x))
 
@@ -117,7 +118,7 @@ last_or known (told ∷ rest) = last_or told rest
 -- ---- the laws
 
 -- the elements of the host's view, which begins with the running device
-abbrev pub elements_in : World → List Element
+abbrev pub elements_in : BusWorld → List Element
 elements_in (describing bytes meters) = []
 elements_in (running r) = r.view.elements
 
@@ -130,7 +131,7 @@ ValuesAreKnownAsTold = (texts : List (List ℕ)) (shown : List Reading)
 
 -- an element lost its value: at one of these lines, which was done, a set of it broke; and no line after that one told of it that a set
 -- was done or that a get brought all bytes
-pub record IsLost (saids : List (Result Phrase ℕ)) (w : World) (x : Element) : Type 0 where
+pub record IsLost (saids : List (Result Phrase ℕ)) (w : BusWorld) (x : Element) : Type 0 where
   pub before : List (Result Phrase ℕ)
   pub said : Result Phrase ℕ
   pub following : List (Result Phrase ℕ)

@@ -8,7 +8,7 @@ use Rattle.uac_grammar.specs.Stop.{shown_fault, shown_stop}
 use Rattle.uac_grammar.specs.declared.fault.ReadStop.{ReadStop}
 use Rattle.uac_grammar.specs.declared.fault.ReadStop.TheVariants as reads
 use Rattle.uac_grammar.proofs.Readings.{no_stop_no_fault}
-use Rattle.uac_grammar.proofs.Stops.{stop_at-Fault}
+use Rattle.uac_grammar.proofs.StopLemmas.{stop_at-Fault}
 use Rattle.uac_topology_rules.specs.declared.fault.TopologyFault.{TopologyFault}
 use Rattle.uac_topology.specs.Function.{FunctionFields}
 use Rattle.uac_topology.specs.Topology.{first_broken}
@@ -19,16 +19,16 @@ use Rattle.uac_configuration.specs.Description.{blocks_of, function_of}
 use Rattle.uac_configuration.specs.ConfigurationVerdict.{Describes, fault_of}
 use Rattle.uac_units.specs.Hearing.{Reading}
 use Rattle.uac_edges.specs.Writing.{AppendsFront, Writes}
-use Rattle.uac_transcript.specs.Transcript.{spelled}
+use Rattle.uac_transcript.specs.Transcript.{spelling_of}
 use Rattle.uac_transcript.proofs.PrintingLemmas.{Appends-line, front_of_line}
-use Rattle.uac_running.specs.RunningKept.{RunningFields, StandsBetween}
+use Rattle.uac_running.specs.RunningKept.{RunningFields, RunningStandsBetween}
 use Rattle.uac_running.specs.RunningLines.{ready_line}
 use Rattle.uac_running.specs.RunningWorld.{at_start}
 use Rattle.uac_bus.specs.declared.fault.BusFault.{BusFault}
 use Rattle.uac_bus.specs.declared.fault.BusFault.TheVariants as faults
 use Rattle.uac_bus.specs.declared.bus.BusStage.TheVariants as stages
 use Rattle.uac_bus.specs.BusWorld.{Step, done, describing, running, if_no_fault, if_sound, silently, step_feed, step_go}
-use Rattle.uac_bus.specs.BusKept.{StandsFor, Reaches, IsCut, Prevents}
+use Rattle.uac_bus.specs.BusKept.{StageStands, Reaches, IsCut, Prevents}
 use Rattle.uac_bus.specs.BusRows.{Begins, bus_fault_of}
 
 -- the end of such a descriptor
@@ -62,28 +62,28 @@ gone_ill bytes fault told shown written d is =
 
 -- the device's line was printed, or a front of it
 pub begun : (bytes : List ℕ) (d : SoundDescriptor) (p : RunningFields) (shown : List Reading) (written written' : Option (List ℕ)) (result : Result RunningFields BusFault)
-    → Describes bytes (Ok d) → p.device.function ≡ d.function → StandsBetween p shown (at_start bytes d.function shown)
-    → IfOk result (λ announced. announced ≡ p) → IfErr result (λ fault. fault ≡ faults.WriteFault)
-    → Writes written written' result (spelled (ready_line p.device.function)) → Begins (step_go bytes shown) shown written written' result
-begun bytes d p shown written written' (Ok announced) described same stands is other writes =
-    subst (λ (s : Step). Reaches s (StandsFor (stages.Running announced) shown) written written') (sym (gone_well bytes d shown described)) (
-      subst (λ (x : RunningFields). StandsBetween x shown (at_start bytes d.function shown)) (sym is) stands,
-      Appends-line written written' (ready_line d.function) (subst (λ (f : FunctionFields). Appends written written' (spelled (ready_line f))) same writes),
+    → Describes bytes (Ok d) → p.device.function ≡ d.function → RunningStandsBetween p shown (at_start bytes d.function shown)
+    → IfOk result (λ announce. announce ≡ p) → IfErr result (λ fault. fault ≡ faults.WriteFault)
+    → Writes written written' result (spelling_of (ready_line p.device.function)) → Begins (step_go bytes shown) shown written written' result
+begun bytes d p shown written written' (Ok announce) described same stands is other writes =
+    subst (λ (s : Step). Reaches s (StageStands (stages.Running announce) shown) written written') (sym (gone_well bytes d shown described)) (
+      subst (λ (x : RunningFields). RunningStandsBetween x shown (at_start bytes d.function shown)) (sym is) stands,
+      Appends-line written written' (ready_line d.function) (subst (λ (f : FunctionFields). Appends written written' (spelling_of (ready_line f))) same writes),
     )
 begun bytes d p shown written written' (Err fault) described same stands is other writes =
     subst (λ (f : BusFault). Prevents f true (step_go bytes shown) written written') (sym other)
     (subst (λ (s : Step). IsCut s written written') (sym (gone_well bytes d shown described))
-    (front_of_line written written' (ready_line d.function) (subst (λ (f : FunctionFields). AppendsFront written written' (spelled (ready_line f))) same writes)))
+    (front_of_line written written' (ready_line d.function) (subst (λ (f : FunctionFields). AppendsFront written written' (spelling_of (ready_line f))) same writes)))
 
 -- more bytes show no fault
 pub fed_well : (taken piece : List ℕ) (r : reader.ReaderFields) (shown : List Reading) (written : Option (List ℕ)) → r.stop ≡ None → r.taken ≡ taken ++ piece
     → (r.stop ≢ Some reads.NoMemory → r.stop ≡ shown_stop (taken ++ piece))
-    → Reaches (step_feed (taken ++ piece) shown) (StandsFor (stages.Describing r) shown) written written
+    → Reaches (step_feed (taken ++ piece) shown) (StageStands (stages.Describing r) shown) written written
 unfolding step_feed
 fed_well taken piece r shown written none all told =
     let quiet : shown_fault (taken ++ piece) ≡ None = no_stop_no_fault (shown_fault (taken ++ piece)) (sym (told (λ n. cc)) ∙ none) in
     let P : Option GrammarFault → Type 0 =
-    λ o. Reaches (if_no_fault o (silently (describing (taken ++ piece) shown))) (StandsFor (stages.Describing r) shown) written written
+    λ o. Reaches (if_no_fault o (silently (describing (taken ++ piece) shown))) (StageStands (stages.Describing r) shown) written written
     in
     subst P (sym quiet) ((all, none, refl), Appends-nil written)
 

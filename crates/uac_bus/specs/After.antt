@@ -3,10 +3,10 @@ use Rattle.std.specs.Prelude.{ℕ, ◌+◌, List, [], ◌∷◌, ◌++◌, Optio
 use Rattle.uac_script.specs.Phrase.{Phrase}
 use Rattle.uac_transcript.specs.Transcript.{Said}
 use Rattle.uac_bus.specs.declared.fault.BusFault.{BusFault}
-use Rattle.uac_bus.specs.BusWorld.{World, Step, done, refused, breaks_rule, step}
+use Rattle.uac_bus.specs.BusWorld.{BusWorld, Step, done, refused, breaks_rule, step}
 
 -- what a line makes of a world, which says a phrase or breaks a rule of spelling
-abbrev pub said_step : Result Phrase ℕ → World → Step
+abbrev pub said_step : Result Phrase ℕ → BusWorld → Step
 said_step (Ok phrase) w = step phrase w
 said_step (Err rule) w = breaks_rule rule
 
@@ -14,7 +14,7 @@ said_step (Err rule) w = breaks_rule rule
 -- refused, if one is
 pub record After : Type 0 where
   pub lines : List Said
-  pub world : World
+  pub world : BusWorld
   pub count : ℕ
   pub refusal : Option BusFault
 
@@ -23,17 +23,17 @@ abbrev pub one_done : List Said → After → After
 one_done lines rest = record rest { lines = lines ++ rest.lines; count = rest.count + 1 }
 
 -- nothing was done, and nothing is refused
-abbrev pub untouched : World → After
-untouched w = record { lines = []; world = w; count = 0; refusal = None }
+abbrev pub no_line_done : BusWorld → After
+no_line_done w = record { lines = []; world = w; count = 0; refusal = None }
 
 -- a line's step, and then what follows in the next world; or its refusal, after which no line is done
-abbrev pub and_then : Step → World → (World → After) → After
+abbrev pub and_then : Step → BusWorld → (BusWorld → After) → After
 and_then (done next lines) w go = one_done lines (go next)
 and_then (refused fault) w go = record { lines = []; world = w; count = 0; refusal = Some fault }
 
 -- the lines in order, up to the first that is refused
-unfoldable pub after : List (Result Phrase ℕ) → World → After
-after [] w = untouched w
+unfoldable pub after : List (Result Phrase ℕ) → BusWorld → After
+after [] w = no_line_done w
 after (said ∷ saids) w = and_then (said_step said w) w (after saids)
 
 -- one line more, after those that were done

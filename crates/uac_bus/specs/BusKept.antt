@@ -2,7 +2,7 @@
 use Rattle.std.specs.Prelude.{◌≡◌, ℕ, Bool, true, false, List, Option, None, Result, Ok, Err}
 use Rattle.std.specs.Io.KnownBytes.{Appends}
 use Rattle.uac_edges.specs.Writing.{AppendsFront}
-use Rattle.uac_script.specs.Phrase.{Phrase, appends, feeds, goes}
+use Rattle.uac_script.specs.Phrase.{Phrase, append_line, bytes_line, go_line}
 use Rattle.uac_transcript.specs.Printing.{text_of}
 use Rattle.uac_units.specs.Hearing.{Reading}
 use Rattle.uac_running.specs.RunningKept as play
@@ -10,7 +10,7 @@ use Rattle.uac_bus.specs.declared.fault.BusFault.{BusFault}
 use Rattle.uac_bus.specs.declared.fault.BusFault.TheVariants as faults
 use Rattle.uac_bus.specs.declared.bus.BusStage.{BusStage}
 use Rattle.uac_bus.specs.declared.bus.BusStage.TheVariants as stages
-use Rattle.uac_bus.specs.BusWorld.{World, describing, running, Step, done, refused, step}
+use Rattle.uac_bus.specs.BusWorld.{BusWorld, describing, running, Step, done, refused, step}
 
 -- what a bus is seen as: how far it is, and the fault that it answers from now on
 pub record BusFields : Type 0 where
@@ -18,41 +18,41 @@ pub record BusFields : Type 0 where
   pub fault : Option BusFault
 
 -- how far the bus is, and how far the world
-abbrev pub StandsFor : BusStage → List Reading → World → Type 0
-StandsFor (stages.Describing reader) meters (describing bytes shown) = (reader.taken ≡ bytes) × (reader.stop ≡ None) × (meters ≡ shown)
-StandsFor (stages.Describing reader) meters (running r) = ⊥
-StandsFor (stages.Running p) meters (describing bytes shown) = ⊥
-StandsFor (stages.Running p) meters (running r) = play.StandsBetween p meters r
+abbrev pub StageStands : BusStage → List Reading → BusWorld → Type 0
+StageStands (stages.Describing reader) meters (describing bytes shown) = (reader.taken ≡ bytes) × (reader.stop ≡ None) × (meters ≡ shown)
+StageStands (stages.Describing reader) meters (running r) = ⊥
+StageStands (stages.Running p) meters (describing bytes shown) = ⊥
+StageStands (stages.Running p) meters (running r) = play.RunningStandsBetween p meters r
 
 -- the bus, with meters that show this, stands for the world: it keeps no fault
-pub record Stands (bus : BusFields) (meters : List Reading) (w : World) : Type 0 where
+pub record BusStands (bus : BusFields) (meters : List Reading) (w : BusWorld) : Type 0 where
   pub going : bus.fault ≡ None
-  pub stage : StandsFor bus.stage meters w
+  pub stage : StageStands bus.stage meters w
 
 -- a line for which memory may be wanted: one of the descriptor, and samples for a track
 abbrev pub takes_memory : Phrase → Bool
-takes_memory (feeds bytes) = true
-takes_memory goes = true
-takes_memory (appends number samples) = true
+takes_memory (bytes_line bytes) = true
+takes_memory go_line = true
+takes_memory (append_line number samples) = true
 takes_memory _ = false
 
 -- the descriptor's end hasn't come
-abbrev pub is_describing : World → Bool
+abbrev pub is_describing : BusWorld → Bool
 is_describing (describing bytes meters) = true
 is_describing (running r) = false
 
 -- a line of samples
 abbrev pub is_append : Phrase → Bool
-is_append (appends number samples) = true
+is_append (append_line number samples) = true
 is_append _ = false
 
 -- before the descriptor's end memory may be wanted for its lines, and after it for samples alone
-abbrev pub may_want : Phrase → World → Bool
+abbrev pub may_want : Phrase → BusWorld → Bool
 may_want phrase (describing bytes meters) = takes_memory phrase
 may_want phrase (running r) = is_append phrase
 
 -- the step was done: this holds of the next world, and its lines were written
-abbrev pub Reaches : Step → (World → Type 0) → Option (List ℕ) → Option (List ℕ) → Type 0
+abbrev pub Reaches : Step → (BusWorld → Type 0) → Option (List ℕ) → Option (List ℕ) → Type 0
 Reaches (done next lines) Holds written written' = Holds next × Appends written written' (text_of lines)
 Reaches (refused fault) Holds written written' = ⊥
 
@@ -68,13 +68,14 @@ Prevents faults.NoMemory memory s written written' = memory ≡ true
 Prevents fault memory s written written' = s ≡ refused fault
 
 -- what a step is answered, and what it leaves
-abbrev pub Does : Step → Bool → (World → Type 0) → Option (List ℕ) → Option (List ℕ) → Result (Unit {0}) BusFault → Type 0
+abbrev pub Does : Step → Bool → (BusWorld → Type 0) → Option (List ℕ) → Option (List ℕ) → Result (Unit {0}) BusFault → Type 0
 Does s memory Holds written written' (Ok _) = Reaches s Holds written written'
 Does s memory Holds written written' (Err fault) = Prevents fault memory s written written'
 
 -- what a line that says this is answered in a world, and what it leaves
-abbrev pub Answers : Phrase → World → BusFields → List Reading → Option (List ℕ) → Option (List ℕ) → Result (Unit {0}) BusFault → Type 0
-Answers phrase w bus meters written written' result = Does (step phrase w) (may_want phrase w) (Stands bus meters) written written' result
+abbrev pub Answers : Phrase → BusWorld → BusFields → List Reading → Option (List ℕ) → Option (List ℕ) → Result (Unit {0}) BusFault → Type 0
+Answers phrase w bus meters written written' result = Does (step phrase w) (may_want phrase w) (BusStands bus meters) written written'
+    result
 
 -- a fault that is answered again from now on
 abbrev pub is_final : BusFault → Bool

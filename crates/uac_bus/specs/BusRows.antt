@@ -8,11 +8,11 @@ use Rattle.uac_bus.specs.declared.fault.BusFault.{BusFault}
 use Rattle.uac_bus.specs.declared.fault.BusFault.TheVariants as faults
 use Rattle.uac_bus.specs.declared.bus.BusStage.TheVariants as stages
 use Rattle.uac_bus.specs.BusWorld.{Step}
-use Rattle.uac_bus.specs.BusKept.{StandsFor, Reaches, Prevents}
+use Rattle.uac_bus.specs.BusKept.{StageStands, Reaches, Prevents}
 
 -- what the descriptor's end is answered: the running device stands for the next world
 abbrev pub Begins : Step → List Reading → Option (List ℕ) → Option (List ℕ) → Result RunningFields BusFault → Type 0
-Begins step shown written written' (Ok p) = Reaches step (StandsFor (stages.Running p) shown) written written'
+Begins step shown written written' (Ok p) = Reaches step (StageStands (stages.Running p) shown) written written'
 Begins step shown written written' (Err fault) = Prevents fault true step written written'
 
 -- a fault of the descriptor, as the bus tells it

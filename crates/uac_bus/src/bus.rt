@@ -6,9 +6,9 @@ ghost use Rattle.uac_units.specs.Panel.{readings};
 ghost use Rattle.uac_edges.specs.Faults.{Rose};
 ghost use Rattle.uac_script.specs.Line.{phrase_of, IsLineInRange};
 ghost use Rattle.uac_script.specs.Lent.{lent_phrase, LentKeeps};
-ghost use Rattle.uac_script.specs.Phrase.{goes};
-ghost use Rattle.uac_bus.specs.BusWorld.{World, start, step, finish_of};
-ghost use Rattle.uac_bus.specs.BusKept.{Stands, StandsFor, Does, Answers, may_want, is_final};
+ghost use Rattle.uac_script.specs.Phrase.{go_line};
+ghost use Rattle.uac_bus.specs.BusWorld.{BusWorld, start, step, finish_of};
+ghost use Rattle.uac_bus.specs.BusKept.{BusStands, StageStands, Does, Answers, may_want, is_final};
 
 use crate::describing::{begin, feed};
 use crate::fault::BusFault;
@@ -50,7 +50,7 @@ impl Model for Bus {
 impl Bus {
     /// A bus to which no line was given. It takes no memory.
     pub fn new(alloc: Global) -> Bus
-        ensures { (meters : List Reading) → Stands result meters (start meters) }
+        ensures { (meters : List Reading) → BusStands result meters (start meters) }
     {
         Bus {
             alloc,
@@ -79,7 +79,7 @@ impl Bus {
         requires keeps { IsLineInRange line.now }
 
         // What it does, in every world for which the bus and the meters stand: the step of what the line says, with its lines.
-        ensures answers { (w : World) → Stands self.old (readings (λ v x. (⟦<dyn Meter as Meter>⟧ v).reading_of x) meters.old) w
+        ensures answers { (w : BusWorld) → BusStands self.old (readings (λ v x. (⟦<dyn Meter as Meter>⟧ v).reading_of x) meters.old) w
             → Answers (phrase_of line.now) w self.new (readings (λ v x. (⟦<dyn Meter as Meter>⟧ v).reading_of x) meters.new)
             (K.written sink.old) (K.written sink.new) result }
 
@@ -123,7 +123,7 @@ impl Bus {
         requires keeps { LentKeeps line }
 
         // What it does, in every world for which the bus and the meters stand: the step of what the line says, with its lines.
-        ensures answers { (w : World) → Stands self.old (readings (λ v x. (⟦<dyn Meter as Meter>⟧ v).reading_of x) meters.old) w
+        ensures answers { (w : BusWorld) → BusStands self.old (readings (λ v x. (⟦<dyn Meter as Meter>⟧ v).reading_of x) meters.old) w
             → Answers (lent_phrase line.entry) w self.new (readings (λ v x. (⟦<dyn Meter as Meter>⟧ v).reading_of x) meters.new)
             (K.written sink.old) (K.written sink.new) result }
 
@@ -166,7 +166,7 @@ impl Bus {
     /// The script's end: rule 8 where no descriptor's end came, and a fault that was answered before.
     pub fn finish(&self) -> Result<(), BusFault>
         ensures again { (fault : BusFault) → self.now.fault ≡ Some fault → result ≡ Err fault }
-        ensures finishes { (meters : List Reading) (w : World) → Stands self.now meters w → result ≡ finish_of w }
+        ensures finishes { (meters : List Reading) (w : BusWorld) → BusStands self.now meters w → result ≡ finish_of w }
     {
         if let Some(fault) = self.fault {
             return Err(fault);
@@ -192,8 +192,8 @@ fn is_kept(fault: BusFault) -> bool
 /// The descriptor's end. It is apart from the other lines, since a call clears at its entry what it has room for, here a whole device.
 #[inline(never)]
 fn go<K: Sink>(alloc: Global, stage: &mut BusStage, sink: &mut K) -> Result<(), BusFault>
-    ensures does { (shown : List Reading) (w : World) → StandsFor stage.old shown w
-        → Does (step goes w) (may_want goes w) (StandsFor stage.new shown) (K.written sink.old) (K.written sink.new) result }
+    ensures does { (shown : List Reading) (w : BusWorld) → StageStands stage.old shown w
+        → Does (step go_line w) (may_want go_line w) (StageStands stage.new shown) (K.written sink.old) (K.written sink.new) result }
     ensures script { IfErr result (λ fault. is_final fault ≡ false → stage.new ≡ stage.old) }
     ensures unwritten { IfErr result (λ fault. fault ≢ BusFault.WriteFault → sink.new ≡ sink.old) }
     ensures cause { IfErr result (λ fault. fault ≡ BusFault.WriteFault → Rose (K.faults sink.old) (K.faults sink.new)) }
@@ -227,9 +227,9 @@ fn advance<K: Sink>(
 ) -> Result<(), BusFault>
     requires rack { IsFitted (λ v x. (⟦<dyn Unit as Unit>⟧ v).kind_of x) rack.now }
     requires keeps { LentKeeps line }
-    ensures does { (w : World) → StandsFor stage.old (readings (λ v x. (⟦<dyn Meter as Meter>⟧ v).reading_of x) meters.old) w
+    ensures does { (w : BusWorld) → StageStands stage.old (readings (λ v x. (⟦<dyn Meter as Meter>⟧ v).reading_of x) meters.old) w
         → Does (step (lent_phrase line.entry) w) (may_want (lent_phrase line.entry) w)
-        (StandsFor stage.new (readings (λ v x. (⟦<dyn Meter as Meter>⟧ v).reading_of x) meters.new)) (K.written sink.old)
+        (StageStands stage.new (readings (λ v x. (⟦<dyn Meter as Meter>⟧ v).reading_of x) meters.new)) (K.written sink.old)
         (K.written sink.new) result }
     ensures script { IfErr result (λ fault. is_final fault ≡ false → stage.new ≡ stage.old) }
     ensures unwritten { IfErr result (λ fault. fault ≢ BusFault.WriteFault → sink.new ≡ sink.old) }

@@ -5,9 +5,9 @@ ghost use Rattle.uac_units.specs.Hearing.{Reading};
 ghost use Rattle.uac_edges.specs.Faults.{HasCause, Rose};
 ghost use Rattle.uac_edges.specs.Writing.{Writes};
 ghost use Rattle.uac_running.specs.RunningLines.{ready_line};
-ghost use Rattle.uac_transcript.specs.Transcript.{spelled};
+ghost use Rattle.uac_transcript.specs.Transcript.{spelling_of};
 ghost use Rattle.uac_bus.specs.BusWorld.{step_feed, step_go};
-ghost use Rattle.uac_bus.specs.BusKept.{StandsFor, Does, is_final};
+ghost use Rattle.uac_bus.specs.BusKept.{StageStands, Does, is_final};
 ghost use Rattle.uac_bus.specs.BusRows.{Begins, bus_fault_of};
 
 use crate::bus::BusStage;
@@ -21,7 +21,7 @@ use uac_running::Running;
 /// Takes more bytes of the descriptor.
 pub(crate) fn feed(reader: &mut Reader, bytes: &[u8]) -> Result<(), BusFault>
     ensures does { reader.old.stop ≡ None → (shown : List Reading) (written : Option (List ℕ))
-        → Does (step_feed (reader.old.taken ++ bytes.now) shown) true (StandsFor (BusStage.Describing reader.new) shown) written written
+        → Does (step_feed (reader.old.taken ++ bytes.now) shown) true (StageStands (BusStage.Describing reader.new) shown) written written
         result }
     ensures fault { IfErr result (λ fault. is_final fault ≡ true) }
     ensures unwritten { IfErr result (λ fault. fault ≢ BusFault.WriteFault) }
@@ -79,16 +79,16 @@ fn start<K: Sink>(
     ensures faultless { OnOk result (K.faults sink.new ≡ K.faults sink.old) }
 {
     match Running::new(alloc, described.function, described.configuration) {
-        Ok(running) => announced(running, sink),
+        Ok(running) => announce(running, sink),
         Err(_) => Err(BusFault::NoMemory),
     }
 }
 
 /// A device whose line of the descriptor's end is printed.
-fn announced<K: Sink>(running: Running, sink: &mut K) -> Result<Running, BusFault>
-    ensures same { IfOk result (λ announced. announced ≡ running) }
+fn announce<K: Sink>(running: Running, sink: &mut K) -> Result<Running, BusFault>
+    ensures same { IfOk result (λ announce. announce ≡ running) }
     ensures fault { IfErr result (λ fault. fault ≡ BusFault.WriteFault) }
-    ensures written { Writes (K.written sink.old) (K.written sink.new) result (spelled (ready_line running.device.function)) }
+    ensures written { Writes (K.written sink.old) (K.written sink.new) result (spelling_of (ready_line running.device.function)) }
     ensures cause { HasCause (K.faults sink.old) (K.faults sink.new) result }
 {
     match running.ready(sink) {

@@ -8,9 +8,9 @@ ghost use Rattle.uac_script.specs.Line.{said_tone_of, said_mark};
 ghost use Rattle.uac_script.specs.Lent.{lent_phrase, LentKeeps};
 ghost use Rattle.uac_script.specs.Phrase as phrase;
 ghost use Rattle.uac_running.specs.RunningWorld.{RunningWorld};
-ghost use Rattle.uac_running.specs.RunningKept.{StandsBetween};
+ghost use Rattle.uac_running.specs.RunningKept.{RunningStandsBetween};
 ghost use Rattle.uac_bus.specs.BusWorld.{step_running};
-ghost use Rattle.uac_bus.specs.BusKept.{StandsFor, Does, is_append, is_final};
+ghost use Rattle.uac_bus.specs.BusKept.{StageStands, Does, is_append, is_final};
 
 use crate::bus::BusStage;
 use crate::fault::BusFault;
@@ -24,9 +24,9 @@ use uac_units::{Meter, Meters, Rack, Unit};
 
 /// Samples for a track.
 fn append(running: &mut Running, interface: u8, samples: &[i32]) -> Result<(), BusFault>
-    ensures does { (shown : List Reading) (r : RunningWorld) (written : Option (List ℕ)) → StandsBetween running.old shown r
-        → Does (step_running r (phrase.appends (pos interface) samples.now)) true
-        (StandsFor (BusStage.Running running.new) shown) written written result }
+    ensures does { (shown : List Reading) (r : RunningWorld) (written : Option (List ℕ)) → RunningStandsBetween running.old shown r
+        → Does (step_running r (phrase.append_line (pos interface) samples.now)) true
+        (StageStands (BusStage.Running running.new) shown) written written result }
     ensures unwritten { IfErr result (λ fault. fault ≢ BusFault.WriteFault) }
     ensures script { IfErr result (λ fault. is_final fault ≡ false → running.new ≡ running.old) }
 {
@@ -47,9 +47,9 @@ fn append(running: &mut Running, interface: u8, samples: &[i32]) -> Result<(), B
 
 /// The tone of a track.
 fn track(running: &mut Running, interface: u8, tone: Tone) -> Result<(), BusFault>
-    ensures does { (shown : List Reading) (r : RunningWorld) (written : Option (List ℕ)) → StandsBetween running.old shown r
-        → Does (step_running r (phrase.tracks (pos interface) (said_tone_of tone))) false
-        (StandsFor (BusStage.Running running.new) shown) written written result }
+    ensures does { (shown : List Reading) (r : RunningWorld) (written : Option (List ℕ)) → RunningStandsBetween running.old shown r
+        → Does (step_running r (phrase.track_line (pos interface) (said_tone_of tone))) false
+        (StageStands (BusStage.Running running.new) shown) written written result }
     ensures rule { IfErr result (λ fault. is_final fault ≡ false) }
     ensures unchanged { OnErr result (running.new ≡ running.old) }
 {
@@ -62,9 +62,9 @@ fn track(running: &mut Running, interface: u8, tone: Tone) -> Result<(), BusFaul
 
 /// The tone of an input jack.
 fn set_jack(running: &mut Running, terminal: u8, tone: Tone) -> Result<(), BusFault>
-    ensures does { (shown : List Reading) (r : RunningWorld) (written : Option (List ℕ)) → StandsBetween running.old shown r
-        → Does (step_running r (phrase.jacks (pos terminal) (said_tone_of tone))) false
-        (StandsFor (BusStage.Running running.new) shown) written written result }
+    ensures does { (shown : List Reading) (r : RunningWorld) (written : Option (List ℕ)) → RunningStandsBetween running.old shown r
+        → Does (step_running r (phrase.jack_line (pos terminal) (said_tone_of tone))) false
+        (StageStands (BusStage.Running running.new) shown) written written result }
     ensures rule { IfErr result (λ fault. is_final fault ≡ false) }
     ensures unchanged { OnErr result (running.new ≡ running.old) }
 {
@@ -79,9 +79,9 @@ fn set_jack(running: &mut Running, terminal: u8, tone: Tone) -> Result<(), BusFa
 fn deviate(running: &mut Running, domain: u8, ppm: i32) -> Result<(), BusFault>
     requires low { negsuc 99999 ≤ℤ ppm }
     requires high { ppm ≤ℤ pos 100000 }
-    ensures does { (shown : List Reading) (r : RunningWorld) (written : Option (List ℕ)) → StandsBetween running.old shown r
-        → Does (step_running r (phrase.deviates (pos domain) ppm)) false
-        (StandsFor (BusStage.Running running.new) shown) written written result }
+    ensures does { (shown : List Reading) (r : RunningWorld) (written : Option (List ℕ)) → RunningStandsBetween running.old shown r
+        → Does (step_running r (phrase.deviate_line (pos domain) ppm)) false
+        (StageStands (BusStage.Running running.new) shown) written written result }
     ensures rule { IfErr result (λ fault. is_final fault ≡ false) }
     ensures unchanged { OnErr result (running.new ≡ running.old) }
 {
@@ -102,9 +102,10 @@ fn run<K: Sink>(
     sink: &mut K,
 ) -> Result<(), BusFault>
     requires rack { IsFitted (λ v x. (⟦<dyn Unit as Unit>⟧ v).kind_of x) rack.now }
-    ensures does { (r : RunningWorld) → StandsBetween running.old (readings (λ v x. (⟦<dyn Meter as Meter>⟧ v).reading_of x) meters.old) r
-        → Does (step_running r (phrase.runs (pos count) (map said_mark marks.now))) false
-        (StandsFor (BusStage.Running running.new) (readings (λ v x. (⟦<dyn Meter as Meter>⟧ v).reading_of x) meters.new))
+    ensures does { (r : RunningWorld)
+        → RunningStandsBetween running.old (readings (λ v x. (⟦<dyn Meter as Meter>⟧ v).reading_of x) meters.old) r
+        → Does (step_running r (phrase.microframes_line (pos count) (map said_mark marks.now))) false
+        (StageStands (BusStage.Running running.new) (readings (λ v x. (⟦<dyn Meter as Meter>⟧ v).reading_of x) meters.new))
         (K.written sink.old) (K.written sink.new) result }
     ensures script { IfErr result (λ fault. is_final fault ≡ false → running.new ≡ running.old) }
     ensures unwritten { IfErr result (λ fault. fault ≢ BusFault.WriteFault → sink.new ≡ sink.old) }
@@ -124,9 +125,10 @@ fn run<K: Sink>(
 
 /// The report.
 fn report<K: Sink>(running: &Running, meters: &Meters, sink: &mut K) -> Result<(), BusFault>
-    ensures does { (r : RunningWorld) → StandsBetween running.now (readings (λ v x. (⟦<dyn Meter as Meter>⟧ v).reading_of x) meters.now) r
-        → Does (step_running r phrase.reports) false
-        (StandsFor (BusStage.Running running.now) (readings (λ v x. (⟦<dyn Meter as Meter>⟧ v).reading_of x) meters.now))
+    ensures does { (r : RunningWorld)
+        → RunningStandsBetween running.now (readings (λ v x. (⟦<dyn Meter as Meter>⟧ v).reading_of x) meters.now) r
+        → Does (step_running r phrase.report_line) false
+        (StageStands (BusStage.Running running.now) (readings (λ v x. (⟦<dyn Meter as Meter>⟧ v).reading_of x) meters.now))
         (K.written sink.old) (K.written sink.new) result }
     ensures cause { IfErr result (λ fault. (fault ≡ BusFault.WriteFault) × Rose (K.faults sink.old) (K.faults sink.new)) }
     ensures never_falls { K.faults sink.old ≤ K.faults sink.new }
@@ -148,9 +150,10 @@ pub(crate) fn play<K: Sink>(
 ) -> Result<(), BusFault>
     requires rack { IsFitted (λ v x. (⟦<dyn Unit as Unit>⟧ v).kind_of x) rack.now }
     requires keeps { LentKeeps line }
-    ensures does { (r : RunningWorld) → StandsBetween running.old (readings (λ v x. (⟦<dyn Meter as Meter>⟧ v).reading_of x) meters.old) r
+    ensures does { (r : RunningWorld)
+        → RunningStandsBetween running.old (readings (λ v x. (⟦<dyn Meter as Meter>⟧ v).reading_of x) meters.old) r
         → Does (step_running r (lent_phrase line.entry)) (is_append (lent_phrase line.entry))
-        (StandsFor (BusStage.Running running.new) (readings (λ v x. (⟦<dyn Meter as Meter>⟧ v).reading_of x) meters.new))
+        (StageStands (BusStage.Running running.new) (readings (λ v x. (⟦<dyn Meter as Meter>⟧ v).reading_of x) meters.new))
         (K.written sink.old) (K.written sink.new) result }
     ensures script { IfErr result (λ fault. is_final fault ≡ false → running.new ≡ running.old) }
     ensures unwritten { IfErr result (λ fault. fault ≢ BusFault.WriteFault → sink.new ≡ sink.old) }

@@ -8,7 +8,7 @@ use Rattle.uac_describe.specs.Answered.{IsAnswered}
 use Rattle.uac_describe.specs.Closing.{Closes}
 use Rattle.uac_describe.specs.Outcome.{Outcome, stopped}
 use Rattle.uac_describe.proofs.Composing.{nothing_shown, quiet_so_far}
-use Rattle.uac_scripts.specs.declared.jobs.Job.TheVariants.{Describe}
+use Rattle.uac_scripts.specs.declared.jobs.SourceJob.TheVariants.{Describe}
 use Rattle.uac_scripts.specs.ScriptRun.{IsEnding, IsRun, WantsMemory, usage}
 use Rattle.uac_scripts.specs.ScriptTranscript.{Ending}
 

@@ -5,7 +5,7 @@ use Rattle.std.specs.Io.KnownBytes.{IsAtEnd}
 use Rattle.std.specs.Vec.Iter.{into_iter_items}
 use Rattle.std.specs.declared.string.String.{String}
 use Rattle.std.specs.declared.vec.IntoIter.{IntoIter}
-use Rattle.uac_words.specs.declared.commands.Words.{Words}
+use Rattle.uac_words.specs.declared.commands.Invocation.{Invocation}
 use Rattle.uac_words.specs.Plain.{plainly}
 use Rattle.uac_describe.specs.declared.status.Status.{Status}
 use Rattle.uac_describe.specs.declared.status.Status.TheVariants as statuses
@@ -22,21 +22,21 @@ pub asked_words : {X Z E : Type 0} (args : Result (IntoIter (String X) Z) E) (wo
 asked_words {X} (Ok all) words lent same given none = ap (λ (ws : List (String X)). plainly (map (λ word. string_bytes word) ws)) (same ∙ given)
 asked_words {X} (Err error) words lent same given none = ap (λ (ws : List (String X)). plainly (map (λ word. string_bytes word) ws)) (same ∙ none)
 
-pub call_asked : (asked asked' : Option Words) (left left' : Option (List ℕ)) (reads reads' : ℕ) (w w' : Option (List ℕ)) (f f' : ℕ) (status : Status) → asked ≡ asked'
+pub call_asked : (asked asked' : Option Invocation) (left left' : Option (List ℕ)) (reads reads' : ℕ) (w w' : Option (List ℕ)) (f f' : ℕ) (status : Status) → asked ≡ asked'
     → IsFreshCall asked left left' reads reads' w w' f f' status → IsFreshCall asked' left left' reads reads' w w' f f' status
-call_asked asked asked' left left' reads reads' w w' f f' status same call = subst (λ (x : Option Words). IsFreshCall x left left' reads reads' w w' f f' status) same call
+call_asked asked asked' left left' reads reads' w w' f f' status same call = subst (λ (x : Option Invocation). IsFreshCall x left left' reads reads' w w' f f' status) same call
 
-pub whole_asked : (asked asked' : Option Words) (left : Option (List ℕ)) (reads reads' : ℕ) (w w' : Option (List ℕ)) (f f' : ℕ) (status : Status) → asked ≡ asked'
+pub whole_asked : (asked asked' : Option Invocation) (left : Option (List ℕ)) (reads reads' : ℕ) (w w' : Option (List ℕ)) (f f' : ℕ) (status : Status) → asked ≡ asked'
     → IsComplete asked fresh_readings left reads reads' w w' f f' status → IsComplete asked' fresh_readings left reads reads' w w' f f' status
-whole_asked asked asked' left reads reads' w w' f f' status same whole = subst (λ (x : Option Words). IsComplete x fresh_readings left reads reads' w w' f f' status) same whole
+whole_asked asked asked' left reads reads' w w' f f' status same whole = subst (λ (x : Option Invocation). IsComplete x fresh_readings left reads reads' w w' f f' status) same whole
 
 -- the same of what is left at Ok
-pub end_asked : (asked asked' : Option Words) (left : Option (List ℕ)) (status : Status) → asked ≡ asked' → (status ≡ statuses.Ok → ask_to_read asked ≡ true → IsAtEnd left)
+pub end_asked : (asked asked' : Option Invocation) (left : Option (List ℕ)) (status : Status) → asked ≡ asked' → (status ≡ statuses.Ok → ask_to_read asked ≡ true → IsAtEnd left)
     → status ≡ statuses.Ok → ask_to_read asked' ≡ true → IsAtEnd left
-end_asked asked asked' left status same at_end = subst (λ (x : Option Words). status ≡ statuses.Ok → ask_to_read x ≡ true → IsAtEnd left) same at_end
+end_asked asked asked' left status same at_end = subst (λ (x : Option Invocation). status ≡ statuses.Ok → ask_to_read x ≡ true → IsAtEnd left) same at_end
 
 -- nothing was taken and nothing written before `no memory` was
-pub call_unread : (asked : Option Words) (left left' : Option (List ℕ)) (reads reads' : ℕ) (w mid w' : Option (List ℕ)) (f between f' : ℕ) (status : Status)
+pub call_unread : (asked : Option Invocation) (left left' : Option (List ℕ)) (reads reads' : ℕ) (w mid w' : Option (List ℕ)) (f between f' : ℕ) (status : Status)
     → left' ≡ left → reads' ≡ reads → mid ≡ w → between ≡ f → Closes no_memory mid w' between f' status → IsFreshCall asked left left' reads reads' w w' f f' status
 call_unread asked left left' reads reads' w mid w' f between f' status taken read kept quiet closed = record {
   shown' = fresh_readings;

@@ -6,9 +6,9 @@ use Rattle.uac_edges.specs.Faults.{Rose}
 use Rattle.uac_units.specs.Hearing.{Reading}
 use Rattle.uac_words.specs.declared.commands.Command.{Command}
 use Rattle.uac_words.specs.declared.commands.Command.TheVariants as commands
-use Rattle.uac_words.specs.declared.commands.Words.{Words}
+use Rattle.uac_words.specs.declared.commands.Invocation.{Invocation}
 use Rattle.uac_gen.specs.GeneratedScript.{script_of}
-use Rattle.uac_scripts.specs.declared.jobs.Job.TheVariants.{Describe, Run}
+use Rattle.uac_scripts.specs.declared.jobs.SourceJob.TheVariants.{Describe, Run}
 use Rattle.uac_describe.specs.declared.description.Description.{Description}
 use Rattle.uac_describe.specs.declared.description.Description.TheVariants.{Check, Elements, Show}
 use Rattle.uac_describe.specs.declared.status.Status.{Status}
@@ -86,7 +86,7 @@ module _ (w w' : Option (List ℕ)) (f f' : ℕ) (status : Status) (quiet : Rest
         script_whole shown shown' (Some (script_of number)) generated.unread 0 0 (script_of number) outcome generated.run refl never_failed written said
     command_whole commands.Settle prints input written said = whole_of settling outcome said prints.closed
 
-module _ (asked : Option Words) (shown : List Reading) (a : Option (List ℕ)) (r r' : ℕ) (w w' : Option (List ℕ)) (f f' : ℕ) (status : Status) where
+module _ (asked : Option Invocation) (shown : List Reading) (a : Option (List ℕ)) (r r' : ℕ) (w w' : Option (List ℕ)) (f f' : ℕ) (status : Status) where
   -- there was no memory to read the words
   pub unread_whole : Closes no_memory w w' f f' status → IsComplete asked shown a r r' w w' f f' status
   unread_whole closed words bytes outcome is input quiet said = inr (closed_whole no_memory w w' f f' status quiet closed).0
@@ -96,5 +96,5 @@ module _ (asked : Option Words) (shown : List Reading) (a : Option (List ℕ)) (
       → IsComplete asked shown a r r' w w' f f' status
   done_whole shown' b (inl answered) cause words bytes outcome is input quiet said =
       command_whole w w' f f' status quiet shown shown' a b r r' bytes outcome words.command
-      (subst (λ (x : Option Words). AreAnswered x shown shown' a b r r' w w' f f' status) is answered) input (λ e. quiet (cause e)) said
+      (subst (λ (x : Option Invocation). AreAnswered x shown shown' a b r r' w w' f f' status) is answered) input (λ e. quiet (cause e)) said
   done_whole shown' b (inr prints) cause words bytes outcome is input quiet said = unread_whole prints.closed words bytes outcome is input quiet said

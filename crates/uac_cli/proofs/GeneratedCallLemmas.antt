@@ -2,17 +2,17 @@
 use Rattle.std.proofs.Common.{◌≡◌, ◌∙◌, sym, ap, ℕ, ◌+◌, ◌<◌, ◌≤◌, arith, List, [], ◌∷◌, ◌++◌, length, map, Option, None, Result, Ok}
 use Rattle.std.specs.List.{AllByRecursion}
 use Rattle.std.proofs.lemmas.List.{append-nil}
-use Rattle.uac_gen.specs.Generator.{generated}
+use Rattle.uac_gen.specs.Generator.{generated_lines}
 use Rattle.uac_gen.specs.GeneratedScript.{script_of}
 use Rattle.uac_script.specs.ScriptLines.{most_of_input, unended}
 use Rattle.uac_script.specs.LineReading.{answer}
 use Rattle.uac_transcript.specs.Printing.{text_of}
 use Rattle.uac_bus.specs.declared.fault.BusFault.{BusFault}
-use Rattle.uac_bus.specs.BusWorld.{World, finish_of}
+use Rattle.uac_bus.specs.BusWorld.{BusWorld, finish_of}
 use Rattle.uac_bus.specs.After.{After}
 use Rattle.uac_steady.specs.Scripts.{after_texts}
 use Rattle.uac_generated.specs.Generated.{IsLineOfScript}
-use Rattle.uac_generated.proofs.Whole.{generated_scripts_are_done, generated_scripts_are_scripts, generated_scripts_are_steady}
+use Rattle.uac_generated.proofs.GeneratedLemmas.{generated_scripts_are_done, generated_scripts_are_scripts, generated_scripts_are_steady}
 use Rattle.uac_promises.proofs.AllScripts.{all_scripts_keep_promises}
 use Rattle.uac_describe.specs.declared.status.Status.TheVariants as statuses
 use Rattle.uac_describe.specs.Outcome.{at_end}
@@ -30,7 +30,7 @@ are_lines [] each = tt
 are_lines (text ∷ texts) (one, each) = (record { short = one.short; whole = one.whole }, are_lines texts each)
 
 -- nothing stands after the last newline, and the script may end
-ended : (spare number : ℕ) (w : World) → finish_of w ≡ Ok tt
+ended : (spare number : ℕ) (w : BusWorld) → finish_of w ≡ Ok tt
     → goes spare [] at_end number w ≡ ends (record { text = []; status = statuses.Ok }) w
 unfolding ending_at
 ended spare number w is =
@@ -38,7 +38,7 @@ ended spare number w is =
     ∙ ap (λ (r : Result (Unit {0}) BusFault). closed_by r number w) is
 
 -- no line was refused, so what follows them is reached
-none_refused : (a : After) (number : ℕ) (go : World → Ending) (last : Ending) → a.refusal ≡ None → go a.world ≡ last
+none_refused : (a : After) (number : ℕ) (go : BusWorld → Ending) (last : Ending) → a.refusal ≡ None → go a.world ≡ last
     → come_to a number go ≡ with_text_first (text_of a.lines) last
 none_refused a number go last none is =
     ap (λ (o : Option BusFault). with_text_first (text_of a.lines) (script.go_unless_refused o (number + a.count) a.world go)) none
@@ -47,7 +47,7 @@ none_refused a number go last none is =
 pub generated_scripts_run_whole : GeneratedScriptsRunWhole
 unfolding script_of
 generated_scripts_run_whole number shown small =
-    let texts : List (List ℕ) = generated number in
+    let texts : List (List ℕ) = generated_lines number in
     let a : After = after_texts texts shown in
     let is = generated_scripts_are_scripts number small in
     let done = generated_scripts_are_done number shown small in
@@ -63,8 +63,8 @@ generated_scripts_run_whole number shown small =
       promised = all_scripts_keep_promises texts (map answer texts) shown (all_say texts) (generated_scripts_are_steady number shown small);
     }
   where
-    all_bytes : (n : ℕ) → script_of n ≡ with_newlines (generated n) ++ []
-    all_bytes n = sym (append-nil (with_newlines (generated n)))
+    all_bytes : (n : ℕ) → script_of n ≡ with_newlines (generated_lines n) ++ []
+    all_bytes n = sym (append-nil (with_newlines (generated_lines n)))
 
-    bounded : (n : ℕ) → length (script_of n) < most_of_input → length (with_newlines (generated n)) ≤ most_of_input
+    bounded : (n : ℕ) → length (script_of n) < most_of_input → length (with_newlines (generated_lines n)) ≤ most_of_input
     bounded n h = omega arith

@@ -5,8 +5,8 @@ use Rattle.uac_edges.specs.Faults.{Rose}
 use Rattle.uac_units.specs.Hearing.{Reading}
 use Rattle.uac_words.specs.declared.commands.Command.{Command}
 use Rattle.uac_words.specs.declared.commands.Command.TheVariants as commands
-use Rattle.uac_words.specs.declared.commands.Words.{Words}
-use Rattle.uac_scripts.specs.declared.jobs.Job.{Job}
+use Rattle.uac_words.specs.declared.commands.Invocation.{Invocation}
+use Rattle.uac_scripts.specs.declared.jobs.SourceJob.{SourceJob}
 use Rattle.uac_describe.specs.declared.status.Status.{Status}
 use Rattle.uac_describe.specs.declared.status.Status.TheVariants as statuses
 use Rattle.uac_describe.specs.Outcome.{Outcome, no_memory}
@@ -15,12 +15,12 @@ use Rattle.uac_describe.specs.HandingOn.{HandsOn}
 use Rattle.uac_cli.specs.Call.{AreAnswered, IsCall, IsDone, Prints}
 use Rattle.uac_describe.specs.SettleLines.{settling}
 use Rattle.uac_describe.proofs.Answering.{closes_faultless}
-use Rattle.uac_describe.proofs.HandingOn.{closes_on, status_before}
+use Rattle.uac_describe.proofs.HandingOnLemmas.{closes_on, status_before}
 
 -- ---- a run
 
 module _ (w m w' : Option (List ℕ)) (f g f' : ℕ) (status status' : Status) (kept : Keeps m w') (ends : HandsOn status g f' status') where
-  run_on : (job : Option Job) (shown shown' : List Reading) (left left' : Option (List ℕ)) (reads reads' : ℕ)
+  run_on : (job : Option SourceJob) (shown shown' : List Reading) (left left' : Option (List ℕ)) (reads reads' : ℕ)
       → IsRun job shown shown' left left' reads reads' w m f g status → IsRun job shown shown' left left' reads reads' w w' f f' status'
   run_on job shown shown' left left' reads reads' run = record {
     taken = run.taken;
@@ -57,12 +57,12 @@ module _ (w m w' : Option (List ℕ)) (f g f' : ℕ) (status status' : Status) (
   }
   done_on commands.Settle shown shown' left left' reads reads' prints = prints_on settling shown shown' left left' reads reads' prints
 
-  answered_on : (asked : Option Words) (shown shown' : List Reading) (left left' : Option (List ℕ)) (reads reads' : ℕ)
+  answered_on : (asked : Option Invocation) (shown shown' : List Reading) (left left' : Option (List ℕ)) (reads reads' : ℕ)
       → AreAnswered asked shown shown' left left' reads reads' w m f g status → AreAnswered asked shown shown' left left' reads reads' w w' f f' status'
   answered_on None shown shown' left left' reads reads' run = run_on _ shown shown' left left' reads reads' run
   answered_on (Some words) shown shown' left left' reads reads' answered = done_on words.command shown shown' left left' reads reads' answered
 
-  pub call_on : (asked : Option Words) (shown shown' : List Reading) (left left' : Option (List ℕ)) (reads reads' : ℕ)
+  pub call_on : (asked : Option Invocation) (shown shown' : List Reading) (left left' : Option (List ℕ)) (reads reads' : ℕ)
       → IsCall asked shown shown' left left' reads reads' w m f g status → IsCall asked shown shown' left left' reads reads' w w' f f' status'
   call_on asked shown shown' left left' reads reads' (inl answered) = inl (answered_on asked shown shown' left left' reads reads' answered)
   call_on asked shown shown' left left' reads reads' (inr prints) = inr (prints_on no_memory shown shown' left left' reads reads' prints)
@@ -80,16 +80,16 @@ module _ (shown shown' : List Reading) (left left' : Option (List ℕ)) (reads r
   done_quiet (commands.Gen number) generated = closes_faultless generated.run.ending.outcome w w' f f' status generated.run.closed other
   done_quiet commands.Settle prints = closes_faultless settling w w' f f' status prints.closed other
 
-  answered_quiet : (asked : Option Words) → AreAnswered asked shown shown' left left' reads reads' w w' f f' status → f' ≡ f
+  answered_quiet : (asked : Option Invocation) → AreAnswered asked shown shown' left left' reads reads' w w' f f' status → f' ≡ f
   answered_quiet None run = closes_faultless run.ending.outcome w w' f f' status run.closed other
   answered_quiet (Some words) answered = done_quiet words.command answered
 
-  call_quiet : (asked : Option Words) → IsCall asked shown shown' left left' reads reads' w w' f f' status → f' ≡ f
+  call_quiet : (asked : Option Invocation) → IsCall asked shown shown' left left' reads reads' w w' f f' status → f' ≡ f
   call_quiet asked (inl answered) = answered_quiet asked answered
   call_quiet asked (inr prints) = closes_faultless no_memory w w' f f' status prints.closed other
 
 -- a failed write has its cause in the call
-pub write_fault_on : (asked : Option Words) (shown shown' : List Reading) (left left' : Option (List ℕ)) (reads reads' : ℕ) (w m : Option (List ℕ)) (f g f' : ℕ)
+pub write_fault_on : (asked : Option Invocation) (shown shown' : List Reading) (left left' : Option (List ℕ)) (reads reads' : ℕ) (w m : Option (List ℕ)) (f g f' : ℕ)
     (status status' : Status) → HandsOn status g f' status' → IsCall asked shown shown' left left' reads reads' w m f g status
     → (status ≡ statuses.WriteFault → Rose f g) → status' ≡ statuses.WriteFault → Rose f f'
 write_fault_on asked shown shown' left left' reads reads' w m f g f' status status' (inl same) call cause is =

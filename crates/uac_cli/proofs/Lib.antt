@@ -1,6 +1,6 @@
 pub mod Answering
 pub mod Asking
-pub mod Calling
+pub mod CallLemmas
 pub mod Completed
 pub mod GeneratedCallLemmas
 pub mod HandingOn

@@ -4,8 +4,8 @@ use Rattle.uac_gen.specs.GeneratedScript.{script_of}
 use Rattle.uac_units.specs.Hearing.{Reading}
 use Rattle.uac_words.specs.declared.commands.Command.{Command}
 use Rattle.uac_words.specs.declared.commands.Command.TheVariants as commands
-use Rattle.uac_words.specs.declared.commands.Words.{Words}
-use Rattle.uac_scripts.specs.declared.jobs.Job.TheVariants.{Describe, Run}
+use Rattle.uac_words.specs.declared.commands.Invocation.{Invocation}
+use Rattle.uac_scripts.specs.declared.jobs.SourceJob.TheVariants.{Describe, Run}
 use Rattle.uac_describe.specs.declared.description.Description.TheVariants.{Check, Elements, Show}
 use Rattle.uac_describe.specs.declared.status.Status.{Status}
 use Rattle.uac_describe.specs.Outcome.{Outcome, no_memory}
@@ -51,7 +51,7 @@ IsDone commands.Settle shown shown' left left' reads reads' written written' wri
 
 -- what words come to: the command that they ask for is done, over either rack, and words that ask for none take nothing and are told how
 -- the program is used
-abbrev pub AreAnswered : Option Words → List Reading → List Reading → Option (List ℕ) → Option (List ℕ) → ℕ → ℕ → Option (List ℕ)
+abbrev pub AreAnswered : Option Invocation → List Reading → List Reading → Option (List ℕ) → Option (List ℕ) → ℕ → ℕ → Option (List ℕ)
     → Option (List ℕ) → ℕ → ℕ → Status → Type 0
 AreAnswered None shown shown' left left' reads reads' written written' writes writes' status =
     IsRun None shown shown' left left' reads reads' written written' writes writes' status
@@ -59,7 +59,7 @@ AreAnswered (Some words) shown shown' left left' reads reads' written written' w
     IsDone words.command shown shown' left left' reads reads' written written' writes writes' status
 
 -- a call of the program: words come to that, or there was no memory to read them
-abbrev pub IsCall : Option Words → List Reading → List Reading → Option (List ℕ) → Option (List ℕ) → ℕ → ℕ → Option (List ℕ)
+abbrev pub IsCall : Option Invocation → List Reading → List Reading → Option (List ℕ) → Option (List ℕ) → ℕ → ℕ → Option (List ℕ)
     → Option (List ℕ) → ℕ → ℕ → Status → Type 0
 IsCall words shown shown' left left' reads reads' written written' writes writes' status =
     AreAnswered words shown shown' left left' reads reads' written written' writes writes' status
@@ -75,6 +75,6 @@ reads_all (commands.Gen number) = false
 reads_all commands.Settle = false
 
 -- the words ask for such a command
-abbrev pub ask_to_read : Option Words → Bool
+abbrev pub ask_to_read : Option Invocation → Bool
 ask_to_read None = false
 ask_to_read (Some words) = reads_all words.command

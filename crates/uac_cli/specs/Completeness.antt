@@ -6,7 +6,7 @@ use Rattle.uac_gen.specs.GeneratedScript.{script_of}
 use Rattle.uac_units.specs.Hearing.{Reading}
 use Rattle.uac_words.specs.declared.commands.Command.{Command}
 use Rattle.uac_words.specs.declared.commands.Command.TheVariants as commands
-use Rattle.uac_words.specs.declared.commands.Words.{Words}
+use Rattle.uac_words.specs.declared.commands.Invocation.{Invocation}
 use Rattle.uac_describe.specs.declared.description.Description.TheVariants.{Check, Elements, Show}
 use Rattle.uac_describe.specs.declared.status.Status.{Status}
 use Rattle.uac_describe.specs.declared.status.Status.TheVariants as statuses
@@ -36,8 +36,9 @@ HasInput command left reads reads' bytes = reads_all command ≡ true → (left 
 
 -- Where the words ask for a command, no read and no write failed, and the whole input comes to an outcome, the call has that
 -- outcome's status and wrote its whole text; or memory was wanted.
-abbrev pub IsComplete : Option Words → List Reading → Option (List ℕ) → ℕ → ℕ → Option (List ℕ) → Option (List ℕ) → ℕ → ℕ → Status → Type 0
+abbrev pub IsComplete : Option Invocation → List Reading → Option (List ℕ) → ℕ → ℕ → Option (List ℕ) → Option (List ℕ) → ℕ → ℕ → Status
+    → Type 0
 IsComplete asked shown left reads reads' written written' writes writes' status =
-    (words : Words) (bytes : List ℕ) (outcome : Outcome) → asked ≡ Some words → HasInput words.command left reads reads' bytes
+    (words : Invocation) (bytes : List ℕ) (outcome : Outcome) → asked ≡ Some words → HasInput words.command left reads reads' bytes
     → Rests writes writes' → ComesTo words.command shown bytes outcome
     → ((status ≡ outcome.status) × Appends written written' outcome.text) ⊎ (status ≡ statuses.NoMemory)

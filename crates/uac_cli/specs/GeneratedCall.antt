@@ -2,7 +2,7 @@
 use Rattle.std.specs.Prelude.{ℕ, ◌<◌, ◌^◌, List, [], Result}
 use Rattle.std.specs.List.{AllZip}
 use Rattle.uac_units.specs.Hearing.{Reading}
-use Rattle.uac_gen.specs.Generator.{generated}
+use Rattle.uac_gen.specs.Generator.{generated_lines}
 use Rattle.uac_gen.specs.GeneratedScript.{script_of}
 use Rattle.uac_script.specs.Line.{Says}
 use Rattle.uac_script.specs.Phrase.{Phrase}
@@ -18,7 +18,7 @@ use Rattle.uac_scripts.specs.ScriptTranscript.{IsTranscript, with_text_first, en
 -- is as promised of steady scripts: no ring is found empty or without room
 pub record RunsWhole (number : ℕ) (shown : List Reading) : Type 0 where
   pub saids : List (Result Phrase ℕ)
-  pub say : AllZip Says (generated number) saids
+  pub say : AllZip Says (generated_lines number) saids
   pub transcript_is :
       IsTranscript shown (script_of number) at_end (with_text_first (text_of (after saids (start shown)).lines)
       (ends (record { text = []; status = statuses.Ok }) (after saids (start shown)).world))

@@ -101,7 +101,7 @@ fn judge(
     status: Status,
 ) -> Result<(), AllocError> {
     let got = got?;
-    assert_eq!(rt; sink.written(), text);
+    assert_eq!(rt; sink.bytes_written(), text);
     assert_eq!(rt; got, status);
     Ok(())
 }
@@ -316,10 +316,10 @@ fn no_call_after_the_end(rt: HostRuntime) -> Result<(), Fail> {
     Ok(())
 }
 
-/// A script whose second line is refused. It ends 4 bytes, and as many stand behind it.
+/// A script whose second line is refused. It ends 4 bytes, and as many stand after it.
 const REFUSED: &[u8] = b"#\nx\n#\nq\n";
 
-/// `run` of that script in pieces of so many bytes leaves these bytes in the source: it takes no piece behind the refused line.
+/// `run` of that script in pieces of so many bytes leaves these bytes in the source: it takes no piece after the refused line.
 fn expect_left(rt: &impl Abort, alloc: Global, cut: usize, left: &[u8]) -> Result<(), AllocError>
     requires { 0 < cut }
 {
@@ -345,7 +345,7 @@ fn expect_left(rt: &impl Abort, alloc: Global, cut: usize, left: &[u8]) -> Resul
 }
 
 #[test]
-fn no_piece_behind_a_refused_line(rt: HostRuntime) -> Result<(), Fail> {
+fn no_piece_after_a_refused_line(rt: HostRuntime) -> Result<(), Fail> {
     for (cut, left) in [
         (1, b"#\nq\n".as_slice()),
         (2, b"#\nq\n".as_slice()),
@@ -448,10 +448,10 @@ fn judge_what_follows(
     status: Status,
 ) -> Result<(), AllocError> {
     let front = TRANSCRIPT.get(..printed(taken)).unwrap_or(TRANSCRIPT);
-    assert_eq!(rt; got?, status, "behind {taken} bytes");
+    assert_eq!(rt; got?, status, "after {taken} bytes");
     assert!(rt;
-        is_both(sink.written(), front, rest),
-        "behind {taken} bytes"
+        is_both(sink.bytes_written(), front, rest),
+        "after {taken} bytes"
     );
     Ok(())
 }
@@ -551,7 +551,7 @@ const GENERATED: &[u8] =
 const RENDERED: &[u8] =
     b"stream 1 out setting 1 level 256 target 256 under 0 over 0 lost 120 missed 398\nrenders 672000\n";
 
-/// `gen 1` with these words behind it asks the boxes of each rack together so often.
+/// `gen 1` with these words after it asks the boxes of each rack together so often.
 fn expect_counts(
     rt: &impl Abort,
     alloc: Global,
@@ -567,7 +567,7 @@ fn expect_counts(
     let mut sink = sink_in_memory(alloc, 64, &[])?;
     let mut meters = Meters::new(Vec::new(alloc));
     let status = uac_main(alloc, &words, &mut source, &mut sink, &racks, &mut meters);
-    assert!(rt; is_both(sink.written(), GENERATED, RENDERED));
+    assert!(rt; is_both(sink.bytes_written(), GENERATED, RENDERED));
     assert_eq!(rt; status, Status::Ok);
     assert_eq!(rt; plain.get(), plain_asked);
     assert_eq!(rt; lanes.get(), lanes_asked);
@@ -613,6 +613,6 @@ fn bus_does_one_line_after_the_other(rt: HostRuntime) -> Result<(), Fail> {
     }
     assert!(rt; bus.finish().is_ok());
     let text = b"ready entities 0 streams 0 domains 0\ntime 2\nsteady yes\nrenders 0\n";
-    assert_eq!(rt; sink.written(), text.as_slice());
+    assert_eq!(rt; sink.bytes_written(), text.as_slice());
     Ok(())
 }

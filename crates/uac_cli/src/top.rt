@@ -16,7 +16,7 @@ use uac_edges::{Sink, Source};
 use uac_gen::GenSource;
 use uac_scripts::run_script;
 use uac_units::{Meter, Meters, Rack, Unit};
-use uac_words::{Command, RackChoice, Words, WordsFault};
+use uac_words::{Command, Invocation, RackChoice, WordsFault};
 
 /// What is written where the words are no command.
 const USAGE: &[u8] =
@@ -83,7 +83,7 @@ pub fn uac_main<S: Source, K: Sink>(
 /// Does what the words ask for, with the rack that they choose.
 fn perform<S: Source, K: Sink>(
     alloc: Global,
-    words: Words,
+    words: Invocation,
     source: &mut S,
     sink: &mut K,
     racks: &Racks,

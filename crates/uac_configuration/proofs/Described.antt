@@ -9,12 +9,12 @@ use Rattle.uac_sentence.specs.Cutting.{Cut, IsPiece, with_piece, chop}
 use Rattle.uac_sentence.specs.Grammar.{first_fault}
 use Rattle.uac_sentence.specs.Letter.{context_after}
 use Rattle.uac_sentence.specs.Sentence.{EachIn, SpellsItself, spellings, IsSentence}
-use Rattle.uac_sentence.proofs.CuttingLaw.{chop_piece, chop_rest}
+use Rattle.uac_sentence.proofs.CuttingLemmas.{chop_piece, chop_rest}
 use Rattle.uac_sentence.proofs.SentenceLaw.{piece_of}
 use Rattle.uac_grammar.specs.Stop.{first_stop}
 use Rattle.uac_grammar.specs.declared.fault.ReadStop.{ReadStop}
 use Rattle.uac_grammar.specs.declared.fault.ReadStop.TheVariants as reads
-use Rattle.uac_grammar.proofs.Stops.{stop_at-Fault}
+use Rattle.uac_grammar.proofs.StopLemmas.{stop_at-Fault}
 use Rattle.uac_entities.specs.declared.entity.Entity.{Entity}
 use Rattle.uac_entities.specs.declared.stream.StreamInterface.{StreamInterface}
 use Rattle.uac_topology_rules.specs.declared.fault.TopologyFault.{TopologyFault}

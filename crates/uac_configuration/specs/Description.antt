@@ -7,7 +7,7 @@ use Rattle.uac_descriptor.specs.BlockReading.{block_of}
 use Rattle.uac_sentence.specs.Cutting.{chop}
 use Rattle.uac_sentence.specs.Letter.{context_after}
 use Rattle.uac_entities.specs.Entities.{entities_of}
-use Rattle.uac_topology_rules.specs.Clusters.{clustered}
+use Rattle.uac_topology_rules.specs.Clusters.{with_own_clusters}
 use Rattle.uac_topology_rules.specs.Domains.{domains_of}
 use Rattle.uac_topology.specs.Function.{FunctionFields}
 use Rattle.uac_topology.specs.Topology.{control_number, first_given, streams_in, total_length}
@@ -30,7 +30,7 @@ blocks_of bytes = blocks_from context.DeviceFront (chop bytes).pieces
 unfoldable pub function_of : List Block → FunctionFields
 function_of blocks =
     record {
-      entities = clustered (entities_of blocks);
+      entities = with_own_clusters (entities_of blocks);
       domains = domains_of (entities_of blocks);
       streams = streams_in blocks;
       control_interface = first_given control_number blocks;

@@ -8,7 +8,7 @@ use Rattle.uac_topology_rules.specs.declared.fault.TopologyFault.{TopologyFault}
 use Rattle.uac_topology.specs.declared.soundness.CheckStop.{CheckStop}
 use Rattle.uac_topology.specs.declared.soundness.CheckStop.TheVariants as stops
 use Rattle.uac_topology.specs.Function.{FunctionFields}
-use Rattle.uac_topology.specs.Topology.{first_broken, IsSound, IsFunctionOf, Tells}
+use Rattle.uac_topology.specs.Topology.{first_broken, IsSound, IsFunctionOf, IsStopAt}
 use Rattle.uac_describe.specs.declared.description.Description.{Description}
 use Rattle.uac_describe.specs.declared.description.Description.TheVariants.{Elements}
 use Rattle.uac_describe.specs.declared.reading.SourceEnd.TheVariants.{Whole, Stopped, Failed}
@@ -129,7 +129,7 @@ judges_sound description blocks function w w' f f' status holds (inr closed) = r
 
 -- it was refused
 pub judges_broken : (description : Description) (blocks : List Block) (stop : CheckStop) (w w' : Option (List ℕ)) (f f' : ℕ) (status : Status)
-    → Tells stop (first_broken blocks) → RefusesFunction stop w w' f f' status → Judges description blocks w w' f f' status
+    → IsStopAt stop (first_broken blocks) → RefusesFunction stop w w' f f' status → Judges description blocks w w' f f' status
 judges_broken description blocks (stops.Fault fault) w w' f f' status tells closed = record { outcome = unsound fault; meant = inl (is_broken fault tells); closed = closed }
 judges_broken description blocks stops.NoMemory w w' f f' status tells closed = record { outcome = no_memory; meant = inr refl; closed = closed }
 

@@ -11,7 +11,7 @@ use Rattle.uac_sentence.proofs.SentenceLaw.{sentence_none, sentence_unique}
 use Rattle.uac_grammar.specs.declared.fault.ReadStop.TheVariants.{Fault}
 use Rattle.uac_grammar.specs.Stop.{stop_at}
 use Rattle.uac_grammar.proofs.Readings.{shown_stop_first, shown_stop_stays}
-use Rattle.uac_grammar.proofs.Stops.{stop_at-Fault}
+use Rattle.uac_grammar.proofs.StopLemmas.{stop_at-Fault}
 use Rattle.uac_configuration.proofs.Described.{function_is}
 use Rattle.uac_describe.specs.declared.description.Description.{Description}
 use Rattle.uac_describe.specs.Closing.{HasEnded, Rests}

@@ -6,7 +6,7 @@ use Rattle.uac_grammar.specs.declared.fault.ReadStop.{ReadStop}
 use Rattle.uac_grammar.specs.declared.fault.ReadStop.TheVariants.{Fault, NoMemory}
 use Rattle.uac_grammar.specs.Stop.{first_stop, shown_fault, shown_stop}
 use Rattle.uac_grammar.proofs.Readings.{no_stop_no_fault}
-use Rattle.uac_grammar.proofs.Stops.{stop_at-Fault}
+use Rattle.uac_grammar.proofs.StopLemmas.{stop_at-Fault}
 use Rattle.uac_describe.specs.declared.reading.SourceEnd.{SourceEnd}
 use Rattle.uac_describe.specs.declared.reading.SourceEnd.TheVariants.{Whole, Stopped, Failed}
 use Rattle.uac_sentence.specs.Cutting.{chop, chop_within}

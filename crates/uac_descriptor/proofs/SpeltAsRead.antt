@@ -178,8 +178,8 @@ subtyped : (s n : ℕ) (rest : List ℕ) → slice_index rest 0 ≡ s → length
 subtyped s n rest same counted = ap (λ x. x ∷ cells 1 n rest) (sym same) ∙ whole_cells (suc n) rest counted
 
 -- the number of bytes after the type, from the length of the whole block
-behind_type : (n size kind : ℕ) (rest : List ℕ) → (length (size ∷ kind ∷ rest) == n) ≡ true → length rest + 2 ≡ n
-behind_type n size kind rest test =
+after_type : (n size kind : ℕ) (rest : List ℕ) → (length (size ∷ kind ∷ rest) == n) ≡ true → length rest + 2 ≡ n
+after_type n size kind rest test =
     let e : length (size ∷ kind ∷ rest) ≡ n = eqb-true (length (size ∷ kind ∷ rest)) n test in omega (arith, e)
 
 -- the content of a row with pins
@@ -259,30 +259,30 @@ pub spelling-fields : (r : Row) (size kind : ℕ) (rest : List ℕ) → AreBytes
     has_length r (size ∷ kind ∷ rest) ≡ true → IsHeaded r kind rest → spelling (fields r (size ∷ kind ∷ rest)) ≡ size ∷ kind ∷ rest
 unfolding spelling fields has_length
 spelling-fields rows.configuration size kind rest are fits long head =
-    let n : length rest + 2 ≡ 9 = behind_type 9 size kind rest long in
+    let n : length rest + 2 ≡ 9 = after_type 9 size kind rest long in
     rw (low_of_two rest are 0, high_of_two rest are 0)
     (joined size kind CONFIGURATION rest (cells 0 7 rest) fits head (whole_cells 7 rest (omega (arith, n))))
 spelling-fields rows.association size kind rest are fits long head =
-    let n : length rest + 2 ≡ 8 = behind_type 8 size kind rest long in
+    let n : length rest + 2 ≡ 8 = after_type 8 size kind rest long in
     joined size kind INTERFACE_ASSOCIATION rest (cells 0 6 rest) fits head (whole_cells 6 rest (omega (arith, n)))
 spelling-fields rows.interface size kind rest are fits long head =
-    let n : length rest + 2 ≡ 9 = behind_type 9 size kind rest long in
+    let n : length rest + 2 ≡ 9 = after_type 9 size kind rest long in
     joined size kind INTERFACE rest (cells 0 7 rest) fits head (whole_cells 7 rest (omega (arith, n)))
 spelling-fields rows.endpoint size kind rest are fits long head =
-    let n : length rest + 2 ≡ 7 = behind_type 7 size kind rest long in
+    let n : length rest + 2 ≡ 7 = after_type 7 size kind rest long in
     rw (low_of_two rest are 2, high_of_two rest are 2)
     (joined size kind ENDPOINT rest (cells 0 5 rest) fits head (whole_cells 5 rest (omega (arith, n))))
 spelling-fields rows.header size kind rest are fits long head =
-    let n : length rest + 2 ≡ 9 = behind_type 9 size kind rest long in
+    let n : length rest + 2 ≡ 9 = after_type 9 size kind rest long in
     rw (low_of_two rest are 1, high_of_two rest are 1, low_of_two rest are 4, high_of_two rest are 4)
     (joined size kind CS_INTERFACE rest (HEADER ∷ cells 1 6 rest) fits head.0 (subtyped HEADER 6 rest head.1 (omega (arith, n))))
 spelling-fields rows.input_terminal size kind rest are fits long head =
-    let n : length rest + 2 ≡ 17 = behind_type 17 size kind rest long in
+    let n : length rest + 2 ≡ 17 = after_type 17 size kind rest long in
     let f : _ = four_at_parts rest are 7 in
     rw (low_of_two rest are 2, high_of_two rest are 2, f.0, f.1, f.2, f.3, low_of_two rest are 12, high_of_two rest are 12)
     (joined size kind CS_INTERFACE rest (INPUT_TERMINAL ∷ cells 1 14 rest) fits head.0 (subtyped INPUT_TERMINAL 14 rest head.1 (omega (arith, n))))
 spelling-fields rows.output_terminal size kind rest are fits long head =
-    let n : length rest + 2 ≡ 12 = behind_type 12 size kind rest long in
+    let n : length rest + 2 ≡ 12 = after_type 12 size kind rest long in
     rw (low_of_two rest are 2, high_of_two rest are 2, low_of_two rest are 7, high_of_two rest are 7)
     (joined size kind CS_INTERFACE rest (OUTPUT_TERMINAL ∷ cells 1 9 rest) fits head.0 (subtyped OUTPUT_TERMINAL 9 rest head.1 (omega (arith, n))))
 spelling-fields rows.mixer size kind rest are fits long head =
@@ -291,7 +291,7 @@ spelling-fields rows.mixer size kind rest are fits long head =
     let fit : 13 + p ≤ length (size ∷ kind ∷ rest) = leb-true (13 + p) (length (size ∷ kind ∷ rest)) long in
     joined size kind CS_INTERFACE rest _ fits head.0 (mixer_spelt p n rest are head.1 refl (omega (arith, fit)))
 spelling-fields rows.selector size kind rest are fits long head =
-    let n : length rest + 2 ≡ 7 + slice_index rest 2 = behind_type (7 + slice_index rest 2) size kind rest long in
+    let n : length rest + 2 ≡ 7 + slice_index rest 2 = after_type (7 + slice_index rest 2) size kind rest long in
     joined size kind CS_INTERFACE rest _ fits head.0 (pins_spelt SELECTOR_UNIT (slice_index rest 2) rest head.1 refl (omega (arith, n)))
 spelling-fields rows.feature size kind rest are fits long head =
     let all : ℕ = length (size ∷ kind ∷ rest) in
@@ -315,29 +315,29 @@ spelling-fields rows.effect size kind rest are fits long head =
     (ap (λ x. x ∷ (cells 1 4 rest ++ words)) (sym head.1)
     ∙ words_row_spelt 5 k size kind rest are (omega (arith, least, left))))
 spelling-fields rows.clock_source size kind rest are fits long head =
-    let n : length rest + 2 ≡ 8 = behind_type 8 size kind rest long in
+    let n : length rest + 2 ≡ 8 = after_type 8 size kind rest long in
     joined size kind CS_INTERFACE rest (CLOCK_SOURCE ∷ cells 1 5 rest) fits head.0 (subtyped CLOCK_SOURCE 5 rest head.1 (omega (arith, n)))
 spelling-fields rows.clock_selector size kind rest are fits long head =
-    let n : length rest + 2 ≡ 7 + slice_index rest 2 = behind_type (7 + slice_index rest 2) size kind rest long in
+    let n : length rest + 2 ≡ 7 + slice_index rest 2 = after_type (7 + slice_index rest 2) size kind rest long in
     joined size kind CS_INTERFACE rest _ fits head.0 (pins_spelt CLOCK_SELECTOR (slice_index rest 2) rest head.1 refl (omega (arith, n)))
 spelling-fields rows.clock_multiplier size kind rest are fits long head =
-    let n : length rest + 2 ≡ 7 = behind_type 7 size kind rest long in
+    let n : length rest + 2 ≡ 7 = after_type 7 size kind rest long in
     joined size kind CS_INTERFACE rest (CLOCK_MULTIPLIER ∷ cells 1 4 rest) fits head.0 (subtyped CLOCK_MULTIPLIER 4 rest head.1 (omega (arith, n)))
 spelling-fields rows.general size kind rest are fits long head =
-    let n : length rest + 2 ≡ 16 = behind_type 16 size kind rest long in
+    let n : length rest + 2 ≡ 16 = after_type 16 size kind rest long in
     let f : _ = four_at_parts rest are 4 in
     let l : _ = four_at_parts rest are 9 in
     rw (f.0, f.1, f.2, f.3, l.0, l.1, l.2, l.3)
     (joined size kind CS_INTERFACE rest (AS_GENERAL ∷ cells 1 13 rest) fits head.0 (subtyped AS_GENERAL 13 rest head.1 (omega (arith, n))))
 spelling-fields rows.type_one size kind rest are fits long head =
-    let n : length rest + 2 ≡ 6 = behind_type 6 size kind rest long in
+    let n : length rest + 2 ≡ 6 = after_type 6 size kind rest long in
     joined size kind CS_INTERFACE rest (FORMAT_TYPE ∷ FORMAT_TYPE_I ∷ cells 2 2 rest) fits head.0
     (ap (λ x. FORMAT_TYPE ∷ x ∷ cells 2 2 rest) (sym head.2) ∙ subtyped FORMAT_TYPE 3 rest head.1 (omega (arith, n)))
 spelling-fields rows.extra size kind rest are fits long head =
     let least : 3 ≤ length (size ∷ kind ∷ rest) = leb-true 3 (length (size ∷ kind ∷ rest)) long in
     joined size kind CS_INTERFACE rest (cells 0 1 rest ++ drop 1 rest) fits head (cells-drop 1 rest (omega (arith, least)))
 spelling-fields rows.class_endpoint size kind rest are fits long head =
-    let n : length rest + 2 ≡ 8 = behind_type 8 size kind rest long in
+    let n : length rest + 2 ≡ 8 = after_type 8 size kind rest long in
     rw (low_of_two rest are 4, high_of_two rest are 4)
     (joined size kind CS_ENDPOINT rest (EP_GENERAL ∷ cells 1 5 rest) fits head.0 (subtyped EP_GENERAL 5 rest head.1 (omega (arith, n))))
 spelling-fields rows.foreign size kind rest are fits long head = refl

@@ -19,11 +19,11 @@ pub fn reading()
 pub fn has_spelling(block: &Block)
     ensures { HasSpelling block.now }
 {
-    kept(block);
+    keep_block(block);
 }
 
 /// What the type keeps.
-fn kept(block: &Block)
+fn keep_block(block: &Block)
     ensures { IsKeptBlock block.now }
 {
     match block {

@@ -31,7 +31,7 @@ fn writes_an_input_terminal(rt: HostRuntime) -> Result<(), Fail> {
 }
 
 #[test]
-fn writes_a_header_behind_a_configuration(rt: HostRuntime) -> Result<(), Fail> {
+fn writes_a_header_after_a_configuration(rt: HostRuntime) -> Result<(), Fail> {
     let mut out = nothing(rt.alloc());
     let configuration = Configuration {
         total: 0x0113,

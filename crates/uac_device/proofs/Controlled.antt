@@ -10,15 +10,15 @@ use Rattle.uac_store.specs.declared.keys.Key.{Key}
 use Rattle.uac_alt.specs.AltStreams.{StreamFields, stream_fields, stream_of}
 use Rattle.uac_alt.specs.declared.settings.InterfaceSetting.{InterfaceSetting}
 use Rattle.uac_alt.specs.declared.values.Stream.{Stream}
-use Rattle.uac_request.specs.Requests.{Held, AnswerFields, after_request, held_by, rate_at, reply_of}
+use Rattle.uac_request.specs.Requests.{RequestState, AnswerFields, after_request, request_state, rate_at, reply_of}
 use Rattle.uac_request.specs.declared.setup.Setup.{Setup}
 use Rattle.uac_flow.specs.FlowStreams.{InStream, OutStream}
-use Rattle.uac_lanes.specs.declared.lane.Lane.{Lane}
+use Rattle.uac_lanes.specs.declared.lane.DeviceStream.{DeviceStream}
 use Rattle.uac_lanes.specs.declared.lane.Port.{Port}
 use Rattle.uac_lanes.specs.InterfaceStreams.{in_from, out_from, replaced_at}
 use Rattle.uac_device.specs.DeviceWorld.{DeviceWorld, after_control, after_restart, sets_interface, stream_in_setting, tells_done}
-use Rattle.uac_device.specs.DeviceKept.{DeviceFields, IsControlled, IsDevice, Stands}
-use Rattle.uac_lanes.specs.Lanes.{KeepsStreams, port_of, ports}
+use Rattle.uac_device.specs.DeviceKept.{DeviceFields, IsControlled, IsDevice, DeviceStands}
+use Rattle.uac_lanes.specs.Lanes.{LanesStand, port_of, ports}
 use Rattle.uac_device.specs.Linked.{FitsInterface}
 use Rattle.uac_lanes.proofs.LanesLemmas.{FitsAt}
 use Rattle.uac_device.proofs.SettingStreams.{stream_fits}
@@ -68,35 +68,35 @@ begun_fits device (Some s) interface setting sound is asked =
 
 -- what is held after it, and what is told, of the world
 module _ (device : DeviceFields) (controls : List (Key × ℤ)) (settings : List InterfaceSetting) (p : Setup) (bytes : List ℕ) (told : AnswerFields)
-    (answer : told ≡ reply_of device.function (held_by device.controls device.settings) p bytes)
-    (held : held_by controls settings ≡ after_request device.function (held_by device.controls device.settings) p bytes) where
-  held_in : (w : DeviceWorld) → Stands device w → held_by controls settings ≡ after_request w.function (held_by w.controls w.settings) p bytes
+    (answer : told ≡ reply_of device.function (request_state device.controls device.settings) p bytes)
+    (held : request_state controls settings ≡ after_request device.function (request_state device.controls device.settings) p bytes) where
+  held_in : (w : DeviceWorld) → DeviceStands device w → request_state controls settings ≡ after_request w.function (request_state w.controls w.settings) p bytes
   held_in w stands =
       held
-      ∙ ap (λ (f : FunctionFields). after_request f (held_by device.controls device.settings) p bytes) stands.function
-      ∙ ap (λ (cs : List (Key × ℤ)). after_request w.function (held_by cs device.settings) p bytes) stands.controls
-      ∙ ap (λ (ss : List InterfaceSetting). after_request w.function (held_by w.controls ss) p bytes) stands.settings
+      ∙ ap (λ (f : FunctionFields). after_request f (request_state device.controls device.settings) p bytes) stands.function
+      ∙ ap (λ (cs : List (Key × ℤ)). after_request w.function (request_state cs device.settings) p bytes) stands.controls
+      ∙ ap (λ (ss : List InterfaceSetting). after_request w.function (request_state w.controls ss) p bytes) stands.settings
 
-  told_in : (w : DeviceWorld) → Stands device w → told ≡ reply_of w.function (held_by w.controls w.settings) p bytes
+  told_in : (w : DeviceWorld) → DeviceStands device w → told ≡ reply_of w.function (request_state w.controls w.settings) p bytes
   told_in w stands =
       answer
-      ∙ ap (λ (f : FunctionFields). reply_of f (held_by device.controls device.settings) p bytes) stands.function
-      ∙ ap (λ (cs : List (Key × ℤ)). reply_of w.function (held_by cs device.settings) p bytes) stands.controls
-      ∙ ap (λ (ss : List InterfaceSetting). reply_of w.function (held_by w.controls ss) p bytes) stands.settings
+      ∙ ap (λ (f : FunctionFields). reply_of f (request_state device.controls device.settings) p bytes) stands.function
+      ∙ ap (λ (cs : List (Key × ℤ)). reply_of w.function (request_state cs device.settings) p bytes) stands.controls
+      ∙ ap (λ (ss : List InterfaceSetting). reply_of w.function (request_state w.controls ss) p bytes) stands.settings
 
   -- the world with these controls and settings, and with streams
   with_held : DeviceWorld → (ℕ → Option OutStream) → (ℕ → Option InStream) → DeviceWorld
   with_held w outs ins =
-      let after = after_request w.function (held_by w.controls w.settings) p bytes in
+      let after = after_request w.function (request_state w.controls w.settings) p bytes in
       record w { controls = after.controls; settings = after.settings; outs = outs; ins = ins }
 
-  held_stands : (lanes : List Lane) (w : DeviceWorld) (outs : ℕ → Option OutStream) (ins : ℕ → Option InStream) → KeepsStreams lanes outs ins → Stands device w
-      → Stands (record device { controls = controls; settings = settings; lanes = lanes }) (with_held w outs ins)
+  held_stands : (lanes : List DeviceStream) (w : DeviceWorld) (outs : ℕ → Option OutStream) (ins : ℕ → Option InStream) → LanesStand lanes outs ins → DeviceStands device w
+      → DeviceStands (record device { controls = controls; settings = settings; lanes = lanes }) (with_held w outs ins)
   unfolding with_held
   held_stands lanes w outs ins keeps stands = record {
     function = stands.function;
-    controls = ap (λ (h : Held). h.controls) (held_in w stands);
-    settings = ap (λ (h : Held). h.settings) (held_in w stands);
+    controls = ap (λ (h : RequestState). h.controls) (held_in w stands);
+    settings = ap (λ (h : RequestState). h.settings) (held_in w stands);
     clocks = stands.clocks;
     streams = keeps;
     unlinked = stands.unlinked;
@@ -104,18 +104,18 @@ module _ (device : DeviceFields) (controls : List (Key × ℤ)) (settings : List
     outputs = stands.outputs;
   }
 
-  tested : (w : DeviceWorld) → Stands device w → (b : Bool) → (sets_interface p && tells_done told) ≡ b
-      → (sets_interface p && tells_done (reply_of w.function (held_by w.controls w.settings) p bytes)) ≡ b
+  tested : (w : DeviceWorld) → DeviceStands device w → (b : Bool) → (sets_interface p && tells_done told) ≡ b
+      → (sets_interface p && tells_done (reply_of w.function (request_state w.controls w.settings) p bytes)) ≡ b
   tested w stands b test = sym (ap (λ (t : AnswerFields). sets_interface p && tells_done t) (told_in w stands)) ∙ test
 
   -- no setting was set
-  stands_else : (sets_interface p && tells_done told) ≡ false → (w : DeviceWorld) → Stands device w
-      → Stands (record device { controls = controls; settings = settings }) (after_control p bytes w)
+  stands_else : (sets_interface p && tells_done told) ≡ false → (w : DeviceWorld) → DeviceStands device w
+      → DeviceStands (record device { controls = controls; settings = settings }) (after_control p bytes w)
   unfolding after_control with_held
   stands_else test w stands =
-      let after = after_request w.function (held_by w.controls w.settings) p bytes in
+      let after = after_request w.function (request_state w.controls w.settings) p bytes in
       let asked : DeviceWorld = record w { controls = after.controls; settings = after.settings } in
-      subst (Stands (record device { controls = controls; settings = settings }))
+      subst (DeviceStands (record device { controls = controls; settings = settings }))
       (sym (ap (λ (b : Bool). if b then after_restart p.index (stream_in_setting w.function w.controls p.index p.value) asked else asked) (tested w stands false test)))
       (held_stands device.lanes w w.outs w.ins stands.streams stands)
 
@@ -123,30 +123,30 @@ module _ (device : DeviceFields) (controls : List (Key × ℤ)) (settings : List
   control_else test = record { answer = answer; held = held; function = refl; stands = stands_else test }
 
   -- one was
-  stands_then : (lanes : List Lane) (begun : Option StreamFields) → (sets_interface p && tells_done told) ≡ true
+  stands_then : (lanes : List DeviceStream) (begun : Option StreamFields) → (sets_interface p && tells_done told) ≡ true
       → begun ≡ stream_in_setting device.function device.controls p.index p.value
-      → ((outs : ℕ → Option OutStream) (ins : ℕ → Option InStream) → KeepsStreams device.lanes outs ins
-      → KeepsStreams lanes (replaced_at p.index (option_and_then out_from begun) outs) (replaced_at p.index (option_and_then in_from begun) ins))
-      → (w : DeviceWorld) → Stands device w → Stands (record device { controls = controls; settings = settings; lanes = lanes }) (after_control p bytes w)
+      → ((outs : ℕ → Option OutStream) (ins : ℕ → Option InStream) → LanesStand device.lanes outs ins
+      → LanesStand lanes (replaced_at p.index (option_and_then out_from begun) outs) (replaced_at p.index (option_and_then in_from begun) ins))
+      → (w : DeviceWorld) → DeviceStands device w → DeviceStands (record device { controls = controls; settings = settings; lanes = lanes }) (after_control p bytes w)
   unfolding after_control after_restart with_held
   stands_then lanes begun test asked restarts w stands =
-      let after = after_request w.function (held_by w.controls w.settings) p bytes in
+      let after = after_request w.function (request_state w.controls w.settings) p bytes in
       let left : DeviceWorld = record w { controls = after.controls; settings = after.settings } in
       let new : Option StreamFields = stream_in_setting w.function w.controls p.index p.value in
       let same : begun ≡ new =
       asked
       ∙ ap (λ (f : FunctionFields). stream_in_setting f device.controls p.index p.value) stands.function
       ∙ ap (λ (cs : List (Key × ℤ)). stream_in_setting w.function cs p.index p.value) stands.controls in
-      subst (Stands (record device { controls = controls; settings = settings; lanes = lanes }))
+      subst (DeviceStands (record device { controls = controls; settings = settings; lanes = lanes }))
       (sym (ap (λ (b : Bool). if b then after_restart p.index new left else left) (tested w stands true test)))
       (held_stands lanes w (replaced_at p.index (option_and_then out_from new) w.outs) (replaced_at p.index (option_and_then in_from new) w.ins)
-      (subst (λ (o : Option StreamFields). KeepsStreams lanes (replaced_at p.index (option_and_then out_from o) w.outs) (replaced_at p.index (option_and_then in_from o) w.ins)) same
+      (subst (λ (o : Option StreamFields). LanesStand lanes (replaced_at p.index (option_and_then out_from o) w.outs) (replaced_at p.index (option_and_then in_from o) w.ins)) same
       (restarts w.outs w.ins stands.streams))
       stands)
 
-  pub control_then : (lanes : List Lane) (begun : Option StreamFields) → (sets_interface p && tells_done told) ≡ true
+  pub control_then : (lanes : List DeviceStream) (begun : Option StreamFields) → (sets_interface p && tells_done told) ≡ true
       → begun ≡ stream_in_setting device.function device.controls p.index p.value
-      → ((outs : ℕ → Option OutStream) (ins : ℕ → Option InStream) → KeepsStreams device.lanes outs ins
-      → KeepsStreams lanes (replaced_at p.index (option_and_then out_from begun) outs) (replaced_at p.index (option_and_then in_from begun) ins))
+      → ((outs : ℕ → Option OutStream) (ins : ℕ → Option InStream) → LanesStand device.lanes outs ins
+      → LanesStand lanes (replaced_at p.index (option_and_then out_from begun) outs) (replaced_at p.index (option_and_then in_from begun) ins))
       → IsControlled p bytes told device (record device { controls = controls; settings = settings; lanes = lanes })
   control_then lanes begun test asked restarts = record { answer = answer; held = held; function = refl; stands = stands_then lanes begun test asked restarts }

@@ -6,8 +6,8 @@ use Rattle.std.proofs.lemmas.Int.{ints}
 use Rattle.std.proofs.lemmas.Nat.{mul-le}
 use Rattle.uac_clock.specs.Nominal.{IsNominal, is_listed, nominal_of, step_of, twelve_rates, values_of}
 use Rattle.uac_clock.specs.declared.values.Nominal.{Nominal}
-use Rattle.uac_clock.proofs.Listed.{each_listed, nominal_of-listed, nominal_of-unlisted}
-use Rattle.uac_device.specs.declared.clocks.Clock.{Clock}
+use Rattle.uac_clock.proofs.NominalLemmas.{each_listed, nominal_of-listed, nominal_of-unlisted}
+use Rattle.uac_device.specs.declared.clocks.DomainClock.{DomainClock}
 use Rattle.uac_device.specs.DeviceKept.{IsInRange}
 use Rattle.uac_device.specs.DeviceTurns.{first_ticks, step_by}
 
@@ -39,20 +39,20 @@ rated_nominal None values e = absurd (cc)
 rated_nominal (Some hertz) values e = (hertz, e)
 
 -- a clock in range
-ticks_most : (values : Option Nominal) (c : Clock) → ((nominal : Nominal) → values ≡ Some nominal → IsNominal nominal) → IsInRange c.ppm → c.phase < 65536
-    → (c.phase + step_by values c.ppm) / 65536 ≤ 27
+ticks_most : (values : Option Nominal) (c : DomainClock) → ((nominal : Nominal) → values ≡ Some nominal → IsNominal nominal) → IsInRange c.deviation → c.phase < 65536
+    → (c.phase + step_by values c.deviation) / 65536 ≤ 27
 ticks_most None c rated range past = omega arith
 ticks_most (Some values) c rated range past =
-    let most = step_most values c.ppm (nominal_most values (rated values refl)) range in omega (arith, most)
+    let most = step_most values c.deviation (nominal_most values (rated values refl)) range in omega (arith, most)
 
 -- clocks in range
-pub few_ticks : (domain : ℕ) (values : Option Nominal) (clocks : List Clock) → ((nominal : Nominal) → values ≡ Some nominal → IsNominal nominal)
-    → All (λ c. IsInRange c.ppm) clocks → All (λ c. c.phase < 65536) clocks → first_ticks domain values clocks ≤ 27
+pub few_ticks : (domain : ℕ) (values : Option Nominal) (clocks : List DomainClock) → ((nominal : Nominal) → values ≡ Some nominal → IsNominal nominal)
+    → All (λ c. IsInRange c.deviation) clocks → All (λ c. c.phase < 65536) clocks → first_ticks domain values clocks ≤ 27
 few_ticks domain values [] rated range past = omega arith
 few_ticks domain values (c ∷ cs) rated range past =
-    one (c.clock == domain) (few_ticks domain values cs rated (λ k d below. range (suc k) d (omega arith)) (λ k d below. past (suc k) d (omega arith)))
+    one (c.domain == domain) (few_ticks domain values cs rated (λ k d below. range (suc k) d (omega arith)) (λ k d below. past (suc k) d (omega arith)))
   where
     one : (b : Bool) → first_ticks domain values cs ≤ 27
-        → option_map_or (λ c. (c.phase + step_by values c.ppm) / 65536) (cond b (Some c) (find (λ c. c.clock == domain) cs)) 0 ≤ 27
+        → option_map_or (λ c. (c.phase + step_by values c.deviation) / 65536) (cond b (Some c) (find (λ c. c.domain == domain) cs)) 0 ≤ 27
     one true others = ticks_most values c rated (range 0 c (omega arith)) (past 0 c (omega arith))
     one false others = others

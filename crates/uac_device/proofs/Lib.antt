@@ -7,8 +7,8 @@ pub mod Fastest
 pub mod Played
 pub mod Streaming
 pub mod TickInputs
-pub mod Stillness
+pub mod StillnessLemmas
 pub mod Asked
 pub mod Controlled
 pub mod Worked
-pub mod Deriving
+pub mod FollowingLemmas

@@ -10,17 +10,17 @@ use Rattle.std.proofs.lemmas.List.Sums.{position_or_len_is}
 use Rattle.std.proofs.lemmas.Option.{slice_get-get_or, slice_get_past}
 use Rattle.uac_descriptor.specs.Standard.{USB_STREAMING}
 use Rattle.uac_descriptor.specs.declared.block.Block as block
-use Rattle.uac_walk.proofs.Walks.{none_at}
+use Rattle.uac_walk.proofs.WalkLemmas.{none_at}
 use Rattle.uac_entities.specs.Entities.{entities_of}
-use Rattle.uac_entities.specs.EntitySettings.{alternates_of}
-use Rattle.uac_entities.specs.EntityStreams.{links_of, named, stream_at, stream_of, streams_of}
-use Rattle.uac_entities.specs.declared.alternate.Alternate.{Alternate}
+use Rattle.uac_entities.specs.EntitySettings.{declared_settings}
+use Rattle.uac_entities.specs.EntityInterfaces.{links_of, entity_by_id, streaming_interface_at, streaming_interface_of, streaming_interfaces_of}
+use Rattle.uac_entities.specs.declared.settings.DeclaredSetting.{DeclaredSetting}
 use Rattle.uac_entities.specs.declared.entity.Entity.{Entity}
 use Rattle.uac_entities.specs.declared.entity.EntityKind.{EntityKind}
 use Rattle.uac_entities.specs.declared.entity.EntityKind.TheVariants as kind
 use Rattle.uac_entities.specs.declared.stream.StreamInterface.{StreamInterface}
-use Rattle.uac_topology_rules.specs.Clusters.{cluster_of, clustered, is_input}
-use Rattle.uac_topology_rules.specs.RuleFaults.{broken, broken_names}
+use Rattle.uac_topology_rules.specs.Clusters.{cluster_of, with_own_clusters, is_input}
+use Rattle.uac_topology_rules.specs.RuleFaults.{rule_fault, broken_names}
 use Rattle.uac_topology_rules.specs.Links.{is_terminal}
 use Rattle.uac_topology_rules.specs.Rules.{breaks_u1, is_output, is_usb, is_usb_terminal}
 use Rattle.uac_topology_rules.specs.Table.{at, nothing, place_of, with_cluster}
@@ -29,7 +29,7 @@ use Rattle.uac_topology_rules.proofs.Found.{position-below}
 use Rattle.uac_topology_rules.proofs.Sound.{has_names, or_none}
 use Rattle.uac_topology.specs.Function.{FunctionFields}
 use Rattle.uac_topology.specs.Topology.{first_broken, IsSound, IsSoundFunction, streams_in}
-use Rattle.uac_topology.proofs.Clustered.{clustered-at, length-clustered, same_place}
+use Rattle.uac_topology.proofs.Clustered.{with_own_clusters-at, length-with_own_clusters, same_place}
 use Rattle.uac_topology.proofs.SettingLinks.{right_at, usb_there}
 use Rattle.uac_topology.proofs.Ranges.{All-filter_map, not_false}
 use Rattle.uac_topology.proofs.SoundRules.{links_within}
@@ -40,7 +40,7 @@ use Rattle.uac_device.specs.Linked.{AreLinked}
 -- ---- the rules that are used
 
 ids_above : (blocks : List block.Block) → IsSound blocks → (k : ℕ) → k < length (entities_of blocks) → breaks_u1 (entities_of blocks) k ≡ false
-unfolding first_broken broken
+unfolding first_broken rule_fault
 ids_above blocks sound =
     let es = entities_of blocks in
     breaks_none 1 es breaks_u1 (has_names es (or_none (broken_names es) _ sound).0).u1
@@ -49,19 +49,19 @@ ids_above blocks sound =
 
 record IsMade (es : List Entity) (s : StreamInterface) : Type 0 where
   first : s.terminal ≡ unwrap_or (slice_get (links_of s.settings) 0) 0
-  goes : s.out ≡ option_map_or is_input (option_map (λ e. e.kind) (named es s.terminal)) false
+  goes : s.out ≡ option_map_or is_input (option_map (λ e. e.kind) (entity_by_id es s.terminal)) false
 
-made : (es : List Entity) (all : List Alternate) (s : StreamInterface) (a : Alternate) → stream_at es all a ≡ Some s → IsMade es s
-unfolding stream_at stream_of
+made : (es : List Entity) (all : List DeclaredSetting) (s : StreamInterface) (a : DeclaredSetting) → streaming_interface_at es all a ≡ Some s → IsMade es s
+unfolding streaming_interface_at streaming_interface_of
 made es all s a is = by (a.setting.number == 0) is
   where
-    by : (b : Bool) → (if b then Some (stream_of es all a.interface) else None) ≡ Some s → IsMade es s
-    by true is = let same : stream_of es all a.interface ≡ s = cc in subst (IsMade es) same (record { first = refl; goes = refl })
+    by : (b : Bool) → (if b then Some (streaming_interface_of es all a.interface) else None) ≡ Some s → IsMade es s
+    by true is = let same : streaming_interface_of es all a.interface ≡ s = cc in subst (IsMade es) same (record { first = refl; goes = refl })
     by false is = absurd (cc)
 
-each_made : (es : List Entity) (all : List Alternate) → All (IsMade es) (streams_of es all)
+each_made : (es : List Entity) (all : List DeclaredSetting) → All (IsMade es) (streaming_interfaces_of es all)
 each_made es all =
-    All-filter_map (stream_at es all) (λ a. Unit {0}) (IsMade es) (λ a s _ is. made es all s a is) all (λ k d below. tt)
+    All-filter_map (streaming_interface_at es all) (λ a. Unit {0}) (IsMade es) (λ a s _ is. made es all s a is) all (λ k d below. tt)
 
 -- ---- where they link
 
@@ -96,27 +96,27 @@ module _ (es : List Entity) (above : (k : ℕ) → k < length es → breaks_u1 e
   unfolding breaks_u1 place_of at
   none_zero = position_or_len_is (λ (e : Entity). e.id == 0) es (length es) nothing (omega arith) (λ k below. above k below) (λ h. absurd (omega arith))
 
-  named_zero : named es 0 ≡ None
-  unfolding named place_of
+  named_zero : entity_by_id es 0 ≡ None
+  unfolding entity_by_id place_of
   named_zero = find_at (λ (e : Entity). e.id == 0) es ∙ slice_get_past es (place_of es 0) (omega (arith, none_zero))
 
-  named_there : (id : ℕ) → place_of es id < length es → named es id ≡ Some (at es (place_of es id))
-  unfolding named place_of at
+  named_there : (id : ℕ) → place_of es id < length es → entity_by_id es id ≡ Some (at es (place_of es id))
+  unfolding entity_by_id place_of at
   named_there id below = find_at (λ (e : Entity). e.id == id) es ∙ slice_get-get_or es (place_of es id) nothing below
 
-  entity_zero : entity (clustered es) 0 ≡ nothing
+  entity_zero : entity (with_own_clusters es) 0 ≡ nothing
   unfolding entity at
   entity_zero =
-      get_or_past (clustered es) (place_of (clustered es) 0) nothing (omega (arith, same_place es 0, none_zero, length-clustered es))
+      get_or_past (with_own_clusters es) (place_of (with_own_clusters es) 0) nothing (omega (arith, same_place es 0, none_zero, length-with_own_clusters es))
 
-  entity_there : (id : ℕ) → place_of es id < length es → entity (clustered es) id ≡ with_cluster (at es (place_of es id)) (cluster_of es (place_of es id))
+  entity_there : (id : ℕ) → place_of es id < length es → entity (with_own_clusters es) id ≡ with_cluster (at es (place_of es id)) (cluster_of es (place_of es id))
   unfolding entity at
-  entity_there id below = ap (at (clustered es)) (same_place es id) ∙ clustered-at es (place_of es id) nothing below
+  entity_there id below = ap (at (with_own_clusters es)) (same_place es id) ∙ with_own_clusters-at es (place_of es id) nothing below
 
   module _ (s : StreamInterface) (is : IsMade es s) where
     goes_nowhere : s.terminal ≡ 0 → s.out ≡ false
     goes_nowhere zero =
-        is.goes ∙ ap (λ (id : ℕ). option_map_or is_input (option_map (λ (e : Entity). e.kind) (named es id)) false) zero
+        is.goes ∙ ap (λ (id : ℕ). option_map_or is_input (option_map (λ (e : Entity). e.kind) (entity_by_id es id)) false) zero
         ∙ ap (λ (o : Option Entity). option_map_or is_input (option_map (λ (e : Entity). e.kind) o) false) named_zero
 
     goes_there : place_of es s.terminal < length es → s.out ≡ is_input (at es (place_of es s.terminal)).kind
@@ -124,7 +124,7 @@ module _ (es : List Entity) (above : (k : ℕ) → k < length es → breaks_u1 e
         is.goes ∙ ap (λ (o : Option Entity). option_map_or is_input (option_map (λ (e : Entity). e.kind) o) false) (named_there s.terminal below)
 
     input : Links es s.terminal → s.out ≡ true
-        → (is_input (entity (clustered es) s.terminal).kind ≡ true) × (is_jack (entity (clustered es) s.terminal) ≡ false)
+        → (is_input (entity (with_own_clusters es) s.terminal).kind ≡ true) × (is_jack (entity (with_own_clusters es) s.terminal) ≡ false)
     input (inl zero) out = absurd (let no = goes_nowhere zero in cc)
     input (inr there) out =
         let usb = (and_parts _ _ there.1).1 in
@@ -133,11 +133,11 @@ module _ (es : List Entity) (above : (k : ℕ) → k < length es → breaks_u1 e
           ap (λ (e : Entity). not (e.terminal_type == USB_STREAMING)) here ∙ ap not usb,
         )
 
-    output : Links es s.terminal → s.out ≡ false → 1 ≤ (entity (clustered es) s.terminal).cluster.channels
-        → is_output (entity (clustered es) s.terminal).kind ≡ true
+    output : Links es s.terminal → s.out ≡ false → 1 ≤ (entity (with_own_clusters es) s.terminal).cluster.channels
+        → is_output (entity (with_own_clusters es) s.terminal).kind ≡ true
     output (inl zero) out some =
-        let none : (entity (clustered es) s.terminal).cluster.channels ≡ 0 =
-        ap (λ (id : ℕ). (entity (clustered es) id).cluster.channels) zero ∙ ap (λ (e : Entity). e.cluster.channels) entity_zero in
+        let none : (entity (with_own_clusters es) s.terminal).cluster.channels ≡ 0 =
+        ap (λ (id : ℕ). (entity (with_own_clusters es) id).cluster.channels) zero ∙ ap (λ (e : Entity). e.cluster.channels) entity_zero in
         absurd (omega (arith, none, some))
     output (inr there) out some =
         let terminal = (and_parts _ _ there.1).0 in
@@ -173,9 +173,9 @@ linked function sound =
     let es = entities_of blocks in
     let ss = streams_in blocks in
     let above = ids_above blocks sound.1 in
-    let is = each_made es (alternates_of blocks) in
+    let is = each_made es (declared_settings blocks) in
     let right = right_at es ss (links_within blocks sound.1) in
-    let whole : AreLinked (record function { entities = clustered es; streams = ss }) =
+    let whole : AreLinked (record function { entities = with_own_clusters es; streams = ss }) =
     record {
       inputs = λ k d below. input es above (get_or ss k d) (is k d below) (links_to es (get_or ss k d) (is k d below) (right k d below).links);
       alone = λ k d below out.

@@ -16,10 +16,10 @@ use Rattle.uac_topology_rules.proofs.TableSteps.{at_read}
 use Rattle.uac_topology.specs.Function.{FunctionFields}
 use Rattle.uac_store.specs.StoreControls.{initial_controls}
 use Rattle.uac_store.specs.declared.keys.Key.{Key}
-use Rattle.uac_graph.specs.GraphControls.{Controls, held_in}
+use Rattle.uac_graph.specs.GraphControls.{Controls, controls_in}
 use Rattle.uac_graph.specs.Fitness.{IsSignalGraph}
 use Rattle.uac_graph.specs.Meaning.{entity, frame_of, meaning, samples, samples_by}
-use Rattle.uac_graph.specs.Needs.{depended, is_end, needed}
+use Rattle.uac_graph.specs.Needs.{depends_on, is_end, needed}
 use Rattle.uac_graph.specs.Wiring.{AreGiven, AreRendered, AreSilent, Frames, frame_on, samples_on, silence}
 use Rattle.uac_graph.proofs.Equation.{samples_by-same}
 use Rattle.uac_graph.proofs.Links.{entity_past, place_or_none}
@@ -27,20 +27,20 @@ use Rattle.uac_graph.proofs.Ticking.{input_signal, output_signal}
 use Rattle.uac_graph.proofs.Walking.{given_kept, signal_channels}
 use Rattle.uac_alt.specs.AltSettings.{initial_settings}
 use Rattle.uac_alt.specs.declared.settings.InterfaceSetting.{InterfaceSetting}
-use Rattle.uac_device.specs.declared.clocks.Clock.{Clock}
+use Rattle.uac_device.specs.declared.clocks.DomainClock.{DomainClock}
 use Rattle.uac_entities.specs.declared.stream.StreamInterface.{StreamInterface}
 use Rattle.uac_flow.specs.FlowStreams.{next_taken}
-use Rattle.uac_lanes.specs.declared.lane.Lane.{Lane}
-use Rattle.uac_lanes.specs.Lanes.{KeepsLane, KeepsStreams, idle_lane, port_of}
+use Rattle.uac_lanes.specs.declared.lane.DeviceStream.{DeviceStream}
+use Rattle.uac_lanes.specs.Lanes.{LaneStands, LanesStand, idle_lane, port_of}
 use Rattle.uac_device.specs.DeviceWorld.{DeviceWorld, at_rest, entity_in, fresh, heard_of, input_of, is_input_jack, is_jack, is_output_jack, is_streamed, played_at, renders_of, set_jack, stream_to, streamed_frame, after_tick}
-use Rattle.uac_device.specs.DeviceKept.{DeviceFields, IsDevice, Stands, kept}
+use Rattle.uac_device.specs.DeviceKept.{DeviceFields, IsDevice, DeviceStands, clock_of}
 use Rattle.uac_device.specs.DeviceTurns.{frames_heard, jacks_of, resting_clock}
 use Rattle.uac_device.proofs.Heard.{heard_told}
 use Rattle.uac_device.proofs.GivenFrames.{apart}
 
 -- ---- renders
 
-pub renders_here : (device : DeviceFields) (w : DeviceWorld) (domain : ℕ) → Stands device w → length (needed device.function.entities domain) ≡ renders_of domain w
+pub renders_here : (device : DeviceFields) (w : DeviceWorld) (domain : ℕ) → DeviceStands device w → length (needed device.function.entities domain) ≡ renders_of domain w
 unfolding renders_of
 renders_here device w domain stands = ap (λ (f : FunctionFields). length (needed f.entities domain)) stands.function
 
@@ -50,29 +50,29 @@ silent_wire : (entities : List Entity) (frames : Frames) (id : ℕ) → AreSilen
     → frame_on frames id ≡ Some (silence (entity entities id).cluster.channels)
 silent_wire entities frames id silent signal = silent.wires id ∙ ap (option_map silence) (signal_channels entities id signal)
 
-resting_kept : (ds : List ℕ) → map resting_clock ds ≡ map kept (map at_rest ds)
+resting_kept : (ds : List ℕ) → map resting_clock ds ≡ map clock_of (map at_rest ds)
 resting_kept [] = refl
 resting_kept (d ∷ ds) = ap (λ clocks. resting_clock d ∷ clocks) (resting_kept ds)
 
 -- idle lanes keep no stream
 idle_keep : (entities : List Entity) (streams : List StreamInterface)
-    → KeepsStreams (map (λ s. idle_lane (port_of entities s)) streams) (λ interface. None) (λ interface. None)
+    → LanesStand (map (λ s. idle_lane (port_of entities s)) streams) (λ interface. None) (λ interface. None)
 idle_keep entities streams = record {
-  each = All-map (λ (l : Lane). KeepsLane l None None) (λ s. idle_lane (port_of entities s)) streams (λ k d below. (refl, refl));
+  each = All-map (λ (l : DeviceStream). LaneStands l None None) (λ s. idle_lane (port_of entities s)) streams (λ k d below. (refl, refl));
   none = λ interface nowhere. (refl, refl);
 }
 
-pub fresh_stands : (function : FunctionFields) (controls : List (Key × ℤ)) (settings : List InterfaceSetting) (clocks : List Clock) (wires : Frames) (lanes : List Lane)
+pub fresh_stands : (function : FunctionFields) (controls : List (Key × ℤ)) (settings : List InterfaceSetting) (clocks : List DomainClock) (wires : Frames) (lanes : List DeviceStream)
     → controls ≡ initial_controls function.entities → settings ≡ initial_settings function → clocks ≡ map resting_clock function.domains
     → AreSilent function.entities wires → lanes ≡ map (λ s. idle_lane (port_of function.entities s)) function.streams
-    → Stands (record { function = function; controls = controls; settings = settings; clocks = clocks; wires = wires; lanes = lanes }) (fresh function)
+    → DeviceStands (record { function = function; controls = controls; settings = settings; clocks = clocks; wires = wires; lanes = lanes }) (fresh function)
 unfolding fresh
 fresh_stands function controls settings clocks wires lanes start first resting silent idle = record {
   function = refl;
   controls = start;
   settings = first;
   clocks = resting ∙ resting_kept function.domains;
-  streams = subst (λ (ls : List Lane). KeepsStreams ls (λ interface. None) (λ interface. None)) (sym idle) (idle_keep function.entities function.streams);
+  streams = subst (λ (ls : List DeviceStream). LanesStand ls (λ interface. None) (λ interface. None)) (sym idle) (idle_keep function.entities function.streams);
   unlinked = λ id input other nowhere. refl;
   inputs = λ id input. silent_wire function.entities wires id silent (input_signal (entity function.entities id).kind input);
   outputs = λ id output. silent_wire function.entities wires id silent (output_signal (entity function.entities id).kind output);
@@ -91,7 +91,7 @@ jack_fits device terminal frame keeps jack channels =
 pub jack_stands : (device : DeviceFields) (wires : Frames) (terminal : ℕ) (frame : List ℤ) (w : DeviceWorld)
     → is_input_jack (entity device.function.entities terminal) ≡ true
     → ((id : ℕ) → frame_on wires id ≡ (if terminal == id then Some frame else frame_on device.wires id))
-    → Stands device w → Stands (record device { wires = wires }) (set_jack terminal frame w)
+    → DeviceStands device w → DeviceStands (record device { wires = wires }) (set_jack terminal frame w)
 unfolding set_jack
 jack_stands device wires terminal frame w jack set stands = record {
   function = stands.function;
@@ -203,8 +203,8 @@ pub record Rendered (device : DeviceFields) (mid wires : Frames) (domain : ℕ) 
   pub sound : IsSignalGraph device.function.entities
   pub ends :
       (id : ℕ) → is_output (entity device.function.entities id).kind ≡ true
-      → depended device.function.entities domain id ≡ is_end domain (entity device.function.entities id)
-  pub rendered : AreRendered device.function.entities (held_in device.controls) (samples_on mid) (depended device.function.entities domain) mid wires
+      → depends_on device.function.entities domain id ≡ is_end domain (entity device.function.entities id)
+  pub rendered : AreRendered device.function.entities (controls_in device.controls) (samples_on mid) (depends_on device.function.entities domain) mid wires
 
 module _ (device : DeviceFields) (mid wires : Frames) (domain : ℕ) (w : DeviceWorld) (rendered : Rendered device mid wires domain) (given : Mid mid domain w)
     (same : device.function ≡ w.function) (controlled : device.controls ≡ w.controls) where
@@ -212,28 +212,28 @@ module _ (device : DeviceFields) (mid wires : Frames) (domain : ℕ) (w : Device
   entities = w.function.entities
 
   controls : Controls
-  controls = held_in w.controls
+  controls = controls_in w.controls
 
   sound_here : IsSignalGraph w.function.entities
   sound_here = subst (λ (f : FunctionFields). IsSignalGraph f.entities) same rendered.sound
 
-  ends_here : (id : ℕ) → is_output (entity w.function.entities id).kind ≡ true → depended w.function.entities domain id ≡ is_end domain (entity w.function.entities id)
+  ends_here : (id : ℕ) → is_output (entity w.function.entities id).kind ≡ true → depends_on w.function.entities domain id ≡ is_end domain (entity w.function.entities id)
   ends_here =
-      subst (λ (f : FunctionFields). (id : ℕ) → is_output (entity f.entities id).kind ≡ true → depended f.entities domain id ≡ is_end domain (entity f.entities id))
+      subst (λ (f : FunctionFields). (id : ℕ) → is_output (entity f.entities id).kind ≡ true → depends_on f.entities domain id ≡ is_end domain (entity f.entities id))
       same rendered.ends
 
   are_given : AreGiven w.function.entities (input_of domain w) mid
   are_given = record { inputs = given.inputs }
 
-  rendered_here : AreRendered w.function.entities (held_in w.controls) (input_of domain w) (depended w.function.entities domain) mid wires
+  rendered_here : AreRendered w.function.entities (controls_in w.controls) (input_of domain w) (depends_on w.function.entities domain) mid wires
   rendered_here =
-      rendered_given w.function.entities (held_in w.controls) (input_of domain w) (depended w.function.entities domain) mid wires are_given
-      (subst (λ (f : FunctionFields). AreRendered f.entities (held_in w.controls) (samples_on mid) (depended f.entities domain) mid wires) same
-      (subst (λ (cs : List (Key × ℤ)). AreRendered device.function.entities (held_in cs) (samples_on mid) (depended device.function.entities domain) mid wires)
+      rendered_given w.function.entities (controls_in w.controls) (input_of domain w) (depends_on w.function.entities domain) mid wires are_given
+      (subst (λ (f : FunctionFields). AreRendered f.entities (controls_in w.controls) (samples_on mid) (depends_on f.entities domain) mid wires) same
+      (subst (λ (cs : List (Key × ℤ)). AreRendered device.function.entities (controls_in cs) (samples_on mid) (depends_on device.function.entities domain) mid wires)
       controlled rendered.rendered))
 
   pub inputs_after : (id : ℕ) → is_input (entity_in w id).kind ≡ true → frame_on wires id ≡ Some (input_of domain w id)
-  inputs_after = (given_kept w.function.entities (held_in w.controls) (input_of domain w) (depended w.function.entities domain) mid wires sound_here are_given rendered_here).inputs
+  inputs_after = (given_kept w.function.entities (controls_in w.controls) (input_of domain w) (depends_on w.function.entities domain) mid wires sound_here are_given rendered_here).inputs
 
   pub outputs_after : (id : ℕ) → is_output (entity_in w id).kind ≡ true → frame_on wires id ≡ Some ((after_tick domain w).played id)
   unfolding after_tick entities controls
@@ -247,8 +247,8 @@ module _ (device : DeviceFields) (mid wires : Frames) (domain : ℕ) (w : Device
       either true now old before e = refl
       either false now old before e = e
 
-  pub tick_stands : (lanes : List Lane) → KeepsStreams lanes (after_tick domain w).outs (after_tick domain w).ins → Stands device w
-      → Stands (record device { wires = wires; lanes = lanes }) (after_tick domain w)
+  pub tick_stands : (lanes : List DeviceStream) → LanesStand lanes (after_tick domain w).outs (after_tick domain w).ins → DeviceStands device w
+      → DeviceStands (record device { wires = wires; lanes = lanes }) (after_tick domain w)
   unfolding after_tick
   tick_stands lanes keeps stands = record {
     function = stands.function;
@@ -262,7 +262,7 @@ module _ (device : DeviceFields) (mid wires : Frames) (domain : ℕ) (w : Device
   }
 
 -- the frames that are heard on wires that stand for a world
-pub heard_in : (device : DeviceFields) (domain : ℕ) (w : DeviceWorld) → IsSignalGraph device.function.entities → Stands device w
+pub heard_in : (device : DeviceFields) (domain : ℕ) (w : DeviceWorld) → IsSignalGraph device.function.entities → DeviceStands device w
     → frames_heard device.wires domain (jacks_of device.function.entities) ≡ heard_of domain w
 unfolding heard_of entity
 heard_in device domain w sound stands =
@@ -284,7 +284,7 @@ heard_in device domain w sound stands =
         stands.outputs e.id (ap (λ (x : Entity). is_output x.kind) same ∙ (and_parts (is_output e.kind) (e.clock == domain) end).0)
 
 -- what an output jack played
-pub played_here : (device : DeviceFields) (w : DeviceWorld) (id : ℕ) → Stands device w → is_output_jack (entity device.function.entities id) ≡ true
+pub played_here : (device : DeviceFields) (w : DeviceWorld) (id : ℕ) → DeviceStands device w → is_output_jack (entity device.function.entities id) ≡ true
     → frame_on device.wires id ≡ played_at w id
 unfolding played_at
 played_here device w id stands jack =
@@ -293,7 +293,7 @@ played_here device w id stands jack =
     stands.outputs id (and_parts (is_output e.kind) (is_jack e) is).0
     ∙ sym (ap (λ (b : Bool). if b then Some (w.played id) else None) is)
 
-pub played_nowhere : (device : DeviceFields) (w : DeviceWorld) (id : ℕ) → Stands device w → is_output_jack (entity device.function.entities id) ≡ false
+pub played_nowhere : (device : DeviceFields) (w : DeviceWorld) (id : ℕ) → DeviceStands device w → is_output_jack (entity device.function.entities id) ≡ false
     → None ≡ played_at w id
 unfolding played_at
 played_nowhere device w id stands other =

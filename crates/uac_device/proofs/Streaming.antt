@@ -15,17 +15,17 @@ use Rattle.uac_graph.specs.Wiring.{AreWiresOf, Frames, frame_on}
 use Rattle.uac_graph.proofs.Ticking.{input_signal, output_signal}
 use Rattle.uac_graph.proofs.Walking.{signal_channels}
 use Rattle.uac_flow.specs.FlowStreams.{InStream, OutStream, after_packet, after_sending, settled_in, settled_out}
-use Rattle.uac_lanes.specs.declared.lane.Lane.{Lane}
+use Rattle.uac_lanes.specs.declared.lane.DeviceStream.{DeviceStream}
 use Rattle.uac_lanes.specs.declared.lane.Port.{Port}
 use Rattle.uac_lanes.specs.InterfaceStreams.{NoneRuns, changed_at, runs_either}
 use Rattle.uac_device.specs.DeviceWorld.{DeviceWorld, is_on, played_to, after_receiving, after_sending_packet, after_settling}
-use Rattle.uac_device.specs.DeviceKept.{DeviceFields, IsDevice, Stands}
+use Rattle.uac_device.specs.DeviceKept.{DeviceFields, IsDevice, DeviceStands}
 use Rattle.uac_device.specs.Linked.{AreLinked}
-use Rattle.uac_lanes.specs.Lanes.{KeepsLane, KeepsStreams, WiredIn, WiredOut, idle_lane, port_of, ports}
+use Rattle.uac_lanes.specs.Lanes.{LaneStands, LanesStand, WiredIn, WiredOut, idle_lane, port_of, ports}
 use Rattle.uac_device.proofs.GivenFrames.{find_own}
 
-pub stands_streams : (device : DeviceFields) (lanes : List Lane) (w : DeviceWorld) (outs : ℕ → Option OutStream) (ins : ℕ → Option InStream) → Stands device w
-    → KeepsStreams lanes outs ins → Stands (record device { lanes = lanes }) (record w { outs = outs; ins = ins })
+pub stands_streams : (device : DeviceFields) (lanes : List DeviceStream) (w : DeviceWorld) (outs : ℕ → Option OutStream) (ins : ℕ → Option InStream) → DeviceStands device w
+    → LanesStand lanes outs ins → DeviceStands (record device { lanes = lanes }) (record w { outs = outs; ins = ins })
 stands_streams device lanes w outs ins stands keeps = record {
   function = stands.function;
   controls = stands.controls;
@@ -45,13 +45,13 @@ one_port_runs outs ins entities [] = refl
 one_port_runs outs ins entities (s ∷ ss) = ap (λ (b : Bool). runs_either (outs s.number) (ins s.number) || b) (one_port_runs outs ins entities ss)
 
 -- lanes keep streams of which each is as it was
-pub same_streams : (lanes : List Lane) (outs others : ℕ → Option OutStream) (ins more : ℕ → Option InStream) → KeepsStreams lanes outs ins → ((k : ℕ) → others k ≡ outs k)
-    → ((k : ℕ) → more k ≡ ins k) → KeepsStreams lanes others more
+pub same_streams : (lanes : List DeviceStream) (outs others : ℕ → Option OutStream) (ins more : ℕ → Option InStream) → LanesStand lanes outs ins → ((k : ℕ) → others k ≡ outs k)
+    → ((k : ℕ) → more k ≡ ins k) → LanesStand lanes others more
 same_streams lanes outs others ins more keeps same alike = record {
   each = λ place d below.
       let n = (get_or lanes place d).port.interface in
-      subst (λ (o : Option OutStream). KeepsLane (get_or lanes place d) o (more n)) (sym (same n))
-      (subst (λ (i : Option InStream). KeepsLane (get_or lanes place d) (outs n) i) (sym (alike n)) (keeps.each place d below));
+      subst (λ (o : Option OutStream). LaneStands (get_or lanes place d) o (more n)) (sym (same n))
+      (subst (λ (i : Option InStream). LaneStands (get_or lanes place d) (outs n) i) (sym (alike n)) (keeps.each place d below));
   none = λ k is. let before = keeps.none k is in (same k ∙ before.0, alike k ∙ before.1);
 }
 
@@ -65,31 +65,31 @@ unfolding after_settling
 none_settled w interface none k =
     (none_changed interface k settled_out w.outs (none k).0, none_changed interface k settled_in w.ins (none k).1)
 
-pub quiet_settled : (device : DeviceFields) (w : DeviceWorld) (interface : ℕ) → NoneRuns w.outs w.ins → Stands device w → Stands device (after_settling interface w)
+pub quiet_settled : (device : DeviceFields) (w : DeviceWorld) (interface : ℕ) → NoneRuns w.outs w.ins → DeviceStands device w → DeviceStands device (after_settling interface w)
 unfolding after_settling
 quiet_settled device w interface none stands =
     stands_streams device device.lanes w (changed_at interface settled_out w.outs) (changed_at interface settled_in w.ins) stands
     (same_streams device.lanes w.outs (changed_at interface settled_out w.outs) w.ins (changed_at interface settled_in w.ins) stands.streams
     (λ k. none_changed interface k settled_out w.outs (none k).0 ∙ sym (none k).0) (λ k. none_changed interface k settled_in w.ins (none k).1 ∙ sym (none k).1))
 
-pub received_stands : (device : DeviceFields) (lanes : List Lane) (w : DeviceWorld) (interface : ℕ) (packet : Option (List ℕ)) → Stands device w
-    → KeepsStreams lanes (changed_at interface (after_packet packet) w.outs) w.ins → Stands (record device { lanes = lanes }) (after_receiving interface packet w)
+pub received_stands : (device : DeviceFields) (lanes : List DeviceStream) (w : DeviceWorld) (interface : ℕ) (packet : Option (List ℕ)) → DeviceStands device w
+    → LanesStand lanes (changed_at interface (after_packet packet) w.outs) w.ins → DeviceStands (record device { lanes = lanes }) (after_receiving interface packet w)
 unfolding after_receiving
 received_stands device lanes w interface packet stands keeps = stands_streams device lanes w (changed_at interface (after_packet packet) w.outs) w.ins stands keeps
 
-pub sent_stands : (device : DeviceFields) (lanes : List Lane) (w : DeviceWorld) (interface : ℕ) → Stands device w
-    → KeepsStreams lanes w.outs (changed_at interface after_sending w.ins) → Stands (record device { lanes = lanes }) (after_sending_packet interface w)
+pub sent_stands : (device : DeviceFields) (lanes : List DeviceStream) (w : DeviceWorld) (interface : ℕ) → DeviceStands device w
+    → LanesStand lanes w.outs (changed_at interface after_sending w.ins) → DeviceStands (record device { lanes = lanes }) (after_sending_packet interface w)
 unfolding after_sending_packet
 sent_stands device lanes w interface stands keeps = stands_streams device lanes w w.outs (changed_at interface after_sending w.ins) stands keeps
 
-pub settled_stands : (device : DeviceFields) (lanes : List Lane) (w : DeviceWorld) (interface : ℕ) → Stands device w
-    → KeepsStreams lanes (changed_at interface settled_out w.outs) (changed_at interface settled_in w.ins) → Stands (record device { lanes = lanes }) (after_settling interface w)
+pub settled_stands : (device : DeviceFields) (lanes : List DeviceStream) (w : DeviceWorld) (interface : ℕ) → DeviceStands device w
+    → LanesStand lanes (changed_at interface settled_out w.outs) (changed_at interface settled_in w.ins) → DeviceStands (record device { lanes = lanes }) (after_settling interface w)
 unfolding after_settling
 settled_stands device lanes w interface stands keeps =
     stands_streams device lanes w (changed_at interface settled_out w.outs) (changed_at interface settled_in w.ins) stands keeps
 
 -- what every device keeps, with other lanes of the same ports
-pub device_with_lanes : (device : DeviceFields) (lanes : List Lane) → IsDevice device → ports lanes ≡ ports device.lanes → IsDevice (record device { lanes = lanes })
+pub device_with_lanes : (device : DeviceFields) (lanes : List DeviceStream) → IsDevice device → ports lanes ≡ ports device.lanes → IsDevice (record device { lanes = lanes })
 device_with_lanes device lanes is same = record {
   store = is.store;
   interfaces = is.interfaces;
@@ -129,10 +129,10 @@ own_interface function k d numbered below =
     (IsDistinct-tail nat_eq function.control_interface (map (λ (s : StreamInterface). s.number) function.streams) numbered.different) below
 
 -- its terminal is of the domain of its clock
-pub ports_on : (device : DeviceFields) (w : DeviceWorld) (domain : ℕ) → AreNumbered device.function → IsDevice device → Stands device w
-    → All (λ p. is_on w domain p.interface ≡ (p.clock == domain)) (ports device.lanes)
+pub ports_on : (device : DeviceFields) (w : DeviceWorld) (domain : ℕ) → AreNumbered device.function → IsDevice device → DeviceStands device w
+    → All (λ p. is_on w domain p.interface ≡ (p.domain == domain)) (ports device.lanes)
 ports_on device w domain numbered is stands =
-    all_ports (λ p. is_on w domain p.interface ≡ (p.clock == domain)) device is
+    all_ports (λ p. is_on w domain p.interface ≡ (p.domain == domain)) device is
     (λ k d below.
     subst (λ (f : FunctionFields). option_map_or (λ s. (entity f.entities s.terminal).clock == domain) (find (λ s. s.number == (get_or device.function.streams k d).number) f.streams) false
     ≡ ((entity device.function.entities (get_or device.function.streams k d).terminal).clock == domain)) stands.function

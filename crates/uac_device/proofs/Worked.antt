@@ -10,7 +10,7 @@ use Rattle.uac_topology_rules.specs.Links.{signal_sources}
 use Rattle.uac_topology_rules.specs.Table.{at, place_of}
 use Rattle.uac_topology.specs.Function.{FunctionFields}
 use Rattle.uac_clock.specs.Nominal.{nominal_of, values_of}
-use Rattle.uac_entities.specs.EntityStreams.{named}
+use Rattle.uac_entities.specs.EntityInterfaces.{entity_by_id}
 use Rattle.uac_store.specs.Keyed.{value_of}
 use Rattle.uac_store.specs.Rates.{rate_of, rate_step, rate_within, source_rate}
 use Rattle.uac_graph.specs.Meaning.{entity, frame_of, meaning, samples, samples_by}
@@ -78,7 +78,7 @@ full = record { stream = mono false; microframes = 1; made = map (λ n. pos n �
 
 -- the same with its clock at 48,000 Hz
 clocked : DeviceWorld
-clocked = record (world half one_put) { controls = (record { entity = 1; selector = 1; channel = 0 }, pos 48000) ∷ []; domains = record { clock = 1; deviation = pos 0; steps = [] } ∷ [] }
+clocked = record (world half one_put) { controls = (record { entity = 1; selector = 1; channel = 0 }, pos 48000) ∷ []; domains = record { id = 1; deviation = pos 0; steps = [] } ∷ [] }
 
 levels : (level_of (world half one_put) 1 ≡ 1) × (level_of (world half one_put) 2 ≡ 1) × (level_of (world half one_put) 3 ≡ 0)
 unfolding level_of world half one_put
@@ -113,7 +113,7 @@ at_rest = (refl, refl)
 
 -- in a microframe of its domain a stream counts the ticks, here six at 48,000 Hz; in another's it doesn't
 counts : ((after_advance 1 clocked).outs 1 ≡ Some (record half { ticks = 6 })) × ((after_advance 9 clocked).outs 1 ≡ Some half)
-unfolding after_advance clocked next_ticks step_in rate_of rate_within rate_step source_rate named value_of nominal_of values_of world half function entities linked entity at place_of
+unfolding after_advance clocked next_ticks step_in rate_of rate_within rate_step source_rate entity_by_id value_of nominal_of values_of world half function entities linked entity at place_of
 counts = (refl, refl)
 
 runs_dry : (met_of 1 (after_tick 1 (world half one_put)) ≡ record { under = 1; over = 0 }) × ((after_tick 1 (after_tick 1 (world half one_put))).outs 1

@@ -6,36 +6,36 @@ use Rattle.uac_topology_rules.specs.Rules.{is_output}
 use Rattle.uac_topology.specs.Function.{FunctionFields}
 use Rattle.uac_store.specs.declared.keys.Key.{Key}
 use Rattle.uac_store.specs.StoreControls.{IsStoreOf}
-use Rattle.uac_request.specs.Requests.{AreSettingsOf, AnswerFields, after_request, held_by, reply_of}
+use Rattle.uac_request.specs.Requests.{AreSettingsOf, AnswerFields, after_request, request_state, reply_of}
 use Rattle.uac_request.specs.declared.setup.Setup.{Setup}
 use Rattle.uac_alt.specs.declared.settings.InterfaceSetting.{InterfaceSetting}
 use Rattle.uac_graph.specs.Wiring.{Frames, AreWiresOf, frame_on, silence}
-use Rattle.uac_device.specs.declared.clocks.Clock.{Clock}
-use Rattle.uac_lanes.specs.declared.lane.Lane.{Lane}
+use Rattle.uac_device.specs.declared.clocks.DomainClock.{DomainClock}
+use Rattle.uac_lanes.specs.declared.lane.DeviceStream.{DeviceStream}
 use Rattle.uac_device.specs.DeviceWorld.{Domain, DeviceWorld, after_control, entity_in, is_jack}
-use Rattle.uac_lanes.specs.Lanes.{KeepsStreams, port_of, ports}
+use Rattle.uac_lanes.specs.Lanes.{LanesStand, port_of, ports}
 
 -- what a device is seen as: of its clocks it keeps the phase alone, and its frames are those on the wires
 pub record DeviceFields : Type 0 where
   pub function : FunctionFields
   pub controls : List (Key × ℤ)
   pub settings : List InterfaceSetting
-  pub clocks : List Clock
+  pub clocks : List DomainClock
   pub wires : Frames
-  pub lanes : List Lane
+  pub lanes : List DeviceStream
 
 -- how a clock domain is kept: the remainder of its steps stands for them all
-abbrev pub kept : Domain → Clock
-kept d = record { clock = d.clock; ppm = d.deviation; phase = sum d.steps % 65536 }
+abbrev pub clock_of : Domain → DomainClock
+clock_of d = record { domain = d.id; deviation = d.deviation; phase = sum d.steps % 65536 }
 
 -- the device stands for this world. What the input terminals gave last is on their wires; a terminal of the bus to which no interface
 -- links only ever gave silence
-pub record Stands (device : DeviceFields) (w : DeviceWorld) : Type 0 where
+pub record DeviceStands (device : DeviceFields) (w : DeviceWorld) : Type 0 where
   pub function : device.function ≡ w.function
   pub controls : device.controls ≡ w.controls
   pub settings : device.settings ≡ w.settings
-  pub clocks : device.clocks ≡ map kept w.domains
-  pub streams : KeepsStreams device.lanes w.outs w.ins
+  pub clocks : device.clocks ≡ map clock_of w.domains
+  pub streams : LanesStand device.lanes w.outs w.ins
   pub unlinked :
       (id : ℕ) → is_input (entity_in w id).kind ≡ true → is_jack (entity_in w id) ≡ false
       → find (λ s. s.terminal == id) w.function.streams ≡ None → w.given id ≡ silence (entity_in w id).cluster.channels
@@ -52,14 +52,14 @@ pub record IsDevice (device : DeviceFields) : Type 0 where
   pub store : IsStoreOf device.function.entities device.controls
   pub interfaces : AreSettingsOf device.function device.settings
   pub wires : AreWiresOf device.function.entities device.wires
-  pub domains : map (λ c. c.clock) device.clocks ≡ device.function.domains
-  pub clocks : All (λ c. IsInRange c.ppm) device.clocks
+  pub domains : map (λ c. c.domain) device.clocks ≡ device.function.domains
+  pub clocks : All (λ c. IsInRange c.deviation) device.clocks
   pub phases : All (λ c. c.phase < 65536) device.clocks
   pub ports : ports device.lanes ≡ map (port_of device.function.entities) device.function.streams
 
 -- what a control request makes of a device, and what it is told
 pub record IsControlled (p : Setup) (bytes : List ℕ) (told : AnswerFields) (old new : DeviceFields) : Type 0 where
-  pub answer : told ≡ reply_of old.function (held_by old.controls old.settings) p bytes
-  pub held : held_by new.controls new.settings ≡ after_request old.function (held_by old.controls old.settings) p bytes
+  pub answer : told ≡ reply_of old.function (request_state old.controls old.settings) p bytes
+  pub held : request_state new.controls new.settings ≡ after_request old.function (request_state old.controls old.settings) p bytes
   pub function : new.function ≡ old.function
-  pub stands : (w : DeviceWorld) → Stands old w → Stands new (after_control p bytes w)
+  pub stands : (w : DeviceWorld) → DeviceStands old w → DeviceStands new (after_control p bytes w)

@@ -14,7 +14,7 @@ use Rattle.uac_topology.specs.Function.{FunctionFields, interface_in}
 use Rattle.uac_store.specs.declared.keys.Key.{Key}
 use Rattle.uac_store.specs.StoreControls.{initial_controls}
 use Rattle.uac_store.specs.Rates.{rate_of}
-use Rattle.uac_graph.specs.GraphControls.{held_in}
+use Rattle.uac_graph.specs.GraphControls.{controls_in}
 use Rattle.uac_graph.specs.Meaning.{entity, meaning}
 use Rattle.uac_graph.specs.Needs.{is_end, needed}
 use Rattle.uac_graph.specs.Wiring.{silence}
@@ -22,7 +22,7 @@ use Rattle.uac_units.specs.Hearing.{Reading, after_hearing}
 use Rattle.uac_alt.specs.declared.settings.InterfaceSetting.{InterfaceSetting}
 use Rattle.uac_alt.specs.AltSettings.{initial_settings}
 use Rattle.uac_alt.specs.AltStreams.{StreamFields, stream_of}
-use Rattle.uac_request.specs.Requests.{AnswerFields, after_request, held_by, is_done, is_stalled, rate_at, reply_of}
+use Rattle.uac_request.specs.Requests.{AnswerFields, after_request, request_state, is_done, is_stalled, rate_at, reply_of}
 use Rattle.uac_request.specs.Requests.{with_bytes, with_descriptor}
 use Rattle.uac_request.specs.declared.setup.Setup.{Setup}
 use Rattle.uac_flow.specs.FlowStreams.{InStream, OutStream, after_packet, after_putting, after_sending, after_taking, after_ticks}
@@ -38,7 +38,7 @@ use Rattle.uac_lanes.specs.declared.ticking.Ticked.{Ticked}
 -- a clock domain: the clock that its terminals name, what that is off by in ppm, and its steps since the start, one
 -- for each microframe, in 65,536ths of a frame
 pub record Domain : Type 0 where
-  pub clock : ℕ
+  pub id : ℕ
   pub deviation : ℤ
   pub steps : List ℕ
 
@@ -68,19 +68,19 @@ is_input_jack e = is_input e.kind && is_jack e
 
 -- an input terminal of a clock domain that carries a stream of the bus
 abbrev pub is_streamed : ℕ → Entity → Bool
-is_streamed clock e = is_input e.kind && (not (is_jack e) && e.clock == clock)
+is_streamed domain e = is_input e.kind && (not (is_jack e) && e.clock == domain)
 
 abbrev pub is_output_jack : Entity → Bool
 is_output_jack e = is_output e.kind && is_jack e
 
 -- an output jack of a clock domain
 abbrev pub is_output_jack_of : ℕ → Entity → Bool
-is_output_jack_of clock e = is_end clock e && is_jack e
+is_output_jack_of domain e = is_end domain e && is_jack e
 
 -- ---- the start
 
 abbrev pub at_rest : ℕ → Domain
-at_rest clock = record { clock = clock; deviation = pos 0; steps = [] }
+at_rest domain = record { id = domain; deviation = pos 0; steps = [] }
 
 -- just after the descriptor was accepted: each control at its start value, each interface in setting 0, no clock off, no stream,
 -- and silence everywhere
@@ -105,8 +105,8 @@ stream_to w id = option_and_then (λ s. w.outs s.number) (find (λ s. s.terminal
 
 -- the terminal to which the interface with a number links is of a clock domain
 abbrev pub is_on : DeviceWorld → ℕ → ℕ → Bool
-is_on w clock interface =
-    option_map_or (λ s. (entity_in w s.terminal).clock == clock) (interface_in w.function interface) false
+is_on w domain interface =
+    option_map_or (λ s. (entity_in w s.terminal).clock == domain) (interface_in w.function interface) false
 
 -- how many frames lie in the ring of an interface's stream; none where none runs
 unfoldable pub level_of : DeviceWorld → ℕ → ℕ
@@ -118,10 +118,10 @@ target_of w interface = option_and_then (λ o. o.target) (w.outs interface)
 
 -- the streaming interfaces, in block order, whose primed ring is found empty, or whose ring is found full, in the next tick of a domain
 unfoldable pub met_of : ℕ → DeviceWorld → Ticked
-met_of clock w =
+met_of domain w =
     record {
-      under = bits_of (map (λ s. is_on w clock s.number && option_map_or is_dry (w.outs s.number) false) w.function.streams);
-      over = bits_of (map (λ s. is_on w clock s.number && option_map_or is_full (w.ins s.number) false) w.function.streams);
+      under = bits_of (map (λ s. is_on w domain s.number && option_map_or is_dry (w.outs s.number) false) w.function.streams);
+      over = bits_of (map (λ s. is_on w domain s.number && option_map_or is_full (w.ins s.number) false) w.function.streams);
     }
 
 -- ---- clocks
@@ -130,15 +130,15 @@ met_of clock w =
 unfoldable pub step_in : DeviceWorld → Domain → ℕ
 step_in w d =
     option_map_or (λ values. step_of values d.deviation)
-    (option_and_then nominal_of (rate_of w.function.entities w.controls d.clock)) 0
+    (option_and_then nominal_of (rate_of w.function.entities w.controls d.id)) 0
 
 -- one domain changes
 abbrev pub with_domain : ℕ → (Domain → Domain) → DeviceWorld → DeviceWorld
-with_domain clock change w = record w { domains = map (λ d. if d.clock == clock then change d else d) w.domains }
+with_domain domain change w = record w { domains = map (λ d. if d.id == domain then change d else d) w.domains }
 
 -- a domain's clock is off by so many ppm from now on
 unfoldable pub after_deviation : ℕ → ℤ → DeviceWorld → DeviceWorld
-after_deviation clock ppm w = with_domain clock (λ d. record d { deviation = ppm }) w
+after_deviation domain ppm w = with_domain domain (λ d. record d { deviation = ppm }) w
 
 -- the steps of a domain with that of the microframe that comes
 abbrev pub steps_with_next : DeviceWorld → Domain → List ℕ
@@ -146,13 +146,13 @@ steps_with_next w d = d.steps ++ step_in w d ∷ []
 
 -- how often a domain ticks in the microframe that comes; an id that is no domain's never ticks
 unfoldable pub next_ticks : ℕ → DeviceWorld → ℕ
-next_ticks clock w = option_map_or (λ d. ticks_in (steps_with_next w d)) (find (λ d. d.clock == clock) w.domains) 0
+next_ticks domain w = option_map_or (λ d. ticks_in (steps_with_next w d)) (find (λ d. d.id == domain) w.domains) 0
 
 -- a domain's clock goes on by one microframe; the streams to its terminals count its ticks
 unfoldable pub after_advance : ℕ → DeviceWorld → DeviceWorld
-after_advance clock w =
-    record (with_domain clock (λ d. record d { steps = steps_with_next w d }) w) {
-      outs = changed_where (is_on w clock) (λ interface. after_ticks (next_ticks clock w)) w.outs;
+after_advance domain w =
+    record (with_domain domain (λ d. record d { steps = steps_with_next w d }) w) {
+      outs = changed_where (is_on w domain) (λ interface. after_ticks (next_ticks domain w)) w.outs;
     }
 
 -- ---- signals
@@ -168,7 +168,7 @@ streamed_frame w id = unwrap_or (option_and_then next_taken (stream_to w id)) (s
 -- what an input terminal gives at a tick of a domain: a terminal of the bus in that domain what its stream gives, and any other what it
 -- gave last, or was given since
 unfoldable pub input_of : ℕ → DeviceWorld → ℕ → List ℤ
-input_of clock w id = if is_streamed clock (entity_in w id) then streamed_frame w id else w.given id
+input_of domain w id = if is_streamed domain (entity_in w id) then streamed_frame w id else w.given id
 
 -- the frame that the terminal to which an interface links last played
 abbrev pub played_to : DeviceWorld → (ℕ → List ℤ) → ℕ → List ℤ
@@ -177,24 +177,24 @@ played_to w played interface = option_map_or (λ s. played s.terminal) (interfac
 -- one tick of a domain: each of its output terminals plays the samples of its wire, under the controls held now; the streams to
 -- its terminals gave their frames, and those from its terminals have what these played
 unfoldable pub after_tick : ℕ → DeviceWorld → DeviceWorld
-after_tick clock w =
+after_tick domain w =
     let played : ℕ → List ℤ =
-    λ id. if is_end clock (entity_in w id) then meaning w.function.entities (held_in w.controls) (input_of clock w) id
+    λ id. if is_end domain (entity_in w id) then meaning w.function.entities (controls_in w.controls) (input_of domain w) id
     else w.played id in
     record w {
-      outs = changed_where (is_on w clock) (λ interface. after_taking) w.outs;
-      ins = changed_where (is_on w clock) (λ interface. after_putting (played_to w played interface)) w.ins;
-      given = input_of clock w;
+      outs = changed_where (is_on w domain) (λ interface. after_taking) w.outs;
+      ins = changed_where (is_on w domain) (λ interface. after_putting (played_to w played interface)) w.ins;
+      given = input_of domain w;
       played = played;
     }
 
 -- how many renders a tick of a domain counts: one for each unit that the domain needs
 unfoldable pub renders_of : ℕ → DeviceWorld → ℕ
-renders_of clock w = length (needed w.function.entities clock)
+renders_of domain w = length (needed w.function.entities domain)
 
 -- the frames that the meters hear after a tick of a domain: those of its output jacks, in block order
 unfoldable pub heard_of : ℕ → DeviceWorld → List (List ℤ)
-heard_of clock w = map (λ e. w.played e.id) (filter (is_output_jack_of clock) w.function.entities)
+heard_of domain w = map (λ e. w.played e.id) (filter (is_output_jack_of domain) w.function.entities)
 
 -- what meters show after they heard these frames, one after the other
 unfoldable pub after_frames : List (List ℤ) → List Reading → List Reading
@@ -281,7 +281,7 @@ after_restart interface begun w =
 -- a control request: it changes what its answer says, and a setting that it sets starts the interface's stream anew, or stops it
 unfoldable pub after_control : Setup → List ℕ → DeviceWorld → DeviceWorld
 after_control p bytes w =
-    let held = held_by w.controls w.settings in
+    let held = request_state w.controls w.settings in
     let after = after_request w.function held p bytes in
     let asked = record w { controls = after.controls; settings = after.settings } in
     if sets_interface p && tells_done (reply_of w.function held p bytes)

@@ -12,14 +12,14 @@ use uac_descriptor::NoMemory;
 
 /// A clock domain's clock: its id, what it is off by in ppm, and how far it is past its last tick.
 #[derive(Clone, Copy, Debug, PartialEq, Eq)]
-pub struct Clock {
-    pub clock: u8,
-    pub ppm: i32,
+pub struct DomainClock {
+    pub domain: u8,
+    pub deviation: i32,
     pub phase: Phase,
 }
 
 /// A clock for each domain, none of them off, each at a tick.
-pub(crate) fn resting_clocks(alloc: Global, domains: &[u8]) -> Result<Vec<Clock>, NoMemory>
+pub(crate) fn resting_clocks(alloc: Global, domains: &[u8]) -> Result<Vec<DomainClock>, NoMemory>
     ensures { IfOk result (λ clocks. clocks.items ≡ map spec.resting_clock domains.now) }
 {
     let mut clocks = Vec::new(alloc);
@@ -29,39 +29,39 @@ pub(crate) fn resting_clocks(alloc: Global, domains: &[u8]) -> Result<Vec<Clock>
     Ok(clocks)
 }
 
-fn resting_clock(domain: u8) -> Clock
+fn resting_clock(domain: u8) -> DomainClock
     ensures { result ≡ spec.resting_clock domain }
 {
-    Clock {
-        clock: domain,
-        ppm: 0,
+    DomainClock {
+        domain,
+        deviation: 0,
         phase: Phase::new(),
     }
 }
 
 /// The clocks of a domain are off by so many ppm from now on.
-pub(crate) fn deviate(clocks: &mut [Clock], domain: u8, ppm: i32)
-    ensures { clocks.new ≡ map (spec.deviated_clock domain ppm) clocks.old }
+pub(crate) fn deviate(clocks: &mut [DomainClock], domain: u8, ppm: i32)
+    ensures { clocks.new ≡ map (spec.clock_after_deviation domain ppm) clocks.old }
 {
     for clock in clocks.iter_mut() {
         deviate_one(clock, domain, ppm);
     }
 }
 
-fn deviate_one(clock: &mut Clock, domain: u8, ppm: i32)
-    ensures { clock.new ≡ spec.deviated_clock domain ppm clock.old }
+fn deviate_one(clock: &mut DomainClock, domain: u8, ppm: i32)
+    ensures { clock.new ≡ spec.clock_after_deviation domain ppm clock.old }
 {
-    if clock.clock == domain {
-        clock.ppm = ppm;
+    if clock.domain == domain {
+        clock.deviation = ppm;
     }
 }
 
 /// The clocks of a domain go on by one microframe, by the nominal values of its rate; without a rate they stand still.
 /// Answers the ticks of the first of them.
-pub(crate) fn advance(clocks: &mut [Clock], domain: u8, values: Option<Nominal>) -> u32
-    requires range { All (λ c. IsInRange c.ppm) clocks.old }
+pub(crate) fn advance(clocks: &mut [DomainClock], domain: u8, values: Option<Nominal>) -> u32
+    requires range { All (λ c. IsInRange c.deviation) clocks.old }
     requires of_a_rate { (nominal : Nominal) → values ≡ Some nominal → IsNominal nominal }
-    ensures clocks { clocks.new ≡ map (spec.advanced_clock domain values) clocks.old }
+    ensures clocks { clocks.new ≡ map (spec.clock_after_advance domain values) clocks.old }
     ensures ticks { result ≡ spec.first_ticks domain values clocks.old }
 {
     let mut first = None;
@@ -72,16 +72,16 @@ pub(crate) fn advance(clocks: &mut [Clock], domain: u8, values: Option<Nominal>)
 }
 
 // The ticks of a clock that goes on, None where it is another domain's.
-fn advance_one(clock: &mut Clock, domain: u8, values: Option<Nominal>) -> Option<u32>
-    requires range { IsInRange clock.old.ppm }
+fn advance_one(clock: &mut DomainClock, domain: u8, values: Option<Nominal>) -> Option<u32>
+    requires range { IsInRange clock.old.deviation }
     requires of_a_rate { (nominal : Nominal) → values ≡ Some nominal → IsNominal nominal }
-    ensures clock { clock.new ≡ spec.advanced_clock domain values clock.old }
+    ensures clock { clock.new ≡ spec.clock_after_advance domain values clock.old }
     ensures ticks { result ≡ spec.ticks_where domain values clock.old }
 {
-    if clock.clock != domain {
+    if clock.domain != domain {
         return None;
     }
-    let gives = step_by(values, clock.ppm);
+    let gives = step_by(values, clock.deviation);
     Some(clock.phase.advance(gives))
 }
 

@@ -2,7 +2,7 @@
 ghost use Rattle.std.specs.Prelude.{◌≡◌, ℤ, List, false, IfOk, length, map};
 ghost use Rattle.std.specs.List.{All};
 ghost use Rattle.std.specs.Option.{option_map_or};
-ghost use Rattle.uac_entities.specs.EntityStreams.{named};
+ghost use Rattle.uac_entities.specs.EntityInterfaces.{entity_by_id};
 ghost use Rattle.uac_topology_rules.specs.Links as links;
 ghost use Rattle.uac_clock.specs.declared.values.Nominal as values;
 ghost use Rattle.uac_store.specs.declared.keys.Key as keys;
@@ -21,7 +21,7 @@ use uac_topology_rules::is_clock;
 
 /// The nominal values of the rate of a clock domain; None where its clock has no rate.
 #[derive(Clone, Copy)]
-pub struct Pace {
+pub struct DomainRate {
     pub domain: u8,
     pub values: Option<Nominal>,
 }
@@ -31,7 +31,7 @@ pub struct Pace {
 #[derive(Drop)]
 pub struct Derived {
     pub(crate) jobs: Jobs,
-    pub(crate) paces: Vec<Pace>,
+    pub(crate) paces: Vec<DomainRate>,
     pub(crate) jacks: Vec<OutputJack>,
 }
 
@@ -105,7 +105,7 @@ fn sets_control(setup: &Setup) -> bool
 
 // Whether the entity with an id is a clock.
 fn names_clock(function: &Function, id: u8) -> bool
-    ensures { result ≡ option_map_or (λ e. links.is_clock e.kind) (named function.now.entities id) false }
+    ensures { result ≡ option_map_or (λ e. links.is_clock e.kind) (entity_by_id function.now.entities id) false }
 {
     match function.entity(id) {
         Some(entity) => is_clock(entity.kind),
@@ -124,12 +124,12 @@ fn values_at(function: &Function, store: &Store, clock: u8) -> Option<Nominal>
 }
 
 // The paces of a function's domains.
-fn paces_of(alloc: Global, function: &Function, store: &Store) -> Result<Vec<Pace>, NoMemory>
+fn paces_of(alloc: Global, function: &Function, store: &Store) -> Result<Vec<DomainRate>, NoMemory>
     ensures { IfOk result (λ paces. All (IsPace function.now.entities store.now) paces.items) }
 {
     let mut paces = Vec::new(alloc);
     for domain in function.domains() {
-        let pace = Pace {
+        let pace = DomainRate {
             domain: *domain,
             values: values_at(function, store, *domain),
         };
@@ -139,7 +139,7 @@ fn paces_of(alloc: Global, function: &Function, store: &Store) -> Result<Vec<Pac
 }
 
 // Renews each of these paces.
-fn renew(paces: &mut [Pace], function: &Function, store: &Store)
+fn renew(paces: &mut [DomainRate], function: &Function, store: &Store)
     ensures { paces.new ≡ map (renewed_pace function.now.entities store.now) paces.old }
 {
     for pace in paces.iter_mut() {
@@ -147,7 +147,7 @@ fn renew(paces: &mut [Pace], function: &Function, store: &Store)
     }
 }
 
-fn renew_one(pace: &mut Pace, function: &Function, store: &Store)
+fn renew_one(pace: &mut DomainRate, function: &Function, store: &Store)
     ensures { pace.new ≡ renewed_pace function.now.entities store.now pace.old }
 {
     pace.values = values_at(function, store, pace.domain);

@@ -12,12 +12,12 @@ ghost use Rattle.uac_device.specs.DeviceWorld.{frames_in, fresh, heard_of, is_du
 ghost use Rattle.uac_device.specs.DeviceWorld.{next_ticks, packet_in, played_at, after_receiving, renders_of, runs_one};
 ghost use Rattle.uac_device.specs.DeviceWorld.{after_sending_packet, set_jack, after_settling};
 ghost use Rattle.uac_device.specs.DeviceWorld.{target_of, after_tick};
-ghost use Rattle.uac_device.specs.DeviceKept.{IsControlled, Stands};
+ghost use Rattle.uac_device.specs.DeviceKept.{IsControlled, DeviceStands};
 ghost use Rattle.uac_device.specs.Stillness.{IsStill};
 ghost use Rattle.uac_lanes.specs.InterfaceStreams.{NoneRuns};
 ghost use Rattle.uac_request.specs.Requests.{answer_fields};
 
-use crate::clocks::{Clock, advance, deviate};
+use crate::clocks::{DomainClock, advance, deviate};
 use crate::derived::Derived;
 use crate::hearing::hear;
 use crate::rest::{Moving, at_rest};
@@ -50,7 +50,7 @@ pub struct Device {
     graph: Graph,
     derived: Derived,
     wires: Wires,
-    clocks: Vec<Clock>,
+    clocks: Vec<DomainClock>,
     lanes: Lanes,
 }
 
@@ -85,7 +85,7 @@ impl Model for Device {
 impl Device {
     /// A device of a function, with all the memory that it will use.
     pub fn new(alloc: Global, function: Function) -> Result<Device, NoMemory>
-        ensures { IfOk result (λ device. Stands device (fresh function)) }
+        ensures { IfOk result (λ device. DeviceStands device (fresh function)) }
     {
         let store = Store::new(alloc, &function)?;
         let settings = Settings::new(&function);
@@ -132,36 +132,36 @@ impl Device {
 
     /// How many frames lie in the ring of an interface's stream; 0 where it runs none.
     pub fn level(&self, interface: u8) -> u32
-        ensures { (w : DeviceWorld) → Stands self.now w → result ≡ level_of w interface }
+        ensures { (w : DeviceWorld) → DeviceStands self.now w → result ≡ level_of w interface }
     {
         self.lanes.level(interface)
     }
 
     /// The level at which an interface's stream to the device was primed; None where none runs or it is priming.
     pub fn target(&self, interface: u8) -> Option<u32>
-        ensures { (w : DeviceWorld) → Stands self.now w → result ≡ target_of w interface }
+        ensures { (w : DeviceWorld) → DeviceStands self.now w → result ≡ target_of w interface }
     {
         self.lanes.target(interface)
     }
 
     /// Whether an interface runs a stream that has a packet in the next microframe.
     pub fn due(&self, interface: u8) -> bool
-        ensures { (w : DeviceWorld) → Stands self.now w → result ≡ is_due_in w interface }
+        ensures { (w : DeviceWorld) → DeviceStands self.now w → result ≡ is_due_in w interface }
     {
         self.lanes.due(interface)
     }
 
     /// Whether an interface runs a stream.
     pub fn runs(&self) -> bool
-        ensures value { (w : DeviceWorld) → Stands self.now w → result ≡ runs_one w }
-        ensures none { (w : DeviceWorld) → Stands self.now w → result ≡ false → NoneRuns w.outs w.ins }
+        ensures value { (w : DeviceWorld) → DeviceStands self.now w → result ≡ runs_one w }
+        ensures none { (w : DeviceWorld) → DeviceStands self.now w → result ≡ false → NoneRuns w.outs w.ins }
     {
         self.lanes.run_one()
     }
 
     /// The report that is due of an interface's stream to the device (USB 2.0, 5.12.4.2); None where none is.
     pub fn feedback(&self, interface: u8) -> Option<u32>
-        ensures { (w : DeviceWorld) → Stands self.now w → result ≡ feedback_in w interface }
+        ensures { (w : DeviceWorld) → DeviceStands self.now w → result ≡ feedback_in w interface }
     {
         self.lanes.feedback(interface)
     }
@@ -169,9 +169,9 @@ impl Device {
     /// A packet comes to an interface, or is lost. Its frames are taken where the ring has room for all of them, and none where it
     /// hasn't. Where the interface runs no stream to the device, nothing takes it.
     pub fn microframe_out(&mut self, interface: u8, packet: Option<&Packet>) -> Arrival
-        ensures stands { (w : DeviceWorld) → Stands self.old w
-            → Stands self.new (after_receiving interface (option_map (λ p. p.now.items) packet.entry) w) }
-        ensures arrival { (w : DeviceWorld) → Stands self.old w
+        ensures stands { (w : DeviceWorld) → DeviceStands self.old w
+            → DeviceStands self.new (after_receiving interface (option_map (λ p. p.now.items) packet.entry) w) }
+        ensures arrival { (w : DeviceWorld) → DeviceStands self.old w
             → result ≡ arrival_in w interface (option_map (λ p. p.now.items) packet.entry) }
         ensures function { self.new.function ≡ self.old.function }
     {
@@ -181,9 +181,9 @@ impl Device {
     /// Forms the packet that an interface sends: the oldest frames of the ring, as many as fit. Answers their number. It is empty
     /// where the interface runs no stream from the device.
     pub fn microframe_in(&mut self, interface: u8, packet: &mut Packet) -> u32
-        ensures stands { (w : DeviceWorld) → Stands self.old w → Stands self.new (after_sending_packet interface w) }
-        ensures packet { (w : DeviceWorld) → Stands self.old w → packet.new.items ≡ packet_in w interface }
-        ensures frames { (w : DeviceWorld) → Stands self.old w → result ≡ frames_in w interface }
+        ensures stands { (w : DeviceWorld) → DeviceStands self.old w → DeviceStands self.new (after_sending_packet interface w) }
+        ensures packet { (w : DeviceWorld) → DeviceStands self.old w → packet.new.items ≡ packet_in w interface }
+        ensures frames { (w : DeviceWorld) → DeviceStands self.old w → result ≡ frames_in w interface }
         ensures function { self.new.function ≡ self.old.function }
     {
         self.lanes.send(interface, packet)
@@ -192,7 +192,8 @@ impl Device {
     /// A microframe ends for an interface's stream. Where it was due, zeros replace a lost packet, one for each tick of its domain since
     /// the last such microframe, and a stream whose ring has enough frames is primed.
     pub fn settle(&mut self, interface: u8)
-        ensures stands { (w : DeviceWorld) → Stands self.old w → ZerosFitIn w interface → Stands self.new (after_settling interface w) }
+        ensures stands { (w : DeviceWorld) → DeviceStands self.old w → ZerosFitIn w interface
+            → DeviceStands self.new (after_settling interface w) }
         ensures function { self.new.function ≡ self.old.function }
     {
         self.lanes.settle(interface);
@@ -225,7 +226,7 @@ impl Device {
     pub fn deviate(&mut self, domain: u8, ppm: i32)
         requires low { negsuc 99999 ≤ℤ ppm }
         requires high { ppm ≤ℤ pos 100000 }
-        ensures stands { (w : DeviceWorld) → Stands self.old w → Stands self.new (after_deviation domain ppm w) }
+        ensures stands { (w : DeviceWorld) → DeviceStands self.old w → DeviceStands self.new (after_deviation domain ppm w) }
         ensures function { self.new.function ≡ self.old.function }
     {
         deviate(&mut self.clocks, domain, ppm);
@@ -234,8 +235,8 @@ impl Device {
     /// A domain's clock goes on by one microframe; answers how often it ticks, at most 27 times. The streams to its terminals count
     /// these ticks.
     pub fn ticks(&mut self, domain: u8) -> u32
-        ensures stands { (w : DeviceWorld) → Stands self.old w → Stands self.new (after_advance domain w) }
-        ensures ticks { (w : DeviceWorld) → Stands self.old w → result ≡ next_ticks domain w }
+        ensures stands { (w : DeviceWorld) → DeviceStands self.old w → DeviceStands self.new (after_advance domain w) }
+        ensures ticks { (w : DeviceWorld) → DeviceStands self.old w → result ≡ next_ticks domain w }
         ensures few { result ≤ 27 }
         ensures function { self.new.function ≡ self.old.function }
     {
@@ -251,7 +252,7 @@ impl Device {
     pub fn jack(&mut self, terminal: u8, frame: &Frame)
         requires jack { is_input_jack (entity self.old.function.entities terminal) ≡ true }
         requires channels { length frame.now.items ≡ (entity self.old.function.entities terminal).cluster.channels }
-        ensures stands { (w : DeviceWorld) → Stands self.old w → Stands self.new (set_jack terminal frame.now.items w) }
+        ensures stands { (w : DeviceWorld) → DeviceStands self.old w → DeviceStands self.new (set_jack terminal frame.now.items w) }
         ensures function { self.new.function ≡ self.old.function }
     {
         self.wires.set(terminal, frame);
@@ -260,8 +261,8 @@ impl Device {
     /// Has an input jack give the frame of a tone at a place, which counts frames from 0, at the next tick.
     pub fn sound(&mut self, terminal: u8, tone: Tone, place: u64)
         requires { is_input_jack (entity self.old.function.entities terminal) ≡ true }
-        ensures stands { (w : DeviceWorld) → Stands self.old w
-            → Stands self.new
+        ensures stands { (w : DeviceWorld) → DeviceStands self.old w
+            → DeviceStands self.new
             (set_jack terminal (tone_frame tone place (entity self.old.function.entities terminal).cluster.channels) w) }
         ensures function { self.new.function ≡ self.old.function }
     {
@@ -280,12 +281,12 @@ impl Device {
     ) -> Ticked
         requires rack { IsFitted (λ v x. (⟦<dyn Unit as Unit>⟧ v).kind_of x) rack.now }
         requires room { steps.old + length (needed self.old.function.entities domain) < 2 ^ 64 }
-        ensures stands { (w : DeviceWorld) → Stands self.old w → Stands self.new (after_tick domain w) }
-        ensures once { (w : DeviceWorld) → Stands self.old w → steps.new ≡ steps.old + renders_of domain w }
-        ensures heard { (w : DeviceWorld) → Stands self.old w
+        ensures stands { (w : DeviceWorld) → DeviceStands self.old w → DeviceStands self.new (after_tick domain w) }
+        ensures once { (w : DeviceWorld) → DeviceStands self.old w → steps.new ≡ steps.old + renders_of domain w }
+        ensures heard { (w : DeviceWorld) → DeviceStands self.old w
             → readings (λ v x. (⟦<dyn Meter as Meter>⟧ v).reading_of x) meters.new
             ≡ after_frames (heard_of domain (after_tick domain w)) (readings (λ v x. (⟦<dyn Meter as Meter>⟧ v).reading_of x) meters.old) }
-        ensures met { (w : DeviceWorld) → Stands self.old w → result ≡ met_of domain w }
+        ensures met { (w : DeviceWorld) → DeviceStands self.old w → result ≡ met_of domain w }
         ensures function { self.new.function ≡ self.old.function }
     {
         self.tick_where(false, domain, rack, meters, steps)
@@ -303,12 +304,13 @@ impl Device {
     ) -> Ticked
         requires rack { IsFitted (λ v x. (⟦<dyn Unit as Unit>⟧ v).kind_of x) rack.now }
         requires room { steps.old + length (needed self.old.function.entities domain) < 2 ^ 64 }
-        ensures stands { (w : DeviceWorld) → Stands self.old w → (still ≡ true → IsStill domain w) → Stands self.new (after_tick domain w) }
-        ensures once { (w : DeviceWorld) → Stands self.old w → steps.new ≡ steps.old + renders_of domain w }
-        ensures heard { (w : DeviceWorld) → Stands self.old w → (still ≡ true → IsStill domain w)
+        ensures stands { (w : DeviceWorld) → DeviceStands self.old w → (still ≡ true → IsStill domain w)
+            → DeviceStands self.new (after_tick domain w) }
+        ensures once { (w : DeviceWorld) → DeviceStands self.old w → steps.new ≡ steps.old + renders_of domain w }
+        ensures heard { (w : DeviceWorld) → DeviceStands self.old w → (still ≡ true → IsStill domain w)
             → readings (λ v x. (⟦<dyn Meter as Meter>⟧ v).reading_of x) meters.new
             ≡ after_frames (heard_of domain (after_tick domain w)) (readings (λ v x. (⟦<dyn Meter as Meter>⟧ v).reading_of x) meters.old) }
-        ensures met { (w : DeviceWorld) → Stands self.old w → (still ≡ true → IsStill domain w) → result ≡ met_of domain w }
+        ensures met { (w : DeviceWorld) → DeviceStands self.old w → (still ≡ true → IsStill domain w) → result ≡ met_of domain w }
         ensures function { self.new.function ≡ self.old.function }
     {
         functions_are_sound(&self.function);
@@ -325,7 +327,7 @@ impl Device {
 
     /// The frame of the last tick of an output jack; None exactly for ids of no output jack.
     pub fn played(&self, terminal: u8) -> Option<&Frame>
-        ensures { (w : DeviceWorld) → Stands self.now w → option_map (λ frame. frame.now.items) result ≡ played_at w terminal }
+        ensures { (w : DeviceWorld) → DeviceStands self.now w → option_map (λ frame. frame.now.items) result ≡ played_at w terminal }
     {
         if self.plays(terminal) {
             self.wires.get(terminal)

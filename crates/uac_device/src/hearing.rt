@@ -19,7 +19,7 @@ use uac_units::{Meter, Meters};
 #[derive(Clone, Copy)]
 pub struct OutputJack {
     pub terminal: u8,
-    pub clock: u8,
+    pub domain: u8,
 }
 
 /// The output jacks among these entities, in their order.
@@ -41,7 +41,7 @@ fn jack_of(entity: &Entity) -> OutputJack
 {
     OutputJack {
         terminal: entity.id,
-        clock: entity.clock,
+        domain: entity.clock,
     }
 }
 
@@ -64,7 +64,7 @@ pub(crate) fn hear(jacks: &[OutputJack], wires: &Wires, domain: u8, meters: &mut
 fn heard_frame<'a>(jack: &OutputJack, wires: &'a Wires, domain: u8) -> Option<&'a Frame>
     ensures { option_map (λ frame. frame.now.items) result ≡ spec.heard_on wires.now domain jack.now }
 {
-    if jack.clock == domain {
+    if jack.domain == domain {
         wires.get(jack.terminal)
     } else {
         None

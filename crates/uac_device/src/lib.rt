@@ -19,7 +19,7 @@ mod streams;
 /// Which terminals carry no stream of the bus.
 mod terminals;
 
-pub use clocks::Clock;
+pub use clocks::DomainClock;
 pub use device::Device;
 pub use streams::{is_done, sets_interface, stream_asked};
 pub use terminals::{is_input_jack, is_output_jack, is_output_jack_of};

@@ -4,7 +4,7 @@ ghost use Rattle.uac_graph.specs.Wiring.{AreSilent, AreWiresOf};
 ghost use Rattle.uac_lanes.specs.Lanes.{idle_lane, port_of};
 ghost use Rattle.uac_device.specs.DeviceTurns.{resting_clock};
 
-use crate::clocks::{Clock, resting_clocks};
+use crate::clocks::{DomainClock, resting_clocks};
 use std::alloc::Global;
 use uac_descriptor::NoMemory;
 use uac_graph::Wires;
@@ -15,7 +15,7 @@ use uac_topology::Function;
 #[derive(Drop)]
 pub struct Moving {
     pub wires: Wires,
-    pub clocks: Vec<Clock>,
+    pub clocks: Vec<DomainClock>,
     pub lanes: Lanes,
 }
 

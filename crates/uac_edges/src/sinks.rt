@@ -64,7 +64,7 @@ impl MemorySink {
     }
 
     /// The bytes written so far.
-    pub fn written(&self) -> &[u8]
+    pub fn bytes_written(&self) -> &[u8]
         ensures { result.now ≡ self.now.written }
     {
         self.bytes.as_slice()

@@ -46,7 +46,11 @@ fn texts_are_cut_by_faults(rt: HostRuntime) -> Result<(), Fail> {
         let given = give_all(&mut sink, text);
         let before = call as usize - 1;
         assert_eq!(rt; given.is_ok(), before == 11, "a fault at call {call}");
-        assert_eq!(rt; sink.written(), &text[..before], "a fault at call {call}");
+        assert_eq!(rt;
+            sink.bytes_written(),
+            &text[..before],
+            "a fault at call {call}"
+        );
     }
     Ok(())
 }
@@ -59,7 +63,7 @@ fn sink_is_cut_and_full(rt: HostRuntime) -> Result<(), Fail> {
     assert_eq!(rt; sink.give(b"def"), Ok(1));
     assert_eq!(rt; sink.give(b"ef"), Err(Failed));
     assert_eq!(rt; give_all(&mut sink, b""), Ok(()));
-    assert_eq!(rt; sink.written(), b"abcd".as_slice());
+    assert_eq!(rt; sink.bytes_written(), b"abcd".as_slice());
     Ok(())
 }
 
@@ -114,6 +118,6 @@ fn two_texts_are_written(rt: HostRuntime) -> Result<(), Fail> {
     let never = WordList::from_vec(vec![in rt.alloc()]?);
     let mut sink = MemorySink::new(rt.alloc(), 2, 64, never)?;
     assert_eq!(rt; give_both(&mut sink, b"ok ", b"blocks 4"), Ok(()));
-    assert_eq!(rt; sink.written(), b"ok blocks 4".as_slice());
+    assert_eq!(rt; sink.bytes_written(), b"ok blocks 4".as_slice());
     Ok(())
 }

@@ -7,7 +7,7 @@ use Rattle.std.proofs.lemmas.List.{drop_more, drop_all}
 use Rattle.uac_descriptor.specs.declared.block.Block as block
 use Rattle.uac_descriptor.specs.declared.block.Block.TheVariants as row
 use Rattle.uac_descriptor.specs.declared.standard.Interface.{Interface}
-use Rattle.uac_entities.specs.EntitySettings.{ends_setting, own_blocks, own, alternate_at, alternates_of}
+use Rattle.uac_entities.specs.EntitySettings.{ends_setting, own_blocks, own, declared_setting_at, declared_settings}
 
 own-stop : {X : Type 0} (r : block.Block → Option X) (b : block.Block) (bs : List block.Block) → ends_setting b ≡ true → own r (b ∷ bs) ≡ []
 unfolding own_blocks
@@ -62,20 +62,20 @@ cons_is_append (Some x) xs = refl
 
 -- one more block of the settings in turn
 pub alternates_at : (xs : List block.Block) (j : ℕ) (b : block.Block) → j < length xs → b ≡ get_or xs j b →
-    alternates_of (drop j xs) ≡ option_to_list (alternate_at b (drop (j + 1) xs)) ++ alternates_of (drop (j + 1) xs)
-unfolding alternates_of
+    declared_settings (drop j xs) ≡ option_to_list (declared_setting_at b (drop (j + 1) xs)) ++ declared_settings (drop (j + 1) xs)
+unfolding declared_settings
 alternates_at xs j b below is =
-    ap alternates_of (drop_more xs j b below)
-    ∙ ap (λ c. cons_option (alternate_at c (drop (j + 1) xs)) (alternates_of (drop (j + 1) xs))) (sym is)
-    ∙ cons_is_append (alternate_at b (drop (j + 1) xs)) (alternates_of (drop (j + 1) xs))
+    ap declared_settings (drop_more xs j b below)
+    ∙ ap (λ c. cons_option (declared_setting_at c (drop (j + 1) xs)) (declared_settings (drop (j + 1) xs))) (sym is)
+    ∙ cons_is_append (declared_setting_at b (drop (j + 1) xs)) (declared_settings (drop (j + 1) xs))
 
-pub alternates_end : (xs : List block.Block) (j : ℕ) → length xs ≤ j → alternates_of (drop j xs) ≡ []
-unfolding alternates_of
-alternates_end xs j past = ap alternates_of (drop_all j xs past)
+pub alternates_end : (xs : List block.Block) (j : ℕ) → length xs ≤ j → declared_settings (drop j xs) ≡ []
+unfolding declared_settings
+alternates_end xs j past = ap declared_settings (drop_all j xs past)
 
 -- no block but an interface begins a setting
-pub no_alternate : (b : block.Block) (following : List block.Block) → ((i : Interface) → b ≡ row.Interface i → ⊥) → alternate_at b following ≡ None
-unfolding alternate_at
+pub no_alternate : (b : block.Block) (following : List block.Block) → ((i : Interface) → b ≡ row.Interface i → ⊥) → declared_setting_at b following ≡ None
+unfolding declared_setting_at
 no_alternate (row.Interface i) following other = absurd (other i refl)
 no_alternate (row.Configuration _) following other = refl
 no_alternate (row.Association _) following other = refl

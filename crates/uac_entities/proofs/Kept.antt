@@ -3,7 +3,7 @@ use Rattle.std.proofs.Common.{◌≡◌, ℕ, ◌+◌, ◌<◌, List, [], ◌∷
 use Rattle.std.specs.List.{filter_map, cons_option}
 use Rattle.std.specs.Option.{option_to_list}
 use Rattle.std.proofs.lemmas.List.{take_more}
-use Rattle.uac_entities.specs.declared.alternate.Alternate.{Alternate}
+use Rattle.uac_entities.specs.declared.settings.DeclaredSetting.{DeclaredSetting}
 use Rattle.std.proofs.lemmas.List.Elements.{filter_map-append}
 
 one_kept : {Y : Type 0} (o : Option Y) → cons_option o [] ≡ option_to_list o
@@ -19,7 +19,7 @@ filter_map_more h xs i d below =
     ∙ ap (λ rest. filter_map h (take i xs) ++ rest) (one_kept (h (get_or xs i d)))
 
 -- a setting of no fields, which stands for a place past the end
-abbrev pub blank : Alternate
+abbrev pub blank : DeclaredSetting
 blank =
     record {
       interface = 0;

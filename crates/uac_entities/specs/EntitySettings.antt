@@ -10,7 +10,7 @@ use Rattle.uac_descriptor.specs.declared.streaming.General.{General}
 use Rattle.uac_descriptor.specs.declared.streaming.TypeOne.{TypeOne}
 use Rattle.uac_descriptor.specs.declared.block.Block as block
 use Rattle.uac_descriptor.specs.declared.block.Block.TheVariants as row
-use Rattle.uac_entities.specs.declared.alternate.Alternate.{Alternate}
+use Rattle.uac_entities.specs.declared.settings.DeclaredSetting.{DeclaredSetting}
 
 -- another interface, or the association in front of another function's blocks
 unfoldable pub ends_setting : block.Block → Bool
@@ -107,8 +107,8 @@ abbrev pub own : {X : Type 0} → (block.Block → Option X) → List block.Bloc
 own row_of blocks = filter_map row_of (own_blocks blocks)
 
 -- a setting, by its interface block and all that stands after it
-abbrev pub alternate_of : Interface → List block.Block → Alternate
-alternate_of i following =
+abbrev pub declared_setting_of : Interface → List block.Block → DeclaredSetting
+declared_setting_of i following =
     record {
       interface = i.number;
       declared = i.endpoints;
@@ -124,10 +124,11 @@ alternate_of i following =
     }
 
 -- the setting of a streaming interface that a block begins, with all that stands after it
-unfoldable pub alternate_at : block.Block → List block.Block → Option Alternate
-alternate_at b following = option_and_then (λ i. cond (is_streaming_interface i) (Some (alternate_of i following)) None) (interface_of b)
+unfoldable pub declared_setting_at : block.Block → List block.Block → Option DeclaredSetting
+declared_setting_at b following = option_and_then (λ i. cond (is_streaming_interface i) (Some (declared_setting_of i following)) None)
+    (interface_of b)
 
 -- the settings of the streaming interfaces, in block order
-unfoldable pub alternates_of : List block.Block → List Alternate
-alternates_of [] = []
-alternates_of (b ∷ blocks) = cons_option (alternate_at b blocks) (alternates_of blocks)
+unfoldable pub declared_settings : List block.Block → List DeclaredSetting
+declared_settings [] = []
+declared_settings (b ∷ blocks) = cons_option (declared_setting_at b blocks) (declared_settings blocks)

@@ -2,4 +2,4 @@
 -- What the program's theorem says: to be read and believed.
 pub mod Entities
 pub mod EntitySettings
-pub mod EntityStreams
+pub mod EntityInterfaces

@@ -1,6 +1,6 @@
 // Entities, their kinds and clusters.
 ghost use Rattle.std.specs.Prelude.{◌≡◌};
-ghost use Rattle.uac_entities.specs.EntityStreams as spec;
+ghost use Rattle.uac_entities.specs.EntityInterfaces as spec;
 
 use uac_descriptor::{ByteList, WordList};
 

@@ -1,56 +1,56 @@
 // The streaming interfaces, from the settings in turn.
 ghost use Rattle.std.specs.Prelude.{◌≡◌, false, IfOk, slice_get, unwrap_or};
 ghost use Rattle.std.specs.Option.{option_map, option_map_or};
-ghost use Rattle.uac_entities.specs.EntityStreams as spec;
+ghost use Rattle.uac_entities.specs.EntityInterfaces as spec;
 
-use crate::alternate::{Alternate, copy_setting};
 use crate::entity::{Entity, EntityKind, is_input};
 use crate::lists::keep;
+use crate::settings::{DeclaredSetting, copy_setting};
 use crate::stream::{Setting, SettingList, StreamInterface};
 use std::alloc::Global;
 use uac_descriptor::NoMemory;
 
 /// The streaming interfaces of these settings, in block order: setting 0 begins one.
-pub fn streams_of(
+pub fn streaming_interfaces_of(
     alloc: Global,
     entities: &[Entity],
-    all: &[Alternate],
+    all: &[DeclaredSetting],
 ) -> Result<Vec<StreamInterface>, NoMemory>
-    ensures { IfOk result (λ streams. streams.items ≡ spec.streams_of entities.now all.now) }
+    ensures { IfOk result (λ streams. streams.items ≡ spec.streaming_interfaces_of entities.now all.now) }
 {
     let mut streams = Vec::new(alloc);
     for alternate in all {
-        let stream = stream_at(alloc, entities, all, alternate)?;
+        let stream = streaming_interface_at(alloc, entities, all, alternate)?;
         keep(&mut streams, stream)?;
     }
     Ok(streams)
 }
 
 // The streaming interface that a setting begins.
-#[tactic(auto, unfolding(crate::specs::EntityStreams::stream_at))]
-fn stream_at(
+#[tactic(auto, unfolding(crate::specs::EntityInterfaces::streaming_interface_at))]
+fn streaming_interface_at(
     alloc: Global,
     entities: &[Entity],
-    all: &[Alternate],
-    alternate: &Alternate,
+    all: &[DeclaredSetting],
+    alternate: &DeclaredSetting,
 ) -> Result<Option<StreamInterface>, NoMemory>
-    ensures { IfOk result (λ stream. stream ≡ spec.stream_at entities.now all.now alternate.now) }
+    ensures { IfOk result (λ stream. stream ≡ spec.streaming_interface_at entities.now all.now alternate.now) }
 {
     if alternate.setting.number == 0 {
-        Ok(Some(stream_of(alloc, entities, all, alternate.interface)?))
+        Ok(Some(streaming_interface_of(alloc, entities, all, alternate.interface)?))
     } else {
         Ok(None)
     }
 }
 
-#[tactic(auto, unfolding(crate::specs::EntityStreams::stream_of))]
-fn stream_of(
+#[tactic(auto, unfolding(crate::specs::EntityInterfaces::streaming_interface_of))]
+fn streaming_interface_of(
     alloc: Global,
     entities: &[Entity],
-    all: &[Alternate],
+    all: &[DeclaredSetting],
     number: u8,
 ) -> Result<StreamInterface, NoMemory>
-    ensures { IfOk result (λ stream. stream ≡ spec.stream_of entities.now all.now number) }
+    ensures { IfOk result (λ stream. stream ≡ spec.streaming_interface_of entities.now all.now number) }
 {
     let settings = settings_of(alloc, all, number)?;
     let terminal = first_link(settings.as_slice());
@@ -63,7 +63,7 @@ fn stream_of(
 }
 
 // The settings of one interface.
-fn settings_of(alloc: Global, all: &[Alternate], number: u8) -> Result<SettingList, NoMemory>
+fn settings_of(alloc: Global, all: &[DeclaredSetting], number: u8) -> Result<SettingList, NoMemory>
     ensures { IfOk result (λ settings. settings ≡ spec.settings_of all.now number) }
 {
     let mut settings = Vec::new(alloc);
@@ -74,8 +74,8 @@ fn settings_of(alloc: Global, all: &[Alternate], number: u8) -> Result<SettingLi
     Ok(SettingList::from_vec(settings))
 }
 
-#[tactic(auto, unfolding(crate::specs::EntityStreams::setting_of))]
-fn setting_of(number: u8, alternate: &Alternate) -> Option<Setting>
+#[tactic(auto, unfolding(crate::specs::EntityInterfaces::setting_of))]
+fn setting_of(number: u8, alternate: &DeclaredSetting) -> Option<Setting>
     ensures { result ≡ spec.setting_of number alternate.now }
 {
     if alternate.interface == number {
@@ -98,7 +98,7 @@ fn first_link(settings: &[Setting]) -> u8
 }
 
 /// The terminal that a setting links to.
-#[tactic(auto, unfolding(crate::specs::EntityStreams::link_of))]
+#[tactic(auto, unfolding(crate::specs::EntityInterfaces::link_of))]
 pub fn link_of(setting: &Setting) -> Option<u8>
     ensures { result ≡ spec.link_of setting.now }
 {
@@ -109,9 +109,9 @@ pub fn link_of(setting: &Setting) -> Option<u8>
 }
 
 // The kind of the first entity with this id.
-#[tactic(auto, unfolding(crate::specs::EntityStreams::named))]
+#[tactic(auto, unfolding(crate::specs::EntityInterfaces::entity_by_id))]
 fn kind_of(entities: &[Entity], id: u8) -> Option<EntityKind>
-    ensures { result ≡ option_map (λ e. e.kind) (spec.named entities.now id) }
+    ensures { result ≡ option_map (λ e. e.kind) (spec.entity_by_id entities.now id) }
 {
     for entity in entities {
         if entity.id == id {

@@ -10,12 +10,12 @@ mod lists;
 /// From a block to its entity.
 mod describe;
 /// The settings in turn, each with its own blocks.
-mod alternate;
+mod settings;
 /// The streaming interfaces, from the settings in turn.
 mod interfaces;
 
-pub use alternate::{Alternate, alternates_of};
 pub use describe::entities_of;
 pub use entity::{Cluster, Entity, EntityKind, USB_STREAMING, is_input};
-pub use interfaces::{link_of, streams_of};
+pub use interfaces::{link_of, streaming_interfaces_of};
+pub use settings::{DeclaredSetting, declared_settings};
 pub use stream::{Setting, SettingList, StreamInterface, number_among};

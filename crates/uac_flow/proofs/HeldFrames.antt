@@ -4,7 +4,7 @@ use Rattle.std.proofs.lemmas.List.{drop-append-le, length-drop, length-replicate
 use Rattle.std.proofs.lemmas.List.Elements.{All-push}
 use Rattle.std.proofs.lemmas.Option.{get_or_from_slice_get, slice_get_within}
 use Rattle.uac_pcm.specs.Frames.{bytes_of_frame}
-use Rattle.uac_pcm.specs.Packets.{packed}
+use Rattle.uac_pcm.specs.Packets.{bytes_of_frames}
 use Rattle.uac_pcm.proofs.PacketsLemmas.{drop-drop, one_written}
 use Rattle.uac_ring.specs.Rings.{Holds, ring_frames}
 use Rattle.uac_flow.specs.Flows.{AreFrames}
@@ -78,9 +78,9 @@ frames_put (Err e) channels ring after frame whole put kept frames = subst (λ (
 
 -- the frames whose bytes a packet has, and one more
 pub packed_further : (channels size bits start n : ℕ) (frames : List (List ℤ)) (frame : List ℤ) (old new rest : List ℕ) → AreFrames channels frames
-    → start ≡ n * (channels * size) → start ≤ length old → Some frame ≡ slice_get frames n → take start old ≡ packed size bits (take n frames)
+    → start ≡ n * (channels * size) → start ≤ length old → Some frame ≡ slice_get frames n → take start old ≡ bytes_of_frames size bits (take n frames)
     → new ≡ take start old ++ (bytes_of_frame size bits frame ++ rest)
-    → take ((n + 1) * (channels * size)) new ≡ packed size bits (take (n + 1) frames)
+    → take ((n + 1) * (channels * size)) new ≡ bytes_of_frames size bits (take (n + 1) frames)
 packed_further channels size bits start n frames frame old new rest whole is_start inside at so_far written =
     let there : slice_get frames n ≡ Some frame = sym at in
     let wide : length frame ≡ channels =

@@ -7,14 +7,14 @@ use Rattle.uac_flow.specs.Flows.{kept_count}
 pub count_more : (n : ℕ) → kept_count (n + 1) ≡ n % 8 + 1
 count_more n = ap kept_count (add-one n)
 
-pub behind_eight : (n count : ℕ) → count ≡ kept_count n → count ≡ 8 → n % 8 + 1 ≡ 1
-behind_eight zero count is eight = omega arith
-behind_eight (suc m) count is eight =
+pub after_eight : (n count : ℕ) → count ≡ kept_count n → count ≡ 8 → n % 8 + 1 ≡ 1
+after_eight zero count is eight = omega arith
+after_eight (suc m) count is eight =
     let k : count ≡ m % 8 + 1 = is in omega arith
 
-pub behind_less : (n count : ℕ) → count ≡ kept_count n → count ≤ 7 → n % 8 + 1 ≡ count + 1
-behind_less zero count is less = omega (arith, is)
-behind_less (suc m) count is less =
+pub after_less : (n count : ℕ) → count ≡ kept_count n → count ≤ 7 → n % 8 + 1 ≡ count + 1
+after_less zero count is less = omega (arith, is)
+after_less (suc m) count is less =
     let k : count ≡ m % 8 + 1 = is in omega arith
 
 -- intervals divide 8

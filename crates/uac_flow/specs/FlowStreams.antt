@@ -4,7 +4,7 @@ use Rattle.std.specs.Prelude.{ℕ, ◌+◌, ◌-◌, ◌%◌, ◌==◌, ◌&&◌
 use Rattle.std.specs.Prelude.{ℤ, pos, List, [], ◌∷◌, ◌++◌, length, take, drop, replicate, get_or, Option, Some, None, is_some}
 use Rattle.std.specs.Option.{option_map_or}
 use Rattle.uac_alt.specs.AltStreams.{StreamFields}
-use Rattle.uac_pcm.specs.Packets.{packed, unpacked}
+use Rattle.uac_pcm.specs.Packets.{bytes_of_frames, frames_of_bytes}
 use Rattle.uac_rate.specs.Reports.{report_of}
 use Rattle.uac_ring.specs.Rings.{ring_frames}
 use Rattle.uac_flow.specs.declared.arrival.Arrival.{Arrival}
@@ -56,7 +56,7 @@ is_due s microframes = (microframes + 1) % s.service == 0
 
 -- the frames of a packet
 abbrev pub frames_of : StreamFields → List ℕ → List (List ℤ)
-frames_of s packet = unpacked s.channels s.subslot s.bits packet
+frames_of s packet = frames_of_bytes s.channels s.subslot s.bits packet
 
 -- the ring has room for all frames of the packet
 abbrev pub takes_all : OutStream → List ℕ → Bool
@@ -78,7 +78,7 @@ abbrev pub sent_frames : InStream → ℕ
 sent_frames i = min (in_level i) i.stream.most
 
 unfoldable pub sent_packet : InStream → List ℕ
-sent_packet i = packed i.stream.subslot i.stream.bits (take (sent_frames i) (drop i.gone i.made))
+sent_packet i = bytes_of_frames i.stream.subslot i.stream.bits (take (sent_frames i) (drop i.gone i.made))
 
 unfoldable pub after_sending : InStream → InStream
 after_sending i = record i { gone = i.gone + sent_frames i }
@@ -130,12 +130,12 @@ abbrev pub target_after : Option ℕ → ℕ → StreamFields → Option ℕ
 target_after (Some target) level s = Some target
 target_after None level s = if nat_lt level (priming_level s) then None else Some level
 
-abbrev pub primed : OutStream → OutStream
-primed o = record o { target = target_after o.target (out_level o) o.stream }
+abbrev pub after_priming : OutStream → OutStream
+after_priming o = record o { target = target_after o.target (out_level o) o.stream }
 
 -- what the end of a microframe in which it was due makes of a stream
 abbrev pub settled_when_due : OutStream → OutStream
-settled_when_due o = record (primed (with_zeros o)) { lost = false; ticks = 0 }
+settled_when_due o = record (after_priming (with_zeros o)) { lost = false; ticks = 0 }
 
 -- a stream to the device, and one from it, at the end of a microframe
 unfoldable pub settled_out : OutStream → OutStream

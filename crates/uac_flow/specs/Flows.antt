@@ -35,7 +35,7 @@ pub record IsOutFlow (ring : List (List ℤ)) (f : OutFlow) : Type 0 where
   pub frames : AreFrames f.stream.format.channels ring
 
 -- a ring and a flow stand for this stream to the device
-pub record KeepsOut (ring : List (List ℤ)) (f : OutFlow) (o : OutStream) : Type 0 where
+pub record OutStands (ring : List (List ℤ)) (f : OutFlow) (o : OutStream) : Type 0 where
   pub stream : stream_fields f.stream ≡ o.stream
   pub microframes : f.microframes ≡ kept_count o.microframes
   pub held : Holds o.arrived o.taken ring
@@ -50,7 +50,7 @@ pub record IsInFlow (ring : List (List ℤ)) (f : InFlow) : Type 0 where
   pub frames : AreFrames f.stream.format.channels ring
 
 -- a ring and a flow stand for this stream from the device
-pub record KeepsIn (ring : List (List ℤ)) (f : InFlow) (i : InStream) : Type 0 where
+pub record InStands (ring : List (List ℤ)) (f : InFlow) (i : InStream) : Type 0 where
   pub stream : stream_fields f.stream ≡ i.stream
   pub microframes : f.microframes ≡ kept_count i.microframes
   pub held : Holds i.made i.gone ring

@@ -1,6 +1,6 @@
 // Frames between packets and rings.
 ghost use Rattle.std.specs.Prelude.{◌≡◌, ◌≤◌, ◌+◌, ◌*◌, ◌++◌, [], length, take, drop, replicate, pos};
-ghost use Rattle.uac_pcm.specs.Packets.{packed, unpacked, whole_frames};
+ghost use Rattle.uac_pcm.specs.Packets.{bytes_of_frames, frames_of_bytes, whole_frames};
 ghost use Rattle.uac_ring.specs.Rings.{ring_frames};
 ghost use Rattle.uac_flow.specs.Flows.{AreFrames};
 
@@ -11,7 +11,7 @@ use uac_ring::Ring;
 /// Puts the frames of a packet into a ring that has room for them.
 pub(crate) fn put_frames(ring: &mut Ring, format: &Format, packet: &Packet)
     requires { length ring.old + whole_frames format.now.channels format.now.subslot packet.now.items ≤ ring_frames }
-    ensures put { ring.new ≡ ring.old ++ unpacked format.now.channels format.now.subslot format.now.bits packet.now.items }
+    ensures put { ring.new ≡ ring.old ++ frames_of_bytes format.now.channels format.now.subslot format.now.bits packet.now.items }
     ensures frames { AreFrames format.now.channels ring.old → AreFrames format.now.channels ring.new }
 {
     let mut frame: Frame = ArrayVec::new();
@@ -39,7 +39,7 @@ pub(crate) fn take_frames(ring: &mut Ring, format: &Format, count: u32, packet: 
     requires there { count ≤ length ring.old }
     requires frames { AreFrames format.now.channels ring.old }
     requires fits { count * (format.now.channels * format.now.subslot) ≤ 3072 }
-    ensures packet { packet.new.items ≡ packed format.now.subslot format.now.bits (take count ring.old) }
+    ensures packet { packet.new.items ≡ bytes_of_frames format.now.subslot format.now.bits (take count ring.old) }
     ensures ring { ring.new ≡ drop count ring.old }
 {
     let size = format.frame_bytes();

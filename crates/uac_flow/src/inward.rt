@@ -2,7 +2,7 @@
 ghost use Rattle.std.specs.Prelude.{◌≡◌, ◌≤◌, ℕ, ℤ, List, length};
 ghost use Rattle.uac_alt.specs.AltStreams.{stream_fields};
 ghost use Rattle.uac_ring.specs.Rings.{ring_frames};
-ghost use Rattle.uac_flow.specs.Flows.{CanRun, IsInFlow, KeepsIn};
+ghost use Rattle.uac_flow.specs.Flows.{CanRun, IsInFlow, InStands};
 ghost use Rattle.uac_flow.specs.FlowStreams as spec;
 ghost use Rattle.uac_flow.specs.FlowStreams.{InStream, after_putting, after_sending, sent_frames, sent_packet, settled_in, started_in};
 
@@ -24,7 +24,7 @@ impl InFlow {
     /// A stream at its start; its ring is emptied.
     pub fn start(stream: Stream, ring: &mut Ring) -> InFlow
         requires { CanRun (stream_fields stream) }
-        ensures stands { KeepsIn ring.new result (started_in (stream_fields stream)) }
+        ensures stands { InStands ring.new result (started_in (stream_fields stream)) }
         ensures sound { IsInFlow ring.new result }
     {
         ring.clear();
@@ -38,9 +38,9 @@ impl InFlow {
     #[tactic(auto, unfolding(crate::specs::FlowStreams::after_sending, crate::specs::FlowStreams::sent_packet))]
     pub fn send(&self, ring: &mut Ring, packet: &mut Packet) -> u32
         requires sound { IsInFlow ring.old self.now }
-        ensures stands { (i : InStream) → KeepsIn ring.old self.now i → KeepsIn ring.new self.now (after_sending i) }
-        ensures packet { (i : InStream) → KeepsIn ring.old self.now i → packet.new.items ≡ sent_packet i }
-        ensures frames { (i : InStream) → KeepsIn ring.old self.now i → result ≡ sent_frames i }
+        ensures stands { (i : InStream) → InStands ring.old self.now i → InStands ring.new self.now (after_sending i) }
+        ensures packet { (i : InStream) → InStands ring.old self.now i → packet.new.items ≡ sent_packet i }
+        ensures frames { (i : InStream) → InStands ring.old self.now i → result ≡ sent_frames i }
         ensures sound { IsInFlow ring.new self.now }
     {
         let count = ring.level().min(self.stream.most);
@@ -53,7 +53,7 @@ impl InFlow {
     pub fn put(&self, ring: &mut Ring, frame: &Frame)
         requires sound { IsInFlow ring.old self.now }
         requires channels { length frame.now.items ≡ self.now.stream.format.channels }
-        ensures stands { (i : InStream) → KeepsIn ring.old self.now i → KeepsIn ring.new self.now (after_putting frame.now.items i) }
+        ensures stands { (i : InStream) → InStands ring.old self.now i → InStands ring.new self.now (after_putting frame.now.items i) }
         ensures sound { IsInFlow ring.new self.now }
     {
         let _ = ring.put(frame);
@@ -61,7 +61,7 @@ impl InFlow {
 
     /// Whether the stream's ring is full.
     pub fn is_full(&self, ring: &Ring) -> bool
-        ensures { (i : InStream) → KeepsIn ring.now self.now i → result ≡ spec.is_full i }
+        ensures { (i : InStream) → InStands ring.now self.now i → result ≡ spec.is_full i }
     {
         ring.level() == RING_FRAMES
     }
@@ -70,7 +70,7 @@ impl InFlow {
     pub fn is_due(&self) -> bool
         requires runs { CanRun (stream_fields self.now.stream) }
         requires counted { self.now.microframes ≤ 8 }
-        ensures { (ring : List (List ℤ)) (i : InStream) → KeepsIn ring self.now i → result ≡ spec.is_due i.stream i.microframes }
+        ensures { (ring : List (List ℤ)) (i : InStream) → InStands ring self.now i → result ≡ spec.is_due i.stream i.microframes }
     {
         is_due(self.stream.service, self.microframes)
     }
@@ -79,7 +79,7 @@ impl InFlow {
     #[tactic(auto, unfolding(crate::specs::FlowStreams::settled_in))]
     pub fn settle(&mut self)
         requires { self.old.microframes ≤ 8 }
-        ensures stands { (ring : List (List ℤ)) (i : InStream) → KeepsIn ring self.old i → KeepsIn ring self.new (settled_in i) }
+        ensures stands { (ring : List (List ℤ)) (i : InStream) → InStands ring self.old i → InStands ring self.new (settled_in i) }
         ensures sound { (ring : List (List ℤ)) → IsInFlow ring self.old → IsInFlow ring self.new }
         ensures stream { self.new.stream ≡ self.old.stream }
     {

@@ -4,7 +4,7 @@ ghost use Rattle.std.specs.Option.{option_map};
 ghost use Rattle.uac_alt.specs.AltStreams.{stream_fields};
 ghost use Rattle.uac_pcm.specs.Packets.{whole_frames};
 ghost use Rattle.uac_ring.specs.Rings.{ring_frames};
-ghost use Rattle.uac_flow.specs.Flows.{CanRun, IsOutFlow, KeepsOut, ZerosFit};
+ghost use Rattle.uac_flow.specs.Flows.{CanRun, IsOutFlow, OutStands, ZerosFit};
 ghost use Rattle.uac_flow.specs.FlowStreams as spec;
 ghost use Rattle.uac_flow.specs.FlowStreams.{OutStream, after_packet, after_taking, arrival_of, feedback_of, next_taken, out_level};
 ghost use Rattle.uac_flow.specs.FlowStreams.{settled_out, settled_when_due, started_out, zeros_due};
@@ -37,7 +37,7 @@ impl OutFlow {
     pub fn start(stream: Stream, ring: &mut Ring) -> OutFlow
         requires runs { CanRun (stream_fields stream) }
         requires out { stream.out ≡ true }
-        ensures stands { KeepsOut ring.new result (started_out (stream_fields stream)) }
+        ensures stands { OutStands ring.new result (started_out (stream_fields stream)) }
         ensures sound { IsOutFlow ring.new result }
     {
         ring.clear();
@@ -54,9 +54,9 @@ impl OutFlow {
     #[tactic(auto, unfolding(crate::specs::FlowStreams::after_packet, crate::specs::FlowStreams::arrival_of))]
     pub fn receive(&mut self, ring: &mut Ring, packet: Option<&Packet>) -> Arrival
         requires sound { IsOutFlow ring.old self.old }
-        ensures stands { (o : OutStream) → KeepsOut ring.old self.old o
-            → KeepsOut ring.new self.new (after_packet (option_map (λ p. p.now.items) packet.entry) o) }
-        ensures arrival { (o : OutStream) → KeepsOut ring.old self.old o
+        ensures stands { (o : OutStream) → OutStands ring.old self.old o
+            → OutStands ring.new self.new (after_packet (option_map (λ p. p.now.items) packet.entry) o) }
+        ensures arrival { (o : OutStream) → OutStands ring.old self.old o
             → result ≡ arrival_of (option_map (λ p. p.now.items) packet.entry) o }
         ensures sound { IsOutFlow ring.new self.new }
         ensures stream { self.new.stream ≡ self.old.stream }
@@ -72,9 +72,9 @@ impl OutFlow {
     #[tactic(auto, unfolding(crate::specs::FlowStreams::after_packet, crate::specs::FlowStreams::arrival_of))]
     fn receive_bytes(&mut self, ring: &mut Ring, packet: &Packet) -> Arrival
         requires sound { IsOutFlow ring.old self.old }
-        ensures stands { (o : OutStream) → KeepsOut ring.old self.old o
-            → KeepsOut ring.new self.new (after_packet (Some packet.now.items) o) }
-        ensures arrival { (o : OutStream) → KeepsOut ring.old self.old o → result ≡ arrival_of (Some packet.now.items) o }
+        ensures stands { (o : OutStream) → OutStands ring.old self.old o
+            → OutStands ring.new self.new (after_packet (Some packet.now.items) o) }
+        ensures arrival { (o : OutStream) → OutStands ring.old self.old o → result ≡ arrival_of (Some packet.now.items) o }
         ensures sound { IsOutFlow ring.new self.new }
         ensures stream { self.new.stream ≡ self.old.stream }
     {
@@ -91,7 +91,7 @@ impl OutFlow {
     fn takes_all(&self, ring: &Ring, packet: &Packet) -> bool
         ensures room { let format = self.now.stream.format in
             result ≡ nat_le (length ring.now + whole_frames format.channels format.subslot packet.now.items) ring_frames }
-        ensures of_stream { (o : OutStream) → KeepsOut ring.now self.now o → result ≡ spec.takes_all o packet.now.items }
+        ensures of_stream { (o : OutStream) → OutStands ring.now self.now o → result ≡ spec.takes_all o packet.now.items }
     {
         unpacked_frames_are_whole();
         ring.level() + self.stream.format.frames_in(packet) <= RING_FRAMES
@@ -99,8 +99,8 @@ impl OutFlow {
 
     /// Counts the ticks of the stream's domain that came.
     pub fn count(&mut self, ticks: u32)
-        ensures stands { (ring : List (List ℤ)) (o : OutStream) → KeepsOut ring self.old o
-            → KeepsOut ring self.new (spec.after_ticks ticks o) }
+        ensures stands { (ring : List (List ℤ)) (o : OutStream) → OutStands ring self.old o
+            → OutStands ring self.new (spec.after_ticks ticks o) }
         ensures sound { (ring : List (List ℤ)) → IsOutFlow ring self.old → IsOutFlow ring self.new }
         ensures stream { self.new.stream ≡ self.old.stream }
     {
@@ -110,7 +110,7 @@ impl OutFlow {
     /// The frame that its terminal takes at the next tick, lent; None while it is priming, and where its ring is empty.
     pub fn next<'a>(&self, ring: &'a Ring) -> Option<&'a Frame>
         requires sound { IsOutFlow ring.now self.now }
-        ensures frame { (o : OutStream) → KeepsOut ring.now self.now o → option_map (λ frame. frame.now.items) result ≡ next_taken o }
+        ensures frame { (o : OutStream) → OutStands ring.now self.now o → option_map (λ frame. frame.now.items) result ≡ next_taken o }
         ensures channels { IfSome result (λ frame. length frame.now.items ≡ self.now.stream.format.channels) }
     {
         if self.target.is_none() {
@@ -123,7 +123,7 @@ impl OutFlow {
     #[tactic(auto, unfolding(crate::specs::FlowStreams::after_taking))]
     pub fn go_on(&mut self, ring: &mut Ring)
         requires sound { IsOutFlow ring.old self.old }
-        ensures stands { (o : OutStream) → KeepsOut ring.old self.old o → KeepsOut ring.new self.new (after_taking o) }
+        ensures stands { (o : OutStream) → OutStands ring.old self.old o → OutStands ring.new self.new (after_taking o) }
         ensures sound { IsOutFlow ring.new self.new }
         ensures stream { self.new.stream ≡ self.old.stream }
     {
@@ -136,7 +136,7 @@ impl OutFlow {
 
     /// Whether the stream is primed and its ring is empty.
     pub fn is_dry(&self, ring: &Ring) -> bool
-        ensures { (o : OutStream) → KeepsOut ring.now self.now o → result ≡ spec.is_dry o }
+        ensures { (o : OutStream) → OutStands ring.now self.now o → result ≡ spec.is_dry o }
     {
         self.target.is_some() && ring.level() == 0
     }
@@ -145,7 +145,7 @@ impl OutFlow {
     pub fn is_due(&self) -> bool
         requires runs { CanRun (stream_fields self.now.stream) }
         requires counted { self.now.microframes ≤ 8 }
-        ensures { (ring : List (List ℤ)) (o : OutStream) → KeepsOut ring self.now o → result ≡ spec.is_due o.stream o.microframes }
+        ensures { (ring : List (List ℤ)) (o : OutStream) → OutStands ring self.now o → result ≡ spec.is_due o.stream o.microframes }
     {
         is_due(self.stream.service, self.microframes)
     }
@@ -153,7 +153,7 @@ impl OutFlow {
     /// The end of a microframe. Where it was due, zeros replace a lost packet, and a stream whose ring has enough frames is primed.
     pub fn settle(&mut self, ring: &mut Ring)
         requires sound { IsOutFlow ring.old self.old }
-        ensures stands { (o : OutStream) → KeepsOut ring.old self.old o → ZerosFit o → KeepsOut ring.new self.new (settled_out o) }
+        ensures stands { (o : OutStream) → OutStands ring.old self.old o → ZerosFit o → OutStands ring.new self.new (settled_out o) }
         ensures sound { IsOutFlow ring.new self.new }
         ensures stream { self.new.stream ≡ self.old.stream }
     {
@@ -167,8 +167,8 @@ impl OutFlow {
     // The end of a microframe in which it was due.
     fn settle_packet(&mut self, ring: &mut Ring)
         requires sound { IsOutFlow ring.old self.old }
-        ensures stands { (o : OutStream) → KeepsOut ring.old self.old o → out_level o + length (zeros_due o) ≤ ring_frames
-            → KeepsOut ring.new self.new (settled_when_due o) }
+        ensures stands { (o : OutStream) → OutStands ring.old self.old o → out_level o + length (zeros_due o) ≤ ring_frames
+            → OutStands ring.new self.new (settled_when_due o) }
         ensures sound { IsOutFlow ring.new self.new }
         ensures stream { self.new.stream ≡ self.old.stream }
     {
@@ -193,7 +193,7 @@ impl OutFlow {
     #[tactic(auto, unfolding(crate::specs::FlowStreams::feedback_of))]
     pub fn feedback(&self, ring: &Ring) -> Option<u32>
         requires sound { IsOutFlow ring.now self.now }
-        ensures { (o : OutStream) → KeepsOut ring.now self.now o → result ≡ feedback_of o }
+        ensures { (o : OutStream) → OutStands ring.now self.now o → result ≡ feedback_of o }
     {
         if !reports_now(self.stream.period, self.microframes) {
             return None;

@@ -2,16 +2,16 @@
 use Rattle.std.proofs.Common.{◌≡◌, ◌∙◌, ap, arith, ℕ, zero, suc, ◌*◌, ◌-◌, ◌/◌, ◌^◌, ◌≤◌, ℤ, pos, negsuc, neg_ℤ, unsigned_abs, FitsSigned, w32, min, le_trans, le_of_eq}
 use Rattle.std.proofs.lemmas.Int.{ints}
 use Rattle.std.proofs.Math.Nat.{mul-le-mul_left}
-use Rattle.uac_gain.specs.Gain.{floor_div, floored, scaled, saturated}
+use Rattle.uac_gain.specs.Gain.{floor_div, product_floor, scaled, saturated}
 
 -- a product below 0 by more than k, rounded down
 floor_div-below : (p k : ℕ) → p ≡ suc k → floor_div (neg_ℤ (pos p)) (2 ^ 30) ≡ negsuc (k / 2 ^ 30)
 floor_div-below zero k h = absurd (omega arith)
 floor_div-below (suc p) k h = ap (λ n. negsuc (n / 2 ^ 30)) (omega arith)
 
-pub floored-unity : (sample : ℤ) → floored sample (2 ^ 30) ≡ sample
-floored-unity (pos n) = ap pos (omega arith)
-floored-unity (negsuc n) = floor_div-below (suc n * 2 ^ 30) (suc n * 2 ^ 30 - 1) (omega arith) ∙ ap negsuc (omega arith)
+pub product_floor-unity : (sample : ℤ) → product_floor sample (2 ^ 30) ≡ sample
+product_floor-unity (pos n) = ap pos (omega arith)
+product_floor-unity (negsuc n) = floor_div-below (suc n * 2 ^ 30) (suc n * 2 ^ 30 - 1) (omega arith) ∙ ap negsuc (omega arith)
 
 pub saturated-pos : (n : ℕ) → saturated (pos n) ≡ pos (min n 2147483647)
 saturated-pos n = grind (arith, ints)
@@ -38,10 +38,10 @@ saturated-smaller (negsuc n) = rw (saturated-negsuc n) (omega arith)
 pub scaled-whole : (sample : ℤ) (gain : ℕ) → gain ≤ 2 ^ 30 → unsigned_abs (scaled sample gain) ≤ unsigned_abs sample
 scaled-whole sample gain h =
     le_trans (scaled-lesser sample gain (2 ^ 30) h)
-    (le_trans (saturated-smaller (floored sample (2 ^ 30))) (le_of_eq (ap unsigned_abs (floored-unity sample))))
+    (le_trans (saturated-smaller (product_floor sample (2 ^ 30))) (le_of_eq (ap unsigned_abs (product_floor-unity sample))))
 
 pub scaled-unity : (sample : ℤ) → FitsSigned w32 sample → scaled sample (2 ^ 30) ≡ sample
-scaled-unity sample fits = ap saturated (floored-unity sample) ∙ whole sample fits
+scaled-unity sample fits = ap saturated (product_floor-unity sample) ∙ whole sample fits
   where
     whole : (sample : ℤ) → FitsSigned w32 sample → saturated sample ≡ sample
     whole (pos n) fits = saturated-pos n ∙ ap pos (omega (arith, fits))

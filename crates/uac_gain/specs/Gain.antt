@@ -53,9 +53,9 @@ abbrev pub saturated : ℤ → ℤ
 saturated sum = int_max (negsuc 2147483647) (int_min sum (pos 2147483647))
 
 -- the sample times the gain, which is in parts of 2^30
-abbrev pub floored : ℤ → ℕ → ℤ
-floored sample gain = floor_div (sample *ℤ pos gain) (2 ^ 30)
+abbrev pub product_floor : ℤ → ℕ → ℤ
+product_floor sample gain = floor_div (sample *ℤ pos gain) (2 ^ 30)
 
 -- a sample scaled and held to 32 bits: a gain above one can leave them
 abbrev pub scaled : ℤ → ℕ → ℤ
-scaled sample gain = saturated (floored sample gain)
+scaled sample gain = saturated (product_floor sample gain)

@@ -3,7 +3,7 @@
 ghost use Rattle.std.specs.Prelude.{◌≡◌, ℕ, ◌+◌, ◌*◌, ◌^◌, ◌<◌, ◌≤◌, Some};
 ghost use Rattle.std.specs.Prelude.{ℤ, pos, negsuc, neg_ℤ, ◌+ℤ◌, ◌-ℤ◌, ◌*ℤ◌, ◌≤ℤ◌, ◌<ℤ◌, unsigned_abs, FitsSigned};
 ghost use Rattle.std.specs.Int.{w32};
-ghost use Rattle.uac_gain.specs.Gain.{decibel_gain, raised_gain, half_below, half_above, gain_of, floored, scaled, saturated, unity};
+ghost use Rattle.uac_gain.specs.Gain.{decibel_gain, raised_gain, half_below, half_above, gain_of, product_floor, scaled, saturated, unity};
 
 /// A gain of 0 decibels changes no sample of 32 bits.
 pub fn unity_changes_nothing()
@@ -36,15 +36,15 @@ pub fn scaling_keeps_the_sign()
 /// from it to less than one above.
 pub fn scaling_rounds_down()
     ensures from { (sample : ℤ) (gain : ℕ)
-        → (floored sample gain *ℤ pos (2 ^ 30)) ≤ℤ (sample *ℤ pos gain) }
+        → (product_floor sample gain *ℤ pos (2 ^ 30)) ≤ℤ (sample *ℤ pos gain) }
     ensures below { (sample : ℤ) (gain : ℕ)
-        → (sample *ℤ pos gain) <ℤ ((floored sample gain +ℤ pos 1) *ℤ pos (2 ^ 30)) }
+        → (sample *ℤ pos gain) <ℤ ((product_floor sample gain +ℤ pos 1) *ℤ pos (2 ^ 30)) }
 {}
 
 /// A scaled sample has 32 bits, and is exact wherever that suffices.
 pub fn scaling_saturates()
     ensures fits { (sample : ℤ) (gain : ℕ) → FitsSigned w32 (scaled sample gain) }
-    ensures exact { (sample : ℤ) (gain : ℕ) → FitsSigned w32 (floored sample gain) → scaled sample gain ≡ floored sample gain }
+    ensures exact { (sample : ℤ) (gain : ℕ) → FitsSigned w32 (product_floor sample gain) → scaled sample gain ≡ product_floor sample gain }
 {}
 
 /// The volumes that have a gain: whole decibels from -96 to 12, halves from -31.5 to 11.5, and silence.

@@ -65,9 +65,9 @@ stream_bytes =
     ∷ 8 ∷ 37 ∷ 1 ∷ 0 ∷ 0 ∷ 0 ∷ 0 ∷ 0
     ∷ 7 ∷ 5 ∷ 129 ∷ 17 ∷ 4 ∷ 0 ∷ 4 ∷ []
 
-behind_units : (count : ℕ) → flat_map spelling (output_terminal count ∷ stream_blocks) ≡ output_bytes count ++ stream_bytes
+after_units : (count : ℕ) → flat_map spelling (output_terminal count ∷ stream_blocks) ≡ output_bytes count ++ stream_bytes
 unfolding spelling
-behind_units count = refl
+after_units count = refl
 
 front_size : (total control : ℕ) → length (flat_map spelling (front_blocks total control)) ≡ 60
 unfolding spelling
@@ -81,7 +81,7 @@ all_bytes total control count =
     let units = flat_map spelling (units_of count) in
     let rest = output_bytes count ++ stream_bytes in
     flat_map-append spelling (front_blocks total control) (units_of count ++ output_terminal count ∷ stream_blocks)
-    ∙ ap (λ bytes. front ++ bytes) (flat_map-append spelling (units_of count) (output_terminal count ∷ stream_blocks) ∙ ap (λ bytes. units ++ bytes) (behind_units count))
+    ∙ ap (λ bytes. front ++ bytes) (flat_map-append spelling (units_of count) (output_terminal count ∷ stream_blocks) ∙ ap (λ bytes. units ++ bytes) (after_units count))
     ∙ sym (append_assoc front units rest)
     ∙ sym (append_assoc (front ++ units) (output_bytes count) stream_bytes)
 

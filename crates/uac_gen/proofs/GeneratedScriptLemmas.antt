@@ -5,7 +5,7 @@ use Rattle.std.specs.List.{range_with_len}
 use Rattle.std.proofs.lemmas.List.{take_min}
 use Rattle.uac_clock.specs.Nominal.{twelve_rates}
 use Rattle.uac_gen.specs.Descriptor.{descriptor_of}
-use Rattle.uac_gen.specs.Generator.{next_x, draw, deviation_line, unreported_lines, unpacked_lines, rest_line, groups, feed_line, feed_lines, feed_count, lines_after_descriptor, generated}
+use Rattle.uac_gen.specs.Generator.{next_x, draw, deviation_line, unreported_lines, unpacked_lines, rest_line, groups, feed_line, feed_lines, feed_count, lines_after_descriptor, generated_lines}
 use Rattle.uac_gen.specs.Left.{from_groups}
 
 -- the next 64 bytes, or all that are left
@@ -51,8 +51,8 @@ begun count x first second third drawn eights lost line left some e1 e2 e3 ed ee
 -- the whole script, by what was drawn in front of it
 pub begins : (number first second place more : ℕ) (bytes : List ℕ) → first ≡ next_x number → place ≡ draw 12 first → second ≡ next_x first → more ≡ draw 30 second
     → bytes ≡ descriptor_of (1 + more)
-    → map (feed_line bytes) (range_with_len 0 (feed_count bytes - 0)) ++ lines_after_descriptor number (slice_index twelve_rates place) second ≡ generated number
-unfolding generated
+    → map (feed_line bytes) (range_with_len 0 (feed_count bytes - 0)) ++ lines_after_descriptor number (slice_index twelve_rates place) second ≡ generated_lines number
+unfolding generated_lines
 begins number first second place more bytes e1 ep e2 em eb =
     let all : feed_count bytes - 0 ≡ feed_count bytes = omega arith in
     let following = lines_after_descriptor number (slice_index twelve_rates place) second in

@@ -76,8 +76,8 @@ groups (suc count) x =
 abbrev pub lines_after_descriptor : ℕ → ℕ → ℕ → List (List ℕ)
 lines_after_descriptor number hertz x = codes "g" ∷ rate_line hertz ∷ setting_line ∷ tone_line number ∷ (groups 250 x ++ codes "q" ∷ [])
 
-unfoldable pub generated : ℕ → List (List ℕ)
-generated number =
+unfoldable pub generated_lines : ℕ → List (List ℕ)
+generated_lines number =
     let first = next_x number in
     let second = next_x first in
     feed_lines (descriptor_of (1 + draw 30 second)) ++ lines_after_descriptor number (slice_index twelve_rates (draw 12 first)) second

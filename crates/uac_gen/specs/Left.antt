@@ -1,8 +1,8 @@
 -- Profile: the lines that are left of a generated script, by the place that it has come to.
 use Rattle.std.specs.Prelude.{ℕ, ◌-◌, ◌*◌, List, [], ◌∷◌, ◌++◌, map, codes}
 use Rattle.std.specs.List.{range_with_len}
-use Rattle.uac_gen.specs.declared.places.Place.{Place}
-use Rattle.uac_gen.specs.declared.places.Place.TheVariants as place
+use Rattle.uac_gen.specs.declared.next_line.NextLine.{NextLine}
+use Rattle.uac_gen.specs.declared.next_line.NextLine.TheVariants as place
 use Rattle.uac_gen.specs.Generator.{feed_line, feed_count, lines_after_descriptor, rate_line, setting_line, tone_line, run_line}
 use Rattle.uac_gen.specs.Generator.{unpacked_lines}
 use Rattle.uac_gen.specs.Generator.{rest_line, groups}
@@ -11,7 +11,7 @@ use Rattle.uac_gen.specs.Generator.{rest_line, groups}
 abbrev pub from_groups : ℕ → ℕ → List (List ℕ)
 from_groups count x = groups count x ++ codes "q" ∷ []
 
-abbrev pub lines_left : ℕ → ℕ → List ℕ → ℕ → Place → List (List ℕ)
+abbrev pub lines_left : ℕ → ℕ → List ℕ → ℕ → NextLine → List (List ℕ)
 lines_left number hertz bytes x (place.Feed fed) =
     map (feed_line bytes) (range_with_len fed (feed_count bytes - fed)) ++ lines_after_descriptor number hertz x
 lines_left number hertz bytes x place.Rate = rate_line hertz ∷ setting_line ∷ tone_line number ∷ from_groups 250 x

@@ -1,13 +1,13 @@
 // The script, one line after the other.
 ghost use Rattle.std.specs.Prelude.{◌≡◌, ℕ, ◌≤◌, [], ◌∷◌, length, MatchOption, MatchBool};
-ghost use Rattle.uac_gen.specs.Generator.{generated};
+ghost use Rattle.uac_gen.specs.Generator.{generated_lines};
 ghost use Rattle.uac_gen.specs.Left.{lines_left};
 
 use crate::descriptor::{Bytes, descriptor};
 use crate::draws::Draws;
 use crate::groups::{next_group, place_after_unreported, rest_line};
 use crate::lines::{LineText, feed_line, fixed_line, rate_line, run_line, tone_line};
-use crate::places::Place;
+use crate::next_line::NextLine;
 use arrayvec::ArrayVec;
 use std::marker::Model;
 use uac_clock::RATES;
@@ -20,7 +20,7 @@ pub struct Gen {
     rate: u32,
     descriptor: Bytes,
     draws: Draws,
-    place: Place,
+    place: NextLine,
 }
 
 impl Model for Gen {
@@ -36,7 +36,7 @@ impl Model for Gen {
 impl Gen {
     /// The script of this number, with all its lines left.
     pub fn new(number: u32) -> Gen
-        ensures { result ≡ generated number }
+        ensures { result ≡ generated_lines number }
     {
         let mut draws = Draws { x: number };
         let rate = RATES[draws.draw(12) as usize];
@@ -46,7 +46,7 @@ impl Gen {
             rate,
             descriptor: descriptor(count),
             draws,
-            place: Place::Feed(0),
+            place: NextLine::Feed(0),
         }
     }
 
@@ -76,38 +76,38 @@ fn step(
     rate: u32,
     bytes: &[u8],
     draws: &mut Draws,
-    place: Place,
-) -> Option<(LineText, Place)>
+    place: NextLine,
+) -> Option<(LineText, NextLine)>
     requires { length bytes.now ≤ 1024 }
     ensures { MatchOption result
         ((lines_left number rate bytes.now draws.old.x place ≡ []) × (draws.new ≡ draws.old))
         (λ next. lines_left number rate bytes.now draws.old.x place ≡ next.0 ∷ lines_left number rate bytes.now draws.new.x next.1) }
 {
     match place {
-        Place::Feed(fed) => Some(feed(bytes, fed)),
-        Place::Rate => Some((rate_line(rate), Place::Setting)),
-        Place::Setting => Some((fixed_line(b"c 010b010001000000"), Place::Tone)),
-        Place::Tone => Some((tone_line(number), Place::Deviation(250))),
-        Place::Deviation(count) => Some(next_group(draws, count)),
-        Place::Unreported(group) => Some((
+        NextLine::Feed(fed) => Some(feed(bytes, fed)),
+        NextLine::Rate => Some((rate_line(rate), NextLine::Setting)),
+        NextLine::Setting => Some((fixed_line(b"c 010b010001000000"), NextLine::Tone)),
+        NextLine::Tone => Some((tone_line(number), NextLine::Deviation(250))),
+        NextLine::Deviation(count) => Some(next_group(draws, count)),
+        NextLine::Unreported(group) => Some((
             run_line(8 * u64::from(group.eights), b" f1"),
             place_after_unreported(group),
         )),
-        Place::Unpacked(group) => Some((run_line(1, b" o1"), Place::Rest(group))),
-        Place::Rest(group) => Some((rest_line(group), Place::Deviation(group.following))),
-        Place::End => None,
+        NextLine::Unpacked(group) => Some((run_line(1, b" o1"), NextLine::Rest(group))),
+        NextLine::Rest(group) => Some((rest_line(group), NextLine::Deviation(group.following))),
+        NextLine::End => None,
     }
 }
 
 // The next bytes of the descriptor, after so many lines of them, or its end.
-fn feed(bytes: &[u8], fed: u8) -> (LineText, Place)
+fn feed(bytes: &[u8], fed: u8) -> (LineText, NextLine)
     requires { length bytes.now ≤ 1024 }
-    ensures { (number hertz x : ℕ) → lines_left number hertz bytes.now x (Place.Feed fed)
+    ensures { (number hertz x : ℕ) → lines_left number hertz bytes.now x (NextLine.Feed fed)
         ≡ result.0 ∷ lines_left number hertz bytes.now x result.1 }
 {
     if 64 * usize::from(fed) < bytes.len() {
-        (feed_line(bytes, usize::from(fed)), Place::Feed(fed + 1))
+        (feed_line(bytes, usize::from(fed)), NextLine::Feed(fed + 1))
     } else {
-        (fixed_line(b"g"), Place::Rate)
+        (fixed_line(b"g"), NextLine::Rate)
     }
 }

@@ -5,16 +5,16 @@ ghost use Rattle.uac_gen.specs.Left.{lines_left, from_groups};
 
 use crate::draws::Draws;
 use crate::lines::{LineText, deviation_line, fixed_line, run_line};
-use crate::places::{Group, Place};
+use crate::next_line::{Group, NextLine};
 
 /// Draws the next of so many groups: its first line, and the place after it. After the last group
 /// is the report.
-pub fn next_group(draws: &mut Draws, count: u8) -> (LineText, Place)
+pub fn next_group(draws: &mut Draws, count: u8) -> (LineText, NextLine)
     ensures { (number hertz : ℕ) (bytes : List ℕ)
         → from_groups count draws.old.x ≡ result.0 ∷ lines_left number hertz bytes draws.new.x result.1 }
 {
     if count == 0 {
-        return (fixed_line(b"q"), Place::End);
+        return (fixed_line(b"q"), NextLine::End);
     }
     let drawn = draws.draw(2001);
     let eights = draws.draw(4) as u8;
@@ -28,27 +28,27 @@ pub fn next_group(draws: &mut Draws, count: u8) -> (LineText, Place)
 }
 
 // The place after a group's first line.
-fn place_after_deviation(group: Group) -> Place
+fn place_after_deviation(group: Group) -> NextLine
     ensures { (number hertz x : ℕ) (bytes : List ℕ) → lines_left number hertz bytes x result
         ≡ unreported_lines group.eights
         ++ (unpacked_lines group.lost ++ rest_line group.eights group.lost ∷ from_groups group.following x) }
 {
     if group.eights > 0 {
-        Place::Unreported(group)
+        NextLine::Unreported(group)
     } else {
         place_after_unreported(group)
     }
 }
 
 /// The place after the microframes of a group that have no report.
-pub fn place_after_unreported(group: Group) -> Place
+pub fn place_after_unreported(group: Group) -> NextLine
     ensures { (number hertz x : ℕ) (bytes : List ℕ) → lines_left number hertz bytes x result
         ≡ unpacked_lines group.lost ++ rest_line group.eights group.lost ∷ from_groups group.following x }
 {
     if group.lost {
-        Place::Unpacked(group)
+        NextLine::Unpacked(group)
     } else {
-        Place::Rest(group)
+        NextLine::Rest(group)
     }
 }
 

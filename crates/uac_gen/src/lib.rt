@@ -12,7 +12,7 @@ mod groups;
 /// The lines' texts.
 mod lines;
 /// The places that a script has come to.
-mod places;
+mod next_line;
 /// The script as a source of bytes.
 mod source;
 

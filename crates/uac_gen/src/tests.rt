@@ -45,7 +45,7 @@ fn expect(rt: &impl Abort, number: u32, lines: u32, text: u32) {
     }
     assert_eq!(rt; count, lines, "of number {number}");
     assert_eq!(rt; sum, text, "of number {number}");
-    assert!(rt; !script.next(&mut line), "behind the last line of {number}");
+    assert!(rt; !script.next(&mut line), "after the last line of {number}");
     assert_eq!(rt; line.as_slice(), b"q".as_slice());
 }
 

@@ -4,7 +4,7 @@ use Rattle.std.proofs.Common.{◌≡◌, ◌∙◌, sym, refl, ap, subst, ℕ, z
 use Rattle.std.specs.List.{filter, fold}
 use Rattle.std.specs.Option.{option_and_then, option_map, option_map_or}
 use Rattle.uac_units.specs.Hearing.{at_most_u64}
-use Rattle.uac_rate.specs.Steadiness.{Given, with_report_given}
+use Rattle.uac_rate.specs.Steadiness.{SteadyHistory, with_report_given}
 use Rattle.uac_topology.specs.Function.{FunctionFields}
 use Rattle.uac_rate.specs.Reports.{report_of}
 use Rattle.uac_flow.specs.FlowStreams.{OutStream, after_packet, after_taking, after_ticks, feedback_of, is_dry, is_due, out_level, settled_out, settled_when_due}
@@ -16,10 +16,10 @@ use Rattle.uac_streaming.specs.Telling.{Telling, at_rest}
 use Rattle.uac_streaming.specs.StreamingWorld.{StreamingWorld, all_reported, all_settled, fetched_lines, given_at, in_packet_turn, in_packets, is_in_due, is_out_due, loses_in, loses_out, loses_report, numbers, out_packets, out_turn, packet_fetched, packet_sent, packet_to, place_of, report_lines, report_made, report_turn, sent_lines, settled_turn}
 use Rattle.uac_running.specs.declared.jacks.Jack.{Jack}
 use Rattle.uac_running.specs.RunningWorld.{RunningWorld, streaming_of, with_streaming}
-use Rattle.uac_running.specs.Events.{all_given, domain_microframe, domain_microframes, ends_and_reports, microframe, next_frame, packets_and_ticks, tick, tick_times}
+use Rattle.uac_running.specs.Events.{after_all_jacks, domain_microframe, domain_microframes, ends_and_reports, microframe, next_frame, packets_and_ticks, tick, tick_times}
 use Rattle.uac_bands.proofs.Once.{Among, none_at, numbers_differ, own_number, turns_keep, turns_once}
 use Rattle.uac_bands.proofs.Shown.{if_false, if_true}
-use Rattle.uac_generated.proofs.Timely.{Beat, beat_of, given_behind, is_told, next_beat, told_at}
+use Rattle.uac_generated.proofs.Timely.{Beat, beat_of, given_following, is_told, next_beat, told_at}
 
 -- ---- the steps of a stream
 
@@ -82,12 +82,12 @@ module _ (function : FunctionFields) (interface : ℕ) where
     pub others : (n : ℕ) → (interface == n) ≡ false → w.outs n ≡ None
 
   -- and this was given
-  pub record Beats (beat : Option Beat) (given : Given) (w : StreamingWorld) : Type 0 where
+  pub record Beats (beat : Option Beat) (given : SteadyHistory) (w : StreamingWorld) : Type 0 where
     pub plays : Plays beat w.device
-    pub given_is : w.given ≡ given
+    pub given_is : w.history ≡ given
 
   module _ (detail : ℕ) (marks : List SaidMark) where
-    module _ (given : Given) (beat : Option Beat) where
+    module _ (given : SteadyHistory) (beat : Option Beat) where
       out_beats : (n : ℕ) (w : StreamingWorld) → Beats beat given w → Beats beat given (out_turn detail marks n w).world
       unfolding out_turn packet_sent after_receiving
       out_beats n w beats = by (is_out_due w n)
@@ -139,7 +139,7 @@ module _ (function : FunctionFields) (interface : ℕ) where
           subst (λ (o : Option OutStream). Beats beat given (option_map_or (λ value. record { lines = report_lines detail (loses_report marks n) value n; world = report_made (loses_report marks n) value n w }) (option_and_then feedback_of o) (at_rest w)).world)
           (sym (beats.plays.others n other)) beats
 
-    settled_here : (given : Given) (beat : Option Beat) (w : StreamingWorld) → Beats beat given w
+    settled_here : (given : SteadyHistory) (beat : Option Beat) (w : StreamingWorld) → Beats beat given w
         → Beats (option_map next_beat beat) given (settled_turn detail interface w).world
     unfolding settled_turn after_settling
     settled_here given beat w beats = record {
@@ -153,11 +153,11 @@ module _ (function : FunctionFields) (interface : ℕ) where
       given_is = beats.given_is;
     }
 
-    report_here : (given : Given) (beat : Option Beat) (w : StreamingWorld) → Beats beat given w
-        → Beats beat (given_behind (loses_report marks interface) (place_of function interface) beat given) (report_turn detail marks interface w).world
+    report_here : (given : SteadyHistory) (beat : Option Beat) (w : StreamingWorld) → Beats beat given w
+        → Beats beat (given_following (loses_report marks interface) (place_of function interface) beat given) (report_turn detail marks interface w).world
     unfolding report_turn report_made feedback_in feedback_of
     report_here given beat w beats =
-        subst (λ (b : Option Beat). Beats beat (given_behind lost (place_of function interface) b given) (option_map_or made (option_and_then feedback_of (w.device.outs interface)) (at_rest w)).world)
+        subst (λ (b : Option Beat). Beats beat (given_following lost (place_of function interface) b given) (option_map_or made (option_and_then feedback_of (w.device.outs interface)) (at_rest w)).world)
         beats.plays.own (by (w.device.outs interface))
       where
         lost : Bool
@@ -172,18 +172,18 @@ module _ (function : FunctionFields) (interface : ℕ) where
         due value true = record {
           plays = record { function_is = beats.plays.function_is; own = beats.plays.own; others = beats.plays.others };
           given_is =
-              ap (λ (f : FunctionFields). given_at (place_of f interface) (λ p. with_report_given p lost) w.given) beats.plays.function_is
+              ap (λ (f : FunctionFields). given_at (place_of f interface) (λ p. with_report_given p lost) w.history) beats.plays.function_is
               ∙ ap (given_at (place_of function interface) (λ p. with_report_given p lost)) beats.given_is;
         }
         due value false = beats
 
         by : (o : Option OutStream)
-            → Beats beat (given_behind lost (place_of function interface) (option_map beat_of o) given)
+            → Beats beat (given_following lost (place_of function interface) (option_map beat_of o) given)
             (option_map_or made (option_and_then feedback_of o) (at_rest w)).world
         by None = beats
         by (Some o) = due (option_map_or (λ target. report_of o.stream.nominal target (out_level o)) o.target o.stream.nominal.f) (is_told (beat_of o))
 
-    module _ (among : Among interface (numbers function)) (given : Given) (beat : Option Beat) where
+    module _ (among : Among interface (numbers function)) (given : SteadyHistory) (beat : Option Beat) where
       here_among : (w : StreamingWorld) → Beats beat given w → Among interface (numbers w.device.function)
       here_among w beats = subst (λ (f : FunctionFields). Among interface (numbers f)) (sym beats.plays.function_is) among
 
@@ -202,14 +202,14 @@ module _ (function : FunctionFields) (interface : ℕ) where
           (settled_other given (option_map next_beat beat)) (settled_here given beat) (numbers w.device.function) w (numbers_differ w.device.function) (here_among w beats) beats
 
       pub all_reported_beat : (w : StreamingWorld) → Beats beat given w
-          → Beats beat (given_behind (loses_report marks interface) (place_of function interface) beat given) (all_reported detail marks w).world
+          → Beats beat (given_following (loses_report marks interface) (place_of function interface) beat given) (all_reported detail marks w).world
       unfolding all_reported
       all_reported_beat w beats =
           turns_once (report_turn detail marks) interface (Beats beat given) (Beats beat following) (report_other given beat)
           (report_other following beat) (report_here given beat) (numbers w.device.function) w (numbers_differ w.device.function) (here_among w beats) beats
         where
-          following : Given
-          following = given_behind (loses_report marks interface) (place_of function interface) beat given
+          following : SteadyHistory
+          following = given_following (loses_report marks interface) (place_of function interface) beat given
 
   -- ---- ticks
 
@@ -222,9 +222,9 @@ module _ (function : FunctionFields) (interface : ℕ) where
         jacks_play js (set_jack j.terminal (next_frame j) w)
         (record { function_is = plays.function_is; own = plays.own; others = plays.others })
 
-    given_plays : (c : ℕ) (r : RunningWorld) → Plays beat r.device → Plays beat (all_given c r)
-    unfolding all_given
-    given_plays c r plays = jacks_play (filter (λ (j : Jack). j.clock == c) r.jacks) r.device plays
+    given_plays : (c : ℕ) (r : RunningWorld) → Plays beat r.device → Plays beat (after_all_jacks c r)
+    unfolding after_all_jacks
+    given_plays c r plays = jacks_play (filter (λ (j : Jack). j.domain == c) r.jacks) r.device plays
 
     ticked_plays : (c : ℕ) (w : DeviceWorld) → Plays beat w → Plays beat (after_tick c w)
     unfolding after_tick
@@ -248,10 +248,10 @@ module _ (function : FunctionFields) (interface : ℕ) where
           others = λ n other. ap (option_map (λ s. if is_on w c n then count s else s)) (plays.others n other);
         }
 
-    module _ (given : Given) where
+    module _ (given : SteadyHistory) where
       tick_beats : (c : ℕ) (r : RunningWorld) → Beats beat given (streaming_of r) → Beats beat given (streaming_of (tick c r).world)
       unfolding tick
-      tick_beats c r beats = record { plays = ticked_plays c (all_given c r) (given_plays c r beats.plays); given_is = beats.given_is }
+      tick_beats c r beats = record { plays = ticked_plays c (after_all_jacks c r) (given_plays c r beats.plays); given_is = beats.given_is }
 
       ticks_beat : (count c : ℕ) (r : RunningWorld) → Beats beat given (streaming_of r) → Beats beat given (streaming_of (tick_times count c r).world)
       unfolding tick_times
@@ -272,10 +272,10 @@ module _ (function : FunctionFields) (interface : ℕ) where
 
   -- ---- a microframe
 
-  pub microframe_beats : (among : Among interface (numbers function)) (marks : List SaidMark) (r : RunningWorld) (beat : Option Beat) (given : Given)
+  pub microframe_beats : (among : Among interface (numbers function)) (marks : List SaidMark) (r : RunningWorld) (beat : Option Beat) (given : SteadyHistory)
       → Beats beat given (streaming_of r)
       → Beats (option_map next_beat beat)
-      (given_behind (loses_report marks interface) (place_of function interface) (option_map next_beat beat) given)
+      (given_following (loses_report marks interface) (place_of function interface) (option_map next_beat beat) given)
       (streaming_of (microframe marks r).world)
   unfolding microframe packets_and_ticks ends_and_reports
   microframe_beats among marks r beat given beats =

@@ -19,11 +19,11 @@ use Rattle.uac_topology_rules.specs.declared.fault.TopologyFault.{TopologyFault}
 use Rattle.uac_topology.specs.Function.{FunctionFields}
 use Rattle.uac_topology.specs.Topology.{first_broken}
 use Rattle.uac_units.specs.Hearing.{Reading}
-use Rattle.uac_script.specs.Phrase.{feeds, goes}
+use Rattle.uac_script.specs.Phrase.{bytes_line, go_line}
 use Rattle.uac_running.specs.RunningWorld.{at_start}
 use Rattle.uac_running.specs.RunningLines.{ready_line}
 use Rattle.uac_configuration.specs.Description.{blocks_from, blocks_of, function_of}
-use Rattle.uac_bus.specs.BusWorld.{Step, World, describing, done, step_feed, step_go, if_no_fault, if_sound, running, silently, step}
+use Rattle.uac_bus.specs.BusWorld.{Step, BusWorld, describing, done, step_feed, step_go, if_no_fault, if_sound, running, silently, step}
 use Rattle.uac_gen.specs.Descriptor.{descriptor_of}
 use Rattle.uac_gen.specs.Generator.{feed_count, feed_line}
 use Rattle.uac_generated.proofs.Grammatical.{none_faulty}
@@ -55,10 +55,10 @@ taken_on n bytes =
     ∙ take-append-drop n (take (n + 64) bytes)
 
 module _ (bytes : List ℕ) (shown : List Reading) (whole : first_fault bytes ≡ None) (are : list_all (λ b. nat_lt b 256) bytes ≡ true) where
-  abbrev pub before : ℕ → World
+  abbrev pub before : ℕ → BusWorld
   before place = describing (take (64 * place) bytes) shown
 
-  fed_is : (place : ℕ) → step (feeds (take 64 (drop (64 * place) bytes))) (before place) ≡ done (before (place + 1)) []
+  fed_is : (place : ℕ) → step (bytes_line (take 64 (drop (64 * place) bytes))) (before place) ≡ done (before (place + 1)) []
   unfolding step step_feed
   fed_is place =
       let next : List ℕ = take (64 * place) bytes ++ take 64 (drop (64 * place) bytes) in
@@ -70,18 +70,18 @@ module _ (bytes : List ℕ) (shown : List Reading) (whole : first_fault bytes �
       ap (λ (bs : List ℕ). if_no_fault (shown_fault bs) (silently (describing bs shown))) more
       ∙ ap (λ (o : Option GrammarFault). if_no_fault o (silently (before (place + 1)))) none
 
-  pub are_fed : (count place : ℕ) (P : World → Type 0) → place + count ≤ feed_count bytes → P (before (place + count))
+  pub are_fed : (count place : ℕ) (P : BusWorld → Type 0) → place + count ≤ feed_count bytes → P (before (place + count))
       → Reaches (map (feed_line bytes) (range_with_len place count)) (before place) P
   are_fed zero place P within is = nothing (before place) P (subst (λ (n : ℕ). P (before n)) (let same : place + 0 ≡ place = omega arith in same) is)
   are_fed (suc count) place P within is =
       let piece : List ℕ = take 64 (drop (64 * place) bytes) in
       let some : 0 < length piece = omega (arith, length-take 64 (drop (64 * place) bytes), length-drop (64 * place) bytes) in
-      then_line (feed_line bytes place) (map (feed_line bytes) (range_with_len (place + 1) count)) (feeds piece) (before place) (before (place + 1)) [] P
+      then_line (feed_line bytes place) (map (feed_line bytes) (range_with_len (place + 1) count)) (bytes_line piece) (before place) (before (place + 1)) [] P
       (feed_said piece (piece_are bytes place are) some) (fed_is place)
       (are_fed count (place + 1) P (omega arith) (subst (λ (n : ℕ). P (before n)) (let same : place + suc count ≡ place + 1 + count = omega arith in same) is))
 
   -- all of them
-  pub all_fed : (P : World → Type 0) → P (describing bytes shown)
+  pub all_fed : (P : BusWorld → Type 0) → P (describing bytes shown)
       → Reaches (map (feed_line bytes) (range_with_len 0 (feed_count bytes))) (describing [] shown) P
   all_fed P is =
       are_fed (feed_count bytes) 0 P (omega arith)
@@ -99,7 +99,7 @@ abbrev pub function_at : ℕ → FunctionFields
 function_at d = function_of (blocks_at d)
 
 pub gone_is : (d : ℕ) (shown : List Reading) → d < 30
-    → step goes (describing (descriptor_of (1 + d)) shown)
+    → step go_line (describing (descriptor_of (1 + d)) shown)
     ≡ done (running (at_start (descriptor_of (1 + d)) (function_at d) shown)) (ready_line (function_at d) ∷ [])
 unfolding step step_go
 gone_is d shown below =

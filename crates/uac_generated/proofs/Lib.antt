@@ -13,4 +13,4 @@ pub mod Playing
 pub mod InRow
 pub mod Feeding
 pub mod OneStream
-pub mod Whole
+pub mod GeneratedLemmas

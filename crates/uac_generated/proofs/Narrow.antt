@@ -13,7 +13,7 @@ use Rattle.hex.proofs.HexLemmas.{length-encode_with}
 use Rattle.uac_clock.specs.Nominal.{twelve_rates}
 use Rattle.uac_edges.specs.Numerals.{natural, numeral}
 use Rattle.uac_gen.specs.Descriptor.{descriptor_of}
-use Rattle.uac_gen.specs.Generator.{lines_after_descriptor, deviation_line, draw, feed_count, feed_line, feed_lines, generated, group_lines, groups, next_x, rate_line, rest_line, run_line, setting_line, tone_line, unpacked_lines, unreported_lines}
+use Rattle.uac_gen.specs.Generator.{lines_after_descriptor, deviation_line, draw, feed_count, feed_line, feed_lines, generated_lines, group_lines, groups, next_x, rate_line, rest_line, run_line, setting_line, tone_line, unpacked_lines, unreported_lines}
 use Rattle.uac_gen.specs.GeneratedScript.{with_newlines}
 use Rattle.uac_generated.proofs.Grammatical.{all_bytes, all_short}
 use Rattle.uac_generated.proofs.Spelt.{IsVisible, at_each, at_each_passed, bytes_are, decimal_visible, hex_visible, rate_bytes, rates_are, rates_long}
@@ -166,21 +166,21 @@ feeds_few d below =
       few = let size = all_short d below in omega (arith, length-map-range_with_len (feed_line bytes) 0 (feed_count bytes), size);
     }
 
-behind_few : (number place x : ℕ) → number < 2 ^ 32 → place < 12 → AreFew 1005 (lines_after_descriptor number (slice_index twelve_rates place) x)
-behind_few number place x below placed =
+after_few : (number place x : ℕ) → number < 2 ^ 32 → place < 12 → AreFew 1005 (lines_after_descriptor number (slice_index twelve_rates place) x)
+after_few number place x below placed =
     both 1 1004 (codes "g" ∷ []) _ (one (codes "g") (fixed_narrow (codes "g") refl (omega arith)))
     (both 1 1003 (rate_line (slice_index twelve_rates place) ∷ []) _ (one _ (rate_narrow place placed))
     (both 1 1002 (setting_line ∷ []) _ (one setting_line (fixed_narrow setting_line refl (omega arith)))
     (both 1 1001 (tone_line number ∷ []) _ (one (tone_line number) (tone_narrow number below))
     (both 1000 1 (groups 250 x) (codes "q" ∷ []) (groups_few 250 x) (one (codes "q") (fixed_narrow (codes "q") refl (omega arith)))))))
 
-pub all_few : (number : ℕ) → number < 2 ^ 32 → AreFew 1021 (generated number)
-unfolding generated
+pub all_few : (number : ℕ) → number < 2 ^ 32 → AreFew 1021 (generated_lines number)
+unfolding generated_lines
 all_few number below =
     let first : ℕ = next_x number in
     let second : ℕ = next_x first in
     both 16 1005 (feed_lines (descriptor_of (1 + draw 30 second))) (lines_after_descriptor number (slice_index twelve_rates (draw 12 first)) second)
-    (feeds_few (draw 30 second) (omega arith)) (behind_few number (draw 12 first) second below (omega arith))
+    (feeds_few (draw 30 second) (omega arith)) (after_few number (draw 12 first) second below (omega arith))
 
 -- its bytes
 pub size_of_few : (most : ℕ) (lines : List (List ℕ)) → AreFew most lines → length (with_newlines lines) ≤ 161 * most

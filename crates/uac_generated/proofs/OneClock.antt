@@ -4,7 +4,7 @@ use Rattle.std.specs.List.{flat_map, list_all, list_any}
 use Rattle.std.proofs.lemmas.Bool.{and_parts, true≢false}
 use Rattle.uac_walk.specs.Walk.{links}
 use Rattle.uac_entities.specs.declared.entity.Entity.{Entity}
-use Rattle.uac_entities.specs.EntityStreams.{is_input}
+use Rattle.uac_entities.specs.EntityInterfaces.{is_input}
 use Rattle.uac_topology_rules.specs.Table.{at}
 use Rattle.uac_topology_rules.specs.Links.{signal_links}
 use Rattle.uac_topology_rules.specs.Clusters.{clocks_by, clocks_of, clocks_step, clocks_within}

@@ -9,9 +9,9 @@ use Rattle.uac_clock.specs.Nominal.{nominal_of}
 use Rattle.uac_clock.specs.declared.values.Nominal.{Nominal}
 use Rattle.uac_descriptor.specs.Classes.{is_streaming_interface}
 use Rattle.uac_entities.specs.Entities.{entity_of, entities_of}
-use Rattle.uac_entities.specs.EntitySettings.{alternates_of, alternate_at, own_blocks, ends_setting, general_of, format_of, endpoint_of}
-use Rattle.uac_entities.specs.EntityStreams.{link_of, named, setting_of}
-use Rattle.uac_entities.specs.EntityStreams as entities
+use Rattle.uac_entities.specs.EntitySettings.{declared_settings, declared_setting_at, own_blocks, ends_setting, general_of, format_of, endpoint_of}
+use Rattle.uac_entities.specs.EntityInterfaces.{link_of, entity_by_id, setting_of}
+use Rattle.uac_entities.specs.EntityInterfaces as entities
 use Rattle.uac_entities.specs.declared.stream.Setting.{Setting}
 use Rattle.uac_entities.specs.declared.stream.StreamInterface.{StreamInterface}
 use Rattle.uac_topology_rules.specs.Domains.{clock_named, domains_of, each_once}
@@ -24,7 +24,7 @@ use Rattle.uac_device.specs.DeviceWorld.{stream_in_setting}
 use Rattle.uac_streaming.specs.StreamingWorld.{place_of}
 use Rattle.uac_bands.proofs.Once.{known_among}
 use Rattle.uac_configuration.specs.Description.{function_of}
-use Rattle.uac_running.specs.Naming.{has_out, is_placed}
+use Rattle.uac_running.specs.RunningNames.{has_out, names_stream}
 use Rattle.uac_generated.proofs.Feeding.{function_at}
 use Rattle.uac_generated.proofs.Playing.{HasOne}
 use Rattle.uac_generated.proofs.Sound.{blocks_at}
@@ -49,7 +49,7 @@ abbrev pub the_stream : StreamInterface
 the_stream = record { number = 1; terminal = 2; out = true; settings = idle_setting ∷ play_setting ∷ [] }
 
 streams_read : (d : ℕ) → d < 30 → streams_in (blocks_at d) ≡ the_stream ∷ []
-unfolding entity_of alternates_of alternate_at is_streaming_interface own_blocks ends_setting general_of format_of endpoint_of entities.stream_at entities.stream_of setting_of link_of named
+unfolding entity_of declared_settings declared_setting_at is_streaming_interface own_blocks ends_setting general_of format_of endpoint_of entities.streaming_interface_at entities.streaming_interface_of setting_of link_of entity_by_id
 streams_read d below = of_thirty (λ d. streams_in (blocks_at d)) (λ d. the_stream ∷ []) refl d below
 
 pub streams_are : (d : ℕ) → d < 30 → (function_at d).streams ≡ the_stream ∷ []
@@ -99,8 +99,8 @@ module _ (function : FunctionFields) (streams : function.streams ≡ the_stream 
   pub has_its_out : has_out function.streams 1 ≡ true
   has_its_out = ap (λ (ss : List StreamInterface). has_out ss 1) streams
 
-  pub unreported_placed : list_all (is_placed function.streams) (no_report ∷ []) ≡ true
-  unreported_placed = ap (λ (ss : List StreamInterface). list_all (is_placed ss) (no_report ∷ [])) streams
+  pub unreported_placed : list_all (names_stream function.streams) (no_report ∷ []) ≡ true
+  unreported_placed = ap (λ (ss : List StreamInterface). list_all (names_stream ss) (no_report ∷ [])) streams
 
-  pub unpacked_placed : list_all (is_placed function.streams) (no_packet ∷ []) ≡ true
-  unpacked_placed = ap (λ (ss : List StreamInterface). list_all (is_placed ss) (no_packet ∷ [])) streams
+  pub unpacked_placed : list_all (names_stream function.streams) (no_packet ∷ []) ≡ true
+  unpacked_placed = ap (λ (ss : List StreamInterface). list_all (names_stream ss) (no_packet ∷ [])) streams

@@ -1,14 +1,14 @@
 -- A running device under a generated script: what the lines leave of its stream, between groups of microframes and within one.
 use Rattle.std.proofs.Common.{◌≡◌, ◌∙◌, sym, refl, ap, subst, ℕ, zero, suc, ◌+◌, ◌/◌, ◌%◌, ◌≤◌, ◌<◌, ◌==◌, ◌&&◌, not, if◌then◌else◌, Bool, true, false, ℤ, List, [], Option, None, Some, arith}
 use Rattle.std.specs.Option.{option_and_then, option_map}
-use Rattle.uac_rate.specs.Steadiness.{Given, is_slight, is_steady, nothing_given, with_restart_given}
+use Rattle.uac_rate.specs.Steadiness.{SteadyHistory, is_slight, is_steady, nothing_given, with_restart_given}
 use Rattle.uac_rate.specs.Steadiness as steadiness
 use Rattle.uac_pcm.specs.declared.tones.Tone.{Tone}
 use Rattle.uac_topology.specs.Function.{FunctionFields}
 use Rattle.uac_store.specs.declared.keys.Key.{Key}
 use Rattle.uac_alt.specs.AltStreams.{StreamFields}
 use Rattle.uac_units.specs.Hearing.{Reading}
-use Rattle.uac_request.specs.Requests.{after_request, held_by, reply_of, setup_of}
+use Rattle.uac_request.specs.Requests.{after_request, request_state, reply_of, setup_of}
 use Rattle.uac_lanes.specs.InterfaceStreams.{out_from}
 use Rattle.uac_device.specs.DeviceWorld.{DeviceWorld, after_control, after_deviation, fresh, stream_in_setting, tells_done}
 use Rattle.uac_device.specs.DeviceWorld as device
@@ -24,7 +24,7 @@ use Rattle.uac_bands.proofs.Once.{Among}
 use Rattle.uac_generated.proofs.Beats.{Beats, Plays, microframe_beats}
 use Rattle.uac_generated.proofs.Reports.{KeepsReports, anew_kept, at_most, none_kept, off_kept, steady_of}
 use Rattle.uac_generated.proofs.Spelt.{rate_setup, setting_setup}
-use Rattle.uac_generated.proofs.Timely.{Beat, IsWell, beat_of, bound, given_behind, next_beat, well_in, well_lost, well_on}
+use Rattle.uac_generated.proofs.Timely.{Beat, IsWell, beat_of, bound, given_following, next_beat, well_in, well_lost, well_on}
 
 -- of a function: interface 1 is one of those, at this place among them, and a stream that it starts in setting 1 has its reports each
 -- eight microframes
@@ -39,23 +39,23 @@ module _ (function : FunctionFields) (place : ℕ) where
   -- of eight, and which lost so many reports at most since one came
   pub record IsPlaying (passed most : ℕ) (r : RunningWorld) : Type 0 where
     pub beat : Option Beat
-    pub given : Given
+    pub given : SteadyHistory
     pub beats : Beats function 1 beat given (streaming_of r)
     pub well : IsWell place passed most beat given
 
-  pub steady_now : (passed most : ℕ) (r : RunningWorld) → IsPlaying passed most r → is_steady r.given ≡ true
+  pub steady_now : (passed most : ℕ) (r : RunningWorld) → IsPlaying passed most r → is_steady r.history ≡ true
   steady_now passed most r is =
-      subst (λ (g : Given). is_steady g ≡ true) (sym is.beats.given_is) (steady_of place (bound most is.beat) is.given is.well.kept)
+      subst (λ (g : SteadyHistory). is_steady g ≡ true) (sym is.beats.given_is) (steady_of place (bound most is.beat) is.given is.well.kept)
 
   -- ---- microframes
 
   module _ (has : HasOne function place) where
-    following : (marks : List SaidMark) (lost : Bool) (r : RunningWorld) (beat : Option Beat) (given : Given) → loses_report marks 1 ≡ lost
+    following : (marks : List SaidMark) (lost : Bool) (r : RunningWorld) (beat : Option Beat) (given : SteadyHistory) → loses_report marks 1 ≡ lost
         → Beats function 1 beat given (streaming_of r)
-        → Beats function 1 (option_map next_beat beat) (given_behind lost (Some place) (option_map next_beat beat) given) (streaming_of (microframe marks r).world)
+        → Beats function 1 (option_map next_beat beat) (given_following lost (Some place) (option_map next_beat beat) given) (streaming_of (microframe marks r).world)
     following marks lost r beat given is beats =
-        subst (λ (b : Bool). Beats function 1 (option_map next_beat beat) (given_behind b (Some place) (option_map next_beat beat) given) (streaming_of (microframe marks r).world)) is
-        (subst (λ (o : Option ℕ). Beats function 1 (option_map next_beat beat) (given_behind (loses_report marks 1) o (option_map next_beat beat) given) (streaming_of (microframe marks r).world)) has.placed
+        subst (λ (b : Bool). Beats function 1 (option_map next_beat beat) (given_following b (Some place) (option_map next_beat beat) given) (streaming_of (microframe marks r).world)) is
+        (subst (λ (o : Option ℕ). Beats function 1 (option_map next_beat beat) (given_following (loses_report marks 1) o (option_map next_beat beat) given) (streaming_of (microframe marks r).world)) has.placed
         (microframe_beats function 1 has.among marks r beat given beats))
 
     -- so many microframes that lose no report, the last of which ends eight, so that a report came
@@ -64,14 +64,14 @@ module _ (function : FunctionFields) (place : ℕ) where
     unfolding microframes
     all_come marks zero passed most r comes due is = record {
       beat = option_map next_beat is.beat;
-      given = given_behind false (Some place) (option_map next_beat is.beat) is.given;
+      given = given_following false (Some place) (option_map next_beat is.beat) is.given;
       beats = following marks false r is.beat is.given comes is.beats;
       well = well_in place passed most is.beat is.given due is.well;
     }
     all_come marks (suc count) passed most r comes due is =
         all_come marks count (passed + 1) most (microframe marks r).world comes (omega arith) (record {
           beat = option_map next_beat is.beat;
-          given = given_behind false (Some place) (option_map next_beat is.beat) is.given;
+          given = given_following false (Some place) (option_map next_beat is.beat) is.given;
           beats = following marks false r is.beat is.given comes is.beats;
           well = well_on place passed most is.beat is.given is.well;
         })
@@ -86,7 +86,7 @@ module _ (function : FunctionFields) (place : ℕ) where
         subst (λ (n : ℕ). IsPlaying n most (microframes marks (suc count) r).world) (let same : passed + 1 + count ≡ passed + suc count = omega arith in same)
         (some_come marks count (passed + 1) most (microframe marks r).world comes (record {
           beat = option_map next_beat is.beat;
-          given = given_behind false (Some place) (option_map next_beat is.beat) is.given;
+          given = given_following false (Some place) (option_map next_beat is.beat) is.given;
           beats = following marks false r is.beat is.given comes is.beats;
           well = well_on place passed most is.beat is.given is.well;
         }))
@@ -101,7 +101,7 @@ module _ (function : FunctionFields) (place : ℕ) where
         subst (λ (n : ℕ). IsPlaying n (n / 8) (microframes marks (suc count) r).world) (let same : passed + 1 + count ≡ passed + suc count = omega arith in same)
         (all_lost marks count (passed + 1) (microframe marks r).world lost (omega arith) (record {
           beat = option_map next_beat is.beat;
-          given = given_behind true (Some place) (option_map next_beat is.beat) is.given;
+          given = given_following true (Some place) (option_map next_beat is.beat) is.given;
           beats = following marks true r is.beat is.given lost is.beats;
           well = well_lost place passed is.beat is.given (omega arith) is.well;
         }))
@@ -167,7 +167,7 @@ module _ (function : FunctionFields) (place : ℕ) where
 
     -- after the setting the device is this, where it was done, and the streams follow
     abbrev After : StreamingWorld → Type 0
-    After w = (beat : Option Beat) × (given : Given) × Beats function 1 beat given w × IsWell place 0 0 beat given
+    After w = (beat : Option Beat) × (given : SteadyHistory) × Beats function 1 beat given w × IsWell place 0 0 beat given
 
     resting : (w : DeviceWorld) → Plays function 1 is.beat w → After (record (streaming_of r) { device = w })
     resting w plays = (is.beat, is.given, record { plays = plays; given_is = is.beats.given_is }, is.well)
@@ -181,10 +181,10 @@ module _ (function : FunctionFields) (place : ℕ) where
     unfolding device.after_restart after_following
     started w plays = by begun refl
       where
-        fresh_given : given_at (place_of w.function 1) with_restart_given r.given ≡ with_restart_given place is.given
+        fresh_given : given_at (place_of w.function 1) with_restart_given r.history ≡ with_restart_given place is.given
         fresh_given =
-            ap (λ (f : FunctionFields). given_at (place_of f 1) with_restart_given r.given) plays.function_is
-            ∙ ap (λ (o : Option ℕ). given_at o with_restart_given r.given) has.placed ∙ ap (with_restart_given place) is.beats.given_is
+            ap (λ (f : FunctionFields). given_at (place_of f 1) with_restart_given r.history) plays.function_is
+            ∙ ap (λ (o : Option ℕ). given_at o with_restart_given r.history) has.placed ∙ ap (with_restart_given place) is.beats.given_is
 
         anew : KeepsReports place 0 (with_restart_given place is.given)
         anew = anew_kept place (bound 0 is.beat) is.given is.well.kept
@@ -241,11 +241,11 @@ module _ (function : FunctionFields) (place : ℕ) where
 
   pub setting_set : (has : HasOne function place) (r : RunningWorld) → IsPlaying 0 0 r → IsPlaying 0 0 (after_transfer (setup_of setting_setup) [] r)
   unfolding after_transfer after_control
-  setting_set has r is = of_after _ (by (tells_done (reply_of r.device.function (held_by r.device.controls r.device.settings) (setup_of setting_setup) [])) r.breaks) (after_transfer (setup_of setting_setup) [] r) refl
+  setting_set has r is = of_after _ (by (tells_done (reply_of r.device.function (request_state r.device.controls r.device.settings) (setup_of setting_setup) [])) r.breaks) (after_transfer (setup_of setting_setup) [] r) refl
     where
       asked : DeviceWorld
       asked =
-          let after = after_request r.device.function (held_by r.device.controls r.device.settings) (setup_of setting_setup) [] in
+          let after = after_request r.device.function (request_state r.device.controls r.device.settings) (setup_of setting_setup) [] in
           record r.device { controls = after.controls; settings = after.settings }
 
       asked_plays : Plays function 1 is.beat asked

@@ -5,10 +5,10 @@ use Rattle.std.specs.List.{list_all}
 use Rattle.std.proofs.lemmas.Bool.{and_from, and_parts, eqb-true, le-ltb}
 use Rattle.uac_bands.proofs.LookingBack.{keeps}
 use Rattle.uac_bands.proofs.Once.{own_number}
-use Rattle.uac_rate.specs.Steadiness.{Given, with_deviation_given, eight_streams, has_four_lost, is_slight, is_steady, latest_run, nothing_given, one_more, with_report_given, with_restart_given, run}
+use Rattle.uac_rate.specs.Steadiness.{SteadyHistory, with_deviation_given, eight_streams, has_four_lost, is_slight, is_steady, latest_run, nothing_given, one_more, with_report_given, with_restart_given, run}
 
 -- what was given is steady, and the stream at this place lost no more than so many reports since one came
-pub record KeepsReports (place most : ℕ) (g : Given) : Type 0 where
+pub record KeepsReports (place most : ℕ) (g : SteadyHistory) : Type 0 where
   pub slight : list_all is_slight g.deviations ≡ true
   pub kept : (n : ℕ) → keeps (g.feedback n) ≡ true
   pub few : latest_run (g.feedback place) ≤ most
@@ -17,7 +17,7 @@ all_of : (test : ℕ → Bool) → ((n : ℕ) → test n ≡ true) → (ns : Lis
 all_of test each [] = refl
 all_of test each (n ∷ ns) = and_from (test n) (list_all test ns) (each n) (all_of test each ns)
 
-pub steady_of : (place most : ℕ) (g : Given) → KeepsReports place most g → is_steady g ≡ true
+pub steady_of : (place most : ℕ) (g : SteadyHistory) → KeepsReports place most g → is_steady g ≡ true
 steady_of place most g is =
     and_from (list_all is_slight g.deviations) (list_all (λ n. keeps (g.feedback n)) eight_streams) is.slight
     (all_of (λ n. keeps (g.feedback n)) is.kept eight_streams)
@@ -25,10 +25,10 @@ steady_of place most g is =
 pub none_kept : (place most : ℕ) → KeepsReports place most nothing_given
 none_kept place most = record { slight = refl; kept = λ n. refl; few = omega arith }
 
-pub at_most : (place most more : ℕ) (g : Given) → most ≤ more → KeepsReports place most g → KeepsReports place more g
+pub at_most : (place most more : ℕ) (g : SteadyHistory) → most ≤ more → KeepsReports place most g → KeepsReports place more g
 at_most place most more g less is = let few = is.few in record { slight = is.slight; kept = is.kept; few = omega arith }
 
-pub off_kept : (place most : ℕ) (ppm : ℤ) (g : Given) → is_slight ppm ≡ true → KeepsReports place most g
+pub off_kept : (place most : ℕ) (ppm : ℤ) (g : SteadyHistory) → is_slight ppm ≡ true → KeepsReports place most g
     → KeepsReports place most (with_deviation_given ppm g)
 off_kept place most ppm g slight is = record {
   slight = and_from (is_slight ppm) (list_all is_slight g.deviations) slight is.slight;
@@ -38,7 +38,7 @@ off_kept place most ppm g slight is = record {
 
 -- ---- a stream starts anew
 
-pub anew_kept : (place most : ℕ) (g : Given) → KeepsReports place most g → KeepsReports place 0 (with_restart_given place g)
+pub anew_kept : (place most : ℕ) (g : SteadyHistory) → KeepsReports place most g → KeepsReports place 0 (with_restart_given place g)
 anew_kept place most g is = record {
   slight = is.slight;
   kept = λ n. by n (n == place);
@@ -71,7 +71,7 @@ lost_run : (lists : List (List Bool)) (most : ℕ) → latest_run lists ≤ most
 lost_run [] most few = omega arith
 lost_run (latest ∷ earlier) most few = omega arith
 
-pub report_came : (place most : ℕ) (g : Given) → KeepsReports place most g → KeepsReports place 0 (with_report_given place false g)
+pub report_came : (place most : ℕ) (g : SteadyHistory) → KeepsReports place most g → KeepsReports place 0 (with_report_given place false g)
 report_came place most g is = record {
   slight = is.slight;
   kept = λ n. by n (n == place);
@@ -82,7 +82,7 @@ report_came place most g is = record {
     by n true = came_kept (g.feedback n) (is.kept n)
     by n false = is.kept n
 
-pub report_lost : (place most : ℕ) (g : Given) → most ≤ 2 → KeepsReports place most g → KeepsReports place (suc most) (with_report_given place true g)
+pub report_lost : (place most : ℕ) (g : SteadyHistory) → most ≤ 2 → KeepsReports place most g → KeepsReports place (suc most) (with_report_given place true g)
 report_lost place most g two is = record {
   slight = is.slight;
   kept = λ n. by n (n == place) refl;

@@ -6,17 +6,17 @@ use Rattle.uac_descriptor.specs.Classes.{is_streaming_interface}
 use Rattle.uac_descriptor.specs.declared.block.Block as block
 use lib.Count.{ones, ones_in}
 use Rattle.uac_entities.specs.Entities.{entity_of, entities_of}
-use Rattle.uac_entities.specs.EntitySettings.{alternates_of, alternate_at, own_blocks, ends_setting, general_of, format_of, endpoint_of}
-use Rattle.uac_entities.specs.EntityStreams.{link_of, named, setting_of, stream_at, stream_of}
+use Rattle.uac_entities.specs.EntitySettings.{declared_settings, declared_setting_at, own_blocks, ends_setting, general_of, format_of, endpoint_of}
+use Rattle.uac_entities.specs.EntityInterfaces.{link_of, entity_by_id, setting_of, streaming_interface_at, streaming_interface_of}
 use Rattle.uac_entities.specs.declared.entity.Entity.{Entity}
 use Rattle.uac_topology_rules.specs.declared.fault.TopologyFault.{TopologyFault}
-use Rattle.uac_topology_rules.specs.Table.{at, found, place_of, kind_of}
+use Rattle.uac_topology_rules.specs.Table.{at, first_place_of, place_of, kind_of}
 use Rattle.uac_topology_rules.specs.Links.{clock_links, clock_sources, signal_links, signal_sources}
 use Rattle.uac_topology_rules.specs.Clusters.{cluster_step, cluster_within, cluster_of, pins}
 use Rattle.uac_topology_rules.specs.Domains.{names_new, clock_named, each_once, domains_of}
 use Rattle.uac_topology_rules.specs.Offenders.{first_place, offender, number_at, interface_offender}
 use Rattle.uac_topology_rules.specs.Rules.{breaks_u1, breaks_u2, breaks_u3, breaks_u4, breaks_u5, breaks_u8, breaks_u9, breaks_u10, breaks_u11, breaks_u12, breaks_u13, breaks_u14, at_stream, is_usb, is_wrong, exceeds, names_ninth}
-use Rattle.uac_topology_rules.specs.RuleFaults.{broken, broken_ends, broken_names, broken_shapes, broken_walks, of_entity, of_interface}
+use Rattle.uac_topology_rules.specs.RuleFaults.{rule_fault, broken_ends, broken_names, broken_shapes, broken_walks, of_entity, of_interface}
 use Rattle.uac_topology_rules.proofs.LinkCyclesLemmas.{cycles_are_named}
 use Rattle.uac_topology.specs.Topology.{first_broken, streams_in}
 use Rattle.uac_gen.specs.Descriptor.{blocks_with, control_total, whole_total}
@@ -34,7 +34,7 @@ entities_at d = entities_of (blocks_at d)
 -- ---- the rules, which say the same of each number of units
 
 names : (d : ℕ) → d < 30 → broken_names (entities_at d) ≡ None
-unfolding entity_of at found place_of kind_of signal_sources clock_sources first_place offender breaks_u1 breaks_u2 breaks_u3 breaks_u4 breaks_u5 of_entity broken_names
+unfolding entity_of at first_place_of place_of kind_of signal_sources clock_sources first_place offender breaks_u1 breaks_u2 breaks_u3 breaks_u4 breaks_u5 of_entity broken_names
 names d below = of_thirty (λ d. broken_names (entities_at d)) (λ d. None) refl d below
 
 signals_descend : (d : ℕ) → d < 30 → descends_from 0 (signal_links (entities_at d)) ≡ true
@@ -79,14 +79,14 @@ shapes d below =
     u11 : Option TopologyFault
     u11 = of_entity 11 (entities_at d) breaks_u11
 
-ends : (d : ℕ) → d < 30 → broken_ends (entities_at d) (alternates_of (blocks_at d)) (streams_in (blocks_at d)) ≡ None
-unfolding entity_of alternates_of alternate_at is_streaming_interface own_blocks ends_setting general_of format_of endpoint_of stream_at stream_of setting_of link_of named at found place_of kind_of signal_sources clock_sources cluster_step cluster_within cluster_of pins names_new clock_named each_once domains_of first_place offender number_at interface_offender breaks_u12 breaks_u13 names_ninth breaks_u14 at_stream is_usb is_wrong exceeds of_entity of_interface broken_ends
+ends : (d : ℕ) → d < 30 → broken_ends (entities_at d) (declared_settings (blocks_at d)) (streams_in (blocks_at d)) ≡ None
+unfolding entity_of declared_settings declared_setting_at is_streaming_interface own_blocks ends_setting general_of format_of endpoint_of streaming_interface_at streaming_interface_of setting_of link_of entity_by_id at first_place_of place_of kind_of signal_sources clock_sources cluster_step cluster_within cluster_of pins names_new clock_named each_once domains_of first_place offender number_at interface_offender breaks_u12 breaks_u13 names_ninth breaks_u14 at_stream is_usb is_wrong exceeds of_entity of_interface broken_ends
 ends d below =
-    of_thirty (λ d. broken_ends (entities_at d) (alternates_of (blocks_at d)) (streams_in (blocks_at d))) (λ d. None) refl d below
+    of_thirty (λ d. broken_ends (entities_at d) (declared_settings (blocks_at d)) (streams_in (blocks_at d))) (λ d. None) refl d below
 
 -- no rule is broken
 pub none_broken : (d : ℕ) → d < 30 → first_broken (blocks_at d) ≡ None
-unfolding first_broken broken
+unfolding first_broken rule_fault
 none_broken d below =
     ap (λ (o : Option TopologyFault). option_or o (option_or (broken_walks es) (option_or (broken_shapes es) (option_or last None)))) (names d below)
     ∙ ap (λ (o : Option TopologyFault). option_or o (option_or (broken_shapes es) (option_or last None))) (walks d below)
@@ -97,4 +97,4 @@ none_broken d below =
     es = entities_at d
 
     last : Option TopologyFault
-    last = broken_ends es (alternates_of (blocks_at d)) (streams_in (blocks_at d))
+    last = broken_ends es (declared_settings (blocks_at d)) (streams_in (blocks_at d))

@@ -19,7 +19,7 @@ use Rattle.uac_edges.specs.Numerals.{natural, numeral}
 use Rattle.uac_edges.proofs.NumeralsLemmas.{decimal-natural}
 use Rattle.uac_script.specs.declared.line.MarkKind.TheVariants.{Out, Feedback}
 use Rattle.uac_script.specs.Words.{hex_of, words_of}
-use Rattle.uac_script.specs.Phrase.{SaidMark, Phrase, hisses, feeds, goes, controls, tracks, deviates, runs, reports, are_marks_in_range, is_in_range, is_within}
+use Rattle.uac_script.specs.Phrase.{SaidMark, Phrase, noise_tone, bytes_line, go_line, control_line, track_line, deviate_line, microframes_line, report_line, are_marks_in_range, is_in_range, is_within}
 use Rattle.uac_script.specs.Line.{IsRow, mark_word}
 use Rattle.uac_script.specs.LineReading.{answer}
 use Rattle.uac_script.proofs.Answered.{says_only}
@@ -107,17 +107,17 @@ hex_is (b ∷ bytes) are some = ap result_ok (decode_of-encode_lower (b ∷ byte
 
 -- ---- lines
 
-pub feed_said : (bytes : List ℕ) → IsBytes bytes → 0 < length bytes → answer (codes "d " ++ encode_lower bytes) ≡ Ok (feeds bytes)
+pub feed_said : (bytes : List ℕ) → IsBytes bytes → 0 < length bytes → answer (codes "d " ++ encode_lower bytes) ≡ Ok (bytes_line bytes)
 feed_said bytes are some =
-    answers_row (codes "d " ++ encode_lower bytes) (feeds bytes)
+    answers_row (codes "d " ++ encode_lower bytes) (bytes_line bytes)
     (encode_lower bytes, then_words (codes "d") (encode_lower bytes) (visible (codes "d") refl) ∙ ap (λ ws. codes "d" ∷ ws) (one_word (encode_lower bytes) (hex_visible bytes are)), hex_is bytes are some)
     refl
 
-pub go_said : answer (codes "g") ≡ Ok goes
-go_said = answers_row (codes "g") goes refl refl
+pub go_said : answer (codes "g") ≡ Ok go_line
+go_said = answers_row (codes "g") go_line refl refl
 
-pub report_said : answer (codes "q") ≡ Ok reports
-report_said = answers_row (codes "q") reports refl refl
+pub report_said : answer (codes "q") ≡ Ok report_line
+report_said = answers_row (codes "q") report_line refl refl
 
 abbrev pub rate_setup : List ℕ
 rate_setup = 33 ∷ 1 ∷ 0 ∷ 1 ∷ 0 ∷ 1 ∷ 4 ∷ 0 ∷ []
@@ -126,11 +126,11 @@ abbrev pub setting_setup : List ℕ
 setting_setup = 1 ∷ 11 ∷ 1 ∷ 0 ∷ 1 ∷ 0 ∷ 0 ∷ 0 ∷ []
 
 rate_said_by : (bytes : List ℕ) → IsBytes bytes → 0 < length bytes
-    → answer (codes "c 2101000100010400 " ++ encode_lower bytes) ≡ Ok (controls rate_setup bytes)
+    → answer (codes "c 2101000100010400 " ++ encode_lower bytes) ≡ Ok (control_line rate_setup bytes)
 unfolding hex_on_literals
 rate_said_by bytes are some =
     let head : List ℕ = codes "2101000100010400" in
-    answers_row (codes "c 2101000100010400 " ++ encode_lower bytes) (controls rate_setup bytes) (
+    answers_row (codes "c 2101000100010400 " ++ encode_lower bytes) (control_line rate_setup bytes) (
       head,
       refl,
       refl,
@@ -143,13 +143,13 @@ rate_said_by bytes are some =
     )
     refl
 
-pub setting_said : answer setting_line ≡ Ok (controls setting_setup [])
+pub setting_said : answer setting_line ≡ Ok (control_line setting_setup [])
 unfolding hex_on_literals
-setting_said = answers_row setting_line (controls setting_setup []) (codes "010b010001000000", refl, refl, inl (refl, refl)) refl
+setting_said = answers_row setting_line (control_line setting_setup []) (codes "010b010001000000", refl, refl, inl (refl, refl)) refl
 
-pub tone_said : (number : ℕ) → number < 2 ^ 32 → answer (tone_line number) ≡ Ok (tracks (pos 1) (hisses (pos number)))
+pub tone_said : (number : ℕ) → number < 2 ^ 32 → answer (tone_line number) ≡ Ok (track_line (pos 1) (noise_tone (pos number)))
 tone_said number below =
-    answers_row (tone_line number) (tracks (pos 1) (hisses (pos number)))
+    answers_row (tone_line number) (track_line (pos 1) (noise_tone (pos number)))
     (then_words (codes "t") (codes "1 noise " ++ decimal number) (visible (codes "t") refl)
     ∙ ap (λ ws. codes "t" ∷ ws) (then_words (codes "1") (codes "noise " ++ decimal number) (visible (codes "1") refl)
     ∙ ap (λ ws. codes "1" ∷ ws) (then_words (codes "noise") (decimal number) (visible (codes "noise") refl)
@@ -166,13 +166,13 @@ drawn_off drawn = pos drawn -ℤ pos 1000
 pub drawn_slight : (drawn : ℕ) → drawn < 2001 → is_slight (drawn_off drawn) ≡ true
 drawn_slight drawn below = in_each (λ d. is_slight (drawn_off d)) (λ d. true) 2001 refl drawn below
 
-drawn_in_range : (drawn : ℕ) → drawn < 2001 → is_in_range (deviates (pos 1) (drawn_off drawn)) ≡ true
-drawn_in_range drawn below = in_each (λ d. is_in_range (deviates (pos 1) (drawn_off d))) (λ d. true) 2001 refl drawn below
+drawn_in_range : (drawn : ℕ) → drawn < 2001 → is_in_range (deviate_line (pos 1) (drawn_off drawn)) ≡ true
+drawn_in_range drawn below = in_each (λ d. is_in_range (deviate_line (pos 1) (drawn_off d))) (λ d. true) 2001 refl drawn below
 
-pub deviation_said : (drawn : ℕ) → drawn < 2001 → answer (deviation_line drawn) ≡ Ok (deviates (pos 1) (drawn_off drawn))
+pub deviation_said : (drawn : ℕ) → drawn < 2001 → answer (deviation_line drawn) ≡ Ok (deviate_line (pos 1) (drawn_off drawn))
 deviation_said drawn below =
     let off : List ℕ = numeral (drawn_off drawn) in
-    answers_row (deviation_line drawn) (deviates (pos 1) (drawn_off drawn))
+    answers_row (deviation_line drawn) (deviate_line (pos 1) (drawn_off drawn))
     (then_words (codes "k") (codes "1 " ++ off) (visible (codes "k") refl)
     ∙ ap (λ ws. codes "k" ∷ ws) (then_words (codes "1") off (visible (codes "1") refl)
     ∙ ap (λ ws. codes "1" ∷ ws) (one_word off (numeral_visible (drawn_off drawn))))
@@ -182,10 +182,10 @@ deviation_said drawn below =
 -- ---- microframes
 
 abbrev pub no_report : SaidMark
-no_report = record { letter = Feedback; place = pos 1 }
+no_report = record { kind = Feedback; interface = pos 1 }
 
 abbrev pub no_packet : SaidMark
-no_packet = record { letter = Out; place = pos 1 }
+no_packet = record { kind = Out; interface = pos 1 }
 
 mark_is : codes "f1" ∷ [] ≡ map mark_word (no_report ∷ [])
 unfolding numeral natural
@@ -204,10 +204,10 @@ counted count most = decimal_numeral count (omega arith)
 run_visible : (count : ℕ) → count ≤ 8000 → All IsVisible (decimal count)
 run_visible count most = decimal_visible count (omega arith)
 
-pub unmarked_said : (count : ℕ) → 1 ≤ count → count ≤ 8000 → answer (run_line count []) ≡ Ok (runs (pos count) [])
+pub unmarked_said : (count : ℕ) → 1 ≤ count → count ≤ 8000 → answer (run_line count []) ≡ Ok (microframes_line (pos count) [])
 unmarked_said count least most =
-    subst (λ text. answer (codes "m " ++ text) ≡ Ok (runs (pos count) [])) (sym (append-nil (decimal count)))
-    (answers_row (codes "m " ++ decimal count) (runs (pos count) [])
+    subst (λ text. answer (codes "m " ++ text) ≡ Ok (microframes_line (pos count) [])) (sym (append-nil (decimal count)))
+    (answers_row (codes "m " ++ decimal count) (microframes_line (pos count) [])
     (then_words (codes "m") (decimal count) (visible (codes "m") refl)
     ∙ ap (λ ws. codes "m" ∷ ws) (one_word (decimal count) (run_visible count most))
     ∙ ap (λ w. codes "m" ∷ w ∷ []) (counted count most))
@@ -220,15 +220,15 @@ marked_words count mark most marked =
     ∙ ap (λ ws. codes "m" ∷ ws) (then_words (decimal count) mark (run_visible count most) ∙ ap (λ ws. decimal count ∷ ws) (one_word mark marked))
     ∙ ap (λ w. codes "m" ∷ w ∷ mark ∷ []) (counted count most)
 
-pub unreported_said : (count : ℕ) → 1 ≤ count → count ≤ 8000 → answer (run_line count (codes " f1")) ≡ Ok (runs (pos count) (no_report ∷ []))
+pub unreported_said : (count : ℕ) → 1 ≤ count → count ≤ 8000 → answer (run_line count (codes " f1")) ≡ Ok (microframes_line (pos count) (no_report ∷ []))
 unreported_said count least most =
-    answers_row (run_line count (codes " f1")) (runs (pos count) (no_report ∷ []))
+    answers_row (run_line count (codes " f1")) (microframes_line (pos count) (no_report ∷ []))
     (marked_words count (codes "f1") most (visible (codes "f1") refl) ∙ ap (λ ws. codes "m" ∷ numeral (pos count) ∷ ws) mark_is)
     (and_from (is_within (pos 1) (pos 8000) (pos count)) (are_marks_in_range (no_report ∷ [])) (count_in_range count least most) refl)
 
-pub unpacked_said : (count : ℕ) → 1 ≤ count → count ≤ 8000 → answer (run_line count (codes " o1")) ≡ Ok (runs (pos count) (no_packet ∷ []))
+pub unpacked_said : (count : ℕ) → 1 ≤ count → count ≤ 8000 → answer (run_line count (codes " o1")) ≡ Ok (microframes_line (pos count) (no_packet ∷ []))
 unpacked_said count least most =
-    answers_row (run_line count (codes " o1")) (runs (pos count) (no_packet ∷ []))
+    answers_row (run_line count (codes " o1")) (microframes_line (pos count) (no_packet ∷ []))
     (marked_words count (codes "o1") most (visible (codes "o1") refl) ∙ ap (λ ws. codes "m" ∷ numeral (pos count) ∷ ws) packet_mark_is)
     (and_from (is_within (pos 1) (pos 8000) (pos count)) (are_marks_in_range (no_packet ∷ [])) (count_in_range count least most) refl)
 
@@ -248,6 +248,6 @@ bytes_are [] all k = omega arith
 bytes_are (b ∷ bytes) all zero = ltb-true b 256 (and_parts (nat_lt b 256) (list_all (λ b. nat_lt b 256) bytes) all).0
 bytes_are (b ∷ bytes) all (suc k) = bytes_are bytes (and_parts (nat_lt b 256) (list_all (λ b. nat_lt b 256) bytes) all).1 k
 
-pub rate_said : (place : ℕ) → place < 12 → answer (rate_line (slice_index twelve_rates place)) ≡ Ok (controls rate_setup (rate_bytes place))
+pub rate_said : (place : ℕ) → place < 12 → answer (rate_line (slice_index twelve_rates place)) ≡ Ok (control_line rate_setup (rate_bytes place))
 rate_said place below =
     rate_said_by (rate_bytes place) (bytes_are (rate_bytes place) (rates_are place below)) (let size = rates_long place below in omega arith)

@@ -3,7 +3,7 @@ use Rattle.std.proofs.Common.{◌≡◌, sym, subst, ℕ, suc, ◌+◌, ◌/◌,
 use Rattle.std.specs.Prelude.{nat_lt}
 use Rattle.std.specs.Option.{option_map, option_map_or}
 use Rattle.std.proofs.lemmas.Bool.{and_from, and_right, cases_eq, eq-eqb, lt-ltb, ne_eqb}
-use Rattle.uac_rate.specs.Steadiness.{Given, with_report_given}
+use Rattle.uac_rate.specs.Steadiness.{SteadyHistory, with_report_given}
 use Rattle.uac_flow.specs.FlowStreams.{OutStream}
 use Rattle.uac_streaming.specs.StreamingWorld.{given_at}
 use Rattle.uac_generated.proofs.Reports.{KeepsReports, at_most, report_came, report_lost}
@@ -24,11 +24,11 @@ abbrev pub is_told : Beat → Bool
 is_told b = nat_lt 0 b.microframes && b.microframes % b.period == 0
 
 -- what is given after a report of the stream of an interface, if one falls due
-abbrev pub told_at : Bool → Option ℕ → Bool → Given → Given
+abbrev pub told_at : Bool → Option ℕ → Bool → SteadyHistory → SteadyHistory
 told_at lost place told given = if told then given_at place (λ p. with_report_given p lost) given else given
 
-abbrev pub given_behind : Bool → Option ℕ → Option Beat → Given → Given
-given_behind lost place beat given = told_at lost place (option_map_or is_told beat false) given
+abbrev pub given_following : Bool → Option ℕ → Option Beat → SteadyHistory → SteadyHistory
+given_following lost place beat given = told_at lost place (option_map_or is_told beat false) given
 
 -- a stream has its reports each eight microframes, and so many, but for multiples of eight, have passed
 abbrev pub IsTimely : ℕ → Option Beat → Type 0
@@ -41,7 +41,7 @@ bound most None = 0
 bound most (Some b) = most
 
 -- both, of the stream whose interface stands at a place
-pub record IsWell (place passed most : ℕ) (beat : Option Beat) (given : Given) : Type 0 where
+pub record IsWell (place passed most : ℕ) (beat : Option Beat) (given : SteadyHistory) : Type 0 where
   pub timely : IsTimely passed beat
   pub kept : KeepsReports place (bound most beat) given
 
@@ -62,8 +62,8 @@ timely_on passed b eight count = (eight, omega arith)
 module _ (place : ℕ) where
   -- ---- a microframe whose report, if one falls due, comes
 
-  pub well_on : (passed most : ℕ) (beat : Option Beat) (given : Given) → IsWell place passed most beat given
-      → IsWell place (passed + 1) most (option_map next_beat beat) (given_behind false (Some place) (option_map next_beat beat) given)
+  pub well_on : (passed most : ℕ) (beat : Option Beat) (given : SteadyHistory) → IsWell place passed most beat given
+      → IsWell place (passed + 1) most (option_map next_beat beat) (given_following false (Some place) (option_map next_beat beat) given)
   well_on passed most None given is = record { timely = tt; kept = is.kept }
   well_on passed most (Some b) given is = record { timely = timely_on passed b is.timely.0 is.timely.1; kept = by (is_told (next_beat b)) }
     where
@@ -72,8 +72,8 @@ module _ (place : ℕ) where
       by false = is.kept
 
   -- and one after which it comes
-  pub well_in : (passed most : ℕ) (beat : Option Beat) (given : Given) → (passed + 1) % 8 ≡ 0 → IsWell place passed most beat given
-      → IsWell place 0 0 (option_map next_beat beat) (given_behind false (Some place) (option_map next_beat beat) given)
+  pub well_in : (passed most : ℕ) (beat : Option Beat) (given : SteadyHistory) → (passed + 1) % 8 ≡ 0 → IsWell place passed most beat given
+      → IsWell place 0 0 (option_map next_beat beat) (given_following false (Some place) (option_map next_beat beat) given)
   well_in passed most None given due is = record { timely = tt; kept = is.kept }
   well_in passed most (Some b) given due is =
       let told : is_told (next_beat b) ≡ true = told_on passed b is.timely.0 is.timely.1 due in
@@ -85,8 +85,8 @@ module _ (place : ℕ) where
 
   -- ---- a microframe whose report, if one falls due, is lost; so it is only in the first of 32
 
-  pub well_lost : (passed : ℕ) (beat : Option Beat) (given : Given) → passed + 1 < 32 → IsWell place passed (passed / 8) beat given
-      → IsWell place (passed + 1) ((passed + 1) / 8) (option_map next_beat beat) (given_behind true (Some place) (option_map next_beat beat) given)
+  pub well_lost : (passed : ℕ) (beat : Option Beat) (given : SteadyHistory) → passed + 1 < 32 → IsWell place passed (passed / 8) beat given
+      → IsWell place (passed + 1) ((passed + 1) / 8) (option_map next_beat beat) (given_following true (Some place) (option_map next_beat beat) given)
   well_lost passed None given few is = record { timely = tt; kept = is.kept }
   well_lost passed (Some b) given few is = record {
     timely = timely_on passed b is.timely.0 is.timely.1;

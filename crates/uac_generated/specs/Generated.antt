@@ -2,7 +2,7 @@
 use Rattle.std.specs.Prelude.{◌≡◌, ◌≢◌, ℕ, ◌^◌, ◌<◌, ◌≤◌, true, List, length, None, Ok}
 use Rattle.std.specs.List.{All, AllByRecursion}
 use Rattle.uac_units.specs.Hearing.{Reading}
-use Rattle.uac_gen.specs.Generator.{generated}
+use Rattle.uac_gen.specs.Generator.{generated_lines}
 use Rattle.uac_gen.specs.GeneratedScript.{script_of}
 use Rattle.uac_script.specs.ScriptLines.{most_of_input, most_of_line}
 use Rattle.uac_bus.specs.BusWorld.{finish_of}
@@ -16,7 +16,7 @@ pub record IsLineOfScript (text : List ℕ) : Type 0 where
 
 -- each line is one of a script, and with their newlines they are fewer bytes than an input may have
 pub record IsScript (number : ℕ) : Type 0 where
-  pub lines : AllByRecursion IsLineOfScript (generated number)
+  pub lines : AllByRecursion IsLineOfScript (generated_lines number)
   pub fits : length (script_of number) < most_of_input
 
 abbrev pub GeneratedScriptsAreScripts : Type 0
@@ -30,9 +30,9 @@ pub record IsDone (a : After) : Type 0 where
 -- so it is whatever the meters show
 abbrev pub GeneratedScriptsAreDone : Type 0
 GeneratedScriptsAreDone =
-    (number : ℕ) (shown : List Reading) → number < 2 ^ 32 → IsDone (after_texts (generated number) shown)
+    (number : ℕ) (shown : List Reading) → number < 2 ^ 32 → IsDone (after_texts (generated_lines number) shown)
 
 -- no clock is off by more than a thousandth, and no stream loses four feedback reports in succession
 abbrev pub GeneratedScriptsAreSteady : Type 0
 GeneratedScriptsAreSteady =
-    (number : ℕ) (shown : List Reading) → number < 2 ^ 32 → is_steady_in (after_texts (generated number) shown).world ≡ true
+    (number : ℕ) (shown : List Reading) → number < 2 ^ 32 → is_steady_in (after_texts (generated_lines number) shown).world ≡ true

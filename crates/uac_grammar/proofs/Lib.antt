@@ -1,6 +1,6 @@
 pub mod Parts
-pub mod RowsIn
+pub mod RowLemmas
 pub mod Verdicts
 pub mod Readings
 pub mod Worked
-pub mod Stops
+pub mod StopLemmas

@@ -18,7 +18,7 @@ use Rattle.uac_grammar.specs.declared.fault.ReadStop.{ReadStop}
 use Rattle.uac_grammar.specs.declared.fault.ReadStop.TheVariants.{Fault, NoMemory}
 use Rattle.uac_grammar.specs.ReaderKept.{IsUnstopped, most_taken, IsPartial, IsGoing, IsReaderOf}
 use Rattle.uac_grammar.specs.Stop.{is_shown, shown_within, shown_fault, stop_at, first_stop, shown_stop}
-use Rattle.uac_grammar.specs.Verdict.{Shows, KeepsBlock, Keeps, IsUnchanged, Refuses}
+use Rattle.uac_grammar.specs.Verdict.{Shows, IsGoodBlock, AddsBlock, IsUnchanged, Refuses}
 use Rattle.uac_grammar.proofs.Verdicts.{partial_one, pending_faults}
 
 -- ---- faults that are shown
@@ -107,7 +107,7 @@ going_shows blocks s place pending bytes fault going shows rest =
 
 -- a block more
 pub going_keeps : (blocks : List Block) (s : State) (place : ℕ) (pending bytes : List ℕ) (b : Block) → IsGoing blocks s place pending
-    → AreBytes bytes → KeepsBlock s place bytes b → IsGoing (blocks ++ b ∷ []) (state_after s place b) (place + length bytes) []
+    → AreBytes bytes → IsGoodBlock s place bytes b → IsGoing (blocks ++ b ∷ []) (state_after s place b) (place + length bytes) []
 going_keeps blocks s place pending bytes b going are kept =
     let (read, spelt) = block_read blocks s place bytes b going.read are kept.read kept.unbroken in
     let all : AreBytes (spellings (blocks ++ b ∷ [])) =
@@ -138,7 +138,7 @@ going_stays old new s t place pending bytes going are partial same =
 
 -- after a block that is kept
 pub going_more : (old new : List Block) (s t : State) (place : ℕ) (pending bytes : List ℕ) → IsGoing old s place pending → AreBytes bytes
-    → Keeps old new s t place bytes → IsGoing new t (place + length bytes) []
+    → AddsBlock old new s t place bytes → IsGoing new t (place + length bytes) []
 going_more old new s t place pending bytes going are keeps =
     subst (λ (bs : List Block). IsGoing bs t (place + length bytes) []) (sym keeps.more)
     (subst (λ (u : State). IsGoing (old ++ keeps.block ∷ []) u (place + length bytes) []) (sym keeps.following)
@@ -157,13 +157,13 @@ more_bytes front pending n bytes are more = bytes_both pending (take n bytes) (b
 
 -- the bytes that were taken, with those that end a block
 pub going_taken : (blocks : List Block) (s : State) (place : ℕ) (pending more : List ℕ) (b : Block) → IsGoing blocks s place pending
-    → AreBytes (pending ++ more) → KeepsBlock s place (pending ++ more) b → spellings (blocks ++ b ∷ []) ++ [] ≡ (spellings blocks ++ pending) ++ more
+    → AreBytes (pending ++ more) → IsGoodBlock s place (pending ++ more) b → spellings (blocks ++ b ∷ []) ++ [] ≡ (spellings blocks ++ pending) ++ more
 going_taken blocks s place pending more b going are kept =
     append-nil (spellings (blocks ++ b ∷ []))
     ∙ ((block_read blocks s place (pending ++ more) b going.read are kept.read kept.unbroken).1 ∙ sym (append_assoc (spellings blocks) pending more))
 
 pub taken_kept : (old new : List Block) (s t : State) (place : ℕ) (pending more : List ℕ) → IsGoing old s place pending → AreBytes (pending ++ more)
-    → Keeps old new s t place (pending ++ more) → spellings new ++ [] ≡ (spellings old ++ pending) ++ more
+    → AddsBlock old new s t place (pending ++ more) → spellings new ++ [] ≡ (spellings old ++ pending) ++ more
 taken_kept old new s t place pending more going are keeps =
     ap (λ (bs : List Block). spellings bs ++ []) keeps.more ∙ going_taken old s place pending more keeps.block going are keeps.kept
 

@@ -19,15 +19,15 @@ pub record Shows (state : State) (place : ℕ) (bytes : List ℕ) (fault : Gramm
   pub shown : IsShown fault (place + length bytes)
 
 -- these bytes are this block, and it breaks no rule
-pub record KeepsBlock (state : State) (place : ℕ) (bytes : List ℕ) (block : Block) : Type 0 where
+pub record IsGoodBlock (state : State) (place : ℕ) (bytes : List ℕ) (block : Block) : Type 0 where
   pub piece : IsPiece bytes
   pub read : block_of state.context bytes ≡ Some block
   pub unbroken : rule_broken state place (length bytes) block ≡ None
 
 -- where these bytes are kept as a block more: the blocks and the state before and after it
-pub record Keeps (old new : List Block) (s t : State) (place : ℕ) (bytes : List ℕ) : Type 0 where
+pub record AddsBlock (old new : List Block) (s t : State) (place : ℕ) (bytes : List ℕ) : Type 0 where
   pub block : Block
-  pub kept : KeepsBlock s place bytes block
+  pub kept : IsGoodBlock s place bytes block
   pub more : new ≡ old ++ block ∷ []
   pub following : t ≡ state_after s place block
 
@@ -43,7 +43,7 @@ Refuses old new s t place bytes NoMemory = Unit {0}
 
 abbrev pub IsVerdict : List Block → List Block → State → State → ℕ → List ℕ → Verdict → Type 0
 IsVerdict old new s t place bytes Partial = IsPartial bytes × IsUnchanged old new s t
-IsVerdict old new s t place bytes Kept = Keeps old new s t place bytes
+IsVerdict old new s t place bytes Kept = AddsBlock old new s t place bytes
 IsVerdict old new s t place bytes (Stopped stop) = Refuses old new s t place bytes stop
 
 -- ---- the bytes that are judged

@@ -34,7 +34,7 @@ use uac_descriptor::{Block, ByteList, Context, Foreign, NoMemory};
 
 /// The block that these bytes are read as in this context, or none where they aren't one block or not of
 /// their row's length.
-#[tactic(auto, using(crate::proofs::RowsIn::whole_is, crate::proofs::RowsIn::block_none, crate::proofs::RowsIn::block_row))]
+#[tactic(auto, using(crate::proofs::RowLemmas::whole_is, crate::proofs::RowLemmas::block_none, crate::proofs::RowLemmas::block_row))]
 pub(crate) fn read_block(
     alloc: Global,
     context: Context,
@@ -66,7 +66,7 @@ pub(crate) fn has_row(kind: u8) -> bool
 }
 
 /// The block that these bytes are read as in every context, since none has a row for their type.
-#[tactic(auto, using(crate::proofs::RowsIn::whole_block, crate::proofs::RowsIn::no_row_parts))]
+#[tactic(auto, using(crate::proofs::RowLemmas::whole_block, crate::proofs::RowLemmas::no_row_parts))]
 #[inline(always)]
 pub(crate) fn read_whole(alloc: Global, bytes: &[u8]) -> Result<Block, NoMemory>
     requires whole { IsWhole bytes.now }
@@ -87,7 +87,7 @@ fn is_whole(bytes: &[u8]) -> bool
 }
 
 /// In front of every interface.
-#[tactic(auto, using(crate::proofs::RowsIn::row_of_whole, crate::proofs::RowsIn::no_subtype, crate::proofs::RowsIn::subtype_and_rest, std::proofs::lemmas::Bool::Decides::nat_tests))]
+#[tactic(auto, using(crate::proofs::RowLemmas::row_of_whole, crate::proofs::RowLemmas::no_subtype, crate::proofs::RowLemmas::subtype_and_rest, std::proofs::lemmas::Bool::Decides::nat_tests))]
 fn in_front(alloc: Global, bytes: &[u8]) -> Result<Option<Block>, NoMemory>
     requires { IsWhole bytes.now }
     ensures { IfOk result (λ found. found ≡ read_row (row_in contexts.DeviceFront bytes.now) bytes.now) }
@@ -105,7 +105,7 @@ fn in_front(alloc: Global, bytes: &[u8]) -> Result<Option<Block>, NoMemory>
 }
 
 /// In the control interface.
-#[tactic(auto, using(crate::proofs::RowsIn::row_of_whole, std::proofs::lemmas::Bool::Decides::nat_tests))]
+#[tactic(auto, using(crate::proofs::RowLemmas::row_of_whole, std::proofs::lemmas::Bool::Decides::nat_tests))]
 fn in_control(alloc: Global, bytes: &[u8]) -> Result<Option<Block>, NoMemory>
     requires { IsWhole bytes.now }
     ensures { IfOk result (λ found. found ≡ read_row (row_in contexts.ControlInterface bytes.now) bytes.now) }
@@ -122,7 +122,7 @@ fn in_control(alloc: Global, bytes: &[u8]) -> Result<Option<Block>, NoMemory>
 }
 
 /// In a streaming interface.
-#[tactic(auto, using(crate::proofs::RowsIn::row_of_whole, std::proofs::lemmas::Bool::Decides::nat_tests))]
+#[tactic(auto, using(crate::proofs::RowLemmas::row_of_whole, std::proofs::lemmas::Bool::Decides::nat_tests))]
 fn in_streaming(alloc: Global, bytes: &[u8]) -> Result<Option<Block>, NoMemory>
     requires { IsWhole bytes.now }
     ensures { IfOk result (λ found. found ≡ read_row (row_in contexts.StreamingInterface bytes.now) bytes.now) }
@@ -139,7 +139,7 @@ fn in_streaming(alloc: Global, bytes: &[u8]) -> Result<Option<Block>, NoMemory>
 }
 
 /// A block that parts the descriptor in every context, or one that is kept whole.
-#[tactic(auto, using(crate::proofs::RowsIn::row_of_whole, std::proofs::lemmas::Bool::Decides::nat_tests))]
+#[tactic(auto, using(crate::proofs::RowLemmas::row_of_whole, std::proofs::lemmas::Bool::Decides::nat_tests))]
 fn parting(alloc: Global, bytes: &[u8]) -> Result<Option<Block>, NoMemory>
     requires { IsWhole bytes.now }
     ensures { IfOk result (λ found. found ≡ read_row (row_in contexts.ForeignInterface bytes.now) bytes.now) }
@@ -156,7 +156,7 @@ fn parting(alloc: Global, bytes: &[u8]) -> Result<Option<Block>, NoMemory>
 }
 
 /// A class block of the control interface.
-#[tactic(auto, using(crate::proofs::RowsIn::control_too_short, crate::proofs::RowsIn::subtype_and_rest, std::proofs::lemmas::Bool::Decides::nat_tests))]
+#[tactic(auto, using(crate::proofs::RowLemmas::control_too_short, crate::proofs::RowLemmas::subtype_and_rest, std::proofs::lemmas::Bool::Decides::nat_tests))]
 fn control_block(alloc: Global, bytes: &[u8]) -> Result<Option<Block>, NoMemory>
     requires whole { IsWhole bytes.now }
     requires kind { slice_index bytes.now 1 ≡ CS_INTERFACE }
@@ -181,7 +181,7 @@ fn control_block(alloc: Global, bytes: &[u8]) -> Result<Option<Block>, NoMemory>
 }
 
 /// A class block of a streaming interface.
-#[tactic(auto, using(crate::proofs::RowsIn::streaming_too_short, crate::proofs::RowsIn::subtype_and_rest, std::proofs::lemmas::Bool::Decides::nat_tests))]
+#[tactic(auto, using(crate::proofs::RowLemmas::streaming_too_short, crate::proofs::RowLemmas::subtype_and_rest, std::proofs::lemmas::Bool::Decides::nat_tests))]
 fn streaming_block(alloc: Global, bytes: &[u8]) -> Result<Option<Block>, NoMemory>
     requires { IsWhole bytes.now }
     ensures { IfOk result (λ found. found ≡ read_row (streaming_row (drop 2 bytes.now)) bytes.now) }
@@ -199,7 +199,7 @@ fn streaming_block(alloc: Global, bytes: &[u8]) -> Result<Option<Block>, NoMemor
 }
 
 /// A class block after an endpoint.
-#[tactic(auto, using(crate::proofs::RowsIn::endpoint_too_short, crate::proofs::RowsIn::subtype_and_rest, std::proofs::lemmas::Bool::Decides::nat_tests))]
+#[tactic(auto, using(crate::proofs::RowLemmas::endpoint_too_short, crate::proofs::RowLemmas::subtype_and_rest, std::proofs::lemmas::Bool::Decides::nat_tests))]
 fn class_endpoint_block(alloc: Global, bytes: &[u8]) -> Result<Option<Block>, NoMemory>
     requires whole { IsWhole bytes.now }
     requires kind { slice_index bytes.now 1 ≡ CS_ENDPOINT }

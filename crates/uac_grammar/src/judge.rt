@@ -6,7 +6,7 @@ ghost use Rattle.uac_sentence.specs.Fault.{faults_from};
 ghost use Rattle.uac_sentence.specs.Grammar.{grammar};
 ghost use Rattle.uac_sentence.specs.declared.states.TheConstants.{FURTHEST};
 ghost use Rattle.uac_grammar.specs.ReaderKept.{IsPartial};
-ghost use Rattle.uac_grammar.specs.Verdict.{IsVerdict, Keeps, Refuses, is_kept};
+ghost use Rattle.uac_grammar.specs.Verdict.{IsVerdict, AddsBlock, Refuses, is_kept};
 
 use crate::blocks::{has_row, read_block, read_whole};
 use crate::fault::ReadStop;
@@ -72,7 +72,7 @@ fn keep(
 ) -> Result<(), ReadStop>
     requires fits { place ≤ FURTHEST }
     requires piece { IsPiece bytes.now }
-    ensures { MatchResult result (λ _. Keeps blocks.old.items blocks.new.items state.old state.new place bytes.now)
+    ensures { MatchResult result (λ _. AddsBlock blocks.old.items blocks.new.items state.old state.new place bytes.now)
         (λ stop. Refuses blocks.old.items blocks.new.items state.old state.new place bytes.now stop) }
 {
     if has_row(bytes[1]) {
@@ -96,7 +96,7 @@ fn keep_by_row(
 ) -> Result<(), ReadStop>
     requires fits { place ≤ FURTHEST }
     requires piece { IsPiece bytes.now }
-    ensures { MatchResult result (λ _. Keeps blocks.old.items blocks.new.items state.old state.new place bytes.now)
+    ensures { MatchResult result (λ _. AddsBlock blocks.old.items blocks.new.items state.old state.new place bytes.now)
         (λ stop. Refuses blocks.old.items blocks.new.items state.old state.new place bytes.now stop) }
 {
     match read_block(alloc, state.context, bytes) {
@@ -117,7 +117,7 @@ fn keep_block(
     requires fits { place ≤ FURTHEST }
     requires piece { IsPiece bytes.now }
     requires read { block_of state.old.context bytes.now ≡ Some block }
-    ensures { MatchResult result (λ _. Keeps blocks.old.items blocks.new.items state.old state.new place bytes.now)
+    ensures { MatchResult result (λ _. AddsBlock blocks.old.items blocks.new.items state.old state.new place bytes.now)
         (λ stop. Refuses blocks.old.items blocks.new.items state.old state.new place bytes.now stop) }
 {
     if let Some(rule) = state.rule_broken(place, bytes[0], &block) {

@@ -61,7 +61,7 @@ pub sources_few : (entities : List Entity) (e : Entity) (u : UnitKind) → unit_
     → length e.sources ≤ 256
 unfolding pins_of
 sources_few entities e u is askable chosen some =
-    omega (arith, selector_by e.kind u e.cluster.channels (pins_of entities e) is chosen some askable.fits, length-map e.sources (Rattle.uac_entities.specs.EntityStreams.channels_of entities))
+    omega (arith, selector_by e.kind u e.cluster.channels (pins_of entities e) is chosen some askable.fits, length-map e.sources (Rattle.uac_entities.specs.EntityInterfaces.channels_of entities))
 
 -- what it is asked is its job
 pub is_asked : (controls : Controls) (e : Entity) (u : UnitKind) (inputs row : ℕ) (job : Job) → unit_of e.kind ≡ Some u → inputs ≡ row

@@ -12,7 +12,7 @@ use Rattle.uac_topology_rules.specs.Table.{at}
 use Rattle.uac_store.specs.StoreControls.{pins_of}
 use Rattle.uac_units.specs.declared.jobs.Job.{Job}
 use Rattle.uac_units.specs.declared.jobs.UnitKind.{UnitKind}
-use Rattle.uac_units.specs.Rendering.{FitsKind, in_a_row, rendered}
+use Rattle.uac_units.specs.Rendering.{FitsKind, in_a_row, job_samples}
 use Rattle.uac_graph.specs.GraphControls.{Controls}
 use Rattle.uac_graph.specs.Fitness.{IsSignalGraph}
 use Rattle.uac_graph.specs.Jobs.{AreJobs, HasJob, unit_of}
@@ -153,8 +153,8 @@ wire_named frames new own id samples given k named is set =
 
 -- a wire that gets what a unit renders, by its kind
 pub by_kind : (frames : Frames) (own k : ℕ) (u kind : UnitKind) (job : Job) (pins : List ℤ) → u ≡ kind
-    → (if eqb own k then Some (rendered u job pins) else frame_on frames k) ≡ (if eqb own k then Some (rendered kind job pins) else frame_on frames k)
-by_kind frames own k u kind job pins same = ap (λ (v : UnitKind). if eqb own k then Some (rendered v job pins) else frame_on frames k) same
+    → (if eqb own k then Some (job_samples u job pins) else frame_on frames k) ≡ (if eqb own k then Some (job_samples kind job pins) else frame_on frames k)
+by_kind frames own k u kind job pins same = ap (λ (v : UnitKind). if eqb own k then Some (job_samples v job pins) else frame_on frames k) same
 
 module _ (entities : List Entity) (frames : Frames) (place : ℕ) (sound : IsSignalGraph entities) (fitting : AreWiresOf entities frames)
     (inside : place < length entities) (signal : is_clock (at entities place).kind ≡ false) where
@@ -215,7 +215,7 @@ module _ (entities : List Entity) (frames : Frames) (place : ℕ) (sound : IsSig
 
   pub renders_set : (controls : Controls) (u : UnitKind) (source own : ℕ) (job : Job) (new : Frames) → Renders (at entities place) u source own
       → HasJob controls (at entities place) (sum (pins_of entities (at entities place))) job
-      → ((k : ℕ) → frame_on new k ≡ (if eqb own k then Some (rendered u job (samples_on frames source)) else frame_on frames k))
+      → ((k : ℕ) → frame_on new k ≡ (if eqb own k then Some (job_samples u job (samples_on frames source)) else frame_on frames k))
       → (k : ℕ) → frame_on new k
       ≡ (if eqb (at entities place).id k
       then Some (frame_of controls (at entities place).id (at entities place).kind (at entities place).cluster.channels
@@ -223,7 +223,7 @@ module _ (entities : List Entity) (frames : Frames) (place : ℕ) (sound : IsSig
       else frame_on frames k)
   renders_set controls u source own job new renders has set k =
       let e = at entities place in
-      wire_named frames new own e.id (rendered u job (samples_on frames source)) _ k renders.named
+      wire_named frames new own e.id (job_samples u job (samples_on frames source)) _ k renders.named
       (rendered_unit controls e u (map (samples_on frames) e.sources) (samples_on frames source) job renders.some (sym renders.unit)
       (length-map e.sources (samples_on frames)) (row_of_one frames e.sources source renders.one)
       (job_at entities controls frames place e job sound fitting inside signal refl has)

@@ -13,7 +13,7 @@ use Rattle.uac_topology.specs.Function.{FunctionFields}
 use Rattle.uac_topology.specs.Topology.{IsSoundFunction}
 use Rattle.uac_graph.specs.Fitness.{IsSignalGraph}
 use Rattle.uac_graph.specs.Meaning.{entity}
-use Rattle.uac_graph.specs.Needs.{depended, is_end, reaches}
+use Rattle.uac_graph.specs.Needs.{depends_on, is_end, reaches}
 use Rattle.uac_graph.proofs.FromRules.{sound_graph}
 use Rattle.uac_graph.proofs.Links.{entity_past, place_or_none}
 use Rattle.uac_graph.proofs.Lookups.{id_at}
@@ -77,8 +77,8 @@ module _ (entities : List Entity) (domain id : ℕ) (sound : IsSignalGraph entit
             ∙ and-false (is_end domain (at entities k))
       ]
 
-  ends_alone : depended entities domain id ≡ is_end domain (entity entities id)
-  unfolding depended test entity at
+  ends_alone : depends_on entities domain id ≡ is_end domain (entity entities id)
+  unfolding depends_on test entity at
   ends_alone =
       elim (cases_Bool (is_end domain (entity entities id))) [
         | inl end ↦ list_any_at test entities (place_of entities id) nothing there (itself end) ∙ sym end
@@ -88,5 +88,5 @@ module _ (entities : List Entity) (domain id : ℕ) (sound : IsSignalGraph entit
       ]
 
 pub output_terminals : (function : FunctionFields) → IsSoundFunction function → (domain id : ℕ) → is_output (entity function.entities id).kind ≡ true
-    → depended function.entities domain id ≡ is_end domain (entity function.entities id)
+    → depends_on function.entities domain id ≡ is_end domain (entity function.entities id)
 output_terminals function sound domain id output = ends_alone function.entities domain id (sound_graph function sound) output

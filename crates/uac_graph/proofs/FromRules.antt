@@ -6,22 +6,22 @@ use Rattle.std.proofs.lemmas.Bool.{eqb-true, eq-eqb, or_parts, ltb-false}
 use Rattle.std.proofs.lemmas.List.{get_or_default, get_or-take, length-take-le}
 use Rattle.std.proofs.lemmas.List.Sums.{position_or_len_is}
 use Rattle.uac_walk.specs.Walk.{links, has_walk}
-use Rattle.uac_walk.proofs.Walks.{none_at}
+use Rattle.uac_walk.proofs.WalkLemmas.{none_at}
 use Rattle.uac_entities.specs.Entities.{entities_of, no_cluster}
 use Rattle.uac_entities.specs.declared.entity.Cluster.{Cluster}
 use Rattle.uac_entities.specs.declared.entity.Entity.{Entity}
 use Rattle.uac_entities.specs.declared.entity.EntityKind.{EntityKind}
 use Rattle.uac_entities.specs.declared.entity.EntityKind.TheVariants as kind
-use Rattle.uac_topology_rules.specs.Clusters.{cluster_of, cluster_step, clustered, inputs, pins, takes_over}
+use Rattle.uac_topology_rules.specs.Clusters.{cluster_of, cluster_step, with_own_clusters, inputs, pins, takes_over}
 use Rattle.uac_topology_rules.specs.Links.{is_clock, signal_links, signal_sources}
 use Rattle.uac_topology_rules.specs.Rules.{breaks_u2, breaks_u3, breaks_u4, breaks_u6, breaks_u8, breaks_u10, breaks_u14, has_own_cluster, is_output, is_selector, is_silent, too_large}
-use Rattle.uac_topology_rules.specs.Table.{at, found, kind_of, nothing, place_of, with_cluster}
+use Rattle.uac_topology_rules.specs.Table.{at, first_place_of, kind_of, nothing, place_of, with_cluster}
 use Rattle.uac_topology_rules.proofs.Along.{cluster_is}
 use Rattle.uac_topology_rules.proofs.TableSteps.{found_is}
 use Rattle.uac_topology.specs.Function.{FunctionFields}
 use Rattle.uac_topology.specs.Topology.{IsSoundFunction}
 use Rattle.uac_store.specs.StoreControls.{pins_of}
-use Rattle.uac_topology.proofs.Clustered.{clustered-at, length-clustered, same_place, seen_alike}
+use Rattle.uac_topology.proofs.Clustered.{with_own_clusters-at, length-with_own_clusters, same_place, seen_alike}
 use Rattle.uac_topology.proofs.SoundRules.{KeepsRules, rules_hold}
 use Rattle.uac_store.proofs.Soundness.{same_pins}
 use Rattle.uac_graph.specs.Fitness.{FitsPins, IsSignalGraph}
@@ -50,12 +50,12 @@ module _ (es : List Entity) (h : KeepsRules es) (one : (k : ℕ) → k < length 
   unfolding breaks_u3 breaks_u4 kind_of
   source_there k i below inside =
       let s = get_or (signal_sources (at es k)) i 0 in
-      by s (found es s) refl
+      by s (first_place_of es s) refl
       (none_at (λ id. is_none (kind_of es id)) (signal_sources (at es k)) i 0 inside (h.u3 k below))
       (none_at (λ id. is_silent (kind_of es id)) (signal_sources (at es k)) i 0 inside (h.u4 k below))
     where
-      by : (s : ℕ) (o : Option ℕ) → found es s ≡ o → is_none (option_map (λ p. (at es p).kind) (found es s)) ≡ false
-          → is_silent (option_map (λ p. (at es p).kind) (found es s)) ≡ false
+      by : (s : ℕ) (o : Option ℕ) → first_place_of es s ≡ o → is_none (option_map (λ p. (at es p).kind) (first_place_of es s)) ≡ false
+          → is_silent (option_map (λ p. (at es p).kind) (first_place_of es s)) ≡ false
           → (place_of es s < length es) × (is_clock (at es (place_of es s)).kind ≡ false) × (is_output (at es (place_of es s)).kind ≡ false)
       by s None e some loud =
           let no : true ≡ false = ap (λ o. is_none (option_map (λ (p : ℕ). (at es p).kind) o)) (sym e) ∙ some in absurd (cc)
@@ -152,17 +152,17 @@ module _ (es : List Entity) (h : KeepsRules es) (one : (k : ℕ) → k < length 
       by_takes false e shorter = own_channels k below signal e
 
   -- the entity at a place, with its cluster
-  at_clustered : (k : ℕ) → k < length es → at (clustered es) k ≡ with_cluster (at es k) (cluster_of es k)
+  at_clustered : (k : ℕ) → k < length es → at (with_own_clusters es) k ≡ with_cluster (at es k) (cluster_of es k)
   unfolding at
-  at_clustered k below = clustered-at es k nothing below
+  at_clustered k below = with_own_clusters-at es k nothing below
 
   -- a source, with its cluster
-  entity_clustered : (s : ℕ) → place_of es s < length es → entity (clustered es) s ≡ with_cluster (at es (place_of es s)) (cluster_of es (place_of es s))
+  entity_clustered : (s : ℕ) → place_of es s < length es → entity (with_own_clusters es) s ≡ with_cluster (at es (place_of es s)) (cluster_of es (place_of es s))
   unfolding entity
-  entity_clustered s below = ap (at (clustered es)) (same_place es s) ∙ at_clustered (place_of es s) below
+  entity_clustered s below = ap (at (with_own_clusters es)) (same_place es s) ∙ at_clustered (place_of es s) below
 
   -- the pins of the entities with their clusters
-  pins_clustered : (k : ℕ) → is_clock (at es k).kind ≡ false → pins es k ≡ pins_of (clustered es) (at es k)
+  pins_clustered : (k : ℕ) → is_clock (at es k).kind ≡ false → pins es k ≡ pins_of (with_own_clusters es) (at es k)
   unfolding pins pins_of
   pins_clustered k signal = ap (map (λ p. (cluster_of es p).channels)) (sources_at k signal) ∙ same_pins es (at es k).sources
 
@@ -213,43 +213,43 @@ module _ (es : List Entity) (h : KeepsRules es) (one : (k : ℕ) → k < length 
   fits_at k below kind.ClockMultiplier is = tt
 
   -- the same links
-  same_links : signal_links (clustered es) ≡ signal_links es
+  same_links : signal_links (with_own_clusters es) ≡ signal_links es
   unfolding signal_sources
   same_links =
-      (λ j. map (λ e. map (λ id. same_place es id j) (signal_sources e)) (clustered es))
+      (λ j. map (λ e. map (λ id. same_place es id j) (signal_sources e)) (with_own_clusters es))
       ∙ seen_alike es [] (λ e. map (place_of es) (signal_sources e)) (λ e c. refl)
 
   -- what holds of no source, seen with its cluster
   sources_keep : (test : EntityKind → Bool)
       → ((k i : ℕ) → k < length es → i < length (signal_sources (at es k)) → test (at es (place_of es (get_or (signal_sources (at es k)) i 0))).kind ≡ false)
-      → (k : ℕ) → k < length (clustered es) → All (λ s. test (entity (clustered es) s).kind ≡ false) (signal_sources (at (clustered es) k))
+      → (k : ℕ) → k < length (with_own_clusters es) → All (λ s. test (entity (with_own_clusters es) s).kind ≡ false) (signal_sources (at (with_own_clusters es) k))
   unfolding signal_sources
   sources_keep test none k within =
-      let below : k < length es = omega (arith, within, length-clustered es) in
-      subst (λ (e : Entity). All (λ s. test (entity (clustered es) s).kind ≡ false) (signal_sources e)) (sym (at_clustered k below))
+      let below : k < length es = omega (arith, within, length-with_own_clusters es) in
+      subst (λ (e : Entity). All (λ s. test (entity (with_own_clusters es) s).kind ≡ false) (signal_sources e)) (sym (at_clustered k below))
       (λ i d inside.
       let s = get_or (signal_sources (at es k)) i 0 in
-      subst (λ (n : ℕ). test (entity (clustered es) n).kind ≡ false) (get_or_default (signal_sources (at es k)) i 0 d inside)
+      subst (λ (n : ℕ). test (entity (with_own_clusters es) n).kind ≡ false) (get_or_default (signal_sources (at es k)) i 0 d inside)
       (ap (λ (e : Entity). test e.kind) (entity_clustered s (source_there k i below inside).0) ∙ none k i below inside))
 
-  graph : IsSignalGraph (clustered es)
+  graph : IsSignalGraph (with_own_clusters es)
   unfolding breaks_u6 signal_sources pins_of
   graph = record {
     distinct = λ k within.
-        let below : k < length es = omega (arith, within, length-clustered es) in
-        ap (λ (e : Entity). place_of (clustered es) e.id) (at_clustered k below) ∙ same_place es (at es k).id ∙ first_place k below;
+        let below : k < length es = omega (arith, within, length-with_own_clusters es) in
+        ap (λ (e : Entity). place_of (with_own_clusters es) e.id) (at_clustered k below) ∙ same_place es (at es k).id ∙ first_place k below;
     heard = sources_keep is_clock (λ k i below inside. (source_there k i below inside).1);
     no_ends = sources_keep is_output (λ k i below inside. (source_there k i below inside).2);
     acyclic = λ k within.
-        let below : k < length es = omega (arith, within, length-clustered es) in
-        (λ j. has_walk (same_links j) (length-clustered es j) k) ∙ h.u6 k below;
+        let below : k < length es = omega (arith, within, length-with_own_clusters es) in
+        (λ j. has_walk (same_links j) (length-with_own_clusters es j) k) ∙ h.u6 k below;
     most = λ k within signal.
-        let below : k < length es = omega (arith, within, length-clustered es) in
+        let below : k < length es = omega (arith, within, length-with_own_clusters es) in
         subst (λ (e : Entity). e.cluster.channels ≤ 32) (sym (at_clustered k below))
         (most_at (length es) k below (h.u6 k below) (ap (λ (e : Entity). is_clock e.kind) (sym (at_clustered k below)) ∙ signal));
     fits = λ k within.
-        let below : k < length es = omega (arith, within, length-clustered es) in
-        subst (λ (e : Entity). FitsPins e.kind e.cluster.channels (pins_of (clustered es) e)) (sym (at_clustered k below))
+        let below : k < length es = omega (arith, within, length-with_own_clusters es) in
+        subst (λ (e : Entity). FitsPins e.kind e.cluster.channels (pins_of (with_own_clusters es) e)) (sym (at_clustered k below))
         (by_signal k below (is_clock (at es k).kind) refl);
   }
     where
@@ -260,10 +260,10 @@ module _ (es : List Entity) (h : KeepsRules es) (one : (k : ℕ) → k < length 
       clock_fits _ channels sizes e = absurd (cc)
 
       by_signal : (k : ℕ) → k < length es → (b : Bool) → is_clock (at es k).kind ≡ b
-          → FitsPins (at es k).kind (cluster_of es k).channels (pins_of (clustered es) (at es k))
+          → FitsPins (at es k).kind (cluster_of es k).channels (pins_of (with_own_clusters es) (at es k))
       by_signal k below false signal =
           subst (FitsPins (at es k).kind (cluster_of es k).channels) (pins_clustered k signal) (fits_at k below (at es k).kind refl)
-      by_signal k below true clock = clock_fits (at es k).kind (cluster_of es k).channels (pins_of (clustered es) (at es k)) clock
+      by_signal k below true clock = clock_fits (at es k).kind (cluster_of es k).channels (pins_of (with_own_clusters es) (at es k)) clock
 
 pub sound_graph : (function : FunctionFields) → IsSoundFunction function → IsSignalGraph function.entities
 unfolding at

@@ -18,7 +18,7 @@ use Rattle.uac_graph.specs.Fitness.{IsSignalGraph}
 use Rattle.uac_graph.specs.Jobs.{FitsFrames, HasJob}
 use Rattle.uac_units.specs.declared.jobs.Job.{Job}
 use Rattle.uac_graph.specs.Meaning.{entity, frame_of, meaning, samples_by}
-use Rattle.uac_graph.specs.Needs.{depended}
+use Rattle.uac_graph.specs.Needs.{depends_on}
 use Rattle.uac_graph.specs.Orders.{AreOrders, IsOrder, IsOrderOf, frame_after, holds}
 use Rattle.uac_graph.specs.declared.orders.Order.{Order}
 use Rattle.uac_graph.specs.Wiring.{AreGiven, AreRendered, AreWiresOf, Frames, frame_on, samples_on}
@@ -131,9 +131,9 @@ none_rendered entities controls ins places frames = rendered_none entities contr
 pub all_rendered : (entities : List Entity) (controls : Controls) (ins : ℕ → List ℤ) (domain i : ℕ) (places : List ℕ) (old new : Frames)
     → IsOrderOf entities domain places → length places ≤ i
     → AreRendered entities controls ins (holds entities (take i places)) old new
-    → AreRendered entities controls ins (depended entities domain) old new
+    → AreRendered entities controls ins (depends_on entities domain) old new
 all_rendered entities controls ins domain i places old new order past rendered =
-    rendered_by entities controls ins (holds entities (take i places)) (depended entities domain) old new
+    rendered_by entities controls ins (holds entities (take i places)) (depends_on entities domain) old new
     (λ id. ap (λ (ps : List ℕ). holds entities ps id) (take_all i places past) ∙ order.all id) rendered
 
 -- an entity at a place as its id names it

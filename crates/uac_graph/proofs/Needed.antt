@@ -4,7 +4,7 @@ use Rattle.std.specs.List.{list_any}
 use Rattle.std.specs.Prelude.{filter}
 use Rattle.std.proofs.lemmas.Bool.{eqb-true}
 use Rattle.uac_entities.specs.declared.entity.Entity.{Entity}
-use Rattle.uac_graph.specs.Needs.{depended, is_unit, needed}
+use Rattle.uac_graph.specs.Needs.{depends_on, is_unit, needed}
 
 -- an id of those that pass is one of which the test holds
 of_passing : (test : ℕ → Bool) (kind : Entity → Bool) (id : ℕ) (entities : List Entity)
@@ -24,6 +24,6 @@ of_passing test kind id (x ∷ xs) e = step (kind x) (test x.id) refl e (of_pass
     step true false fails e more = more e
     step false b q e more = more e
 
-pub needed_depended : (entities : List Entity) (domain id : ℕ) → list_any (λ n. n == id) (needed entities domain) ≡ true → depended entities domain id ≡ true
+pub needed_depended : (entities : List Entity) (domain id : ℕ) → list_any (λ n. n == id) (needed entities domain) ≡ true → depends_on entities domain id ≡ true
 unfolding needed
-needed_depended entities domain id e = of_passing (depended entities domain) (λ x. is_unit x.kind) id entities e
+needed_depended entities domain id e = of_passing (depends_on entities domain) (λ x. is_unit x.kind) id entities e

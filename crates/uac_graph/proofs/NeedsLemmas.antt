@@ -20,7 +20,7 @@ use Rattle.uac_topology_rules.specs.Table.{at, nothing, place_of}
 use Rattle.uac_topology_rules.proofs.Found.{any_at}
 use Rattle.uac_graph.specs.Fitness.{IsSignalGraph}
 use Rattle.uac_graph.specs.Meaning.{entity}
-use Rattle.uac_graph.specs.Needs.{depended, is_unit, needed, reaches, unit_count}
+use Rattle.uac_graph.specs.Needs.{depends_on, is_unit, needed, reaches, unit_count}
 use Rattle.uac_graph.specs.Orders.{IsOrderOf}
 use Rattle.uac_graph.proofs.Links.{source_ends}
 use Rattle.uac_graph.proofs.Lookups.{id_at}
@@ -110,7 +110,7 @@ module _ (entities : List Entity) (domain : ℕ) (sound : IsSignalGraph entities
   unit_named id = is_unit (entity entities id).kind
 
   abbrev needed_named : ℕ → Bool
-  needed_named id = unit_named id && depended entities domain id
+  needed_named id = unit_named id && depends_on entities domain id
 
   abbrev ids : List ℕ
   ids = map (λ (e : Entity). e.id) entities
@@ -132,21 +132,21 @@ module _ (entities : List Entity) (domain : ℕ) (sound : IsSignalGraph entities
       (eq-eqb id (at entities (place_of entities id)).id (sym (id_at entities id below)))
 
   each_entity : (xs : List Entity) → ((k : ℕ) → k < length xs → entity entities (get_or xs k nothing).id ≡ get_or xs k nothing)
-      → AllByRecursion (λ (e : Entity). needed_named e.id ≡ (is_unit e.kind && depended entities domain e.id)) xs
+      → AllByRecursion (λ (e : Entity). needed_named e.id ≡ (is_unit e.kind && depends_on entities domain e.id)) xs
   each_entity [] itself = tt
   each_entity (e ∷ xs) itself = (
-    ap (λ (f : Entity). is_unit f.kind && depended entities domain e.id) (itself 0 (omega arith)),
+    ap (λ (f : Entity). is_unit f.kind && depends_on entities domain e.id) (itself 0 (omega arith)),
     each_entity xs (λ k below. itself (suc k) (omega arith)),
   )
 
   needed_ids : filter needed_named ids ≡ needed entities domain
   unfolding needed at
   needed_ids =
-      filter_mapped needed_named (λ (e : Entity). e.id) (λ e. is_unit e.kind && depended entities domain e.id) entities
+      filter_mapped needed_named (λ (e : Entity). e.id) (λ e. is_unit e.kind && depends_on entities domain e.id) entities
       (each_entity entities (λ k below. entity_itself entities k sound below))
 
   any_needed : (id : ℕ) → list_any (eqb id) (filter needed_named ids) ≡ needed_named id
-  any_needed id = any_kept needed_named id ids ∙ by_unit (unit_named id) (depended entities domain id) (list_any (eqb id) ids) (unit_there id)
+  any_needed id = any_kept needed_named id ids ∙ by_unit (unit_named id) (depends_on entities domain id) (list_any (eqb id) ids) (unit_there id)
     where
       by_unit : (a b c : Bool) → (a ≡ true → c ≡ true) → ((a && b) && c) ≡ (a && b)
       by_unit false b c there = refl
@@ -163,7 +163,7 @@ module _ (entities : List Entity) (domain : ℕ) (sound : IsSignalGraph entities
   needed_once = subst (IsDistinct eqb) needed_ids (distinct_kept needed_named ids ids_once)
 
 pub needed_are : (entities : List Entity) (domain id : ℕ) → IsSignalGraph entities
-    → list_any (λ n. n == id) (needed entities domain) ≡ (is_unit (entity entities id).kind && depended entities domain id)
+    → list_any (λ n. n == id) (needed entities domain) ≡ (is_unit (entity entities id).kind && depends_on entities domain id)
 needed_are entities domain id sound = needed_members entities domain sound id
 
 pub needed_apart : (entities : List Entity) (domain : ℕ) → IsSignalGraph entities → IsDistinct eqb (needed entities domain)
@@ -189,7 +189,7 @@ module _ (entities : List Entity) (domain : ℕ) (places : List ℕ) (sound : Is
       ∙ ap (place_of entities) same ∙ sound.distinct (get_or places j 0) (order.order.inside j 0 below)))
 
   -- an id is in the order exactly where the domain depends on it
-  ordered_depended : (id : ℕ) → list_any (eqb id) ordered ≡ depended entities domain id
+  ordered_depended : (id : ℕ) → list_any (eqb id) ordered ≡ depends_on entities domain id
   ordered_depended id =
       any_map (eqb id) id_of places
       ∙ (λ j. list_any (λ place. nat_eq_equiv.symm id (id_of place) j) places)
@@ -230,7 +230,7 @@ units_end entities places i past = ap (λ (ps : List ℕ). length (filter (λ pl
 pub needed_few : (entities : List Entity) (domain : ℕ) → length (needed entities domain) ≤ length entities
 unfolding needed
 needed_few entities domain =
-    let n : Entity → Bool = λ e. is_unit e.kind && depended entities domain e.id in
+    let n : Entity → Bool = λ e. is_unit e.kind && depends_on entities domain e.id in
     omega (arith, length-map (filter n entities) (λ (e : Entity). e.id), length-filter n entities, count_by-le-length n entities)
 
 -- ---- walks of any number of links

@@ -16,7 +16,7 @@ use Rattle.uac_topology_rules.proofs.Found.{any_at}
 use Rattle.uac_topology_rules.proofs.TableSteps.{at_read}
 use Rattle.uac_graph.specs.Fitness.{IsSignalGraph}
 use Rattle.uac_graph.specs.Meaning.{entity}
-use Rattle.uac_graph.specs.Needs.{depended, is_end, reaches}
+use Rattle.uac_graph.specs.Needs.{depends_on, is_end, reaches}
 use Rattle.uac_graph.specs.Orders.{AreOrders, IsKeptOrder, IsOrder, IsOrderOf, holds}
 use Rattle.uac_graph.specs.declared.orders.Order.{Order}
 use Rattle.uac_graph.proofs.Apart.{apart_more}
@@ -196,7 +196,7 @@ ends_same entities slice domain i e places same below item other before k =
 pub ends_all : (entities slice : List Entity) (domain i : ℕ) (places : List ℕ) → slice ≡ entities → length slice ≤ i → IsOrder entities places
     → ((k : ℕ) → holds entities places k ≡ list_any (λ f. is_end domain f && reaches entities (length entities) f.id k) (take i slice))
     → IsOrderOf entities domain places
-unfolding depended
+unfolding depends_on
 ends_all entities slice domain i places same past order all = record {
   order = order;
   all = λ k.
@@ -239,7 +239,7 @@ pub orders_all : (entities slice : List Entity) (orders : List Order) (i : ℕ) 
     → All (IsKeptOrder entities) orders
     → ((k : ℕ) → k < i → is_output (at slice k).kind ≡ true → list_any (λ o. o.domain == (at slice k).clock) orders ≡ true)
     → AreOrders entities orders
-unfolding depended at
+unfolding depends_on at
 orders_all entities slice orders i same past each passed = record {
   each = each;
   others = λ domain none id.

@@ -13,7 +13,7 @@ use Rattle.uac_topology_rules.specs.Clusters.{is_input}
 use Rattle.uac_topology_rules.specs.Links.{is_clock, signal_links, signal_sources}
 use Rattle.uac_topology_rules.specs.Table.{at, place_of}
 use Rattle.uac_graph.specs.GraphControls.{Controls}
-use Rattle.uac_entities.specs.EntityStreams.{channels_of}
+use Rattle.uac_entities.specs.EntityInterfaces.{channels_of}
 use Rattle.uac_store.specs.StoreControls.{pins_of}
 use Rattle.uac_graph.specs.Fitness.{FitsPins, IsSignalGraph}
 use Rattle.uac_graph.specs.Jobs.{FitsFrames, takes_signal}

@@ -14,7 +14,7 @@ use Rattle.uac_gain.specs.Gain.{scaled, saturated}
 use Rattle.uac_units.specs.declared.jobs.Job.{Job}
 use Rattle.uac_units.specs.declared.jobs.UnitKind.{UnitKind}
 use Rattle.uac_units.specs.declared.jobs.UnitKind.TheVariants as unit
-use Rattle.uac_units.specs.Rendering.{FitsKind, FitsNumbers, in_a_row, input, pins_sample, rendered}
+use Rattle.uac_units.specs.Rendering.{FitsKind, FitsNumbers, in_a_row, input, pins_sample, job_samples}
 use Rattle.uac_units.proofs.Samples.{selector-in_a_row, feature-in_a_row, effect-in_a_row}
 use Rattle.uac_graph.specs.GraphControls.{Controls, chosen_pin, control_value, feature_gain, node_gain, pin_of}
 use Rattle.uac_graph.specs.Jobs.{FitsFrames, HasJob, IsJob, gain_at, gain_count, unit_of}
@@ -120,15 +120,15 @@ effect_sample controls id channels frames job fits channel below =
 -- the samples of an entity's unit
 same_frame : (controls : Controls) (id : ℕ) (k : EntityKind) (u : UnitKind) (channels : ℕ) (frames : List (List ℤ)) (job : Job) → job.outputs ≡ channels
     → ((channel : ℕ) → channel < channels → pins_sample u job (in_a_row frames) channel ≡ sample_of controls id k channels frames channel)
-    → rendered u job (in_a_row frames) ≡ frame_of controls id k channels frames
-unfolding rendered frame_of
+    → job_samples u job (in_a_row frames) ≡ frame_of controls id k channels frames
+unfolding job_samples frame_of
 same_frame controls id k u channels frames job outputs same =
     ap (λ (n : ℕ). map (pins_sample u job (in_a_row frames)) (range_with_len 0 n)) outputs
     ∙ range_same (pins_sample u job (in_a_row frames)) (sample_of controls id k channels frames) channels same
 
 pub rendered_is : (controls : Controls) (id : ℕ) (k : EntityKind) (u : UnitKind) (channels : ℕ) (frames : List (List ℤ)) (job : Job) → unit_of k ≡ Some u
     → IsJob controls id u channels (length frames) (length (in_a_row frames)) job → FitsFrames k channels frames
-    → rendered u job (in_a_row frames) ≡ frame_of controls id k channels frames
+    → job_samples u job (in_a_row frames) ≡ frame_of controls id k channels frames
 rendered_is controls id kind.Mixer unit.Mixer channels frames job e is fits =
     same_frame controls id kind.Mixer unit.Mixer channels frames job is.outputs (mixer_sample controls id channels frames job is)
 rendered_is controls id kind.Selector unit.Selector channels frames job e is fits =
@@ -260,9 +260,9 @@ fits_unit controls e u frames pins job some is count row has fits =
 -- what it makes of them is the entity's frame
 pub rendered_unit : (controls : Controls) (e : Entity) (u : UnitKind) (frames : List (List ℤ)) (pins : List ℤ) (job : Job) → 1 ≤ e.cluster.channels
     → Some u ≡ unit_of e.kind → length frames ≡ length e.sources → pins ≡ in_a_row frames → HasJob controls e (length (in_a_row frames)) job
-    → FitsFrames e.kind e.cluster.channels frames → rendered u job pins ≡ frame_of controls e.id e.kind e.cluster.channels frames
+    → FitsFrames e.kind e.cluster.channels frames → job_samples u job pins ≡ frame_of controls e.id e.kind e.cluster.channels frames
 rendered_unit controls e u frames pins job some is count row has fits =
-    ap (rendered u job) row
+    ap (job_samples u job) row
     ∙ rendered_is controls e.id e.kind u e.cluster.channels frames job (sym is)
     (job_by controls e.id u e.cluster.channels (length e.sources) (length frames) (length (in_a_row frames)) (length (in_a_row frames)) job (sym count) refl (has u (sym is) some))
     fits

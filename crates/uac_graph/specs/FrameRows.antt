@@ -3,17 +3,17 @@ use Rattle.std.specs.Prelude.{ℕ, suc, ℤ, List, [], ◌∷◌, Option, Some, 
 use Rattle.uac_graph.specs.Wiring.{Frames}
 
 -- the frames that stand in a row, each by its place, which counts from this number
-unfoldable pub numbered : ℕ → List (Option (List ℤ)) → Frames
-numbered n [] = []
-numbered n (None ∷ row) = numbered (suc n) row
-numbered n (Some frame ∷ row) = (n, frame) ∷ numbered (suc n) row
+unfoldable pub row_frames : ℕ → List (Option (List ℤ)) → Frames
+row_frames n [] = []
+row_frames n (None ∷ row) = row_frames (suc n) row
+row_frames n (Some frame ∷ row) = (n, frame) ∷ row_frames (suc n) row
 
 -- the frames of a row, numbered from 0 on
 abbrev pub frames_in : List (Option (List ℤ)) → Frames
-frames_in row = numbered 0 row
+frames_in row = row_frames 0 row
 
 -- what stands at a place that is to have another's frame: that frame, where there is one at both
-abbrev pub passed : {X : Type 0} → Option X → Option X → Option X
-passed (Some frame) (Some held) = Some frame
-passed (Some frame) None = None
-passed None place = place
+abbrev pub place_after_passing : {X : Type 0} → Option X → Option X → Option X
+place_after_passing (Some frame) (Some held) = Some frame
+place_after_passing (Some frame) None = None
+place_after_passing None place = place

@@ -12,8 +12,8 @@ abbrev pub Controls : Type 0
 Controls = ℕ → ℕ → ℕ → Option ℤ
 
 -- the values that a store keeps
-abbrev pub held_in : List (Key × ℤ) → Controls
-held_in store entity selector channel = value_of store (key_of entity selector channel)
+abbrev pub controls_in : List (Key × ℤ) → Controls
+controls_in store entity selector channel = value_of store (key_of entity selector channel)
 
 -- the value of a control. Each control of a function is held, at first with its start value, whether the descriptor declares
 -- it or not

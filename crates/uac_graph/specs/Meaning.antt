@@ -9,7 +9,7 @@ use Rattle.uac_topology_rules.specs.Clusters.{is_input}
 use Rattle.uac_topology_rules.specs.Links.{signal_sources}
 use Rattle.uac_topology_rules.specs.Table.{at, place_of}
 use Rattle.uac_units.specs.declared.jobs.UnitKind.TheVariants as unit
-use Rattle.uac_units.specs.Rendering.{Setting, by_frames, input, pin_frame, unit_sample}
+use Rattle.uac_units.specs.Rendering.{UnitControls, by_frames, input, pin_frame, unit_sample}
 use Rattle.uac_graph.specs.GraphControls.{Controls, feature_gain, node_gain, chosen_pin}
 
 -- the entity with this id; where no entity has it, one with no sources and no channels
@@ -18,7 +18,7 @@ entity entities id = at entities (place_of entities id)
 
 -- how the controls set the unit with this id, of so many output channels and pins. A mixer's controls are numbered by its nodes,
 -- by inputs; channels of a feature's controls count from 1, the master being 0
-abbrev pub set_by_controls : Controls → ℕ → ℕ → ℕ → Setting
+abbrev pub set_by_controls : Controls → ℕ → ℕ → ℕ → UnitControls
 set_by_controls controls id outputs pins = record {
   node = λ at channel. node_gain controls id (at * outputs + channel);
   chosen = chosen_pin controls id pins;

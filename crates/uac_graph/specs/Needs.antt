@@ -18,8 +18,8 @@ abbrev pub is_end : ℕ → Entity → Bool
 is_end domain e = is_output e.kind && e.clock == domain
 
 -- an output terminal of the domain, or an entity on which one depends
-unfoldable pub depended : List Entity → ℕ → ℕ → Bool
-depended entities domain id = list_any (λ e. is_end domain e && reaches entities (length entities) e.id id) entities
+unfoldable pub depends_on : List Entity → ℕ → ℕ → Bool
+depends_on entities domain id = list_any (λ e. is_end domain e && reaches entities (length entities) e.id id) entities
 
 -- a unit; a terminal is none, and a clock entity carries no signal (Audio Class 2.0, 3.13)
 abbrev pub is_unit : EntityKind → Bool
@@ -39,4 +39,4 @@ unit_count k = if is_unit k then 1 else 0
 
 -- the ids of the units that the domain needs, in block order
 unfoldable pub needed : List Entity → ℕ → List ℕ
-needed entities domain = map (λ e. e.id) (filter (λ e. is_unit e.kind && depended entities domain e.id) entities)
+needed entities domain = map (λ e. e.id) (filter (λ e. is_unit e.kind && depends_on entities domain e.id) entities)

@@ -8,7 +8,7 @@ use Rattle.uac_topology_rules.specs.Links.{is_clock, signal_sources}
 use Rattle.uac_topology_rules.specs.Table.{at}
 use Rattle.uac_graph.specs.GraphControls.{Controls}
 use Rattle.uac_graph.specs.Meaning.{frame_of}
-use Rattle.uac_graph.specs.Needs.{depended}
+use Rattle.uac_graph.specs.Needs.{depends_on}
 use Rattle.uac_graph.specs.Wiring.{Frames, frame_on, samples_on}
 use Rattle.uac_graph.specs.declared.orders.Order.{Order}
 use Rattle.uac_graph.specs.Tasks.{tasks_at}
@@ -28,7 +28,7 @@ pub record IsOrder (entities : List Entity) (places : List ℕ) : Type 0 where
 -- such an order of exactly the entities on which the domain's output terminals depend, and these terminals
 pub record IsOrderOf (entities : List Entity) (domain : ℕ) (places : List ℕ) : Type 0 where
   pub order : IsOrder entities places
-  pub all : (id : ℕ) → holds entities places id ≡ depended entities domain id
+  pub all : (id : ℕ) → holds entities places id ≡ depends_on entities domain id
 
 -- the order of its domain, and what is done at its places
 pub record IsKeptOrder (entities : List Entity) (order : Order) : Type 0 where
@@ -38,7 +38,7 @@ pub record IsKeptOrder (entities : List Entity) (order : Order) : Type 0 where
 -- an order for each domain that has an output terminal
 pub record AreOrders (entities : List Entity) (orders : List Order) : Type 0 where
   pub each : All (IsKeptOrder entities) orders
-  pub others : (domain : ℕ) → list_any (λ o. o.domain == domain) orders ≡ false → (id : ℕ) → depended entities domain id ≡ false
+  pub others : (domain : ℕ) → list_any (λ o. o.domain == domain) orders ≡ false → (id : ℕ) → depends_on entities domain id ≡ false
 
 -- the frame on a wire once the entity at a place was rendered, from those on the wires of its sources. An input terminal has its frame
 unfoldable pub frame_after : List Entity → Controls → ℕ → Frames → ℕ → Option (List ℤ)

@@ -1,7 +1,7 @@
 // What the held controls make of a signal.
 ghost use Rattle.std.specs.Prelude.{◌≡◌, ◌≤◌, ◌<◌, ◌%◌, ◌+◌, ◌/◌};
 ghost use Rattle.uac_graph.specs.GraphControls as spec;
-ghost use Rattle.uac_graph.specs.GraphControls.{held_in};
+ghost use Rattle.uac_graph.specs.GraphControls.{controls_in};
 
 use uac_gain::gain;
 use uac_store::selectors::{
@@ -14,7 +14,7 @@ const UNITY: u32 = 1073741824;
 
 /// The gain of a feature unit's channel, 0 being the master; none where it is muted.
 pub(crate) fn feature_gain(store: &Store, id: u8, channel: u8) -> u32
-    ensures { result ≡ spec.feature_gain (held_in store.now) id channel }
+    ensures { result ≡ spec.feature_gain (controls_in store.now) id channel }
 {
     if control_value(store, id, FU_MUTE_CONTROL, channel) != 0 {
         0
@@ -25,7 +25,7 @@ pub(crate) fn feature_gain(store: &Store, id: u8, channel: u8) -> u32
 
 /// The gain of a mixer's node.
 pub(crate) fn node_gain(store: &Store, id: u8, node: u8) -> u32
-    ensures { result ≡ spec.node_gain (held_in store.now) id node }
+    ensures { result ≡ spec.node_gain (controls_in store.now) id node }
 {
     volume_gain(store, id, MU_MIXER_CONTROL, node)
 }
@@ -33,7 +33,7 @@ pub(crate) fn node_gain(store: &Store, id: u8, node: u8) -> u32
 /// The pin, from 0, that a selector of so many pins has chosen.
 pub(crate) fn chosen_pin(store: &Store, id: u8, pins: usize) -> u16
     requires { pins ≤ 256 }
-    ensures { result ≡ spec.chosen_pin (held_in store.now) id pins }
+    ensures { result ≡ spec.chosen_pin (controls_in store.now) id pins }
 {
     let value = control_value(store, id, SU_SELECTOR_CONTROL, 0);
     if value >= 1 && value as usize <= pins {
@@ -44,7 +44,7 @@ pub(crate) fn chosen_pin(store: &Store, id: u8, pins: usize) -> u16
 }
 
 fn volume_gain(store: &Store, id: u8, selector: u8, channel: u8) -> u32
-    ensures { result ≡ spec.volume_gain (held_in store.now) id selector channel }
+    ensures { result ≡ spec.volume_gain (controls_in store.now) id selector channel }
 {
     let volume = control_value(store, id, selector, channel);
     match i16::try_from(volume) {
@@ -54,7 +54,7 @@ fn volume_gain(store: &Store, id: u8, selector: u8, channel: u8) -> u32
 }
 
 fn control_value(store: &Store, id: u8, selector: u8, channel: u8) -> i32
-    ensures { result ≡ spec.control_value (held_in store.now) id selector channel }
+    ensures { result ≡ spec.control_value (controls_in store.now) id selector channel }
 {
     let key = Key {
         entity: id,

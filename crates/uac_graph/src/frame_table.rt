@@ -3,9 +3,9 @@ ghost use Rattle.std.specs.Prelude.{◌≡◌, ◌==◌, ◌≤◌, ◌<◌, ◌
 ghost use Rattle.std.specs.Prelude.{List, length, get_or, map, replicate, set, pos};
 ghost use Rattle.uac_entities.specs.declared.entity.Entity.{Entity};
 ghost use Rattle.std.specs.Option.{option_map};
-ghost use Rattle.uac_units.specs.Rendering.{FitsKind, rendered};
+ghost use Rattle.uac_units.specs.Rendering.{FitsKind, job_samples};
 ghost use Rattle.uac_graph.specs.Fitness.{IsSignalGraph};
-ghost use Rattle.uac_graph.specs.FrameRows.{frames_in, passed};
+ghost use Rattle.uac_graph.specs.FrameRows.{frames_in, place_after_passing};
 ghost use Rattle.uac_graph.specs.Wiring.{AreSilent, AreWiresOf, frame_on, samples_on, tone_frame};
 
 use crate::frames::silent;
@@ -105,7 +105,7 @@ impl FrameTable {
         requires there { option_map length (frame_on self.old id) ≡ Some job.now.outputs }
         requires room { steps.old + 1 < 2 ^ 64 }
         ensures frames { (k : ℕ) → frame_on self.new k
-            ≡ (if id == k then Some (rendered (kind_of unit.now) job.now pins.now.items) else frame_on self.old k) }
+            ≡ (if id == k then Some (job_samples (kind_of unit.now) job.now pins.now.items) else frame_on self.old k) }
         ensures counted { steps.new ≡ steps.old + 1 }
     {
         if let Some(frame) = &mut self.row[id as usize] {
@@ -128,7 +128,7 @@ impl FrameTable {
         requires there { option_map length (frame_on self.old id) ≡ Some job.now.outputs }
         requires room { steps.old + 1 < 2 ^ 64 }
         ensures frames { (k : ℕ) → frame_on self.new k ≡ (if id == k
-            then Some (rendered (kind_of unit.now) job.now (samples_on self.old source))
+            then Some (job_samples (kind_of unit.now) job.now (samples_on self.old source))
             else frame_on self.old k) }
         ensures counted { steps.new ≡ steps.old + 1 }
     {
@@ -160,7 +160,7 @@ impl FrameTable {
 fn pass_in(row: &mut [Option<Frame>], from: usize, to: usize)
     requires from { from < length row.old }
     requires to { to < length row.old }
-    ensures { row.new ≡ set row.old to (passed (get_or row.old from None) (get_or row.old to None)) }
+    ensures { row.new ≡ set row.old to (place_after_passing (get_or row.old from None) (get_or row.old to None)) }
 {
     if from < to {
         let (front, back) = row.split_at_mut(to);
@@ -173,7 +173,7 @@ fn pass_in(row: &mut [Option<Frame>], from: usize, to: usize)
 
 // Makes a frame another, where both are there.
 fn pass_frame(source: &Option<Frame>, place: &mut Option<Frame>)
-    ensures { place.new ≡ passed source.now place.old }
+    ensures { place.new ≡ place_after_passing source.now place.old }
 {
     if let Some(frame) = source {
         if let Some(held) = place {

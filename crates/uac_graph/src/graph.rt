@@ -5,10 +5,10 @@ ghost use Rattle.uac_topology_rules.specs.Links.{is_clock};
 ghost use Rattle.uac_topology_rules.specs.Table.{at};
 ghost use Rattle.uac_units.specs.Fitting.{IsFitted};
 ghost use Rattle.uac_store.specs.StoreControls.{pins_of};
-ghost use Rattle.uac_graph.specs.GraphControls.{Controls, held_in};
+ghost use Rattle.uac_graph.specs.GraphControls.{Controls, controls_in};
 ghost use Rattle.uac_graph.specs.Fitness.{IsSignalGraph};
 ghost use Rattle.uac_graph.specs.Jobs.{AreJobs, AreSameBut, HasJob};
-ghost use Rattle.uac_graph.specs.Needs.{depended, needed, unit_count};
+ghost use Rattle.uac_graph.specs.Needs.{depends_on, needed, unit_count};
 ghost use Rattle.uac_graph.specs.Orders.{IsKeptOrder, frame_after};
 ghost use Rattle.uac_graph.specs.Tasks.{work_of};
 ghost use Rattle.uac_graph.specs.Wiring.{AreRendered, AreWiresOf, frame_on, samples_on};
@@ -68,7 +68,8 @@ impl Graph {
         requires rack { IsFitted (λ v x. (⟦<dyn Unit as Unit>⟧ v).kind_of x) rack.now }
         requires wires { AreWiresOf self.now wires.old }
         requires room { steps.old + length (needed self.now domain) < 2 ^ 64 }
-        ensures rendered { AreRendered self.now (held_in store.now) (samples_on wires.old) (depended self.now domain) wires.old wires.new }
+        ensures rendered { AreRendered self.now (controls_in store.now) (samples_on wires.old) (depends_on self.now domain) wires.old
+            wires.new }
         ensures fitting { AreWiresOf self.now wires.new }
         ensures once { steps.new ≡ steps.old + length (needed self.now domain) }
     {
@@ -93,7 +94,7 @@ impl Graph {
         requires signal { is_clock (at self.now place).kind ≡ false }
         requires wires { AreWiresOf self.now wires.old }
         requires room { steps.old + unit_count (at self.now place).kind < 2 ^ 64 }
-        ensures rendered { (id : ℕ) → frame_on wires.new id ≡ frame_after self.now (held_in store.now) place wires.old id }
+        ensures rendered { (id : ℕ) → frame_on wires.new id ≡ frame_after self.now (controls_in store.now) place wires.old id }
         ensures fitting { AreWiresOf self.now wires.new }
         ensures counted { steps.new ≡ steps.old + unit_count (at self.now place).kind }
     {
@@ -103,7 +104,7 @@ impl Graph {
 
     /// The jobs of its units under the controls held, with all the memory that they will use.
     pub fn jobs(&self, alloc: Global, store: &Store) -> Result<Jobs, NoMemory>
-        ensures { IfOk result (λ jobs. AreJobs self.now (held_in store.now) jobs) }
+        ensures { IfOk result (λ jobs. AreJobs self.now (controls_in store.now) jobs) }
     {
         Jobs::new(alloc, &self.table, store)
     }
@@ -111,8 +112,8 @@ impl Graph {
     /// Renews the job of the entity with an id, once controls of it have changed and no others. It takes no memory.
     pub fn renew(&self, jobs: &mut Jobs, store: &Store, id: u8)
         requires { length jobs.old ≡ length self.now }
-        ensures { (before : Controls) → AreJobs self.now before jobs.old → AreSameBut id before (held_in store.now)
-            → AreJobs self.now (held_in store.now) jobs.new }
+        ensures { (before : Controls) → AreJobs self.now before jobs.old → AreSameBut id before (controls_in store.now)
+            → AreJobs self.now (controls_in store.now) jobs.new }
     {
         jobs.renew(&self.table, store, id);
     }
@@ -131,7 +132,7 @@ impl Graph {
         requires wires { AreWiresOf self.now wires.old }
         requires room { steps.old + length (needed self.now domain) < 2 ^ 64 }
         ensures rendered { (controls : Controls) → AreJobs self.now controls jobs.now
-            → AreRendered self.now controls (samples_on wires.old) (depended self.now domain) wires.old wires.new }
+            → AreRendered self.now controls (samples_on wires.old) (depends_on self.now domain) wires.old wires.new }
         ensures fitting { AreWiresOf self.now wires.new }
         ensures once { steps.new ≡ steps.old + length (needed self.now domain) }
     {
@@ -150,7 +151,7 @@ impl Graph {
         requires wires { AreWiresOf self.now wires.old }
         requires room { steps.old + length (needed self.now order.now.domain) < 2 ^ 64 }
         ensures rendered { (controls : Controls) → AreJobs self.now controls jobs.now
-            → AreRendered self.now controls (samples_on wires.old) (depended self.now order.now.domain) wires.old wires.new }
+            → AreRendered self.now controls (samples_on wires.old) (depends_on self.now order.now.domain) wires.old wires.new }
         ensures fitting { AreWiresOf self.now wires.new }
         ensures once { steps.new ≡ steps.old + length (needed self.now order.now.domain) }
     {

@@ -1,7 +1,7 @@
 // What all units are asked to render, kept from tick to tick.
 ghost use Rattle.std.specs.Prelude.{◌≡◌, ◌<◌, IfOk, length, get_or};
 ghost use Rattle.uac_units.specs.declared.jobs.Job as asked;
-ghost use Rattle.uac_graph.specs.GraphControls.{Controls, held_in};
+ghost use Rattle.uac_graph.specs.GraphControls.{Controls, controls_in};
 ghost use Rattle.uac_graph.specs.Fitness.{IsSignalGraph};
 ghost use Rattle.uac_graph.specs.Jobs.{AreJobs, AreSameBut};
 
@@ -33,7 +33,7 @@ impl Jobs {
     /// The jobs of these entities under the controls held.
     pub(crate) fn new(alloc: Global, table: &EntityTable, store: &Store) -> Result<Jobs, NoMemory>
         requires { IsSignalGraph table.now }
-        ensures { IfOk result (λ jobs. AreJobs table.now (held_in store.now) jobs) }
+        ensures { IfOk result (λ jobs. AreJobs table.now (controls_in store.now) jobs) }
     {
         let mut list = Vec::new(alloc);
         for entity in table.as_slice() {
@@ -56,8 +56,8 @@ impl Jobs {
     pub(crate) fn renew(&mut self, table: &EntityTable, store: &Store, id: u8)
         requires graph { IsSignalGraph table.now }
         requires sized { length self.old ≡ length table.now }
-        ensures { (before : Controls) → AreJobs table.now before self.old → AreSameBut id before (held_in store.now)
-            → AreJobs table.now (held_in store.now) self.new }
+        ensures { (before : Controls) → AreJobs table.now before self.old → AreSameBut id before (controls_in store.now)
+            → AreJobs table.now (controls_in store.now) self.new }
     {
         let place = table.place_of(id);
         if place < self.list.len() {

@@ -6,7 +6,7 @@ ghost use Rattle.std.specs.Option.{option_map};
 ghost use Rattle.uac_units.specs.Fitting.{IsFitted};
 ghost use Rattle.uac_units.specs.Rendering.{in_a_row};
 ghost use Rattle.uac_units.specs.declared.jobs.UnitKind.TheVariants.{Selector};
-ghost use Rattle.uac_graph.specs.GraphControls.{held_in};
+ghost use Rattle.uac_graph.specs.GraphControls.{controls_in};
 ghost use Rattle.uac_graph.specs.Jobs as spec;
 ghost use Rattle.uac_graph.specs.Jobs.{HasJob, IsAskable, IsJob};
 ghost use Rattle.uac_graph.specs.Needs as needs;
@@ -82,7 +82,7 @@ pub(crate) fn no_job() -> Job {
 /// Makes it the job of an entity of the table under the controls held, where the entity is a unit that has channels.
 pub(crate) fn ask(job: &mut Job, table: &EntityTable, store: &Store, entity: &Entity)
     requires { IsAskable table.now entity.now }
-    ensures { HasJob (held_in store.now) entity.now (sum (pins_of table.now entity.now)) job.new }
+    ensures { HasJob (controls_in store.now) entity.now (sum (pins_of table.now entity.now)) job.new }
 {
     if entity.cluster.channels == 0 {
         return;
@@ -109,7 +109,7 @@ fn inputs_of(table: &EntityTable, entity: &Entity) -> usize
 fn set_job(job: &mut Job, store: &Store, entity: &Entity, kind: UnitKind, inputs: usize)
     requires pins { kind ≡ Selector → length entity.now.sources ≤ 256 }
     requires gains { spec.gain_count kind entity.now.cluster.channels inputs ≤ 256 }
-    ensures job { IsJob (held_in store.now) entity.now.id kind entity.now.cluster.channels (length entity.now.sources) inputs job.new }
+    ensures job { IsJob (controls_in store.now) entity.now.id kind entity.now.cluster.channels (length entity.now.sources) inputs job.new }
 {
     job.outputs = entity.cluster.channels;
     job.pin = pin_at(store, entity, kind);
@@ -120,7 +120,7 @@ fn set_job(job: &mut Job, store: &Store, entity: &Entity, kind: UnitKind, inputs
 // Makes them the first gains of a unit, so many.
 fn set_gains(gains: &mut ArrayVec<u32, 256>, store: &Store, id: u8, kind: UnitKind, count: usize)
     requires { count ≤ 256 }
-    ensures { gains.new.items ≡ map (spec.gain_at (held_in store.now) id kind) (range_with_len 0 count) }
+    ensures { gains.new.items ≡ map (spec.gain_at (controls_in store.now) id kind) (range_with_len 0 count) }
 {
     gains.clear();
     for number in 0..count {
@@ -142,7 +142,7 @@ fn gain_count(kind: UnitKind, outputs: usize, inputs: usize) -> usize
 // A mixer's gains are those of its nodes; a feature's are in turn that of a channel and that of the master. The others have none.
 fn gain_at(store: &Store, id: u8, kind: UnitKind, number: usize) -> u32
     requires { number < 256 }
-    ensures { result ≡ spec.gain_at (held_in store.now) id kind number }
+    ensures { result ≡ spec.gain_at (controls_in store.now) id kind number }
 {
     match kind {
         UnitKind::Mixer => node_gain(store, id, number as u8),
@@ -159,7 +159,7 @@ fn gain_at(store: &Store, id: u8, kind: UnitKind, number: usize) -> u32
 
 fn pin_at(store: &Store, entity: &Entity, kind: UnitKind) -> u16
     requires { kind ≡ Selector → length entity.now.sources ≤ 256 }
-    ensures { result ≡ spec.pin_at (held_in store.now) entity.now.id kind (length entity.now.sources) }
+    ensures { result ≡ spec.pin_at (controls_in store.now) entity.now.id kind (length entity.now.sources) }
 {
     match kind {
         UnitKind::Selector => chosen_pin(store, entity.id, entity.sources.as_slice().len()),

@@ -8,7 +8,7 @@ ghost use Rattle.uac_topology_rules.specs.Rules.{is_output};
 ghost use Rattle.uac_graph.specs.GraphControls.{Controls};
 ghost use Rattle.uac_graph.specs.Fitness.{IsSignalGraph};
 ghost use Rattle.uac_graph.specs.Meaning.{entity, meaning, samples_by};
-ghost use Rattle.uac_graph.specs.Needs.{depended, is_end, is_unit, needed, reaches};
+ghost use Rattle.uac_graph.specs.Needs.{depends_on, is_end, is_unit, needed, reaches};
 ghost use Rattle.uac_topology.specs.Function.{FunctionFields};
 ghost use Rattle.uac_topology.specs.Topology.{IsSoundFunction};
 
@@ -31,9 +31,9 @@ pub fn sound_functions_have_a_graph()
 #[tactic(auto, using(crate::proofs::Needed::needed_depended, crate::proofs::NeedsLemmas::needed_are, crate::proofs::NeedsLemmas::needed_apart))]
 pub fn needed_units_are_depended_on()
     ensures depended { (entities : List Entity) (domain id : ℕ) → list_any (λ n. n == id) (needed entities domain) ≡ true
-        → depended entities domain id ≡ true }
+        → depends_on entities domain id ≡ true }
     ensures members { (entities : List Entity) (domain id : ℕ) → IsSignalGraph entities
-        → list_any (λ n. n == id) (needed entities domain) ≡ (is_unit (entity entities id).kind && depended entities domain id) }
+        → list_any (λ n. n == id) (needed entities domain) ≡ (is_unit (entity entities id).kind && depends_on entities domain id) }
     ensures apart { (entities : List Entity) (domain : ℕ) → IsSignalGraph entities → IsDistinct nat_eq (needed entities domain) }
 {}
 
@@ -50,7 +50,7 @@ pub fn no_walk_is_too_long()
 #[tactic(auto, using(crate::proofs::Ends::output_terminals))]
 pub fn output_terminals_are_ends()
     ensures { (function : FunctionFields) → IsSoundFunction function → (domain id : ℕ) → is_output (entity function.entities id).kind ≡ true
-        → depended function.entities domain id ≡ is_end domain (entity function.entities id) }
+        → depends_on function.entities domain id ≡ is_end domain (entity function.entities id) }
 {}
 
 /// A domain needs no more units than its function has entities, so a fresh count has room for them.

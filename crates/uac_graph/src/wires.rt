@@ -3,7 +3,7 @@ ghost use Rattle.std.specs.Prelude.{◌≡◌, ◌==◌, ◌+◌, ◌<◌, ◌�
 ghost use Rattle.uac_entities.specs.declared.entity.Entity.{Entity};
 ghost use Rattle.std.specs.Option.{option_map};
 ghost use Rattle.uac_units.specs.Fitting.{IsFitted};
-ghost use Rattle.uac_units.specs.Rendering.{FitsKind, in_a_row, rendered};
+ghost use Rattle.uac_units.specs.Rendering.{FitsKind, in_a_row, job_samples};
 ghost use Rattle.uac_graph.specs.GraphControls.{Controls};
 ghost use Rattle.uac_graph.specs.Jobs.{FitsFrames, HasJob};
 ghost use Rattle.uac_graph.specs.Meaning as spec;
@@ -116,7 +116,7 @@ impl Wires {
         requires there { option_map length (frame_on self.old id) ≡ Some job.now.outputs }
         requires room { steps.old + 1 < 2 ^ 64 }
         ensures frames { (k : ℕ) → frame_on self.new k ≡ (if id == k
-            then Some (rendered (kind_of unit.now) job.now (samples_on self.old source))
+            then Some (job_samples (kind_of unit.now) job.now (samples_on self.old source))
             else frame_on self.old k) }
         ensures counted { steps.new ≡ steps.old + 1 }
     {

@@ -1,5 +1,5 @@
 -- Streams that come home: one interval, one life, and the streams of a run.
-pub mod Turns
+pub mod PastLemmas
 pub mod Trails
 pub mod TrailedRuns
 pub mod TrailedTransfers

@@ -21,7 +21,7 @@ use Rattle.uac_bands.specs.BandRun.{RunInBand, StreamInBand}
 use Rattle.uac_bands.proofs.Lived.{microframes_are_lived}
 use Rattle.uac_bands.proofs.Unstarted.{microframe_none}
 use Rattle.uac_bands.proofs.Banded.{is_lost}
-use Rattle.uac_bands.proofs.SteadyRun.{few_behind, lived, next_in_band, steadily}
+use Rattle.uac_bands.proofs.SteadyRun.{few_following, lived, next_in_band, steadily}
 use Rattle.uac_bands.proofs.NearLevels.{IsNear, none_near, some_near}
 use Rattle.uac_bands.proofs.Begun.{life_off}
 use Rattle.uac_homing.specs.Past.{Pasts, past_after_packet, pasts_after}
@@ -42,7 +42,7 @@ lost_is true k w = refl
 lost_is false k w = refl
 
 module _ (marks : List SaidMark) (r : RunningWorld) (pasts : Pasts) (band : RunInBand r)
-    (steady : steadiness.is_steady (microframe marks r).world.given ≡ true) (trails : HaveTrails r pasts) where
+    (steady : steadiness.is_steady (microframe marks r).world.history ≡ true) (trails : HaveTrails r pasts) where
   abbrev after : RunningWorld
   after = (microframe marks r).world
 
@@ -63,7 +63,7 @@ module _ (marks : List SaidMark) (r : RunningWorld) (pasts : Pasts) (band : RunI
     packet = packet_to (loses_out marks k) k (streaming_of r)
 
     few : latest_run next.reports ≤ 3
-    few = few_behind marks r band steady k l d s.runs
+    few = few_following marks r band steady k l d s.runs
 
     out : r.device.outs k ≡ Some l.out
     out = (lived r k l s.runs.life).out

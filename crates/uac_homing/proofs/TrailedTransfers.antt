@@ -2,7 +2,7 @@
 use Rattle.std.proofs.Common.{◌≡◌, ◌∙◌, sym, refl, ap, ℕ, ◌==◌, Bool, true, false, if◌then◌else◌, ℤ, List, Option, Some, None}
 use Rattle.std.specs.Option.{option_and_then, option_map}
 use Rattle.std.proofs.lemmas.Option.{cond_some}
-use Rattle.uac_rate.specs.Steadiness.{Given}
+use Rattle.uac_rate.specs.Steadiness.{SteadyHistory}
 use Rattle.uac_store.specs.declared.keys.Key.{Key}
 use Rattle.uac_alt.specs.AltStreams.{StreamFields}
 use Rattle.uac_alt.specs.declared.settings.InterfaceSetting.{InterfaceSetting}
@@ -31,17 +31,17 @@ PrimedBefore r w = (k : ℕ) (l : Life) (target : ℕ) → life_of w k ≡ Some 
 -- ---- another world by the same function, domains and tracks
 
 module _ (r other : RunningWorld) (cs : List (Key × ℤ)) (ss : List InterfaceSetting) (outs : ℕ → Option OutStream) (ins : ℕ → Option InStream)
-    (paces : ℕ → Option Pace) (given : Given) where
+    (paces : ℕ → Option Pace) (given : SteadyHistory) where
   abbrev changed : RunningWorld
   changed = record other {
     device = record r.device { controls = cs; settings = ss; outs = outs; ins = ins };
     host = record r.host { paces = paces };
-    given = given;
+    history = given;
   }
 
   -- an interface whose stream, pace and reports are the same
   same_life : (k : ℕ) → outs k ≡ r.device.outs k → paces k ≡ r.host.paces k
-      → ((place : ℕ) → place_of r.device.function k ≡ Some place → given.feedback place ≡ r.given.feedback place)
+      → ((place : ℕ) → place_of r.device.function k ≡ Some place → given.feedback place ≡ r.history.feedback place)
       → life_of changed k ≡ life_of r k
   unfolding life_of
   same_life k out pace reports =
@@ -49,12 +49,12 @@ module _ (r other : RunningWorld) (cs : List (Key × ℤ)) (ss : List InterfaceS
       ∙ ap (λ (q : Option Pace). life (r.device.outs k) q (domain_on r k) (place_of r.device.function k) given) pace
       ∙ by (r.device.outs k) (r.host.paces k) (domain_on r k) (place_of r.device.function k) reports
     where
-      life : Option OutStream → Option Pace → Option Domain → Option ℕ → Given → Option Life
+      life : Option OutStream → Option Pace → Option Domain → Option ℕ → SteadyHistory → Option Life
       life o q e j all =
           option_and_then (λ out. option_and_then (λ pace. option_and_then (λ d. option_map (λ place. record { out = out; pace = pace; steps = d.steps; reports = all.feedback place }) j) e) q) o
 
       by : (o : Option OutStream) (q : Option Pace) (e : Option Domain) (j : Option ℕ)
-          → ((place : ℕ) → j ≡ Some place → given.feedback place ≡ r.given.feedback place) → life o q e j given ≡ life o q e j r.given
+          → ((place : ℕ) → j ≡ Some place → given.feedback place ≡ r.history.feedback place) → life o q e j given ≡ life o q e j r.history
       by None q e j same = refl
       by (Some out) None e j same = refl
       by (Some out) (Some pace) None j same = refl
@@ -66,9 +66,9 @@ module _ (r other : RunningWorld) (cs : List (Key × ℤ)) (ss : List InterfaceS
 
 module _ (p : Setup) (bytes : List ℕ) (r : RunningWorld) (band : RunInBand r) (sound : IsSoundRun r) where
   -- that acts alone
-  acts_alone : (other : RunningWorld) → PrimedBefore r (record other { device = asked_device p bytes r; host = r.host; given = r.given })
+  acts_alone : (other : RunningWorld) → PrimedBefore r (record other { device = asked_device p bytes r; host = r.host; history = r.history })
   acts_alone other k l target life is =
-      sym (same_life r other (asked_device p bytes r).controls (asked_device p bytes r).settings r.device.outs r.device.ins r.host.paces r.given k refl refl
+      sym (same_life r other (asked_device p bytes r).controls (asked_device p bytes r).settings r.device.outs r.device.ins r.host.paces r.history k refl refl
       (λ place placed. refl)) ∙ life
 
   -- that starts a stream, or stops one
@@ -91,7 +91,7 @@ module _ (p : Setup) (bytes : List ℕ) (r : RunningWorld) (band : RunInBand r) 
     restarted_world = record other {
       device = after_restart p.index (begun p bytes r) (asked_device p bytes r);
       host = with_stream p.index (begun p bytes r) r.host;
-      given = given_then p bytes r;
+      history = given_then p bytes r;
     }
 
     restarts : PrimedBefore r restarted_world
@@ -113,7 +113,7 @@ module _ (p : Setup) (bytes : List ℕ) (r : RunningWorld) (band : RunInBand r) 
             (λ place placed. reports_elsewhere p bytes r band sound k place apart placed)) ∙ life
 
 -- a world with the same device, host and all that was given
-carried : (r other : RunningWorld) → PrimedBefore r (record other { device = r.device; host = r.host; given = r.given })
+carried : (r other : RunningWorld) → PrimedBefore r (record other { device = r.device; host = r.host; history = r.history })
 unfolding life_of
 carried r other k l target life is = life
 

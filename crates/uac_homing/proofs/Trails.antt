@@ -3,7 +3,7 @@ use Rattle.std.proofs.Common.{arith, ◌≡◌, ◌∙◌, sym, refl, ap, subst,
 use Rattle.std.proofs.lemmas.Bool.{cases_lt}
 use Rattle.uac_clock.specs.declared.values.Nominal.{Nominal}
 use Rattle.uac_clock.specs.Nominal.{HasRoom}
-use Rattle.uac_clock.proofs.Listed.{has_room}
+use Rattle.uac_clock.proofs.NominalLemmas.{has_room}
 use Rattle.uac_rate.specs.Levels.{HasBand, IsRobust, Point, Within}
 use Rattle.uac_rate.specs.Steadiness.{latest_run}
 use Rattle.uac_rate.proofs.LevelsLemmas.{rates_band, tight_within}
@@ -15,11 +15,11 @@ use Rattle.uac_bands.specs.Life.{Life, life_after, with_feedback}
 use Rattle.uac_bands.specs.Bands.{InBand, IsAt, IsFollowing, IsFilling, IsSlightStep, IsSteadyMicroframe, microframes_since_due}
 use Rattle.uac_bands.proofs.Numbers.{IsPlacedAt, placed_at}
 use Rattle.uac_bands.proofs.Steady.{Goes, is_some_more, is_zero, primed_goes, times_none}
-use Rattle.uac_bands.proofs.Banded.{behind_not_due, end_point, ended_first, ended_life, ended_primed, first_point, interval, is_below, is_lost, just_primed, level_now, lived_due, lived_not_due, n, target_by}
+use Rattle.uac_bands.proofs.Banded.{after_not_due, end_point, ended_first, ended_life, ended_primed, first_point, interval, is_below, is_lost, just_primed, level_now, lived_due, lived_not_due, n, target_by}
 use Rattle.uac_bands.proofs.NearLevels.{feedback_out}
 use Rattle.uac_homing.specs.Past.{Past, no_past, one_later}
 use Rattle.uac_homing.specs.Homing.{HasTrail}
-use Rattle.uac_homing.proofs.Turns.{HasCome, come_on, each_more, length_more, primed_come, sum_more}
+use Rattle.uac_homing.proofs.PastLemmas.{HasCome, come_on, each_more, length_more, primed_come, sum_more}
 
 -- ---- at the end of an interval
 
@@ -51,13 +51,13 @@ trail_at_end l target p past come b ended = record {
 }
 
 -- and after the report that falls due there
-trail_behind : (m : Life) (lost : Bool) (target : ℕ) (q : Point) (past : Past) → Goes m lost target q (with_feedback lost m)
+trail_following : (m : Life) (lost : Bool) (target : ℕ) (q : Point) (past : Past) → Goes m lost target q (with_feedback lost m)
     → microframes_since_due m.out ≡ 0
     → ((next : Point) → IsRobust m.out.stream.nominal 65 m.out.stream.service m.out.stream.period next
     → IsIntervalEnd m.out.stream.service m.out.stream.period next → Ends m.out.stream.nominal m.out.stream.period lost q next
     → HasCome m.out.stream.nominal m.out.stream.service m.out.stream.period past next)
     → HasTrail (with_feedback lost m) target past
-trail_behind m lost target q past goes ended come =
+trail_following m lost target q past goes ended come =
     trail_at_end after target goes.point past
     (subst (λ (o : OutStream). HasCome o.stream.nominal o.stream.service o.stream.period past goes.point) (sym same) (come goes.point
     (subst (λ (o : OutStream). IsRobust o.stream.nominal 65 o.stream.service o.stream.period goes.point) same goes.following.robust)
@@ -110,7 +110,7 @@ module _ (l : Life) (packet : Option (List ℕ)) (step : ℕ) (band : InBand l) 
   waits : is_due l.out.stream l.out.microframes ≡ false → (target : ℕ) → l.out.target ≡ Some target → (past : Past)
       → HasTrail l target past → HasTrail after target (one_later false past)
   waits due target is past t =
-      let on = behind_not_due l packet step band given due target t.point t.following in
+      let on = after_not_due l packet step band given due target t.point t.following in
       let within : (l.out.microframes + 1) % s ≡ microframes_since_due l.out + 1 = at.within (is_some_more ((l.out.microframes + 1) % s) due) in
       subst (λ (m : Life). HasTrail m target (one_later false past))
       (sym (lived_not_due l packet step band given (Some target) is (t.point, t.following) due report_lost)) (record {
@@ -143,7 +143,7 @@ module _ (l : Life) (packet : Option (List ℕ)) (step : ℕ) (band : InBand l) 
         let at_end = ended_primed l packet step band given due target is t.point t.following in
         let i = interval l packet step band given due target is t.point t.following in
         subst (λ (m : Life). HasTrail m target (one_later (is_lost packet) past)) (sym lived)
-        (trail_behind m report_lost target q (one_later (is_lost packet) past)
+        (trail_following m report_lost target q (one_later (is_lost packet) past)
         (primed_goes m report_lost target q at_end (subst (λ (m : Life). latest_run m.reports ≤ 3) lived few)) at_end.ended.passed_is
         (λ next robust whole end.
         come_on values s period report_lost facts band.intervals (is_lost packet) past t.all (t.recent ++ step ∷ []) t.start t.point q next
@@ -182,7 +182,7 @@ module _ (l : Life) (packet : Option (List ℕ)) (step : ℕ) (band : InBand l) 
             let same : level ≡ target = (let both : Some level ≡ Some target = sym at_end.primed ∙ there in cc) in
             subst (λ (k : ℕ). HasTrail after k no_past) same
             (subst (λ (m : Life). HasTrail m level no_past) (sym lived)
-            (trail_behind m report_lost level q no_past
+            (trail_following m report_lost level q no_past
             (primed_goes m report_lost level q at_end (subst (λ (m : Life). latest_run m.reports ≤ 3) lived few)) at_end.ended.passed_is
             (λ next robust whole end.
             primed_come values s period report_lost facts band.intervals q next (just_primed l packet step band given due is filling reached) robust whole end)))

@@ -4,7 +4,7 @@ use Rattle.std.specs.Prelude.{◌≡◌, ◌+◌, ◌*◌, ◌≤◌, ℕ, ℤ, 
 use Rattle.std.specs.List.{All, AllByRecursion}
 use Rattle.uac_rate.specs.Levels.{IsTight, Anchor, Point, Within}
 use Rattle.uac_rate.specs.Steadiness as steadiness
-use Rattle.uac_settle.specs.Settling.{KeepsPackets, Served, Stretch, settle_of}
+use Rattle.uac_settle.specs.Settling.{LosesNoPacket, Served, Stretch, settle_of}
 use Rattle.uac_pcm.specs.declared.tones.Tone.{Tone}
 use Rattle.uac_units.specs.Hearing.{Reading}
 use Rattle.uac_topology.specs.Function.{FunctionFields}
@@ -29,7 +29,7 @@ pub record HasTrail (l : Life) (target : ℕ) (past : Past) : Type 0 where
   pub start : Point
   pub point : Point
   pub stretch : Stretch l.out.stream.nominal l.out.stream.service l.out.stream.period all start point
-  pub keeps : KeepsPackets all
+  pub keeps : LosesNoPacket all
   pub following : IsFollowing l target point
   pub recent : List ℕ
   pub slight : AllByRecursion (IsSlightStep l.out.stream.nominal) recent
@@ -70,7 +70,7 @@ pub record StaysTrailed (marks : List SaidMark) (r : RunningWorld) (pasts : Past
 abbrev pub MicroframesStayTrailed : Type 0
 MicroframesStayTrailed =
     (marks : List SaidMark) (r : RunningWorld) (pasts : Pasts) → RunInBand r
-    → steadiness.is_steady (microframe marks r).world.given ≡ true → HaveTrails r pasts → StaysTrailed marks r pasts
+    → steadiness.is_steady (microframe marks r).world.history ≡ true → HaveTrails r pasts → StaysTrailed marks r pasts
 
 -- what else is asked of a run leaves it so
 pub record StaysTrailedBetween (r : RunningWorld) (pasts : Pasts) : Type 0 where

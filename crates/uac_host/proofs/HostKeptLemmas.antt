@@ -12,7 +12,7 @@ use Rattle.uac_pcm.proofs.PacketsLemmas.{take_front, drop_front}
 use Rattle.uac_topology_rules.proofs.Found.{position_none}
 use Rattle.uac_rate.proofs.PacketSizesLemmas.{by_remainder}
 use Rattle.uac_rate.specs.PacketSizes.{frames_in_packet}
-use Rattle.uac_host.specs.declared.lanes.Lane.{Lane}
+use Rattle.uac_host.specs.declared.lanes.HostStream.{HostStream}
 use Rattle.uac_host.specs.HostWorld.{Pace, Track}
 use Rattle.uac_host.specs.HostFields.{TrackFields}
 use Rattle.uac_host.specs.Calls.{after_frames, next_frames, next_size, tone_frame, used_next}
@@ -117,41 +117,41 @@ remainder_kept p =
 pub eq_of : (m n : ℕ) → (m == n) ≡ true → m ≡ n
 eq_of m n e = grind arith
 
-first_place : (host : List Lane) (interface place : ℕ) (d : Lane) → position (λ l. l.interface == interface) host ≡ Some place → position_or_len (λ l. l.interface == interface) host ≡ place
+first_place : (host : List HostStream) (interface place : ℕ) (d : HostStream) → position (λ l. l.interface == interface) host ≡ Some place → position_or_len (λ l. l.interface == interface) host ≡ place
 first_place host interface place d is =
-    let at = position-Some (λ (l : Lane). l.interface == interface) host place d is in
-    position_or_len_is (λ (l : Lane). l.interface == interface) host place d (omega (arith, at.0)) at.2 (λ inside. at.1)
+    let at = position-Some (λ (l : HostStream). l.interface == interface) host place d is in
+    position_or_len_is (λ (l : HostStream). l.interface == interface) host place d (omega (arith, at.0)) at.2 (λ inside. at.1)
 
 -- the lane that was found is that of its interface
-pub lane_found : (host : List Lane) (interface place : ℕ) (d : Lane) → position (λ l. l.interface == interface) host ≡ Some place
+pub lane_found : (host : List HostStream) (interface place : ℕ) (d : HostStream) → position (λ l. l.interface == interface) host ≡ Some place
     → (lane_on host interface ≡ Some (get_or host place d)) × ((get_or host place d).interface ≡ interface)
 lane_found host interface place d is =
-    let at = position-Some (λ (l : Lane). l.interface == interface) host place d is in (
-      find_at (λ (l : Lane). l.interface == interface) host ∙ ap (slice_get host) (first_place host interface place d is) ∙ slice_get-get_or host place d at.0,
+    let at = position-Some (λ (l : HostStream). l.interface == interface) host place d is in (
+      find_at (λ (l : HostStream). l.interface == interface) host ∙ ap (slice_get host) (first_place host interface place d is) ∙ slice_get-get_or host place d at.0,
       eq_of _ _ at.1,
     )
 
 -- no lane was found
-pub lane_missing : (host : List Lane) (interface : ℕ) → position (λ l. l.interface == interface) host ≡ None → lane_on host interface ≡ None
+pub lane_missing : (host : List HostStream) (interface : ℕ) → position (λ l. l.interface == interface) host ≡ None → lane_on host interface ≡ None
 lane_missing host interface is =
-    let p : Lane → Bool = λ l. l.interface == interface in
+    let p : HostStream → Bool = λ l. l.interface == interface in
     let past : position_or_len p host ≡ length host = position_none p host is in
     find_at p host ∙ slice_get_past host (position_or_len p host) (omega arith)
 
 -- the lanes after one was written
-pub lane_written : (host : List Lane) (interface place : ℕ) (l d : Lane) → position (λ l. l.interface == interface) host ≡ Some place → l.interface ≡ interface
+pub lane_written : (host : List HostStream) (interface place : ℕ) (l d : HostStream) → position (λ l. l.interface == interface) host ≡ Some place → l.interface ≡ interface
     → (k : ℕ) → lane_on (set host place l) k ≡ (if k == interface then Some l else lane_on host k)
 lane_written host interface place l d is own k =
-    let found = position-Some (λ (l : Lane). l.interface == interface) host place d is in
+    let found = position-Some (λ (l : HostStream). l.interface == interface) host place d is in
     elim (cases_eq k interface) [
       | inl same ↦
           (let mine : (l.interface == k) ≡ true = eq-eqb l.interface k (own ∙ sym same) in
-          let is_first : place ≡ position_or_len (λ (l : Lane). l.interface == k) host =
-          sym (ap (λ (n : ℕ). position_or_len (λ (l : Lane). l.interface == n) host) same ∙ first_place host interface place d is) in
-          find-set (λ (l : Lane). l.interface == k) host place l is_first found.0 mine ∙ sym (ap (λ (b : Bool). if b then Some l else lane_on host k) (eq-eqb k interface same)))
+          let is_first : place ≡ position_or_len (λ (l : HostStream). l.interface == k) host =
+          sym (ap (λ (n : ℕ). position_or_len (λ (l : HostStream). l.interface == n) host) same ∙ first_place host interface place d is) in
+          find-set (λ (l : HostStream). l.interface == k) host place l is_first found.0 mine ∙ sym (ap (λ (b : Bool). if b then Some l else lane_on host k) (eq-eqb k interface same)))
       | inr other ↦
           (let was : (get_or host place d).interface ≡ interface = eq_of _ _ found.1 in
           let before : ((get_or host place d).interface == k) ≡ false = ne_eqb _ _ (λ e. other (sym e ∙ was)) in
           let after : (l.interface == k) ≡ false = ne_eqb _ _ (λ e. other (sym e ∙ own)) in
-          find_past (λ (l : Lane). l.interface == k) host place l d before after ∙ sym (ap (λ (b : Bool). if b then Some l else lane_on host k) (ne_eqb k interface other)))
+          find_past (λ (l : HostStream). l.interface == k) host place l d before after ∙ sym (ap (λ (b : Bool). if b then Some l else lane_on host k) (ne_eqb k interface other)))
     ]

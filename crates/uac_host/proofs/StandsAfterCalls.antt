@@ -8,7 +8,7 @@ use Rattle.std.proofs.Math.Nat.{div-add-mod, div-mul-le_self, mul_comm, suc-mul}
 use Rattle.std.proofs.lemmas.Grind.{flat_map-append}
 use Rattle.std.proofs.lemmas.List.{length-drop, length-take-le, take-append-drop}
 use Rattle.std.proofs.lemmas.List.Elements.{All-append}
-use Rattle.uac_pcm.specs.Packets.{packed, unpacked}
+use Rattle.uac_pcm.specs.Packets.{bytes_of_frames, frames_of_bytes}
 use Rattle.uac_pcm.specs.declared.tones.Tone.{Tone}
 use Rattle.uac_entities.specs.declared.stream.StreamInterface.{StreamInterface}
 use Rattle.uac_topology.specs.Function.{FunctionFields, interface_in}
@@ -16,11 +16,11 @@ use Rattle.uac_topology.specs.FunctionKept.{AreInRange}
 use Rattle.uac_topology.specs.Topology.{IsSoundFunction}
 use Rattle.uac_alt.specs.AltStreams.{StreamFields, stream_fields, stream_of}
 use Rattle.uac_alt.specs.declared.values.Stream.{Stream}
-use Rattle.uac_host.specs.declared.lanes.Lane.{Lane}
+use Rattle.uac_host.specs.declared.lanes.HostStream.{HostStream}
 use Rattle.uac_host.specs.HostWorld.{HostWorld, Pace, Track, fresh_host}
 use Rattle.uac_host.specs.HostFields.{IsRunnable, PaceFields, TrackFields}
 use Rattle.uac_host.specs.Calls.{AreWhole, IsStreamOf, after_frames, after_packet, at_interface, channels_at, heard_in, in_frames, next_frames, next_size, packet_of, pace_after_report, pace_after_packet, size_of, fresh_pace, with_report, with_samples, with_stream, with_tone}
-use Rattle.uac_host.specs.HostKept.{IsKeptLane, Stands, kept_lane, kept_pace, kept_report, kept_track, lane_on, resting_lane}
+use Rattle.uac_host.specs.HostKept.{IsKeptLane, HostStands, kept_lane, kept_pace, kept_report, kept_track, lane_on, resting_lane}
 use Rattle.uac_host.proofs.CallsLemmas.{after_frames_none}
 use Rattle.uac_host.proofs.SettingStreams.{carried_by, channels_of, runnable}
 use Rattle.uac_host.proofs.HostKeptLemmas.{even_after, flat, lane_found, lane_missing, lane_written, eq_of, remainder_kept, size_kept}
@@ -41,20 +41,20 @@ pub record Turned (interface : ℕ) (w after : HostWorld) : Type 0 where
   pub streams : (p : Pace) → after.paces interface ≡ Some p → IsStreamOf w.function interface p.stream
 
 -- what a lane is by its parts
-pub lane_is : (l : Lane) (interface : ℕ) (pace : Option PaceFields) (track : TrackFields) → l.interface ≡ interface → l.pace ≡ pace → l.track ≡ track
+pub lane_is : (l : HostStream) (interface : ℕ) (pace : Option PaceFields) (track : TrackFields) → l.interface ≡ interface → l.pace ≡ pace → l.track ≡ track
     → l ≡ record { interface = interface; pace = pace; track = track }
 lane_is l interface pace track a b c =
-    ap (λ (n : ℕ). let m : Lane = record { interface = n; pace = l.pace; track = l.track } in m) a
-    ∙ ap (λ (p : Option PaceFields). let m : Lane = record { interface = interface; pace = p; track = l.track } in m) b
-    ∙ ap (λ (t : TrackFields). let m : Lane = record { interface = interface; pace = pace; track = t } in m) c
+    ap (λ (n : ℕ). let m : HostStream = record { interface = n; pace = l.pace; track = l.track } in m) a
+    ∙ ap (λ (p : Option PaceFields). let m : HostStream = record { interface = interface; pace = p; track = l.track } in m) b
+    ∙ ap (λ (t : TrackFields). let m : HostStream = record { interface = interface; pace = pace; track = t } in m) c
 
-pub lane_to : (l : Lane) (w : HostWorld) (interface : ℕ) → l.interface ≡ interface → l.pace ≡ option_map kept_pace (w.paces interface)
+pub lane_to : (l : HostStream) (w : HostWorld) (interface : ℕ) → l.interface ≡ interface → l.pace ≡ option_map kept_pace (w.paces interface)
     → l.track ≡ kept_track (w.tracks interface) → l ≡ kept_lane w interface
 lane_to l w interface a b c = lane_is l interface (option_map kept_pace (w.paces interface)) (kept_track (w.tracks interface)) a b c
 
 -- the place of an interface's lane
-abbrev pub place_of : ℕ → List Lane → Option ℕ
-place_of interface lanes = position (λ (l : Lane). l.interface == interface) lanes
+abbrev pub place_of : ℕ → List HostStream → Option ℕ
+place_of interface lanes = position (λ (l : HostStream). l.interface == interface) lanes
 
 some_same : {A : Type 0} (x y : A) → Some x ≡ Some y → x ≡ y
 some_same x y e = cc
@@ -68,17 +68,17 @@ mapped_is x y None e = cc
 mapped_is x y (Some s) e = some_same x y e
 
 -- the lane at the place of an interface
-pub lane_kept : (host : List Lane) (w : HostWorld) (interface place : ℕ) (d : Lane) → Stands host w → position (λ l. l.interface == interface) host ≡ Some place
+pub lane_kept : (host : List HostStream) (w : HostWorld) (interface place : ℕ) (d : HostStream) → HostStands host w → position (λ l. l.interface == interface) host ≡ Some place
     → get_or host place d ≡ kept_lane w interface
 lane_kept host w interface place d stands is =
     mapped_is (get_or host place d) (kept_lane w interface) (interface_in w.function interface)
     (sym (lane_found host interface place d is).0 ∙ stands.lanes interface)
 
-pub is_kept : (host : List Lane) (w : HostWorld) (interface place : ℕ) (d l : Lane) → Stands host w → position (λ l. l.interface == interface) host ≡ Some place
+pub is_kept : (host : List HostStream) (w : HostWorld) (interface place : ℕ) (d l : HostStream) → HostStands host w → position (λ l. l.interface == interface) host ≡ Some place
     → l ≡ get_or host place d → IsKeptLane w l × (l.interface ≡ interface)
 is_kept host w interface place d l stands is read =
     let lane : l ≡ kept_lane w interface = read ∙ lane_kept host w interface place d stands is in
-    let own : l.interface ≡ interface = ap (λ (m : Lane). m.interface) lane in (
+    let own : l.interface ≡ interface = ap (λ (m : HostStream). m.interface) lane in (
       record {
         lane = subst (λ (n : ℕ). l ≡ kept_lane w n) (sym own) lane;
         whole = subst (λ (n : ℕ). All (λ frame. length frame ≡ channels_at w.function n) (w.tracks n).waiting) (sym own) (stands.whole interface);
@@ -88,10 +88,10 @@ is_kept host w interface place d l stands is read =
     )
 
 -- other interfaces stay
-others : (host new : List Lane) (w after : HostWorld) (interface : ℕ) → Stands host w → Turned interface w after
+others : (host new : List HostStream) (w after : HostWorld) (interface : ℕ) → HostStands host w → Turned interface w after
     → ((k : ℕ) → k ≢ interface → lane_on new k ≡ lane_on host k)
     → lane_on new interface ≡ option_map (λ s. kept_lane after interface) (interface_in w.function interface)
-    → Stands new after
+    → HostStands new after
 others host new w after interface stands turned stay own = record { lanes = lanes; whole = whole; streams = streams } where
   same_lane : (k : ℕ) → k ≢ interface → kept_lane after k ≡ kept_lane w k
   same_lane k other =
@@ -105,7 +105,7 @@ others host new w after interface stands turned stay own = record { lanes = lane
         ∙ ap (λ (f : FunctionFields). option_map (λ s. kept_lane after k) (interface_in f k)) (sym turned.function)
     | inr other ↦
         stay k other ∙ stands.lanes k
-        ∙ ap (λ (l : Lane). option_map (λ s. l) (interface_in w.function k)) (sym (same_lane k other))
+        ∙ ap (λ (l : HostStream). option_map (λ s. l) (interface_in w.function k)) (sym (same_lane k other))
         ∙ ap (λ (f : FunctionFields). option_map (λ s. kept_lane after k) (interface_in f k)) (sym turned.function)
   ]
 
@@ -124,9 +124,9 @@ others host new w after interface stands turned stay own = record { lanes = lane
       ])
 
 -- the interface's lane was written
-pub stands_written : (host : List Lane) (w after : HostWorld) (interface place : ℕ) (l d : Lane) → Stands host w → Turned interface w after
+pub stands_written : (host : List HostStream) (w after : HostWorld) (interface place : ℕ) (l d : HostStream) → HostStands host w → Turned interface w after
     → position (λ l. l.interface == interface) host ≡ Some place → l.interface ≡ interface → l.pace ≡ option_map kept_pace (after.paces interface)
-    → l.track ≡ kept_track (after.tracks interface) → Stands (set host place l) after
+    → l.track ≡ kept_track (after.tracks interface) → HostStands (set host place l) after
 stands_written host w after interface place l d stands turned is own pace track =
     others host (set host place l) w after interface stands turned stay mine where
       lane : l ≡ kept_lane after interface
@@ -139,7 +139,7 @@ stands_written host w after interface place l d stands turned is own pace track 
       mine =
           lane_written host interface place l d is own interface
           ∙ ap (λ (b : Bool). if b then Some l else lane_on host interface) (eq-eqb interface interface refl)
-          ∙ ap (λ (m : Lane). Some m) lane
+          ∙ ap (λ (m : HostStream). Some m) lane
           ∙ mapped_some (get_or host place d) (kept_lane w interface) (kept_lane after interface) (interface_in w.function interface)
           (sym (lane_found host interface place d is).0 ∙ stands.lanes interface)
 
@@ -148,8 +148,8 @@ nowhere x y None e = refl
 nowhere x y (Some s) e = cc
 
 -- the interface has no lane
-pub stands_missing : (host : List Lane) (w after : HostWorld) (interface : ℕ) → Stands host w → Turned interface w after
-    → position (λ l. l.interface == interface) host ≡ None → Stands host after
+pub stands_missing : (host : List HostStream) (w after : HostWorld) (interface : ℕ) → HostStands host w → Turned interface w after
+    → position (λ l. l.interface == interface) host ≡ None → HostStands host after
 stands_missing host w after interface stands turned is =
     let none : lane_on host interface ≡ None = lane_missing host interface is in
     others host host w after interface stands turned (λ k other. refl)
@@ -161,7 +161,7 @@ mapped : {A B : Type 0} (f : A → B) (o : Option A) (y : B) → option_map f o 
 mapped f None y e = absurd cc
 mapped f (Some x) y e = (x, refl, some_same (f x) y e)
 
-pub report_turns : (host : List Lane) (w : HostWorld) (interface value : ℕ) → Stands host w → Turned interface w (with_report interface value w)
+pub report_turns : (host : List HostStream) (w : HostWorld) (interface value : ℕ) → HostStands host w → Turned interface w (with_report interface value w)
 unfolding with_report
 report_turns host w interface value stands = record {
   function = refl;
@@ -173,7 +173,7 @@ report_turns host w interface value stands = record {
       subst (λ (s : StreamFields). IsStreamOf w.function interface s) (ap (λ (q : Pace). q.stream) found.2) (stands.streams interface found.0 found.1));
 }
 
-pub tone_turns : (host : List Lane) (w : HostWorld) (interface : ℕ) (tone : Tone) → Stands host w → Turned interface w (with_tone interface tone w)
+pub tone_turns : (host : List HostStream) (w : HostWorld) (interface : ℕ) (tone : Tone) → HostStands host w → Turned interface w (with_tone interface tone w)
 unfolding with_tone
 tone_turns host w interface tone stands =
     let t : Track = record (w.tracks interface) { tone = tone; place = 0 } in
@@ -185,7 +185,7 @@ tone_turns host w interface tone stands =
       streams = stands.streams interface;
     }
 
-pub stream_turns : (host : List Lane) (w : HostWorld) (interface : ℕ) (stream : Option StreamFields) → Stands host w
+pub stream_turns : (host : List HostStream) (w : HostWorld) (interface : ℕ) (stream : Option StreamFields) → HostStands host w
     → ((s : StreamFields) → stream ≡ Some s → IsStreamOf w.function interface s) → Turned interface w (with_stream interface stream w)
 unfolding with_stream
 stream_turns host w interface stream stands of = record {
@@ -225,7 +225,7 @@ whole_chunks channels samples whole =
       from_parts : (n q r m : ℕ) → m + r ≡ n → r ≡ 0 → m ≡ q → n ≡ q
       from_parts n q r m parts whole turned = omega arith
 
-pub samples_turn : (host : List Lane) (w : HostWorld) (interface : ℕ) (samples : List ℤ) → Stands host w → Turned interface w (with_samples interface samples w)
+pub samples_turn : (host : List HostStream) (w : HostWorld) (interface : ℕ) (samples : List ℤ) → HostStands host w → Turned interface w (with_samples interface samples w)
 unfolding with_samples
 samples_turn host w interface samples stands =
     let channels : ℕ = channels_at w.function interface in
@@ -253,7 +253,7 @@ samples_kept w interface samples whole =
     ∙ ap (λ (xs : List ℤ). let k : TrackFields = record { samples = xs; tone = t.tone; place = t.place % 4294967296 } in k)
     (flat_map-append (λ frame. frame) t.waiting frames ∙ ap (λ (xs : List ℤ). flat t.waiting ++ xs) joined)
 
-pub packet_turns : (host : List Lane) (w : HostWorld) (interface : ℕ) → Stands host w → Turned interface w (after_packet interface w)
+pub packet_turns : (host : List HostStream) (w : HostWorld) (interface : ℕ) → HostStands host w → Turned interface w (after_packet interface w)
 unfolding after_packet
 packet_turns host w interface stands = record {
   function = refl;
@@ -273,11 +273,11 @@ unmapped f None e = refl
 unmapped f (Some x) e = cc
 
 -- the stream that a lane runs
-pub runs_in : (w : HostWorld) (l : Lane) (fields : PaceFields) → IsKeptLane w l → l.pace ≡ Some fields → (p : Pace) × (w.paces l.interface ≡ Some p) × (kept_pace p ≡ fields)
-runs_in w l fields kept runs = mapped kept_pace (w.paces l.interface) fields (sym (ap (λ (m : Lane). m.pace) kept.lane) ∙ runs)
+pub runs_in : (w : HostWorld) (l : HostStream) (fields : PaceFields) → IsKeptLane w l → l.pace ≡ Some fields → (p : Pace) × (w.paces l.interface ≡ Some p) × (kept_pace p ≡ fields)
+runs_in w l fields kept runs = mapped kept_pace (w.paces l.interface) fields (sym (ap (λ (m : HostStream). m.pace) kept.lane) ∙ runs)
 
-pub rests_in : (w : HostWorld) (l : Lane) → IsKeptLane w l → l.pace ≡ None → w.paces l.interface ≡ None
-rests_in w l kept rests = unmapped kept_pace (w.paces l.interface) (sym (ap (λ (m : Lane). m.pace) kept.lane) ∙ rests)
+pub rests_in : (w : HostWorld) (l : HostStream) → IsKeptLane w l → l.pace ≡ None → w.paces l.interface ≡ None
+rests_in w l kept rests = unmapped kept_pace (w.paces l.interface) (sym (ap (λ (m : HostStream). m.pace) kept.lane) ∙ rests)
 
 -- where no stream runs, no packet is formed
 pub unsent : (w : HostWorld) (interface : ℕ) → w.paces interface ≡ None
@@ -289,18 +289,18 @@ unsent w interface none =
     sym (after_frames_none (w.tracks interface)) ∙ ap (λ (n : ℕ). after_frames n (w.tracks interface)) size in
     let pace : w.paces interface ≡ option_map pace_after_packet (w.paces interface) = none ∙ sym (ap (option_map pace_after_packet) none) in (
       size,
-      sym (ap (λ (o : Option Pace). option_map_or (λ p. packed p.stream.subslot p.stream.bits (next_frames p.stream.channels (next_size p) (w.tracks interface))) o []) none),
+      sym (ap (λ (o : Option Pace). option_map_or (λ p. bytes_of_frames p.stream.subslot p.stream.bits (next_frames p.stream.channels (next_size p) (w.tracks interface))) o []) none),
       lane_to (kept_lane w interface) (after_packet interface w) interface refl (ap (option_map kept_pace) (pace ∙ sym (here interface (option_map pace_after_packet (w.paces interface)) w.paces)))
           (ap kept_track (track ∙ sym (here interface (after_frames (option_map_or next_size (w.paces interface) 0) (w.tracks interface)) w.tracks))),
     )
 
-pub lane_sends : (w : HostWorld) (l : Lane) (fields next : PaceFields) (channels subslot bits frames : ℕ) (track : TrackFields) (bytes : List ℕ)
+pub lane_sends : (w : HostWorld) (l : HostStream) (fields next : PaceFields) (channels subslot bits frames : ℕ) (track : TrackFields) (bytes : List ℕ)
     → IsKeptLane w l → l.pace ≡ Some fields
     → frames ≡ (fields.remainder + fields.stream.service * fields.value) / 65536
     → next ≡ record fields { remainder = (fields.remainder + fields.stream.service * fields.value) % 65536 }
     → channels ≡ next.stream.channels → subslot ≡ next.stream.subslot → bits ≡ next.stream.bits
     → ((t : Track) → All (λ frame. length frame ≡ channels) t.waiting → l.track ≡ kept_track t
-    → (bytes ≡ packed subslot bits (next_frames channels frames t)) × (track ≡ kept_track (after_frames frames t)))
+    → (bytes ≡ bytes_of_frames subslot bits (next_frames channels frames t)) × (track ≡ kept_track (after_frames frames t)))
     → (frames ≡ size_of w l.interface) × (bytes ≡ packet_of w l.interface)
     × (record { interface = l.interface; pace = Some next; track = track } ≡ kept_lane (after_packet l.interface w) l.interface)
 unfolding size_of packet_of after_packet
@@ -318,21 +318,21 @@ lane_sends w l fields next channels subslot bits frames track bytes kept runs fr
     let linked : channels ≡ channels_at w.function i = same_channels ∙ channels_of w.function i p.stream (kept.streams p found.1) in
     let even : All (λ frame. length frame ≡ channels) t.waiting =
     subst (λ (n : ℕ). All (λ frame. length frame ≡ n) t.waiting) (sym linked) kept.whole in
-    let both = filled t even (ap (λ (m : Lane). m.track) kept.lane) in
+    let both = filled t even (ap (λ (m : HostStream). m.track) kept.lane) in
     let whole_size : option_map_or next_size (w.paces i) 0 ≡ next_size p = ap (λ (o : Option Pace). option_map_or next_size o 0) found.1 in
-    let packet : bytes ≡ packed p.stream.subslot p.stream.bits (next_frames p.stream.channels (next_size p) t) =
+    let packet : bytes ≡ bytes_of_frames p.stream.subslot p.stream.bits (next_frames p.stream.channels (next_size p) t) =
     both.0
-    ∙ ap (λ (n : ℕ). packed subslot bits (next_frames n frames t)) same_channels
-    ∙ ap (λ (n : ℕ). packed subslot bits (next_frames p.stream.channels n t)) size
-    ∙ ap (λ (n : ℕ). packed n bits (next_frames p.stream.channels (next_size p) t)) same_subslot
-    ∙ ap (λ (n : ℕ). packed p.stream.subslot n (next_frames p.stream.channels (next_size p) t)) same_bits in
+    ∙ ap (λ (n : ℕ). bytes_of_frames subslot bits (next_frames n frames t)) same_channels
+    ∙ ap (λ (n : ℕ). bytes_of_frames subslot bits (next_frames p.stream.channels n t)) size
+    ∙ ap (λ (n : ℕ). bytes_of_frames n bits (next_frames p.stream.channels (next_size p) t)) same_subslot
+    ∙ ap (λ (n : ℕ). bytes_of_frames p.stream.subslot n (next_frames p.stream.channels (next_size p) t)) same_bits in
     let kept_next : next ≡ kept_pace (pace_after_packet p) =
     nexted
     ∙ ap (λ (f : PaceFields). let k : PaceFields = record { stream = f.stream; remainder = (f.remainder + f.stream.service * f.value) % 65536; value = f.value } in k) (sym found.2)
     ∙ ap (λ (n : ℕ). let k : PaceFields = record { stream = p.stream; remainder = n; value = p.value } in k) (remainder_kept p) in (
       size ∙ sym whole_size,
       packet
-          ∙ sym (ap (λ (o : Option Pace). option_map_or (λ q. packed q.stream.subslot q.stream.bits (next_frames q.stream.channels (next_size q) t)) o []) found.1),
+          ∙ sym (ap (λ (o : Option Pace). option_map_or (λ q. bytes_of_frames q.stream.subslot q.stream.bits (next_frames q.stream.channels (next_size q) t)) o []) found.1),
       lane_to (record { interface = i; pace = Some next; track = track }) (after_packet i w) i refl
           (ap (λ (f : PaceFields). Some f) kept_next ∙ sym (ap (option_map kept_pace) (here i (option_map pace_after_packet (w.paces i)) w.paces ∙ ap (option_map pace_after_packet) found.1)))
           (both.1 ∙ ap (λ (n : ℕ). kept_track (after_frames n t)) (size ∙ sym whole_size)
@@ -340,27 +340,27 @@ lane_sends w l fields next channels subslot bits frames track bytes kept runs fr
     )
 
 -- what is heard where a stream runs, and where none does
-pub heard_running : (w : HostWorld) (l : Lane) (fields : PaceFields) (channels subslot bits : ℕ) (bytes : List ℕ) → IsKeptLane w l → l.pace ≡ Some fields
+pub heard_running : (w : HostWorld) (l : HostStream) (fields : PaceFields) (channels subslot bits : ℕ) (bytes : List ℕ) → IsKeptLane w l → l.pace ≡ Some fields
     → channels ≡ fields.stream.channels → subslot ≡ fields.stream.subslot → bits ≡ fields.stream.bits
-    → heard_in w l.interface bytes ≡ unpacked channels subslot bits bytes
+    → heard_in w l.interface bytes ≡ frames_of_bytes channels subslot bits bytes
 unfolding heard_in
 heard_running w l fields channels subslot bits bytes kept runs as_channels as_subslot as_bits =
     let found = runs_in w l fields kept runs in
-    ap (λ (o : Option Pace). option_map_or (λ p. unpacked p.stream.channels p.stream.subslot p.stream.bits bytes) o []) found.1
-    ∙ ap (λ (f : PaceFields). unpacked f.stream.channels f.stream.subslot f.stream.bits bytes) found.2
-    ∙ ap (λ (n : ℕ). unpacked n fields.stream.subslot fields.stream.bits bytes) (sym as_channels)
-    ∙ ap (λ (n : ℕ). unpacked channels n fields.stream.bits bytes) (sym as_subslot)
-    ∙ ap (λ (n : ℕ). unpacked channels subslot n bytes) (sym as_bits)
+    ap (λ (o : Option Pace). option_map_or (λ p. frames_of_bytes p.stream.channels p.stream.subslot p.stream.bits bytes) o []) found.1
+    ∙ ap (λ (f : PaceFields). frames_of_bytes f.stream.channels f.stream.subslot f.stream.bits bytes) found.2
+    ∙ ap (λ (n : ℕ). frames_of_bytes n fields.stream.subslot fields.stream.bits bytes) (sym as_channels)
+    ∙ ap (λ (n : ℕ). frames_of_bytes channels n fields.stream.bits bytes) (sym as_subslot)
+    ∙ ap (λ (n : ℕ). frames_of_bytes channels subslot n bytes) (sym as_bits)
 
 pub heard_nothing : (w : HostWorld) (interface : ℕ) (bytes : List ℕ) → w.paces interface ≡ None → heard_in w interface bytes ≡ []
 unfolding heard_in
-heard_nothing w interface bytes none = ap (λ (o : Option Pace). option_map_or (λ p. unpacked p.stream.channels p.stream.subslot p.stream.bits bytes) o []) none
+heard_nothing w interface bytes none = ap (λ (o : Option Pace). option_map_or (λ p. frames_of_bytes p.stream.channels p.stream.subslot p.stream.bits bytes) o []) none
 
 some_none : {A B : Type 0} (x : A) → Some x ≡ None → B
 some_none x e = absurd cc
 
 -- an interface without a lane runs no stream
-pub no_stream : (inside now : List Lane) (w : HostWorld) (interface : ℕ) → inside ≡ now → Stands now w → None ≡ place_of interface inside → w.paces interface ≡ None
+pub no_stream : (inside now : List HostStream) (w : HostWorld) (interface : ℕ) → inside ≡ now → HostStands now w → None ≡ place_of interface inside → w.paces interface ≡ None
 no_stream inside now w interface same stands is = by (w.paces interface) refl where
   by : (o : Option Pace) → w.paces interface ≡ o → o ≡ None
   by None e = refl
@@ -373,9 +373,9 @@ no_stream inside now w interface same stands is = by (w.paces interface) refl wh
 
 -- ---- the start
 
-picked : (b : Bool) (x y : Lane) (s : StreamInterface) (o : Option Lane) (r : Option StreamInterface) → (b ≡ true → x ≡ y) → o ≡ option_map (λ t. y) r
+picked : (b : Bool) (x y : HostStream) (s : StreamInterface) (o : Option HostStream) (r : Option StreamInterface) → (b ≡ true → x ≡ y) → o ≡ option_map (λ t. y) r
     → (if b then Some x else o) ≡ option_map (λ t. y) (if b then Some s else r)
-picked true x y s o r same rest = ap (λ (l : Lane). Some l) (same refl)
+picked true x y s o r same rest = ap (λ (l : HostStream). Some l) (same refl)
 picked false x y s o r same rest = rest
 
 resting_found : (streams : List StreamInterface) (k : ℕ) → lane_on (map (λ s. resting_lane s.number) streams) k ≡ option_map (λ s. resting_lane k) (find (λ s. s.number == k) streams)
@@ -384,10 +384,10 @@ resting_found (s ∷ streams) k =
     picked (s.number == k) (resting_lane s.number) (resting_lane k) s (lane_on (map (λ s. resting_lane s.number) streams) k) (find (λ s. s.number == k) streams)
     (λ same. ap resting_lane (eq_of s.number k same)) (resting_found streams k)
 
-pub stands_fresh : (function : FunctionFields) (host : List Lane) → host ≡ map (λ s. resting_lane s.number) function.streams → Stands host (fresh_host function)
+pub stands_fresh : (function : FunctionFields) (host : List HostStream) → host ≡ map (λ s. resting_lane s.number) function.streams → HostStands host (fresh_host function)
 unfolding fresh_host
 stands_fresh function host is = record {
-  lanes = λ k. ap (λ (ls : List Lane). lane_on ls k) is ∙ resting_found function.streams k;
+  lanes = λ k. ap (λ (ls : List HostStream). lane_on ls k) is ∙ resting_found function.streams k;
   whole = λ k i d below. absurd (omega arith);
   streams = λ k p runs. absurd (none_some p runs);
 } where
@@ -396,79 +396,79 @@ stands_fresh function host is = record {
 
 -- ---- a lane that was read, and written back
 
-pub kept_at : (now inside : List Lane) (w : HostWorld) (interface place : ℕ) (old : Lane) → inside ≡ now → Stands now w
+pub kept_at : (now inside : List HostStream) (w : HostWorld) (interface place : ℕ) (old : HostStream) → inside ≡ now → HostStands now w
     → Some place ≡ place_of interface inside → old ≡ get_or inside place old → IsKeptLane w old × (old.interface ≡ interface)
 kept_at now inside w interface place old same stands is read =
-    is_kept inside w interface place old old (subst (λ (ls : List Lane). Stands ls w) (sym same) stands) (sym is) read
+    is_kept inside w interface place old old (subst (λ (ls : List HostStream). HostStands ls w) (sym same) stands) (sym is) read
 
-pub put_back : (now inside : List Lane) (w after : HostWorld) (interface place : ℕ) (old new : Lane) → inside ≡ now → Stands now w → Turned interface w after
-    → Some place ≡ place_of interface inside → new ≡ kept_lane after interface → Stands (set inside place new) after
+pub put_back : (now inside : List HostStream) (w after : HostWorld) (interface place : ℕ) (old new : HostStream) → inside ≡ now → HostStands now w → Turned interface w after
+    → Some place ≡ place_of interface inside → new ≡ kept_lane after interface → HostStands (set inside place new) after
 put_back now inside w after interface place old new same stands turned is kept =
-    stands_written inside w after interface place new old (subst (λ (ls : List Lane). Stands ls w) (sym same) stands) turned (sym is)
-    (ap (λ (l : Lane). l.interface) kept) (ap (λ (l : Lane). l.pace) kept) (ap (λ (l : Lane). l.track) kept)
+    stands_written inside w after interface place new old (subst (λ (ls : List HostStream). HostStands ls w) (sym same) stands) turned (sym is)
+    (ap (λ (l : HostStream). l.interface) kept) (ap (λ (l : HostStream). l.pace) kept) (ap (λ (l : HostStream). l.track) kept)
 
-pub left_alone : (now inside : List Lane) (w after : HostWorld) (interface : ℕ) → inside ≡ now → Stands now w → Turned interface w after
-    → None ≡ place_of interface inside → Stands now after
+pub left_alone : (now inside : List HostStream) (w after : HostWorld) (interface : ℕ) → inside ≡ now → HostStands now w → Turned interface w after
+    → None ≡ place_of interface inside → HostStands now after
 left_alone now inside w after interface same stands turned is =
     stands_missing now w after interface stands turned (sym (is ∙ ap (place_of interface) same))
 
 -- the lane of an interface by the world
-own_lane : (w : HostWorld) (interface : ℕ) (l : Lane) → IsKeptLane w l → l.interface ≡ interface → l ≡ kept_lane w interface
+own_lane : (w : HostWorld) (interface : ℕ) (l : HostStream) → IsKeptLane w l → l.interface ≡ interface → l ≡ kept_lane w interface
 own_lane w interface l kept own = subst (λ (n : ℕ). l ≡ kept_lane w n) own kept.lane
 
 held_alike : (value : ℕ) (o : Option Pace) → option_map (kept_report value) (option_map kept_pace o) ≡ option_map kept_pace (option_map (pace_after_report value) o)
 held_alike value None = refl
 held_alike value (Some p) = refl
 
-pub report_kept : (w : HostWorld) (interface value : ℕ) (old new : Lane) → IsKeptLane w old → old.interface ≡ interface
+pub report_kept : (w : HostWorld) (interface value : ℕ) (old new : HostStream) → IsKeptLane w old → old.interface ≡ interface
     → new ≡ record old { pace = option_map (kept_report value) old.pace } → new ≡ kept_lane (with_report interface value w) interface
 unfolding with_report
 report_kept w interface value old new kept own is =
     let lane = own_lane w interface old kept own in
     lane_to new (with_report interface value w) interface
-    (ap (λ (l : Lane). l.interface) is ∙ own)
-    (ap (λ (l : Lane). l.pace) is
-    ∙ ap (λ (l : Lane). option_map (kept_report value) l.pace) lane
+    (ap (λ (l : HostStream). l.interface) is ∙ own)
+    (ap (λ (l : HostStream). l.pace) is
+    ∙ ap (λ (l : HostStream). option_map (kept_report value) l.pace) lane
     ∙ held_alike value (w.paces interface)
     ∙ sym (ap (option_map kept_pace) (here interface (option_map (pace_after_report value) (w.paces interface)) w.paces)))
-    (ap (λ (l : Lane). l.track) is ∙ ap (λ (l : Lane). l.track) lane)
+    (ap (λ (l : HostStream). l.track) is ∙ ap (λ (l : HostStream). l.track) lane)
 
-pub tone_lane : (w : HostWorld) (interface : ℕ) (tone : Tone) (old : Lane) (track : TrackFields) → IsKeptLane w old → old.interface ≡ interface
+pub tone_lane : (w : HostWorld) (interface : ℕ) (tone : Tone) (old : HostStream) (track : TrackFields) → IsKeptLane w old → old.interface ≡ interface
     → track ≡ record old.track { tone = tone; place = 0 }
     → record { interface = old.interface; pace = old.pace; track = track } ≡ kept_lane (with_tone interface tone w) interface
 unfolding with_tone
 tone_lane w interface tone old track kept own is =
     let lane = own_lane w interface old kept own in
     let t : Track = record (w.tracks interface) { tone = tone; place = 0 } in
-    lane_to (record { interface = old.interface; pace = old.pace; track = track }) (with_tone interface tone w) interface own (ap (λ (l : Lane). l.pace) lane)
+    lane_to (record { interface = old.interface; pace = old.pace; track = track }) (with_tone interface tone w) interface own (ap (λ (l : HostStream). l.pace) lane)
     (is
-    ∙ ap (λ (l : Lane). let k : TrackFields = record l.track { tone = tone; place = 0 } in k) lane
+    ∙ ap (λ (l : HostStream). let k : TrackFields = record l.track { tone = tone; place = 0 } in k) lane
     ∙ sym (ap kept_track (here interface t w.tracks)))
 
-pub samples_lane : (w : HostWorld) (interface : ℕ) (samples : List ℤ) (old : Lane) (track : TrackFields) → AreWhole w.function interface samples
+pub samples_lane : (w : HostWorld) (interface : ℕ) (samples : List ℤ) (old : HostStream) (track : TrackFields) → AreWhole w.function interface samples
     → IsKeptLane w old → old.interface ≡ interface → track ≡ record old.track { samples = old.track.samples ++ samples }
     → record { interface = old.interface; pace = old.pace; track = track } ≡ kept_lane (with_samples interface samples w) interface
 unfolding with_samples
 samples_lane w interface samples old track whole kept own is =
     let lane = own_lane w interface old kept own in
-    lane_to (record { interface = old.interface; pace = old.pace; track = track }) (with_samples interface samples w) interface own (ap (λ (l : Lane). l.pace) lane)
+    lane_to (record { interface = old.interface; pace = old.pace; track = track }) (with_samples interface samples w) interface own (ap (λ (l : HostStream). l.pace) lane)
     (is
-    ∙ ap (λ (l : Lane). let k : TrackFields = record l.track { samples = l.track.samples ++ samples } in k) lane
+    ∙ ap (λ (l : HostStream). let k : TrackFields = record l.track { samples = l.track.samples ++ samples } in k) lane
     ∙ sym (samples_kept w interface samples whole))
 
 started_alike : (o : Option Stream) → option_map (λ s. kept_pace (fresh_pace (stream_fields s))) o ≡ option_map kept_pace (option_map fresh_pace (option_map stream_fields o))
 started_alike None = refl
 started_alike (Some s) = refl
 
-pub stream_lane : (w : HostWorld) (interface : ℕ) (stream : Option Stream) (old new : Lane) → IsKeptLane w old → old.interface ≡ interface
+pub stream_lane : (w : HostWorld) (interface : ℕ) (stream : Option Stream) (old new : HostStream) → IsKeptLane w old → old.interface ≡ interface
     → new ≡ record old { pace = option_map (λ s. kept_pace (fresh_pace (stream_fields s))) stream } → new ≡ kept_lane (with_stream interface (option_map stream_fields stream) w) interface
 unfolding with_stream
 stream_lane w interface stream old new kept own is =
     let lane = own_lane w interface old kept own in
     lane_to new (with_stream interface (option_map stream_fields stream) w) interface
-    (ap (λ (l : Lane). l.interface) is ∙ own)
-    (ap (λ (l : Lane). l.pace) is ∙ started_alike stream ∙ sym (ap (option_map kept_pace) (here interface (option_map fresh_pace (option_map stream_fields stream)) w.paces)))
-    (ap (λ (l : Lane). l.track) is ∙ ap (λ (l : Lane). l.track) lane)
+    (ap (λ (l : HostStream). l.interface) is ∙ own)
+    (ap (λ (l : HostStream). l.pace) is ∙ started_alike stream ∙ sym (ap (option_map kept_pace) (here interface (option_map fresh_pace (option_map stream_fields stream)) w.paces)))
+    (ap (λ (l : HostStream). l.track) is ∙ ap (λ (l : HostStream). l.track) lane)
 
 pub given_of : (function : FunctionFields) (interface : ℕ) (stream : Option Stream) → IfSome stream (λ s. IsStreamOf function interface (stream_fields s))
     → (s : StreamFields) → option_map stream_fields stream ≡ Some s → IsStreamOf function interface s
@@ -480,14 +480,14 @@ pub each_runnable : ((function : FunctionFields) → IsSoundFunction function �
 each_runnable ranged interface None given = given
 each_runnable ranged interface (Some s) given = runnable given.0 interface (stream_fields s) (ranged given.0 given.1) given.2
 
-pub append_stands : {T E : Type 0} (r : Result T E) (now inside : List Lane) (w : HostWorld) (interface place : ℕ) (samples : List ℤ) (old : Lane) (track : TrackFields)
-    → inside ≡ now → Stands now w → AreWhole w.function interface samples → Some place ≡ place_of interface inside → old ≡ get_or inside place old
+pub append_stands : {T E : Type 0} (r : Result T E) (now inside : List HostStream) (w : HostWorld) (interface place : ℕ) (samples : List ℤ) (old : HostStream) (track : TrackFields)
+    → inside ≡ now → HostStands now w → AreWhole w.function interface samples → Some place ≡ place_of interface inside → old ≡ get_or inside place old
     → OnOk r (track ≡ record old.track { samples = old.track.samples ++ samples })
-    → OnOk r (Stands (set inside place (record { interface = old.interface; pace = old.pace; track = track })) (with_samples interface samples w))
+    → OnOk r (HostStands (set inside place (record { interface = old.interface; pace = old.pace; track = track })) (with_samples interface samples w))
 append_stands (Err e) now inside w interface place samples old track same stands whole is read appended = appended
 append_stands (Ok x) now inside w interface place samples old track same stands whole is read appended =
     let own = kept_at now inside w interface place old same stands is read in
-    let new : Lane = record { interface = old.interface; pace = old.pace; track = track } in
+    let new : HostStream = record { interface = old.interface; pace = old.pace; track = track } in
     put_back now inside w (with_samples interface samples w) interface place old new same stands (samples_turn now w interface samples stands) is
     (samples_lane w interface samples old track whole own.0 own.1 appended)
 

@@ -38,6 +38,6 @@ frames_at_the_join : next_frames 1 3 joined ≡ (pos 7 ∷ []) ∷ (pos 150 ∷ 
 unfolding next_frames joined int_wrap
 frames_at_the_join = refl
 
-behind_the_join : after_frames 3 joined ≡ record joined { waiting = []; place = 7 }
+after_the_join : after_frames 3 joined ≡ record joined { waiting = []; place = 7 }
 unfolding after_frames joined
-behind_the_join = refl
+after_the_join = refl

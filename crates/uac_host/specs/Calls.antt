@@ -5,7 +5,7 @@ use Rattle.std.specs.Prelude.{List, [], ◌++◌, map, length, take, drop, repli
 use Rattle.std.specs.List.{range_with_len}
 use Rattle.std.specs.Option.{option_map, option_map_or}
 use Rattle.std.specs.Simd.{first_chunks}
-use Rattle.uac_pcm.specs.Packets.{packed, unpacked}
+use Rattle.uac_pcm.specs.Packets.{bytes_of_frames, frames_of_bytes}
 use Rattle.uac_pcm.specs.Tones.{tone_sample}
 use Rattle.uac_pcm.specs.declared.tones.Tone.{Tone}
 use Rattle.uac_topology.specs.Function.{FunctionFields, interface_in}
@@ -102,7 +102,7 @@ size_of w interface = option_map_or next_size (w.paces interface) 0
 -- the bytes of that packet
 unfoldable pub packet_of : HostWorld → ℕ → List ℕ
 packet_of w interface =
-    option_map_or (λ p. packed p.stream.subslot p.stream.bits (next_frames p.stream.channels (next_size p) (w.tracks interface)))
+    option_map_or (λ p. bytes_of_frames p.stream.subslot p.stream.bits (next_frames p.stream.channels (next_size p) (w.tracks interface)))
     (w.paces interface) []
 
 -- a stream whose next packet was formed
@@ -120,4 +120,4 @@ after_packet interface w =
 -- the frames that stand whole in a packet of the stream that an interface runs; none where it runs none
 unfoldable pub heard_in : HostWorld → ℕ → List ℕ → List (List ℤ)
 heard_in w interface bytes =
-    option_map_or (λ p. unpacked p.stream.channels p.stream.subslot p.stream.bits bytes) (w.paces interface) []
+    option_map_or (λ p. frames_of_bytes p.stream.channels p.stream.subslot p.stream.bits bytes) (w.paces interface) []

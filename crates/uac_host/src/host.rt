@@ -8,9 +8,9 @@ ghost use Rattle.uac_alt.specs.AltStreams.{stream_fields};
 ghost use Rattle.uac_host.specs.HostWorld.{HostWorld, fresh_host};
 ghost use Rattle.uac_host.specs.Calls.{AreWhole, IsStreamOf, after_packet, heard_in, packet_of, size_of};
 ghost use Rattle.uac_host.specs.Calls.{with_report, with_samples, with_stream, with_tone};
-ghost use Rattle.uac_host.specs.HostKept.{Stands};
+ghost use Rattle.uac_host.specs.HostKept.{HostStands};
 
-use crate::lanes::Lane;
+use crate::lanes::HostStream;
 use std::alloc::Global;
 use std::marker::Model;
 use uac_alt::Stream;
@@ -22,14 +22,14 @@ use uac_topology::laws::settings_are_in_range;
 /// The host of an audio function: for each streaming interface the stream that it runs, and the track from which it sends.
 #[derive(Drop)]
 pub struct Host {
-    lanes: Vec<Lane>,
+    lanes: Vec<HostStream>,
 }
 
 impl Model for Host {
     ghost use Rattle.std.specs.Prelude.{List};
-    ghost use Rattle.uac_host.specs.declared.lanes.Lane.{Lane};
+    ghost use Rattle.uac_host.specs.declared.lanes.HostStream.{HostStream};
 
-    ghost Value = { List Lane };
+    ghost Value = { List HostStream };
 
     ghost view = { λ h. h.lanes.items };
 }
@@ -37,11 +37,11 @@ impl Model for Host {
 impl Host {
     /// A host of a function, which runs no stream and has silent tracks.
     pub fn new(alloc: Global, function: &Function) -> Result<Host, NoMemory>
-        ensures { IfOk result (λ host. Stands host (fresh_host function.now)) }
+        ensures { IfOk result (λ host. HostStands host (fresh_host function.now)) }
     {
         let mut lanes = Vec::new(alloc);
         for stream in function.streams() {
-            lanes.push(Lane::resting(alloc, stream.number))?;
+            lanes.push(HostStream::resting(alloc, stream.number))?;
         }
         Ok(Host { lanes })
     }
@@ -51,8 +51,8 @@ impl Host {
     pub fn set_stream(&mut self, interface: u8, stream: Option<Stream>)
         requires { IfSome stream (λ s. (function : FunctionFields) × IsSoundFunction function
             × IsStreamOf function interface (stream_fields s)) }
-        ensures stands { (w : HostWorld) → Stands self.old w → IfSome stream (λ s. IsStreamOf w.function interface (stream_fields s))
-            → Stands self.new (with_stream interface (option_map stream_fields stream) w) }
+        ensures stands { (w : HostWorld) → HostStands self.old w → IfSome stream (λ s. IsStreamOf w.function interface (stream_fields s))
+            → HostStands self.new (with_stream interface (option_map stream_fields stream) w) }
     {
         settings_are_in_range();
         match self.place(interface) {
@@ -64,8 +64,8 @@ impl Host {
     /// Frames wait after those that do: samples of full scale, channel after channel, in whole frames of the interface's terminal. After
     /// `NoMemory` the track is as it was.
     pub fn append(&mut self, interface: u8, samples: &[i32]) -> Result<(), NoMemory>
-        ensures stands { (w : HostWorld) → Stands self.old w → AreWhole w.function interface samples.now
-            → OnOk result (Stands self.new (with_samples interface samples.now w)) }
+        ensures stands { (w : HostWorld) → HostStands self.old w → AreWhole w.function interface samples.now
+            → OnOk result (HostStands self.new (with_samples interface samples.now w)) }
         ensures unchanged { OnErr result (self.new ≡ self.old) }
     {
         match self.place(interface) {
@@ -76,7 +76,7 @@ impl Host {
 
     /// A tone follows the frames that wait on an interface, from its first frame.
     pub fn track(&mut self, interface: u8, tone: Tone)
-        ensures stands { (w : HostWorld) → Stands self.old w → Stands self.new (with_tone interface tone w) }
+        ensures stands { (w : HostWorld) → HostStands self.old w → HostStands self.new (with_tone interface tone w) }
     {
         match self.place(interface) {
             Some(place) => self.lanes[place].track.play(tone),
@@ -88,9 +88,9 @@ impl Host {
     /// by the rate value in force. The frames that wait come first, each once, and then the tone's. Where no stream runs there are
     /// none.
     pub fn packet(&mut self, interface: u8, packet: &mut Packet) -> u32
-        ensures size { (w : HostWorld) → Stands self.old w → result ≡ size_of w interface }
-        ensures packet { (w : HostWorld) → Stands self.old w → packet.new.items ≡ packet_of w interface }
-        ensures stands { (w : HostWorld) → Stands self.old w → Stands self.new (after_packet interface w) }
+        ensures size { (w : HostWorld) → HostStands self.old w → result ≡ size_of w interface }
+        ensures packet { (w : HostWorld) → HostStands self.old w → packet.new.items ≡ packet_of w interface }
+        ensures stands { (w : HostWorld) → HostStands self.old w → HostStands self.new (after_packet interface w) }
     {
         match self.place(interface) {
             Some(place) => self.lanes[place].send(packet),
@@ -103,7 +103,7 @@ impl Host {
 
     /// A feedback report of an interface's stream came: its value is in force, held between the least and the greatest packet.
     pub fn take_report(&mut self, interface: u8, value: u32)
-        ensures stands { (w : HostWorld) → Stands self.old w → Stands self.new (with_report interface value w) }
+        ensures stands { (w : HostWorld) → HostStands self.old w → HostStands self.new (with_report interface value w) }
     {
         match self.place(interface) {
             Some(place) => self.lanes[place].report(value),
@@ -114,8 +114,8 @@ impl Host {
     /// Makes `frame` the frame of a number, from 0, of a packet of the stream that an interface runs; false exactly where the packet has no
     /// such frame, and then `frame` stays as it was.
     pub fn hear(&self, interface: u8, packet: &Packet, at: u32, frame: &mut Frame) -> bool
-        ensures there { (w : HostWorld) → Stands self.now w → IsTrue result ↔ (at < length (heard_in w interface packet.now.items)) }
-        ensures samples { (w : HostWorld) → Stands self.now w
+        ensures there { (w : HostWorld) → HostStands self.now w → IsTrue result ↔ (at < length (heard_in w interface packet.now.items)) }
+        ensures samples { (w : HostWorld) → HostStands self.now w
             → OnTrue result (slice_get (heard_in w interface packet.now.items) at ≡ Some frame.new.items) }
         ensures unchanged { OnFalse result (frame.new ≡ frame.old) }
     {

@@ -16,18 +16,18 @@ use uac_pcm::{Frame, Packet};
 
 /// The stream that a streaming interface runs, if any, and its track.
 #[derive(Drop)]
-pub struct Lane {
+pub struct HostStream {
     pub(crate) interface: u8,
     pub(crate) pace: Option<Pace>,
     pub(crate) track: Track,
 }
 
-impl Lane {
+impl HostStream {
     /// The lane of an interface that runs no stream, with a silent track. It takes no memory.
-    pub(crate) fn resting(alloc: Global, interface: u8) -> Lane
+    pub(crate) fn resting(alloc: Global, interface: u8) -> HostStream
         ensures { result ≡ resting_lane interface }
     {
-        Lane {
+        HostStream {
             interface,
             pace: None,
             track: Track::silent(alloc),

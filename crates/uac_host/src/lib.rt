@@ -11,4 +11,4 @@ mod paces;
 mod tracks;
 
 pub use host::Host;
-pub use lanes::Lane;
+pub use lanes::HostStream;

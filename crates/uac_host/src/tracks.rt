@@ -2,7 +2,7 @@
 ghost use Rattle.std.specs.Prelude.{◌≡◌, ◌≤◌, ◌<◌, ◌+◌, ◌*◌, ◌%◌, ◌++◌, ◌∷◌, [], ℕ, ℤ, List, length, take, drop, OnOk, OnErr};
 ghost use Rattle.std.specs.List.{All};
 ghost use Rattle.arrayvec.specs.ArrayVec.{array_vec_len};
-ghost use Rattle.uac_pcm.specs.Packets.{packed};
+ghost use Rattle.uac_pcm.specs.Packets.{bytes_of_frames};
 ghost use Rattle.std.specs.VecDeque.{deque_capacity};
 ghost use Rattle.uac_host.specs.HostWorld as world;
 ghost use Rattle.uac_host.specs.Calls.{after_frames, next_frames};
@@ -81,7 +81,7 @@ impl Track {
     pub(crate) fn fill(&mut self, frames: u32, format: &Format, packet: &mut Packet)
         requires { frames * (format.now.channels * format.now.subslot) ≤ 3072 }
         ensures stands { (t : world.Track) → All (λ frame. length frame ≡ format.now.channels) t.waiting → self.old ≡ kept_track t
-            → (packet.new.items ≡ packed format.now.subslot format.now.bits (next_frames format.now.channels frames t))
+            → (packet.new.items ≡ bytes_of_frames format.now.subslot format.now.bits (next_frames format.now.channels frames t))
             × (self.new ≡ kept_track (after_frames frames t)) }
     {
         let size = format.frame_bytes();

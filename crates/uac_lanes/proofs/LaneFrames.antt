@@ -6,40 +6,40 @@ use Rattle.std.proofs.lemmas.List.Sums.{fold-append}
 use Rattle.uac_graph.specs.Wiring.{Frames, frame_on, silence}
 use Rattle.uac_flow.specs.FlowStreams.{InStream, OutStream, is_dry, next_taken, out_level}
 use Rattle.uac_lanes.specs.declared.lane.Port.{Port}
-use Rattle.uac_lanes.specs.declared.lane.Lane.{Lane}
-use Rattle.uac_lanes.specs.Lanes.{KeepsLane, KeepsStreams, frame_given, given_by, gives_to, ports}
+use Rattle.uac_lanes.specs.declared.lane.DeviceStream.{DeviceStream}
+use Rattle.uac_lanes.specs.Lanes.{LaneStands, LanesStand, frame_given, given_by, gives_to, ports}
 
 -- one lane more
-pub given_more : (domain id : ℕ) (outs : ℕ → Option OutStream) (lanes : List Lane) (at : ℕ) (d : Lane) (before : Option (List ℤ)) → at < length lanes
+pub given_more : (domain id : ℕ) (outs : ℕ → Option OutStream) (lanes : List DeviceStream) (at : ℕ) (d : DeviceStream) (before : Option (List ℤ)) → at < length lanes
     → given_by domain id outs (ports (take (at + 1) lanes)) before
     ≡ (if gives_to domain id (get_or lanes at d).port then Some (frame_given (outs (get_or lanes at d).port.interface) (get_or lanes at d).port)
     else given_by domain id outs (ports (take at lanes)) before)
 given_more domain id outs lanes at d before below =
     let longer : ports (take (at + 1) lanes) ≡ ports (take at lanes) ++ (get_or lanes at d).port ∷ [] =
-    ap ports (take_more lanes at d below) ∙ map-append (λ (l : Lane). l.port) (take at lanes) (get_or lanes at d ∷ []) in
+    ap ports (take_more lanes at d below) ∙ map-append (λ (l : DeviceStream). l.port) (take at lanes) (get_or lanes at d ∷ []) in
     ap (λ (ps : List Port). given_by domain id outs ps before) longer
     ∙ fold-append (λ frame p. if gives_to domain id p then Some (frame_given (outs p.interface) p) else frame) before (ports (take at lanes)) ((get_or lanes at d).port ∷ [])
 
 -- the frames on the wires after one lane more
-pub frames_more : (domain : ℕ) (lanes : List Lane) (at : ℕ) (d l : Lane) (first before after : Frames) (outs : ℕ → Option OutStream) (ins : ℕ → Option InStream) (id : ℕ)
-    → at < length lanes → l ≡ get_or lanes at d → KeepsStreams lanes outs ins
-    → ((out : Option OutStream) (in_ : Option InStream) → KeepsLane l out in_
+pub frames_more : (domain : ℕ) (lanes : List DeviceStream) (at : ℕ) (d l : DeviceStream) (first before after : Frames) (outs : ℕ → Option OutStream) (ins : ℕ → Option InStream) (id : ℕ)
+    → at < length lanes → l ≡ get_or lanes at d → LanesStand lanes outs ins
+    → ((out : Option OutStream) (in_ : Option InStream) → LaneStands l out in_
     → (id : ℕ) → frame_on after id ≡ (if gives_to domain id l.port then Some (frame_given out l.port) else frame_on before id))
     → frame_on before id ≡ given_by domain id outs (ports (take at lanes)) (frame_on first id)
     → frame_on after id ≡ given_by domain id outs (ports (take (at + 1) lanes)) (frame_on first id)
 frames_more domain lanes at d l first before after outs ins id below read keeps gives so_far =
     let n = l.port.interface in
-    let kept : KeepsLane l (outs n) (ins n) =
-    subst (λ (m : Lane). KeepsLane m (outs m.port.interface) (ins m.port.interface)) (sym read) (keeps.each at d below) in
+    let kept : LaneStands l (outs n) (ins n) =
+    subst (λ (m : DeviceStream). LaneStands m (outs m.port.interface) (ins m.port.interface)) (sym read) (keeps.each at d below) in
     gives (outs n) (ins n) kept id
     ∙ ap (λ (o : Option (List ℤ)). if gives_to domain id l.port then Some (frame_given (outs n) l.port) else o) so_far
-    ∙ ap (λ (m : Lane). if gives_to domain id m.port then Some (frame_given (outs m.port.interface) m.port)
+    ∙ ap (λ (m : DeviceStream). if gives_to domain id m.port then Some (frame_given (outs m.port.interface) m.port)
     else given_by domain id outs (ports (take at lanes)) (frame_on first id)) read
     ∙ sym (given_more domain id outs lanes at d (frame_on first id) below)
 
-pub frames_all : (domain id : ℕ) (outs : ℕ → Option OutStream) (lanes : List Lane) (at : ℕ) (before : Option (List ℤ)) → length lanes ≤ at
+pub frames_all : (domain id : ℕ) (outs : ℕ → Option OutStream) (lanes : List DeviceStream) (at : ℕ) (before : Option (List ℤ)) → length lanes ≤ at
     → given_by domain id outs (ports (take at lanes)) before ≡ given_by domain id outs (ports lanes) before
-frames_all domain id outs lanes at before past = ap (λ (ls : List Lane). given_by domain id outs (ports ls) before) (take_all at lanes past)
+frames_all domain id outs lanes at before past = ap (λ (ls : List DeviceStream). given_by domain id outs (ports ls) before) (take_all at lanes past)
 
 -- a wire that is hushed has silence on its channels
 pub hushed : (frame : Option (List ℤ)) (channels : ℕ) → option_map length frame ≡ Some channels

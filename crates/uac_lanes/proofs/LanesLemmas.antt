@@ -10,7 +10,7 @@ use Rattle.std.proofs.lemmas.List.{get_or_default}
 use Rattle.std.proofs.lemmas.List.Quantifiers.{position-Some}
 use Rattle.std.proofs.lemmas.Map.Keys.{IsDistinct-tail, apart_from_distinct}
 use Rattle.std.proofs.lemmas.Option.{same_Some, slice_get-get_or, slice_get_past}
-use Rattle.uac_entities.specs.EntityStreams.{named}
+use Rattle.uac_entities.specs.EntityInterfaces.{entity_by_id}
 use Rattle.uac_entities.specs.declared.entity.Entity.{Entity}
 use Rattle.uac_entities.specs.declared.stream.StreamInterface.{StreamInterface}
 use Rattle.uac_topology_rules.specs.Table.{at, nothing, place_of}
@@ -22,39 +22,39 @@ use Rattle.uac_alt.specs.AltStreams.{stream_fields}
 use Rattle.uac_alt.specs.declared.values.Stream.{Stream}
 use Rattle.uac_flow.specs.FlowStreams.{InStream, OutStream}
 use Rattle.uac_lanes.specs.declared.lane.Port.{Port}
-use Rattle.uac_lanes.specs.declared.lane.Lane.{Lane}
+use Rattle.uac_lanes.specs.declared.lane.DeviceStream.{DeviceStream}
 use Rattle.uac_lanes.specs.InterfaceStreams.{changed_at, replaced_at}
-use Rattle.uac_lanes.specs.Lanes.{AreLanes, FitsPort, IsLane, KeepsLane, KeepsStreams, idle_lane, lane_at, port_of, port_with, ports}
+use Rattle.uac_lanes.specs.Lanes.{AreLanes, FitsPort, IsLane, LaneStands, LanesStand, idle_lane, lane_at, port_of, port_with, ports}
 
 -- the lane at the place of an interface
-pub lane_found : (lanes : List Lane) (interface place : ℕ) (d : Lane) → lane_at lanes interface ≡ Some place
+pub lane_found : (lanes : List DeviceStream) (interface place : ℕ) (d : DeviceStream) → lane_at lanes interface ≡ Some place
     → (place < length lanes) × ((get_or lanes place d).port.interface ≡ interface)
 lane_found lanes interface place d is =
-    let at = position-Some (λ (l : Lane). l.port.interface == interface) lanes place d is in
+    let at = position-Some (λ (l : DeviceStream). l.port.interface == interface) lanes place d is in
     (at.0, eqb-true (get_or lanes place d).port.interface interface at.1)
 
 -- what it keeps
-pub lane_keeps : (lanes : List Lane) (outs : ℕ → Option OutStream) (ins : ℕ → Option InStream) (interface place : ℕ) (d l : Lane) → KeepsStreams lanes outs ins
-    → lane_at lanes interface ≡ Some place → l ≡ get_or lanes place d → KeepsLane l (outs interface) (ins interface)
+pub lane_keeps : (lanes : List DeviceStream) (outs : ℕ → Option OutStream) (ins : ℕ → Option InStream) (interface place : ℕ) (d l : DeviceStream) → LanesStand lanes outs ins
+    → lane_at lanes interface ≡ Some place → l ≡ get_or lanes place d → LaneStands l (outs interface) (ins interface)
 lane_keeps lanes outs ins interface place d l keeps is read =
     let found = lane_found lanes interface place d is in
-    subst (λ (m : Lane). KeepsLane m (outs interface) (ins interface)) (sym read)
-    (subst (λ (n : ℕ). KeepsLane (get_or lanes place d) (outs n) (ins n)) found.1 (keeps.each place d found.0))
+    subst (λ (m : DeviceStream). LaneStands m (outs interface) (ins interface)) (sym read)
+    (subst (λ (n : ℕ). LaneStands (get_or lanes place d) (outs n) (ins n)) found.1 (keeps.each place d found.0))
 
-pub lane_sound : (lanes : List Lane) (interface place : ℕ) (d l : Lane) → AreLanes lanes → lane_at lanes interface ≡ Some place → l ≡ get_or lanes place d → IsLane l
+pub lane_sound : (lanes : List DeviceStream) (interface place : ℕ) (d l : DeviceStream) → AreLanes lanes → lane_at lanes interface ≡ Some place → l ≡ get_or lanes place d → IsLane l
 lane_sound lanes interface place d l are is read =
     subst IsLane (sym read) (are.each place d (lane_found lanes interface place d is).0)
 
 -- ---- one lane is written
 
-pub ports_written : (lanes : List Lane) (place : ℕ) (l d : Lane) → l.port ≡ (get_or lanes place d).port → ports (set lanes place l) ≡ ports lanes
+pub ports_written : (lanes : List DeviceStream) (place : ℕ) (l d : DeviceStream) → l.port ≡ (get_or lanes place d).port → ports (set lanes place l) ≡ ports lanes
 ports_written lanes place l d same =
-    map-set (λ (m : Lane). m.port) lanes place l
+    map-set (λ (m : DeviceStream). m.port) lanes place l
     ∙ elim (cases_lt place (length lanes)) [
       | inl below ↦
-          (let own : get_or (ports lanes) place l.port ≡ (get_or lanes place d).port = get_or-map (λ (m : Lane). m.port) lanes place d l.port below in
+          (let own : get_or (ports lanes) place l.port ≡ (get_or lanes place d).port = get_or-map (λ (m : DeviceStream). m.port) lanes place d l.port below in
           ap (set (ports lanes) place) (same ∙ sym own) ∙ set-get_or (ports lanes) place l.port)
-      | inr past ↦ set_nothing (ports lanes) place l.port (omega (arith, length-map lanes (λ (m : Lane). m.port)))
+      | inr past ↦ set_nothing (ports lanes) place l.port (omega (arith, length-map lanes (λ (m : DeviceStream). m.port)))
     ]
   where
     set_nothing : (ps : List Port) (n : ℕ) (p : Port) → length ps ≤ n → set ps n p ≡ ps
@@ -63,24 +63,24 @@ ports_written lanes place l d same =
     set_nothing (q ∷ qs) (suc n) p past = ap (λ rest. q ∷ rest) (set_nothing qs n p (omega arith))
 
 -- the numbers of ports
-numbers_of : (lanes : List Lane) → map (λ (l : Lane). l.port.interface) lanes ≡ map (λ (p : Port). p.interface) (ports lanes)
+numbers_of : (lanes : List DeviceStream) → map (λ (l : DeviceStream). l.port.interface) lanes ≡ map (λ (p : Port). p.interface) (ports lanes)
 numbers_of [] = refl
 numbers_of (l ∷ ls) = ap (λ ns. l.port.interface ∷ ns) (numbers_of ls)
 
 -- lanes with the same ports are of different interfaces
-pub still_apart : (lanes others : List Lane) → ports others ≡ ports lanes → IsDistinct nat_eq (map (λ (l : Lane). l.port.interface) lanes)
-    → IsDistinct nat_eq (map (λ (l : Lane). l.port.interface) others)
+pub still_apart : (lanes others : List DeviceStream) → ports others ≡ ports lanes → IsDistinct nat_eq (map (λ (l : DeviceStream). l.port.interface) lanes)
+    → IsDistinct nat_eq (map (λ (l : DeviceStream). l.port.interface) others)
 still_apart lanes others same apart =
     subst (IsDistinct nat_eq) (numbers_of lanes ∙ sym (ap (map (λ (p : Port). p.interface)) same) ∙ sym (numbers_of others)) apart
 
-pub are_written : (lanes : List Lane) (place : ℕ) (l d : Lane) → AreLanes lanes → IsLane l → l.port ≡ (get_or lanes place d).port → AreLanes (set lanes place l)
+pub are_written : (lanes : List DeviceStream) (place : ℕ) (l d : DeviceStream) → AreLanes lanes → IsLane l → l.port ≡ (get_or lanes place d).port → AreLanes (set lanes place l)
 are_written lanes place l d are sound same = record {
   each = All-set IsLane lanes place l sound are.each;
   apart = still_apart lanes (set lanes place l) (ports_written lanes place l d same) are.apart;
 }
 
 -- lanes at other places are of other interfaces
-other_lanes : (lanes : List Lane) (place k : ℕ) (d : Lane) → IsDistinct nat_eq (map (λ (l : Lane). l.port.interface) lanes) → place < length lanes → k < length lanes
+other_lanes : (lanes : List DeviceStream) (place k : ℕ) (d : DeviceStream) → IsDistinct nat_eq (map (λ (l : DeviceStream). l.port.interface) lanes) → place < length lanes → k < length lanes
     → k ≢ place → (get_or lanes k d).port.interface ≢ (get_or lanes place d).port.interface
 other_lanes lanes place k d apart inside below other same =
     elim (cases_lt k place) [
@@ -95,36 +95,36 @@ other_lanes lanes place k d apart inside below other same =
     ]
   where
     numbers : List ℕ
-    numbers = map (λ (l : Lane). l.port.interface) lanes
+    numbers = map (λ (l : DeviceStream). l.port.interface) lanes
 
     sized : length numbers ≡ length lanes
-    sized = length-map lanes (λ (l : Lane). l.port.interface)
+    sized = length-map lanes (λ (l : DeviceStream). l.port.interface)
 
     number : (n : ℕ) → n < length lanes → get_or numbers n 0 ≡ (get_or lanes n d).port.interface
-    number n h = get_or-map (λ (l : Lane). l.port.interface) lanes n d 0 h
+    number n h = get_or-map (λ (l : DeviceStream). l.port.interface) lanes n d 0 h
 
 -- a place is one of the ports
-place_by_ports : (lanes : List Lane) (interface : ℕ) → lane_at lanes interface ≡ position (λ (p : Port). p.interface == interface) (ports lanes)
+place_by_ports : (lanes : List DeviceStream) (interface : ℕ) → lane_at lanes interface ≡ position (λ (p : Port). p.interface == interface) (ports lanes)
 place_by_ports lanes interface = along lanes
   where
-    step : (ls : List Lane) → position_or_len (λ (l : Lane). l.port.interface == interface) ls ≡ position_or_len (λ (p : Port). p.interface == interface) (ports ls)
+    step : (ls : List DeviceStream) → position_or_len (λ (l : DeviceStream). l.port.interface == interface) ls ≡ position_or_len (λ (p : Port). p.interface == interface) (ports ls)
     step [] = refl
     step (l ∷ ls) = ap (λ (n : ℕ). cond (not (l.port.interface == interface)) (1 + n) 0) (step ls)
 
-    along : (ls : List Lane) → lane_at ls interface ≡ position (λ (p : Port). p.interface == interface) (ports ls)
-    along ls = rw (step ls, length-map ls (λ (l : Lane). l.port)) refl
+    along : (ls : List DeviceStream) → lane_at ls interface ≡ position (λ (p : Port). p.interface == interface) (ports ls)
+    along ls = rw (step ls, length-map ls (λ (l : DeviceStream). l.port)) refl
 
 -- lanes with the same ports have the same places
-pub same_places : (lanes others : List Lane) (interface : ℕ) → ports others ≡ ports lanes → lane_at others interface ≡ lane_at lanes interface
+pub same_places : (lanes others : List DeviceStream) (interface : ℕ) → ports others ≡ ports lanes → lane_at others interface ≡ lane_at lanes interface
 same_places lanes others interface same =
     place_by_ports others interface ∙ ap (position (λ (p : Port). p.interface == interface)) same ∙ sym (place_by_ports lanes interface)
 
 -- the streams of one interface change, and its lane keeps them
-pub keeps_written : (lanes : List Lane) (outs outs' : ℕ → Option OutStream) (ins ins' : ℕ → Option InStream) (interface place : ℕ) (l d : Lane) → AreLanes lanes
-    → lane_at lanes interface ≡ Some place → l.port ≡ (get_or lanes place d).port → KeepsStreams lanes outs ins
-    → KeepsLane l (outs' interface) (ins' interface)
+pub keeps_written : (lanes : List DeviceStream) (outs outs' : ℕ → Option OutStream) (ins ins' : ℕ → Option InStream) (interface place : ℕ) (l d : DeviceStream) → AreLanes lanes
+    → lane_at lanes interface ≡ Some place → l.port ≡ (get_or lanes place d).port → LanesStand lanes outs ins
+    → LaneStands l (outs' interface) (ins' interface)
     → ((k : ℕ) → k ≢ interface → (outs' k ≡ outs k) × (ins' k ≡ ins k))
-    → KeepsStreams (set lanes place l) outs' ins'
+    → LanesStand (set lanes place l) outs' ins'
 keeps_written lanes outs outs' ins ins' interface place l d are is same keeps here others = record {
   each = each;
   none = none;
@@ -136,23 +136,23 @@ keeps_written lanes outs outs' ins ins' interface place l d are is same keeps he
     own : l.port.interface ≡ interface
     own = ap (λ (p : Port). p.interface) same ∙ found.1
 
-    each : All (λ m. KeepsLane m (outs' m.port.interface) (ins' m.port.interface)) (set lanes place l)
+    each : All (λ m. LaneStands m (outs' m.port.interface) (ins' m.port.interface)) (set lanes place l)
     each k e below = elim (cases_eq k place) [
       | inl at ↦
           (let read : get_or (set lanes place l) k e ≡ l = ap (λ (n : ℕ). get_or (set lanes place l) n e) at ∙ get_or-set_same lanes place l e found.0 in
-          subst (λ (m : Lane). KeepsLane m (outs' m.port.interface) (ins' m.port.interface)) (sym read)
-          (subst (λ (n : ℕ). KeepsLane l (outs' n) (ins' n)) (sym own) here))
+          subst (λ (m : DeviceStream). LaneStands m (outs' m.port.interface) (ins' m.port.interface)) (sym read)
+          (subst (λ (n : ℕ). LaneStands l (outs' n) (ins' n)) (sym own) here))
       | inr other ↦
           (let inside : k < length lanes = omega (arith, length-set lanes place l) in
           let m = get_or lanes k d in
           let read : get_or (set lanes place l) k e ≡ m = get_or-set_other lanes place k l e other ∙ again k e inside in
           let apart : m.port.interface ≢ interface = λ at. other_lanes lanes place k d are.apart found.0 inside other (at ∙ sym found.1) in
           let stay = others m.port.interface apart in
-          subst (λ (m : Lane). KeepsLane m (outs' m.port.interface) (ins' m.port.interface)) (sym read)
-          (subst (λ (o : Option OutStream). KeepsLane m o (ins' m.port.interface)) (sym stay.0)
-          (subst (λ (i : Option InStream). KeepsLane m (outs m.port.interface) i) (sym stay.1) (keeps.each k d inside))))
+          subst (λ (m : DeviceStream). LaneStands m (outs' m.port.interface) (ins' m.port.interface)) (sym read)
+          (subst (λ (o : Option OutStream). LaneStands m o (ins' m.port.interface)) (sym stay.0)
+          (subst (λ (i : Option InStream). LaneStands m (outs m.port.interface) i) (sym stay.1) (keeps.each k d inside))))
     ] where
-      again : (n : ℕ) (e : Lane) → n < length lanes → get_or lanes n e ≡ get_or lanes n d
+      again : (n : ℕ) (e : DeviceStream) → n < length lanes → get_or lanes n e ≡ get_or lanes n d
       again n e h = get_or_default lanes n e d h
 
     none : (k : ℕ) → lane_at (set lanes place l) k ≡ None → (outs' k ≡ None) × (ins' k ≡ None)
@@ -178,15 +178,15 @@ pub replaced_here : {S : Type 0} (interface : ℕ) (stream : Option S) (streams 
 replaced_here interface stream streams = ap (λ (b : Bool). if b then stream else streams interface) (eq-eqb interface interface refl)
 
 -- an interface that has no lane runs no stream: nothing changes
-pub keeps_nowhere : (lanes : List Lane) (outs outs' : ℕ → Option OutStream) (ins ins' : ℕ → Option InStream) (interface : ℕ) → lane_at lanes interface ≡ None
-    → KeepsStreams lanes outs ins → (outs' interface ≡ outs interface) × (ins' interface ≡ ins interface)
+pub keeps_nowhere : (lanes : List DeviceStream) (outs outs' : ℕ → Option OutStream) (ins ins' : ℕ → Option InStream) (interface : ℕ) → lane_at lanes interface ≡ None
+    → LanesStand lanes outs ins → (outs' interface ≡ outs interface) × (ins' interface ≡ ins interface)
     → ((k : ℕ) → k ≢ interface → (outs' k ≡ outs k) × (ins' k ≡ ins k))
-    → KeepsStreams lanes outs' ins'
+    → LanesStand lanes outs' ins'
 keeps_nowhere lanes outs outs' ins ins' interface nowhere keeps here others = record {
   each = λ k d below.
       (let n = (get_or lanes k d).port.interface in
-      subst (λ (o : Option OutStream). KeepsLane (get_or lanes k d) o (ins' n)) (sym (at n).0)
-      (subst (λ (i : Option InStream). KeepsLane (get_or lanes k d) (outs n) i) (sym (at n).1) (keeps.each k d below)));
+      subst (λ (o : Option OutStream). LaneStands (get_or lanes k d) o (ins' n)) (sym (at n).0)
+      (subst (λ (i : Option InStream). LaneStands (get_or lanes k d) (outs n) i) (sym (at n).1) (keeps.each k d below)));
   none = λ k gone. (let was = keeps.none k gone in ((at k).0 ∙ was.0, (at k).1 ∙ was.1));
 }
   where
@@ -198,33 +198,33 @@ keeps_nowhere lanes outs outs' ins ins' interface nowhere keeps here others = re
 
 -- ---- as the calls have it: lanes as they are kept, and as they are seen
 
-pub asked_at : (now inside : List Lane) (outs : ℕ → Option OutStream) (ins : ℕ → Option InStream) (interface place : ℕ) (l : Lane) → inside ≡ now → KeepsStreams now outs ins
-    → Some place ≡ lane_at inside interface → l ≡ get_or inside place l → KeepsLane l (outs interface) (ins interface)
+pub asked_at : (now inside : List DeviceStream) (outs : ℕ → Option OutStream) (ins : ℕ → Option InStream) (interface place : ℕ) (l : DeviceStream) → inside ≡ now → LanesStand now outs ins
+    → Some place ≡ lane_at inside interface → l ≡ get_or inside place l → LaneStands l (outs interface) (ins interface)
 asked_at now inside outs ins interface place l same keeps is read =
-    lane_keeps inside outs ins interface place l l (subst (λ (ls : List Lane). KeepsStreams ls outs ins) (sym same) keeps) (sym is) read
+    lane_keeps inside outs ins interface place l l (subst (λ (ls : List DeviceStream). LanesStand ls outs ins) (sym same) keeps) (sym is) read
 
-pub sound_at : (inside : List Lane) (interface place : ℕ) (l : Lane) → AreLanes inside → Some place ≡ lane_at inside interface → l ≡ get_or inside place l → IsLane l
+pub sound_at : (inside : List DeviceStream) (interface place : ℕ) (l : DeviceStream) → AreLanes inside → Some place ≡ lane_at inside interface → l ≡ get_or inside place l → IsLane l
 sound_at inside interface place l are is read = lane_sound inside interface place l l are (sym is) read
 
-pub written_at : (now inside : List Lane) (outs outs' : ℕ → Option OutStream) (ins ins' : ℕ → Option InStream) (interface place : ℕ) (old new : Lane) → inside ≡ now → AreLanes inside
-    → KeepsStreams now outs ins → Some place ≡ lane_at inside interface → old ≡ get_or inside place old → new.port ≡ old.port
-    → (KeepsLane old (outs interface) (ins interface) → KeepsLane new (outs' interface) (ins' interface))
+pub written_at : (now inside : List DeviceStream) (outs outs' : ℕ → Option OutStream) (ins ins' : ℕ → Option InStream) (interface place : ℕ) (old new : DeviceStream) → inside ≡ now → AreLanes inside
+    → LanesStand now outs ins → Some place ≡ lane_at inside interface → old ≡ get_or inside place old → new.port ≡ old.port
+    → (LaneStands old (outs interface) (ins interface) → LaneStands new (outs' interface) (ins' interface))
     → ((k : ℕ) → k ≢ interface → (outs' k ≡ outs k) × (ins' k ≡ ins k))
-    → KeepsStreams (set inside place new) outs' ins'
+    → LanesStand (set inside place new) outs' ins'
 written_at now inside outs outs' ins ins' interface place old new same are keeps is read port here others =
-    keeps_written inside outs outs' ins ins' interface place new old are (sym is) (port ∙ ap (λ (l : Lane). l.port) read)
-    (subst (λ (ls : List Lane). KeepsStreams ls outs ins) (sym same) keeps) (here (asked_at now inside outs ins interface place old same keeps is read)) others
+    keeps_written inside outs outs' ins ins' interface place new old are (sym is) (port ∙ ap (λ (l : DeviceStream). l.port) read)
+    (subst (λ (ls : List DeviceStream). LanesStand ls outs ins) (sym same) keeps) (here (asked_at now inside outs ins interface place old same keeps is read)) others
 
-pub ports_at : (now inside : List Lane) (place : ℕ) (old new : Lane) → inside ≡ now → old ≡ get_or inside place old → new.port ≡ old.port → ports (set inside place new) ≡ ports now
-ports_at now inside place old new same read port = ports_written inside place new old (port ∙ ap (λ (l : Lane). l.port) read) ∙ ap ports same
+pub ports_at : (now inside : List DeviceStream) (place : ℕ) (old new : DeviceStream) → inside ≡ now → old ≡ get_or inside place old → new.port ≡ old.port → ports (set inside place new) ≡ ports now
+ports_at now inside place old new same read port = ports_written inside place new old (port ∙ ap (λ (l : DeviceStream). l.port) read) ∙ ap ports same
 
-pub are_at : (inside : List Lane) (place : ℕ) (old new : Lane) → AreLanes inside → IsLane new → old ≡ get_or inside place old → new.port ≡ old.port → AreLanes (set inside place new)
-are_at inside place old new are sound read port = are_written inside place new old are sound (port ∙ ap (λ (l : Lane). l.port) read)
+pub are_at : (inside : List DeviceStream) (place : ℕ) (old new : DeviceStream) → AreLanes inside → IsLane new → old ≡ get_or inside place old → new.port ≡ old.port → AreLanes (set inside place new)
+are_at inside place old new are sound read port = are_written inside place new old are sound (port ∙ ap (λ (l : DeviceStream). l.port) read)
 
 -- ---- a stream starts
 
 -- the port with an interface's number is that of its lane
-port_found : (lanes : List Lane) (interface place : ℕ) (l : Lane) (port : Port) → Some place ≡ lane_at lanes interface → l ≡ get_or lanes place l
+port_found : (lanes : List DeviceStream) (interface place : ℕ) (l : DeviceStream) (port : Port) → Some place ≡ lane_at lanes interface → l ≡ get_or lanes place l
     → find (λ p. p.interface == interface) (ports lanes) ≡ Some port → port ≡ l.port
 port_found lanes interface place l port is read found =
     let at : position (λ (p : Port). p.interface == interface) (ports lanes) ≡ Some place = sym (place_by_ports lanes interface) ∙ sym is in
@@ -233,30 +233,30 @@ port_found lanes interface place l port is read found =
     find_at (λ (p : Port). p.interface == interface) (ports lanes) ∙ ap (slice_get (ports lanes)) (position_is (λ (p : Port). p.interface == interface) (ports lanes) place at).1
     ∙ slice_get-get_or (ports lanes) place port inside in
     same_Some port (get_or (ports lanes) place port) (sym found ∙ here)
-    ∙ get_or-map (λ (m : Lane). m.port) lanes place l port (omega (arith, inside, length-map lanes (λ (m : Lane). m.port)))
-    ∙ sym (ap (λ (m : Lane). m.port) read)
+    ∙ get_or-map (λ (m : DeviceStream). m.port) lanes place l port (omega (arith, inside, length-map lanes (λ (m : DeviceStream). m.port)))
+    ∙ sym (ap (λ (m : DeviceStream). m.port) read)
 
-port_missing : (lanes : List Lane) (interface : ℕ) → None ≡ lane_at lanes interface → find (λ p. p.interface == interface) (ports lanes) ≡ None
+port_missing : (lanes : List DeviceStream) (interface : ℕ) → None ≡ lane_at lanes interface → find (λ p. p.interface == interface) (ports lanes) ≡ None
 port_missing lanes interface is =
     let past = position_none (λ (p : Port). p.interface == interface) (ports lanes) (sym (place_by_ports lanes interface) ∙ sym is) in
     find_at (λ (p : Port). p.interface == interface) (ports lanes)
     ∙ slice_get_past (ports lanes) (position_or_len (λ (p : Port). p.interface == interface) (ports lanes)) (omega (arith, past))
 
 -- a stream that is given fits the port with a number
-abbrev pub FitsAt : List Lane → ℕ → Option Stream → Type 0
+abbrev pub FitsAt : List DeviceStream → ℕ → Option Stream → Type 0
 FitsAt lanes interface begun = IfSome begun (λ s. (port : Port) × (find (λ p. p.interface == interface) (ports lanes) ≡ Some port) × FitsPort port (stream_fields s))
 
-pub fits_lane : (now inside : List Lane) (interface place : ℕ) (l : Lane) (begun : Option Stream) → inside ≡ now → Some place ≡ lane_at inside interface → l ≡ get_or inside place l
+pub fits_lane : (now inside : List DeviceStream) (interface place : ℕ) (l : DeviceStream) (begun : Option Stream) → inside ≡ now → Some place ≡ lane_at inside interface → l ≡ get_or inside place l
     → FitsAt now interface begun → IfSome begun (λ s. FitsPort l.port (stream_fields s))
 fits_lane now inside interface place l begun same is read fits =
-    along begun (subst (λ (ls : List Lane). FitsAt ls interface begun) (sym same) fits)
+    along begun (subst (λ (ls : List DeviceStream). FitsAt ls interface begun) (sym same) fits)
   where
     along : (o : Option Stream) → FitsAt inside interface o → IfSome o (λ s. FitsPort l.port (stream_fields s))
     along None f = tt
     along (Some s) f = subst (λ (p : Port). FitsPort p (stream_fields s)) (port_found inside interface place l f.0 is read f.1) f.2
 
-pub begins_nowhere : (now inside : List Lane) (interface : ℕ) (begun : Option Stream) → inside ≡ now → None ≡ lane_at inside interface → FitsAt now interface begun → begun ≡ None
-begins_nowhere now inside interface begun same is fits = along begun (subst (λ (ls : List Lane). FitsAt ls interface begun) (sym same) fits)
+pub begins_nowhere : (now inside : List DeviceStream) (interface : ℕ) (begun : Option Stream) → inside ≡ now → None ≡ lane_at inside interface → FitsAt now interface begun → begun ≡ None
+begins_nowhere now inside interface begun same is fits = along begun (subst (λ (ls : List DeviceStream). FitsAt ls interface begun) (sym same) fits)
   where
     along : (o : Option Stream) → FitsAt inside interface o → o ≡ None
     along None f = refl
@@ -265,7 +265,7 @@ begins_nowhere now inside interface begun same is fits = along begun (subst (λ 
 -- ---- the lanes of a function
 
 idle_numbers : (entities : List Entity) (streams : List StreamInterface)
-    → map (λ (l : Lane). l.port.interface) (map (λ s. idle_lane (port_of entities s)) streams) ≡ map (λ s. s.number) streams
+    → map (λ (l : DeviceStream). l.port.interface) (map (λ s. idle_lane (port_of entities s)) streams) ≡ map (λ s. s.number) streams
 idle_numbers entities [] = refl
 idle_numbers entities (s ∷ ss) = ap (λ ns. s.number ∷ ns) (idle_numbers entities ss)
 
@@ -278,8 +278,8 @@ are_idle function numbered = record {
 }
 
 -- the terminal to which an interface links, found by its id
-entity_named : (entities : List Entity) (id : ℕ) (e : Entity) → named entities id ≡ Some e → entity entities id ≡ e
-unfolding named entity at place_of
+entity_named : (entities : List Entity) (id : ℕ) (e : Entity) → entity_by_id entities id ≡ Some e → entity entities id ≡ e
+unfolding entity_by_id entity at place_of
 entity_named entities id e found =
     let p : Entity → Bool = λ (f : Entity). f.id == id in
     elim (cases_lt (position_or_len p entities) (length entities)) [
@@ -287,8 +287,8 @@ entity_named entities id e found =
       | inr past ↦ absurd (let e : None ≡ Some e = sym (slice_get_past entities (position_or_len p entities) past) ∙ sym (find_at p entities) ∙ found in cc)
     ]
 
-entity_unnamed : (entities : List Entity) (id : ℕ) → named entities id ≡ None → entity entities id ≡ nothing
-unfolding named entity at place_of
+entity_unnamed : (entities : List Entity) (id : ℕ) → entity_by_id entities id ≡ None → entity entities id ≡ nothing
+unfolding entity_by_id entity at place_of
 entity_unnamed entities id missing =
     let p : Entity → Bool = λ (f : Entity). f.id == id in
     elim (cases_lt (position_or_len p entities) (length entities)) [
@@ -296,9 +296,9 @@ entity_unnamed entities id missing =
       | inr past ↦ get_or_past entities (position_or_len p entities) nothing past
     ]
 
-pub port_named : (entities : List Entity) (s : StreamInterface) (e : Entity) → named entities s.terminal ≡ Some e
+pub port_named : (entities : List Entity) (s : StreamInterface) (e : Entity) → entity_by_id entities s.terminal ≡ Some e
     → port_with s e.clock e.cluster.channels ≡ port_of entities s
 port_named entities s e found = ap (λ (f : Entity). port_with s f.clock f.cluster.channels) (sym (entity_named entities s.terminal e found))
 
-pub port_unnamed : (entities : List Entity) (s : StreamInterface) → named entities s.terminal ≡ None → port_with s 0 0 ≡ port_of entities s
+pub port_unnamed : (entities : List Entity) (s : StreamInterface) → entity_by_id entities s.terminal ≡ None → port_with s 0 0 ≡ port_of entities s
 port_unnamed entities s missing = ap (λ (f : Entity). port_with s f.clock f.cluster.channels) (sym (entity_unnamed entities s.terminal missing))

@@ -6,8 +6,8 @@ use Rattle.std.proofs.lemmas.Nat.{pow-add}
 use Rattle.uac_flow.specs.FlowStreams.{InStream, OutStream}
 use Rattle.uac_lanes.specs.InterfaceStreams.{bits_of}
 use Rattle.uac_lanes.specs.declared.lane.Port.{Port}
-use Rattle.uac_lanes.specs.declared.lane.Lane.{Lane}
-use Rattle.uac_lanes.specs.Lanes.{KeepsLane, KeepsStreams, ports}
+use Rattle.uac_lanes.specs.declared.lane.DeviceStream.{DeviceStream}
+use Rattle.uac_lanes.specs.Lanes.{LaneStands, LanesStand, ports}
 
 -- one bit above the others
 pub bits_more : (bits : List Bool) (b : Bool) → bits_of (bits ++ b ∷ []) ≡ bits_of bits + (if b then 2 ^ length bits else 0)
@@ -20,38 +20,38 @@ bits_more (true ∷ bits) false = omega (arith, bits_more bits false)
 bits_more (false ∷ bits) false = omega (arith, bits_more bits false)
 
 -- before the first lane
-pub met_none : (test : Port → Bool) (lanes : List Lane) → 0 ≡ bits_of (map test (ports (take 0 lanes)))
+pub met_none : (test : Port → Bool) (lanes : List DeviceStream) → 0 ≡ bits_of (map test (ports (take 0 lanes)))
 unfolding bits_of
 met_none test lanes = refl
 
 -- one lane more
-pub met_more : (test : Port → Bool) (lanes : List Lane) (at : ℕ) (d l : Lane) (found : Bool) (bits weight more : ℕ) → at < length lanes → l ≡ get_or lanes at d → found ≡ test l.port
+pub met_more : (test : Port → Bool) (lanes : List DeviceStream) (at : ℕ) (d l : DeviceStream) (found : Bool) (bits weight more : ℕ) → at < length lanes → l ≡ get_or lanes at d → found ≡ test l.port
     → weight ≡ 2 ^ at → bits ≡ bits_of (map test (ports (take at lanes))) → more ≡ bits + (if found then weight else 0)
     → more ≡ bits_of (map test (ports (take (at + 1) lanes)))
 met_more test lanes at d l found bits weight more below read is heavy so_far grown =
     let here : List Bool = map test (ports (take at lanes)) in
     let longer : map test (ports (take (at + 1) lanes)) ≡ here ++ test (get_or lanes at d).port ∷ [] =
-    ap (λ (ls : List Lane). map test (ports ls)) (take_more lanes at d below)
-    ∙ ap (map test) (map-append (λ (m : Lane). m.port) (take at lanes) (get_or lanes at d ∷ []))
+    ap (λ (ls : List DeviceStream). map test (ports ls)) (take_more lanes at d below)
+    ∙ ap (map test) (map-append (λ (m : DeviceStream). m.port) (take at lanes) (get_or lanes at d ∷ []))
     ∙ map-append test (ports (take at lanes)) ((get_or lanes at d).port ∷ []) in
     let sized : length here ≡ at =
-    length-map (ports (take at lanes)) test ∙ length-map (take at lanes) (λ (m : Lane). m.port) ∙ length-take-le at lanes (omega (arith, below)) in
+    length-map (ports (take at lanes)) test ∙ length-map (take at lanes) (λ (m : DeviceStream). m.port) ∙ length-take-le at lanes (omega (arith, below)) in
     grown
     ∙ ap (λ (n : ℕ). n + (if found then weight else 0)) so_far
-    ∙ ap (λ (b : Bool). bits_of here + (if b then weight else 0)) (is ∙ ap (λ (m : Lane). test m.port) read)
+    ∙ ap (λ (b : Bool). bits_of here + (if b then weight else 0)) (is ∙ ap (λ (m : DeviceStream). test m.port) read)
     ∙ ap (λ (n : ℕ). bits_of here + (if test (get_or lanes at d).port then n else 0)) (heavy ∙ ap (λ (n : ℕ). 2 ^ n) (sym sized))
     ∙ sym (bits_more here (test (get_or lanes at d).port))
     ∙ ap bits_of (sym longer)
 
 -- all lanes
-pub met_all : (test : Port → Bool) (lanes : List Lane) (at bits : ℕ) → length lanes ≤ at → bits ≡ bits_of (map test (ports (take at lanes))) → bits ≡ bits_of (map test (ports lanes))
-met_all test lanes at bits past so_far = so_far ∙ ap (λ (ls : List Lane). bits_of (map test (ports ls))) (take_all at lanes past)
+pub met_all : (test : Port → Bool) (lanes : List DeviceStream) (at bits : ℕ) → length lanes ≤ at → bits ≡ bits_of (map test (ports (take at lanes))) → bits ≡ bits_of (map test (ports lanes))
+met_all test lanes at bits past so_far = so_far ∙ ap (λ (ls : List DeviceStream). bits_of (map test (ports ls))) (take_all at lanes past)
 
 -- what a lane at a place keeps
-pub keeps_here : (lanes : List Lane) (outs : ℕ → Option OutStream) (ins : ℕ → Option InStream) (at : ℕ) (d l : Lane) → KeepsStreams lanes outs ins → at < length lanes
-    → l ≡ get_or lanes at d → KeepsLane l (outs l.port.interface) (ins l.port.interface)
+pub keeps_here : (lanes : List DeviceStream) (outs : ℕ → Option OutStream) (ins : ℕ → Option InStream) (at : ℕ) (d l : DeviceStream) → LanesStand lanes outs ins → at < length lanes
+    → l ≡ get_or lanes at d → LaneStands l (outs l.port.interface) (ins l.port.interface)
 keeps_here lanes outs ins at d l keeps below read =
-    subst (λ (m : Lane). KeepsLane m (outs m.port.interface) (ins m.port.interface)) (sym read) (keeps.each at d below)
+    subst (λ (m : DeviceStream). LaneStands m (outs m.port.interface) (ins m.port.interface)) (sym read) (keeps.each at d below)
 
 -- the bits stay below the next one
 pub few_more : (bits weight more : ℕ) (found : Bool) → bits < weight → more ≡ bits + (if found then weight else 0) → more < 2 * weight

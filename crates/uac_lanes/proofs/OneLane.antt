@@ -8,11 +8,11 @@ use Rattle.uac_flow.specs.declared.outward.OutFlow.{OutFlow}
 use Rattle.uac_lanes.specs.declared.lane.Flow.{Flow}
 use Rattle.uac_lanes.specs.declared.lane.Flow.TheVariants as flow
 use Rattle.uac_lanes.specs.declared.lane.Port.{Port}
-use Rattle.uac_lanes.specs.Lanes.{IsFlow, KeepsFlow}
+use Rattle.uac_lanes.specs.Lanes.{IsFlow, FlowStands}
 
 -- a ring and a flow, where the flow is known
-pub known : (ring : List (List ℤ)) (f g : Flow) (out : Option OutStream) (in_ : Option InStream) → f ≡ g → KeepsFlow ring f out in_ → KeepsFlow ring g out in_
-known ring f g out in_ is keeps = subst (λ (h : Flow). KeepsFlow ring h out in_) is keeps
+pub known : (ring : List (List ℤ)) (f g : Flow) (out : Option OutStream) (in_ : Option InStream) → f ≡ g → FlowStands ring f out in_ → FlowStands ring g out in_
+known ring f g out in_ is keeps = subst (λ (h : Flow). FlowStands ring h out in_) is keeps
 
 -- ---- what is always so of a lane
 

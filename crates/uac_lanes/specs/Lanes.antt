@@ -8,35 +8,35 @@ use Rattle.uac_entities.specs.declared.stream.StreamInterface.{StreamInterface}
 use Rattle.uac_graph.specs.Meaning.{entity}
 use Rattle.uac_graph.specs.Wiring.{Frames, frame_on, silence}
 use Rattle.uac_alt.specs.AltStreams.{StreamFields}
-use Rattle.uac_flow.specs.Flows.{CanRun, IsInFlow, IsOutFlow, KeepsIn, KeepsOut}
+use Rattle.uac_flow.specs.Flows.{CanRun, IsInFlow, IsOutFlow, InStands, OutStands}
 use Rattle.uac_flow.specs.FlowStreams.{InStream, OutStream, after_putting, after_taking, after_ticks, is_dry, is_full, next_taken}
 use Rattle.uac_lanes.specs.declared.lane.Port.{Port}
 use Rattle.uac_lanes.specs.declared.lane.Flow.{Flow}
 use Rattle.uac_lanes.specs.declared.lane.Flow.TheVariants as flow
-use Rattle.uac_lanes.specs.declared.lane.Lane.{Lane}
+use Rattle.uac_lanes.specs.declared.lane.DeviceStream.{DeviceStream}
 use Rattle.uac_lanes.specs.declared.ticking.Ticked.{Ticked}
 use Rattle.uac_lanes.specs.InterfaceStreams.{bits_of}
 
 -- an interface with a terminal of this clock and so many channels
 abbrev pub port_with : StreamInterface → ℕ → ℕ → Port
-port_with s clock channels = record { interface = s.number; terminal = s.terminal; clock = clock; channels = channels; out = s.out }
+port_with s domain channels = record { interface = s.number; terminal = s.terminal; domain = domain; channels = channels; out = s.out }
 
 -- an interface with the terminal to which it links
 abbrev pub port_of : List Entity → StreamInterface → Port
 port_of entities s = port_with s (entity entities s.terminal).clock (entity entities s.terminal).cluster.channels
 
 -- the lane of an interface that runs no stream
-abbrev pub idle_lane : Port → Lane
+abbrev pub idle_lane : Port → DeviceStream
 idle_lane port = record { port = port; ring = []; flow = flow.Idle }
 
 -- a ring and what is kept beside it stand for these: the stream to the device that an interface runs, or that from it
-abbrev pub KeepsFlow : List (List ℤ) → Flow → Option OutStream → Option InStream → Type 0
-KeepsFlow ring flow.Idle out in_ = (out ≡ None) × (in_ ≡ None)
-KeepsFlow ring (flow.Out f) out in_ = (o : OutStream) × (out ≡ Some o) × (in_ ≡ None) × KeepsOut ring f o
-KeepsFlow ring (flow.In f) out in_ = (i : InStream) × (in_ ≡ Some i) × (out ≡ None) × KeepsIn ring f i
+abbrev pub FlowStands : List (List ℤ) → Flow → Option OutStream → Option InStream → Type 0
+FlowStands ring flow.Idle out in_ = (out ≡ None) × (in_ ≡ None)
+FlowStands ring (flow.Out f) out in_ = (o : OutStream) × (out ≡ Some o) × (in_ ≡ None) × OutStands ring f o
+FlowStands ring (flow.In f) out in_ = (i : InStream) × (in_ ≡ Some i) × (out ≡ None) × InStands ring f i
 
-abbrev pub KeepsLane : Lane → Option OutStream → Option InStream → Type 0
-KeepsLane l out in_ = KeepsFlow l.ring l.flow out in_
+abbrev pub LaneStands : DeviceStream → Option OutStream → Option InStream → Type 0
+LaneStands l out in_ = FlowStands l.ring l.flow out in_
 
 -- whether a lane's interface runs a stream
 abbrev pub is_running : Flow → Bool
@@ -45,9 +45,10 @@ is_running (flow.Out f) = true
 is_running (flow.In f) = true
 
 -- a lane before and after an event that changes streams so
-pub record Turns (outs : Option OutStream → Option OutStream) (ins : Option InStream → Option InStream) (old new : Lane) : Type 0 where
+pub record Turns (outs : Option OutStream → Option OutStream) (ins : Option InStream → Option InStream)
+    (old new : DeviceStream) : Type 0 where
   pub port : new.port ≡ old.port
-  pub stands : (out : Option OutStream) (in_ : Option InStream) → KeepsLane old out in_ → KeepsLane new (outs out) (ins in_)
+  pub stands : (out : Option OutStream) (in_ : Option InStream) → LaneStands old out in_ → LaneStands new (outs out) (ins in_)
 
 -- a stream fits an interface: it can run, goes the interface's way, and has its terminal's channels
 pub record FitsPort (port : Port) (stream : StreamFields) : Type 0 where
@@ -62,24 +63,24 @@ IsFlow port ring flow.Idle = Unit {0}
 IsFlow port ring (flow.Out f) = IsOutFlow ring f × (port.out ≡ true) × (f.stream.format.channels ≡ port.channels)
 IsFlow port ring (flow.In f) = IsInFlow ring f × (port.out ≡ false) × (f.stream.format.channels ≡ port.channels) × (1 ≤ port.channels)
 
-abbrev pub IsLane : Lane → Type 0
+abbrev pub IsLane : DeviceStream → Type 0
 IsLane l = IsFlow l.port l.ring l.flow
 
 -- the place of an interface's lane
-abbrev pub lane_at : List Lane → ℕ → Option ℕ
+abbrev pub lane_at : List DeviceStream → ℕ → Option ℕ
 lane_at lanes interface = position (λ l. l.port.interface == interface) lanes
 
 -- the ports of lanes
-abbrev pub ports : List Lane → List Port
+abbrev pub ports : List DeviceStream → List Port
 ports lanes = map (λ l. l.port) lanes
 
 -- the lanes stand for these streams, by interface
-pub record KeepsStreams (lanes : List Lane) (outs : ℕ → Option OutStream) (ins : ℕ → Option InStream) : Type 0 where
-  pub each : All (λ l. KeepsLane l (outs l.port.interface) (ins l.port.interface)) lanes
+pub record LanesStand (lanes : List DeviceStream) (outs : ℕ → Option OutStream) (ins : ℕ → Option InStream) : Type 0 where
+  pub each : All (λ l. LaneStands l (outs l.port.interface) (ins l.port.interface)) lanes
   pub none : (interface : ℕ) → lane_at lanes interface ≡ None → (outs interface ≡ None) × (ins interface ≡ None)
 
 -- what is always so of lanes: they are of different interfaces
-pub record AreLanes (lanes : List Lane) : Type 0 where
+pub record AreLanes (lanes : List DeviceStream) : Type 0 where
   pub each : All IsLane lanes
   pub apart : IsDistinct nat_eq (map (λ l. l.port.interface) lanes)
 
@@ -98,7 +99,7 @@ WiredOut wires p = p.out ≡ false → 1 ≤ p.channels → IsWired wires p
 
 -- a tick of this domain gives a terminal a frame by this interface
 abbrev pub gives_to : ℕ → ℕ → Port → Bool
-gives_to domain id p = p.out && (p.clock == domain && p.terminal == id)
+gives_to domain id p = p.out && (p.domain == domain && p.terminal == id)
 
 -- the frame that is given: the next of the stream, or silence
 abbrev pub frame_given : Option OutStream → Port → List ℤ
@@ -111,20 +112,20 @@ given_by domain id outs ps before =
 
 -- what the ticks of a domain make of the stream of an interface, where its terminal is of that domain
 abbrev pub counted_on : ℕ → ℕ → Port → Option OutStream → Option OutStream
-counted_on domain ticks p out = option_map (λ o. if p.clock == domain then after_ticks ticks o else o) out
+counted_on domain ticks p out = option_map (λ o. if p.domain == domain then after_ticks ticks o else o) out
 
 abbrev pub taken_on : ℕ → Port → Option OutStream → Option OutStream
-taken_on domain p out = option_map (λ o. if p.clock == domain then after_taking o else o) out
+taken_on domain p out = option_map (λ o. if p.domain == domain then after_taking o else o) out
 
 abbrev pub put_on : ℕ → List ℤ → Port → Option InStream → Option InStream
-put_on domain frame p in_ = option_map (λ i. if p.clock == domain then after_putting frame i else i) in_
+put_on domain frame p in_ = option_map (λ i. if p.domain == domain then after_putting frame i else i) in_
 
 -- the interfaces that a tick of a domain finds dry, and full
 abbrev pub found_dry : ℕ → Option OutStream → Port → Bool
-found_dry domain out p = p.clock == domain && option_map_or is_dry out false
+found_dry domain out p = p.domain == domain && option_map_or is_dry out false
 
 abbrev pub found_full : ℕ → Option InStream → Port → Bool
-found_full domain in_ p = p.clock == domain && option_map_or is_full in_ false
+found_full domain in_ p = p.domain == domain && option_map_or is_full in_ false
 
 abbrev pub met_by : ℕ → (ℕ → Option OutStream) → (ℕ → Option InStream) → List Port → Ticked
 met_by domain outs ins ps =

@@ -3,12 +3,12 @@ ghost use Rattle.std.specs.Prelude.{◌≡◌, ◌==◌, ◌&&◌, ℕ, Option, 
 ghost use Rattle.std.specs.Option.{option_and_then, option_map, option_map_or};
 ghost use Rattle.uac_alt.specs.AltStreams.{stream_fields};
 ghost use Rattle.uac_graph.specs.Wiring.{frame_on, samples_on, silence};
-ghost use Rattle.uac_flow.specs.Flows.{CanRun, IsOutFlow, KeepsOut, ZerosFit};
+ghost use Rattle.uac_flow.specs.Flows.{CanRun, IsOutFlow, OutStands, ZerosFit};
 ghost use Rattle.uac_flow.specs.FlowStreams.{InStream, OutStream, after_packet, after_sending, after_taking, arrival_of, feedback_of};
 ghost use Rattle.uac_flow.specs.FlowStreams.{is_dry, next_taken, sent_frames, sent_packet, settled_in, settled_out};
 ghost use Rattle.uac_flow.specs.declared.arrival.Arrival.TheVariants as arrival;
 ghost use Rattle.uac_lanes.specs.InterfaceStreams.{either_due, in_from, level_in, out_from};
-ghost use Rattle.uac_lanes.specs.Lanes.{FitsPort, IsFlow, IsLane, KeepsFlow, KeepsLane, Turns, WiredIn, WiredOut, counted_on, found_dry};
+ghost use Rattle.uac_lanes.specs.Lanes.{FitsPort, IsFlow, IsLane, FlowStands, LaneStands, Turns, WiredIn, WiredOut, counted_on, found_dry};
 ghost use Rattle.uac_lanes.specs.Lanes.{found_full, frame_given, gives_to, idle_lane, is_running, put_on, taken_on};
 
 use std::alloc::Global;
@@ -24,7 +24,7 @@ use uac_ring::Ring;
 pub struct Port {
     pub interface: u8,
     pub terminal: u8,
-    pub clock: u8,
+    pub domain: u8,
     pub channels: u8,
     /// Whether the interface carries from the host to the device.
     pub out: bool,
@@ -40,7 +40,7 @@ pub enum Flow {
 
 /// A streaming interface with its stream.
 #[derive(Drop)]
-pub struct Lane {
+pub struct DeviceStream {
     pub port: Port,
     pub ring: Ring,
     pub flow: Flow,
@@ -53,13 +53,13 @@ pub(crate) struct Found {
     pub(crate) full: bool,
 }
 
-impl Lane {
+impl DeviceStream {
     /// The lane of an interface that runs no stream, with all the memory that it will use.
-    pub(crate) fn idle(alloc: Global, port: Port) -> Result<Lane, NoMemory>
+    pub(crate) fn idle(alloc: Global, port: Port) -> Result<DeviceStream, NoMemory>
         ensures { IfOk result (λ lane. lane ≡ idle_lane port) }
     {
         let ring = Ring::new(alloc)?;
-        Ok(Lane {
+        Ok(DeviceStream {
             port,
             ring,
             flow: Flow::Idle,
@@ -68,7 +68,7 @@ impl Lane {
 
     /// How many frames lie in the ring of its stream.
     pub(crate) fn level(&self) -> u32
-        ensures { (out : Option OutStream) (in_ : Option InStream) → KeepsLane self.now out in_ → result ≡ level_in out in_ }
+        ensures { (out : Option OutStream) (in_ : Option InStream) → LaneStands self.now out in_ → result ≡ level_in out in_ }
     {
         match self.flow {
             Flow::Idle => 0,
@@ -78,7 +78,7 @@ impl Lane {
 
     /// The level at which its stream to the device was primed.
     pub(crate) fn target(&self) -> Option<u32>
-        ensures { (out : Option OutStream) (in_ : Option InStream) → KeepsLane self.now out in_
+        ensures { (out : Option OutStream) (in_ : Option InStream) → LaneStands self.now out in_
             → result ≡ option_and_then (λ o. o.target) out }
     {
         match &self.flow {
@@ -90,7 +90,7 @@ impl Lane {
     /// Whether the lane's stream has a packet in the next microframe.
     pub(crate) fn due(&self) -> bool
         requires { IsLane self.now }
-        ensures { (out : Option OutStream) (in_ : Option InStream) → KeepsLane self.now out in_ → result ≡ either_due out in_ }
+        ensures { (out : Option OutStream) (in_ : Option InStream) → LaneStands self.now out in_ → result ≡ either_due out in_ }
     {
         match &self.flow {
             Flow::Idle => false,
@@ -102,7 +102,7 @@ impl Lane {
     /// The report that is due of its stream to the device.
     pub(crate) fn feedback(&self) -> Option<u32>
         requires { IsLane self.now }
-        ensures { (out : Option OutStream) (in_ : Option InStream) → KeepsLane self.now out in_
+        ensures { (out : Option OutStream) (in_ : Option InStream) → LaneStands self.now out in_
             → result ≡ option_and_then feedback_of out }
     {
         match &self.flow {
@@ -128,7 +128,7 @@ impl Lane {
     pub(crate) fn receive(&mut self, packet: Option<&Packet>) -> Arrival
         requires { IsLane self.old }
         ensures turns { Turns (option_map (after_packet (option_map (λ p. p.now.items) packet.entry))) (λ in_. in_) self.old self.new }
-        ensures arrival { (out : Option OutStream) (in_ : Option InStream) → KeepsLane self.old out in_
+        ensures arrival { (out : Option OutStream) (in_ : Option InStream) → LaneStands self.old out in_
             → result ≡ option_map_or (arrival_of (option_map (λ p. p.now.items) packet.entry)) out arrival.Lost }
         ensures sound { IsLane self.new }
     {
@@ -142,9 +142,9 @@ impl Lane {
     pub(crate) fn send(&mut self, packet: &mut Packet) -> u32
         requires { IsLane self.old }
         ensures turns { Turns (λ out. out) (option_map after_sending) self.old self.new }
-        ensures packet { (out : Option OutStream) (in_ : Option InStream) → KeepsLane self.old out in_
+        ensures packet { (out : Option OutStream) (in_ : Option InStream) → LaneStands self.old out in_
             → packet.new.items ≡ option_map_or sent_packet in_ [] }
-        ensures frames { (out : Option OutStream) (in_ : Option InStream) → KeepsLane self.old out in_
+        ensures frames { (out : Option OutStream) (in_ : Option InStream) → LaneStands self.old out in_
             → result ≡ option_map_or sent_frames in_ 0 }
         ensures sound { IsLane self.new }
     {
@@ -161,8 +161,8 @@ impl Lane {
     pub(crate) fn settle(&mut self)
         requires { IsLane self.old }
         ensures port { self.new.port ≡ self.old.port }
-        ensures stands { (out : Option OutStream) (in_ : Option InStream) → KeepsLane self.old out in_ → IfSome out ZerosFit
-            → KeepsLane self.new (option_map settled_out out) (option_map settled_in in_) }
+        ensures stands { (out : Option OutStream) (in_ : Option InStream) → LaneStands self.old out in_ → IfSome out ZerosFit
+            → LaneStands self.new (option_map settled_out out) (option_map settled_in in_) }
         ensures sound { IsLane self.new }
     {
         match &mut self.flow {
@@ -180,7 +180,7 @@ impl Lane {
     {
         match &mut self.flow {
             Flow::Out(flow) => {
-                if self.port.clock != domain {
+                if self.port.domain != domain {
                     return;
                 }
                 flow.count(ticks);
@@ -195,11 +195,11 @@ impl Lane {
         requires sound { IsLane self.old }
         requires wired { WiredIn wires.old self.old.port }
         ensures turns { Turns (taken_on domain self.old.port) (λ in_. in_) self.old self.new }
-        ensures dry { (out : Option OutStream) (in_ : Option InStream) → KeepsLane self.old out in_
+        ensures dry { (out : Option OutStream) (in_ : Option InStream) → LaneStands self.old out in_
             → result.dry ≡ found_dry domain out self.old.port }
-        ensures full { (out : Option OutStream) (in_ : Option InStream) → KeepsLane self.old out in_
+        ensures full { (out : Option OutStream) (in_ : Option InStream) → LaneStands self.old out in_
             → result.full ≡ found_full domain in_ self.old.port }
-        ensures frame { (out : Option OutStream) (in_ : Option InStream) → KeepsLane self.old out in_
+        ensures frame { (out : Option OutStream) (in_ : Option InStream) → LaneStands self.old out in_
             → (id : ℕ) → frame_on wires.new id
             ≡ (if gives_to domain id self.old.port then Some (frame_given out self.old.port) else frame_on wires.old id) }
         ensures lengths { (id : ℕ) → option_map length (frame_on wires.new id) ≡ option_map length (frame_on wires.old id) }
@@ -212,7 +212,7 @@ impl Lane {
                 nothing_found()
             }
             Flow::Out(flow) => {
-                if port.clock != domain {
+                if port.domain != domain {
                     return nothing_found();
                 }
                 Found {
@@ -222,7 +222,7 @@ impl Lane {
             }
             Flow::In(flow) => Found {
                 dry: false,
-                full: port.clock == domain && flow.is_full(&self.ring),
+                full: port.domain == domain && flow.is_full(&self.ring),
             },
         }
     }
@@ -236,7 +236,7 @@ impl Lane {
     {
         match &self.flow {
             Flow::In(flow) => {
-                if self.port.clock != domain {
+                if self.port.domain != domain {
                     return;
                 }
                 match wires.get(self.port.terminal) {
@@ -267,7 +267,7 @@ fn rest(port: Port, domain: u8, wires: &mut Wires)
         ≡ (if gives_to domain id port then Some (silence port.channels) else frame_on wires.old id) }
     ensures lengths { (id : ℕ) → option_map length (frame_on wires.new id) ≡ option_map length (frame_on wires.old id) }
 {
-    if port.out && port.clock == domain {
+    if port.out && port.domain == domain {
         wires.silence(port.terminal);
     }
 }
@@ -289,9 +289,9 @@ fn nothing_found() -> Found
 fn take_next(flow: &mut OutFlow, ring: &mut Ring, terminal: u8, wires: &mut Wires) -> bool
     requires sound { IsOutFlow ring.old flow.old }
     requires wired { option_map length (frame_on wires.old terminal) ≡ Some flow.old.stream.format.channels }
-    ensures stands { (o : OutStream) → KeepsOut ring.old flow.old o → KeepsOut ring.new flow.new (after_taking o) }
-    ensures dry { (o : OutStream) → KeepsOut ring.old flow.old o → result ≡ is_dry o }
-    ensures frame { (o : OutStream) → KeepsOut ring.old flow.old o → (id : ℕ) → frame_on wires.new id
+    ensures stands { (o : OutStream) → OutStands ring.old flow.old o → OutStands ring.new flow.new (after_taking o) }
+    ensures dry { (o : OutStream) → OutStands ring.old flow.old o → result ≡ is_dry o }
+    ensures frame { (o : OutStream) → OutStands ring.old flow.old o → (id : ℕ) → frame_on wires.new id
         ≡ (if terminal == id then Some (unwrap_or (next_taken o) (silence flow.old.stream.format.channels)) else frame_on wires.old id) }
     ensures lengths { (id : ℕ) → option_map length (frame_on wires.new id) ≡ option_map length (frame_on wires.old id) }
     ensures sound { IsOutFlow ring.new flow.new }
@@ -315,7 +315,7 @@ fn take_next(flow: &mut OutFlow, ring: &mut Ring, terminal: u8, wires: &mut Wire
 // A stream at its start; its ring is emptied.
 fn start(stream: Stream, ring: &mut Ring) -> Flow
     requires { CanRun (stream_fields stream) }
-    ensures stands { KeepsFlow ring.new result (out_from (stream_fields stream)) (in_from (stream_fields stream)) }
+    ensures stands { FlowStands ring.new result (out_from (stream_fields stream)) (in_from (stream_fields stream)) }
     ensures sound { (port : Port) → FitsPort port (stream_fields stream) → IsFlow port ring.new result }
 {
     if stream.out {

@@ -8,10 +8,10 @@ ghost use Rattle.uac_flow.specs.FlowStreams.{InStream, OutStream, after_packet, 
 ghost use Rattle.uac_flow.specs.FlowStreams.{sent_packet, settled_in, settled_out};
 ghost use Rattle.uac_flow.specs.declared.arrival.Arrival.TheVariants as arrival;
 ghost use Rattle.uac_lanes.specs.InterfaceStreams.{NoneRuns, changed_at, either_due, in_from, level_in, out_from, replaced_at, runs_either};
-ghost use Rattle.uac_lanes.specs.Lanes.{FitsPort, KeepsStreams, idle_lane, is_running, lane_at, port_of, port_with, ports};
+ghost use Rattle.uac_lanes.specs.Lanes.{FitsPort, LanesStand, idle_lane, is_running, lane_at, port_of, port_with, ports};
 ghost use Rattle.uac_lanes.specs.declared.lane.Port as ported;
 
-use crate::lane::{Lane, Port, is_running};
+use crate::lane::{DeviceStream, Port, is_running};
 use std::alloc::Global;
 use std::marker::Model;
 use uac_alt::Stream;
@@ -24,15 +24,15 @@ use uac_topology::{Function, StreamInterface};
 /// A lane for each streaming interface, in block order.
 #[derive(Drop)]
 pub struct Lanes {
-    pub(crate) list: Vec<Lane>,
+    pub(crate) list: Vec<DeviceStream>,
 }
 
 impl Model for Lanes {
     ghost use Rattle.std.specs.Prelude.{List};
-    ghost use Rattle.uac_lanes.specs.declared.lane.Lane.{Lane};
+    ghost use Rattle.uac_lanes.specs.declared.lane.DeviceStream.{DeviceStream};
     ghost use Rattle.uac_lanes.specs.Lanes.{AreLanes};
 
-    ghost Value = { List Lane };
+    ghost Value = { List DeviceStream };
 
     ghost view = { λ l. l.list.items };
 
@@ -48,7 +48,7 @@ impl Lanes {
         functions_are_sound(function);
         let mut list = Vec::new(alloc);
         for stream in function.streams() {
-            let lane = Lane::idle(alloc, port(function, stream))?;
+            let lane = DeviceStream::idle(alloc, port(function, stream))?;
             list.push(lane)?;
         }
         Ok(Lanes { list })
@@ -65,9 +65,9 @@ impl Lanes {
 
     /// Whether an interface runs a stream.
     pub fn run_one(&self) -> bool
-        ensures value { (outs : ℕ → Option OutStream) (ins : ℕ → Option InStream) → KeepsStreams self.now outs ins
+        ensures value { (outs : ℕ → Option OutStream) (ins : ℕ → Option InStream) → LanesStand self.now outs ins
             → result ≡ list_any (λ p. runs_either (outs p.interface) (ins p.interface)) (ports self.now) }
-        ensures none { (outs : ℕ → Option OutStream) (ins : ℕ → Option InStream) → KeepsStreams self.now outs ins → result ≡ false
+        ensures none { (outs : ℕ → Option OutStream) (ins : ℕ → Option InStream) → LanesStand self.now outs ins → result ≡ false
             → NoneRuns outs ins }
     {
         run_one(&self.list)
@@ -75,7 +75,7 @@ impl Lanes {
 
     /// How many frames lie in the ring of an interface's stream.
     pub fn level(&self, interface: u8) -> u32
-        ensures { (outs : ℕ → Option OutStream) (ins : ℕ → Option InStream) → KeepsStreams self.now outs ins
+        ensures { (outs : ℕ → Option OutStream) (ins : ℕ → Option InStream) → LanesStand self.now outs ins
             → result ≡ level_in (outs interface) (ins interface) }
     {
         match self.place(interface.into()) {
@@ -86,7 +86,7 @@ impl Lanes {
 
     /// The level at which an interface's stream to the device was primed.
     pub fn target(&self, interface: u8) -> Option<u32>
-        ensures { (outs : ℕ → Option OutStream) (ins : ℕ → Option InStream) → KeepsStreams self.now outs ins
+        ensures { (outs : ℕ → Option OutStream) (ins : ℕ → Option InStream) → LanesStand self.now outs ins
             → result ≡ option_and_then (λ o. o.target) (outs interface) }
     {
         match self.place(interface.into()) {
@@ -97,7 +97,7 @@ impl Lanes {
 
     /// Whether an interface's stream has a packet in the next microframe.
     pub fn due(&self, interface: u8) -> bool
-        ensures { (outs : ℕ → Option OutStream) (ins : ℕ → Option InStream) → KeepsStreams self.now outs ins
+        ensures { (outs : ℕ → Option OutStream) (ins : ℕ → Option InStream) → LanesStand self.now outs ins
             → result ≡ either_due (outs interface) (ins interface) }
     {
         match self.place(interface.into()) {
@@ -108,7 +108,7 @@ impl Lanes {
 
     /// The report that is due of an interface's stream to the device.
     pub fn feedback(&self, interface: u8) -> Option<u32>
-        ensures { (outs : ℕ → Option OutStream) (ins : ℕ → Option InStream) → KeepsStreams self.now outs ins
+        ensures { (outs : ℕ → Option OutStream) (ins : ℕ → Option InStream) → LanesStand self.now outs ins
             → result ≡ option_and_then feedback_of (outs interface) }
     {
         match self.place(interface.into()) {
@@ -121,8 +121,8 @@ impl Lanes {
     pub fn restart(&mut self, interface: u16, begun: Option<Stream>)
         requires fits { IfSome begun (λ s. (port : ported.Port) × (find (λ p. p.interface == interface) (ports self.old) ≡ Some port)
             × FitsPort port (stream_fields s)) }
-        ensures stands { (outs : ℕ → Option OutStream) (ins : ℕ → Option InStream) → KeepsStreams self.old outs ins
-            → KeepsStreams self.new (replaced_at interface (option_and_then out_from (option_map stream_fields begun)) outs)
+        ensures stands { (outs : ℕ → Option OutStream) (ins : ℕ → Option InStream) → LanesStand self.old outs ins
+            → LanesStand self.new (replaced_at interface (option_and_then out_from (option_map stream_fields begun)) outs)
             (replaced_at interface (option_and_then in_from (option_map stream_fields begun)) ins) }
         ensures ports { ports self.new ≡ ports self.old }
     {
@@ -134,9 +134,9 @@ impl Lanes {
 
     /// A packet comes to the device on an interface, or is lost.
     pub fn receive(&mut self, interface: u8, packet: Option<&Packet>) -> Arrival
-        ensures stands { (outs : ℕ → Option OutStream) (ins : ℕ → Option InStream) → KeepsStreams self.old outs ins
-            → KeepsStreams self.new (changed_at interface (after_packet (option_map (λ p. p.now.items) packet.entry)) outs) ins }
-        ensures arrival { (outs : ℕ → Option OutStream) (ins : ℕ → Option InStream) → KeepsStreams self.old outs ins
+        ensures stands { (outs : ℕ → Option OutStream) (ins : ℕ → Option InStream) → LanesStand self.old outs ins
+            → LanesStand self.new (changed_at interface (after_packet (option_map (λ p. p.now.items) packet.entry)) outs) ins }
+        ensures arrival { (outs : ℕ → Option OutStream) (ins : ℕ → Option InStream) → LanesStand self.old outs ins
             → result ≡ option_map_or (arrival_of (option_map (λ p. p.now.items) packet.entry)) (outs interface) arrival.Lost }
         ensures ports { ports self.new ≡ ports self.old }
     {
@@ -148,11 +148,11 @@ impl Lanes {
 
     /// Forms the packet from the device of an interface, and answers the number of its frames.
     pub fn send(&mut self, interface: u8, packet: &mut Packet) -> u32
-        ensures stands { (outs : ℕ → Option OutStream) (ins : ℕ → Option InStream) → KeepsStreams self.old outs ins
-            → KeepsStreams self.new outs (changed_at interface after_sending ins) }
-        ensures packet { (outs : ℕ → Option OutStream) (ins : ℕ → Option InStream) → KeepsStreams self.old outs ins
+        ensures stands { (outs : ℕ → Option OutStream) (ins : ℕ → Option InStream) → LanesStand self.old outs ins
+            → LanesStand self.new outs (changed_at interface after_sending ins) }
+        ensures packet { (outs : ℕ → Option OutStream) (ins : ℕ → Option InStream) → LanesStand self.old outs ins
             → packet.new.items ≡ option_map_or sent_packet (ins interface) [] }
-        ensures frames { (outs : ℕ → Option OutStream) (ins : ℕ → Option InStream) → KeepsStreams self.old outs ins
+        ensures frames { (outs : ℕ → Option OutStream) (ins : ℕ → Option InStream) → LanesStand self.old outs ins
             → result ≡ option_map_or sent_frames (ins interface) 0 }
         ensures ports { ports self.new ≡ ports self.old }
     {
@@ -167,9 +167,9 @@ impl Lanes {
 
     /// A microframe ends for an interface's stream.
     pub fn settle(&mut self, interface: u8)
-        ensures stands { (outs : ℕ → Option OutStream) (ins : ℕ → Option InStream) → KeepsStreams self.old outs ins
+        ensures stands { (outs : ℕ → Option OutStream) (ins : ℕ → Option InStream) → LanesStand self.old outs ins
             → IfSome (outs interface) ZerosFit
-            → KeepsStreams self.new (changed_at interface settled_out outs) (changed_at interface settled_in ins) }
+            → LanesStand self.new (changed_at interface settled_out outs) (changed_at interface settled_in ins) }
         ensures ports { ports self.new ≡ ports self.old }
     {
         match self.place(interface.into()) {
@@ -189,21 +189,21 @@ fn port(function: &Function, stream: &StreamInterface) -> Port
     }
 }
 
-// An interface with a terminal of this clock and so many channels.
-fn port_to(stream: &StreamInterface, clock: u8, channels: u8) -> Port
-    ensures { result ≡ port_with stream.now clock channels }
+// An interface with a terminal of this domain and so many channels.
+fn port_to(stream: &StreamInterface, domain: u8, channels: u8) -> Port
+    ensures { result ≡ port_with stream.now domain channels }
 {
     Port {
         interface: stream.number,
         terminal: stream.terminal,
-        clock,
+        domain,
         channels,
         out: stream.out,
     }
 }
 
 // Whether one of the lanes runs a stream.
-fn run_one(lanes: &[Lane]) -> bool
+fn run_one(lanes: &[DeviceStream]) -> bool
     ensures { result ≡ list_any (λ l. is_running l.flow) lanes.now }
 {
     lanes.iter().any(|lane| is_running(&lane.flow))

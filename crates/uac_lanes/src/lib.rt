@@ -8,6 +8,6 @@ mod lanes;
 /// One tick, lane by lane.
 mod ticking;
 
-pub use lane::{Flow, Lane, Port};
+pub use lane::{DeviceStream, Flow, Port};
 pub use lanes::Lanes;
 pub use ticking::Ticked;

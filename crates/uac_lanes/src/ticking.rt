@@ -5,9 +5,9 @@ ghost use Rattle.std.specs.Option.{option_map};
 ghost use Rattle.uac_graph.specs.Wiring.{frame_on};
 ghost use Rattle.uac_flow.specs.FlowStreams.{InStream, OutStream, after_putting, after_taking, after_ticks};
 ghost use Rattle.uac_lanes.specs.InterfaceStreams.{changed_where};
-ghost use Rattle.uac_lanes.specs.Lanes.{AreLanes, IsLane, KeepsStreams, WiredIn, WiredOut, given_by, met_by, ports};
+ghost use Rattle.uac_lanes.specs.Lanes.{AreLanes, IsLane, LanesStand, WiredIn, WiredOut, given_by, met_by, ports};
 
-use crate::lane::Lane;
+use crate::lane::DeviceStream;
 use crate::lanes::Lanes;
 use uac_graph::Wires;
 
@@ -22,8 +22,8 @@ impl Lanes {
     /// The streams to the terminals of a domain count so many ticks.
     pub fn count(&mut self, domain: u8, ticks: u32)
         ensures stands { (on : ℕ → Bool) (outs : ℕ → Option OutStream) (ins : ℕ → Option InStream)
-            → All (λ p. on p.interface ≡ (p.clock == domain)) (ports self.old) → KeepsStreams self.old outs ins
-            → KeepsStreams self.new (changed_where on (λ interface. after_ticks ticks) outs) ins }
+            → All (λ p. on p.interface ≡ (p.domain == domain)) (ports self.old) → LanesStand self.old outs ins
+            → LanesStand self.new (changed_where on (λ interface. after_ticks ticks) outs) ins }
         ensures ports { ports self.new ≡ ports self.old }
     {
         count(&mut self.list, domain, ticks);
@@ -34,12 +34,12 @@ impl Lanes {
     pub fn begin(&mut self, domain: u8, wires: &mut Wires) -> Ticked
         requires few { length self.old ≤ 8 }
         requires wired { All (WiredIn wires.old) (ports self.old) }
-        ensures met { (outs : ℕ → Option OutStream) (ins : ℕ → Option InStream) → KeepsStreams self.old outs ins
+        ensures met { (outs : ℕ → Option OutStream) (ins : ℕ → Option InStream) → LanesStand self.old outs ins
             → result ≡ met_by domain outs ins (ports self.old) }
         ensures stands { (on : ℕ → Bool) (outs : ℕ → Option OutStream) (ins : ℕ → Option InStream)
-            → All (λ p. on p.interface ≡ (p.clock == domain)) (ports self.old) → KeepsStreams self.old outs ins
-            → KeepsStreams self.new (changed_where on (λ interface. after_taking) outs) ins }
-        ensures frames { (outs : ℕ → Option OutStream) (ins : ℕ → Option InStream) → KeepsStreams self.old outs ins
+            → All (λ p. on p.interface ≡ (p.domain == domain)) (ports self.old) → LanesStand self.old outs ins
+            → LanesStand self.new (changed_where on (λ interface. after_taking) outs) ins }
+        ensures frames { (outs : ℕ → Option OutStream) (ins : ℕ → Option InStream) → LanesStand self.old outs ins
             → (id : ℕ) → frame_on wires.new id ≡ given_by domain id outs (ports self.old) (frame_on wires.old id) }
         ensures lengths { (id : ℕ) → option_map length (frame_on wires.new id) ≡ option_map length (frame_on wires.old id) }
         ensures ports { ports self.new ≡ ports self.old }
@@ -51,10 +51,10 @@ impl Lanes {
     pub fn put(&mut self, domain: u8, wires: &Wires)
         requires wired { All (WiredOut wires.now) (ports self.old) }
         ensures stands { (on : ℕ → Bool) (played : ℕ → List ℤ) (outs : ℕ → Option OutStream) (ins : ℕ → Option InStream)
-            → All (λ p. on p.interface ≡ (p.clock == domain)) (ports self.old)
+            → All (λ p. on p.interface ≡ (p.domain == domain)) (ports self.old)
             → All (λ p. p.out ≡ false → 1 ≤ p.channels → frame_on wires.now p.terminal ≡ Some (played p.interface)) (ports self.old)
-            → KeepsStreams self.old outs ins
-            → KeepsStreams self.new outs (changed_where on (λ interface. after_putting (played interface)) ins) }
+            → LanesStand self.old outs ins
+            → LanesStand self.new outs (changed_where on (λ interface. after_putting (played interface)) ins) }
         ensures ports { ports self.new ≡ ports self.old }
     {
         put(&mut self.list, domain, wires);
@@ -62,11 +62,11 @@ impl Lanes {
 }
 
 // The streams to the terminals of a domain count so many ticks.
-fn count(lanes: &mut [Lane], domain: u8, ticks: u32)
+fn count(lanes: &mut [DeviceStream], domain: u8, ticks: u32)
     requires { All IsLane lanes.old }
     ensures stands { (on : ℕ → Bool) (outs : ℕ → Option OutStream) (ins : ℕ → Option InStream)
-        → All (λ p. on p.interface ≡ (p.clock == domain)) (ports lanes.old) → KeepsStreams lanes.old outs ins
-        → KeepsStreams lanes.new (changed_where on (λ interface. after_ticks ticks) outs) ins }
+        → All (λ p. on p.interface ≡ (p.domain == domain)) (ports lanes.old) → LanesStand lanes.old outs ins
+        → LanesStand lanes.new (changed_where on (λ interface. after_ticks ticks) outs) ins }
     ensures ports { ports lanes.new ≡ ports lanes.old }
     ensures sound { All IsLane lanes.new }
 {
@@ -76,16 +76,16 @@ fn count(lanes: &mut [Lane], domain: u8, ticks: u32)
 }
 
 // The terminals of the bus in a domain take the next frames of their streams, or silence. Answers what the tick meets.
-fn begin(lanes: &mut [Lane], domain: u8, wires: &mut Wires) -> Ticked
+fn begin(lanes: &mut [DeviceStream], domain: u8, wires: &mut Wires) -> Ticked
     requires few { length lanes.old ≤ 8 }
     requires sound { All IsLane lanes.old }
     requires wired { All (WiredIn wires.old) (ports lanes.old) }
-    ensures met { (outs : ℕ → Option OutStream) (ins : ℕ → Option InStream) → KeepsStreams lanes.old outs ins
+    ensures met { (outs : ℕ → Option OutStream) (ins : ℕ → Option InStream) → LanesStand lanes.old outs ins
         → result ≡ met_by domain outs ins (ports lanes.old) }
     ensures stands { (on : ℕ → Bool) (outs : ℕ → Option OutStream) (ins : ℕ → Option InStream)
-        → All (λ p. on p.interface ≡ (p.clock == domain)) (ports lanes.old) → KeepsStreams lanes.old outs ins
-        → KeepsStreams lanes.new (changed_where on (λ interface. after_taking) outs) ins }
-    ensures frames { (outs : ℕ → Option OutStream) (ins : ℕ → Option InStream) → KeepsStreams lanes.old outs ins
+        → All (λ p. on p.interface ≡ (p.domain == domain)) (ports lanes.old) → LanesStand lanes.old outs ins
+        → LanesStand lanes.new (changed_where on (λ interface. after_taking) outs) ins }
+    ensures frames { (outs : ℕ → Option OutStream) (ins : ℕ → Option InStream) → LanesStand lanes.old outs ins
         → (id : ℕ) → frame_on wires.new id ≡ given_by domain id outs (ports lanes.old) (frame_on wires.old id) }
     ensures lengths { (id : ℕ) → option_map length (frame_on wires.new id) ≡ option_map length (frame_on wires.old id) }
     ensures ports { ports lanes.new ≡ ports lanes.old }
@@ -124,14 +124,14 @@ fn bits_met(under: u16, over: u16) -> Ticked
 }
 
 // The streams from the terminals of a domain take the frames that these played.
-fn put(lanes: &mut [Lane], domain: u8, wires: &Wires)
+fn put(lanes: &mut [DeviceStream], domain: u8, wires: &Wires)
     requires sound { All IsLane lanes.old }
     requires wired { All (WiredOut wires.now) (ports lanes.old) }
     ensures stands { (on : ℕ → Bool) (played : ℕ → List ℤ) (outs : ℕ → Option OutStream) (ins : ℕ → Option InStream)
-        → All (λ p. on p.interface ≡ (p.clock == domain)) (ports lanes.old)
+        → All (λ p. on p.interface ≡ (p.domain == domain)) (ports lanes.old)
         → All (λ p. p.out ≡ false → 1 ≤ p.channels → frame_on wires.now p.terminal ≡ Some (played p.interface)) (ports lanes.old)
-        → KeepsStreams lanes.old outs ins
-        → KeepsStreams lanes.new outs (changed_where on (λ interface. after_putting (played interface)) ins) }
+        → LanesStand lanes.old outs ins
+        → LanesStand lanes.new outs (changed_where on (λ interface. after_putting (played interface)) ins) }
     ensures ports { ports lanes.new ≡ ports lanes.old }
     ensures sound { All IsLane lanes.new }
 {

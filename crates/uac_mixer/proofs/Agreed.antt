@@ -5,7 +5,7 @@ use Rattle.std.specs.Option.{option_map_or}
 use Rattle.std.proofs.lemmas.Bool.{and_parts, cases_lt, eqb-true, eq-eqb}
 use Rattle.std.proofs.lemmas.List.{take_all, length-take-le}
 use Rattle.std.proofs.lemmas.List.Elements.{All-map}
-use Rattle.uac_entities.specs.EntityStreams.{named}
+use Rattle.uac_entities.specs.EntityInterfaces.{entity_by_id}
 use Rattle.uac_entities.specs.declared.entity.Entity.{Entity}
 use Rattle.uac_topology.specs.Function.{FunctionFields}
 use Rattle.uac_topology.specs.Topology.{IsSoundFunction}
@@ -13,7 +13,7 @@ use Rattle.uac_store.specs.declared.keys.Key.{Key}
 use Rattle.uac_store.specs.StoreControls.{IsKeyed, IsStoreOf, has_control, has_on, takes, takes_on}
 use Rattle.uac_store.specs.Keyed.{same_key, value_of}
 use Rattle.uac_store.proofs.Setting.{changed_alone, key_itself, one_key}
-use Rattle.uac_request.specs.Requests.{Held, Owner, AnswerFields, after_request, by_entity, cur_bytes, cur_named, entity_width, first_broken, high, is_done, is_signed, is_stalled, key_named, low, owner_of, reply_of, sent_value, value_bytes, value_from, with_bytes, with_descriptor}
+use Rattle.uac_request.specs.Requests.{RequestState, Owner, AnswerFields, after_request, by_entity, cur_bytes, cur_named, entity_width, first_broken, high, is_done, is_signed, is_stalled, key_named, low, owner_of, reply_of, sent_value, value_bytes, value_from, with_bytes, with_descriptor}
 use Rattle.uac_request.specs.declared.setup.Setup.{Setup}
 use Rattle.uac_mixer.specs.declared.element.Element.{Element}
 use Rattle.uac_mixer.specs.MixerElements.{fits_element, is_gain, width_of}
@@ -94,7 +94,7 @@ still_known (Some v) a b same known = same ∙ known
 
 -- ---- one element
 
-module _ (f : FunctionFields) (h : Held) (p : Setup) (sent : List ℕ) (x : Element) (store : IsStoreOf f.entities h.controls) (m : IsElementOf f.entities x) where
+module _ (f : FunctionFields) (h : RequestState) (p : Setup) (sent : List ℕ) (x : Element) (store : IsStoreOf f.entities h.controls) (m : IsElementOf f.entities x) where
   pub kinds : Agrees m.entity.kind x.key.selector x.kind
   kinds = agrees m.entity.kind x.key.selector x.kind m.shows
 
@@ -103,7 +103,7 @@ module _ (f : FunctionFields) (h : Held) (p : Setup) (sent : List ℕ) (x : Elem
 
   -- its entity keeps the control that the request names
   own : (type : ℕ) → IsRequestFor type f.control_interface p x → owner_of f p.index ≡ Some (by_entity m.entity)
-  own type r = owner_is f p.index m.entity r.on (subst (λ (k : Key). named f.entities k.entity ≡ Some m.entity) r.key' m.found)
+  own type r = owner_is f p.index m.entity r.on (subst (λ (k : Key). entity_by_id f.entities k.entity ≡ Some m.entity) r.key' m.found)
 
   -- the bytes of its control
   pub control_bytes : (type : ℕ) → IsRequestFor type f.control_interface p x → cur_named f h p ≡ value_bytes (width_of x.kind) held.value
@@ -261,7 +261,7 @@ mapped before after f p sent came view each are agreed =
     All-map (λ x. IfSome x.value (λ v. value_of after x.key ≡ Some v)) (element_after f.control_interface p sent came) view.elements
     (λ k d within. each (slice_index_or view.elements k d) (are k d within) (agreed k d within))
 
-pub agreement : (f : FunctionFields) (h : Held) (p : Setup) (sent : List ℕ) (view : ViewWorld) → IsStoreOf f.entities h.controls → All (IsElementOf f.entities) view.elements → IsAgreed h.controls view
+pub agreement : (f : FunctionFields) (h : RequestState) (p : Setup) (sent : List ℕ) (view : ViewWorld) → IsStoreOf f.entities h.controls → All (IsElementOf f.entities) view.elements → IsAgreed h.controls view
     → StaysAgreed f h p sent view
 agreement f h p sent view store are agreed = record {
   answered = mapped h.controls (after_request f h p sent).controls f p sent (Some (reply_of f h p sent)) view (λ x m known. answered_known f h p sent x store m known) are agreed;
@@ -275,7 +275,7 @@ stays_known keys f h p sent view sound store is agreed =
 
 -- ---- values that are read
 
-pub readable : (f : FunctionFields) (h : Held) (p : Setup) (sent : List ℕ) (came : Option AnswerFields) (view : ViewWorld) → IsStoreOf f.entities h.controls → All (IsElementOf f.entities) view.elements
+pub readable : (f : FunctionFields) (h : RequestState) (p : Setup) (sent : List ℕ) (came : Option AnswerFields) (view : ViewWorld) → IsStoreOf f.entities h.controls → All (IsElementOf f.entities) view.elements
     → ((told : AnswerFields) → came ≡ Some told → told ≡ reply_of f h p sent) → All (IsReadable f.control_interface p sent came) view.elements
 readable f h p sent came view store are tells = λ k d within. one (slice_index_or view.elements k d) (are k d within) where
   one : (x : Element) → IsElementOf f.entities x → IsReadable f.control_interface p sent came x

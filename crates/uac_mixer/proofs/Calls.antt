@@ -4,12 +4,12 @@ use Rattle.std.specs.List.{AllByRecursion}
 use Rattle.std.specs.Option.{option_map_or}
 use Rattle.std.proofs.lemmas.Bool.{eq-eqb}
 use Rattle.std.proofs.lemmas.List.{take_all}
-use Rattle.uac_entities.specs.EntityStreams.{named}
+use Rattle.uac_entities.specs.EntityInterfaces.{entity_by_id}
 use Rattle.uac_topology.specs.Function.{FunctionFields}
 use Rattle.uac_store.specs.StoreControls.{IsStoreOf, count_of}
 use Rattle.uac_store.specs.Keyed.{same_key}
 use Rattle.uac_request.specs.Owners.{get_rules}
-use Rattle.uac_request.specs.Requests.{AnswerFields, Held, by_entity, cur_named, entity_width, first_broken, has_interface, high, is_declared_on, is_done, is_stalled, key_named, least, low, owner_of, reply_of, value_bytes, with_bytes}
+use Rattle.uac_request.specs.Requests.{AnswerFields, RequestState, by_entity, cur_named, entity_width, first_broken, has_interface, high, is_declared_on, is_done, is_stalled, key_named, least, low, owner_of, reply_of, value_bytes, with_bytes}
 use Rattle.uac_request.specs.declared.setup.Setup.{Setup}
 use Rattle.uac_request.proofs.Asked.{first_cur}
 use Rattle.uac_mixer.specs.declared.element.Element.{Element}
@@ -97,7 +97,7 @@ not_true false is = cc
 in_function : (f : FunctionFields) → has_interface f f.control_interface ≡ true
 in_function f = rw (eq-eqb f.control_interface f.control_interface refl) refl
 
-module _ (f : FunctionFields) (h : Held) (x : Element) (store : IsStoreOf f.entities h.controls) (m : IsElementOf f.entities x) (n : IsNarrow f.control_interface x) where
+module _ (f : FunctionFields) (h : RequestState) (x : Element) (store : IsStoreOf f.entities h.controls) (m : IsElementOf f.entities x) (n : IsNarrow f.control_interface x) where
   own_kinds : Agrees m.entity.kind x.key.selector x.kind
   own_kinds = agrees m.entity.kind x.key.selector x.kind m.shows
 
@@ -108,7 +108,7 @@ module _ (f : FunctionFields) (h : Held) (x : Element) (store : IsStoreOf f.enti
   its_owner type =
       owner_is f (setup_of type f.control_interface x).index m.entity
       (eq-eqb ((256 * x.key.entity + f.control_interface) % 256) f.control_interface (low_of x.key.entity f.control_interface n.interface))
-      (ap (named f.entities) (high_of x.key.entity f.control_interface n.interface) ∙ m.found)
+      (ap (entity_by_id f.entities) (high_of x.key.entity f.control_interface n.interface) ∙ m.found)
 
   get_unbroken : least (get_rules f (get_of f.control_interface x) [] (by_entity m.entity) false) ≡ None
   get_unbroken =
@@ -133,7 +133,7 @@ module _ (f : FunctionFields) (h : Held) (x : Element) (store : IsStoreOf f.enti
       ∙ ap with_bytes (take_all (width_of x.kind) (value_bytes (width_of x.kind) own_value.value) (let long = whole x.kind own_value.value in omega arith))
 
 -- a SET CUR of an element is done or stalled
-pub set_told : (f : FunctionFields) (h : Held) (x : Element) (sent : List ℕ)
+pub set_told : (f : FunctionFields) (h : RequestState) (x : Element) (sent : List ℕ)
     → (reply_of f h (set_of f.control_interface x) sent ≡ is_done) ⊎ ((rule : ℕ) × (reply_of f h (set_of f.control_interface x) sent ≡ is_stalled rule))
 set_told f h x sent = set_reply f h (set_of f.control_interface x) sent refl refl
 

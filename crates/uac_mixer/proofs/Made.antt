@@ -6,7 +6,7 @@ use Rattle.uac_topology.specs.Function.{FunctionFields}
 use Rattle.uac_topology.specs.Topology.{IsSoundFunction}
 use Rattle.uac_store.specs.declared.keys.Key.{Key}
 use Rattle.uac_store.specs.StoreControls.{IsKeyed, IsStoreOf}
-use Rattle.uac_request.specs.Requests.{Held, AnswerFields, after_request, held_by, reply_of}
+use Rattle.uac_request.specs.Requests.{RequestState, AnswerFields, after_request, request_state, reply_of}
 use Rattle.uac_request.specs.declared.setup.Setup.{Setup}
 use Rattle.uac_device.specs.DeviceKept.{DeviceFields, IsControlled}
 use Rattle.uac_mixer.specs.declared.link.When.{When}
@@ -23,8 +23,8 @@ use Rattle.uac_mixer.proofs.Stored.{stays}
 use Rattle.uac_mixer.proofs.Agreed.{agreement, readable}
 
 -- what the device keeps that a request may change
-abbrev pub kept_by : DeviceFields → Held
-kept_by d = held_by d.controls d.settings
+abbrev pub kept_by : DeviceFields → RequestState
+kept_by d = request_state d.controls d.settings
 
 -- the device wasn't reached, or it acted
 abbrev pub Went : Setup → List ℕ → Option AnswerFields → DeviceFields → DeviceFields → Type 0
@@ -43,7 +43,7 @@ pub told_by : (p : Setup) (sent : List ℕ) (came : Option AnswerFields) (old ne
 told_by p sent came old new answered told is = (subst (λ (c : Option AnswerFields). IsAnswered p sent c old new) is answered).device.answer
 
 controls_after : (p : Setup) (sent : List ℕ) (told : AnswerFields) (old new : DeviceFields) → IsControlled p sent told old new → new.controls ≡ (after_request old.function (kept_by old) p sent).controls
-controls_after p sent told old new is = ap (λ (h : Held). h.controls) is.held
+controls_after p sent told old new is = ap (λ (h : RequestState). h.controls) is.held
 
 pub same_function : (p : Setup) (sent : List ℕ) (came : Option AnswerFields) (old new : DeviceFields) → Went p sent came old new → new.function ≡ old.function
 same_function p sent came old new (inl is) = ap (λ (d : DeviceFields). d.function) is.1

@@ -4,7 +4,7 @@ use Rattle.std.specs.List.{All, AllByRecursion, IsDistinct, cons_option, filter_
 use Rattle.std.specs.Option.{option_and_then}
 use Rattle.std.proofs.lemmas.Bool.{eqb-true, eqb-false, eq-eqb}
 use Rattle.std.proofs.lemmas.List.Elements.{All-from_recursion, filter_map-append}
-use Rattle.uac_entities.specs.EntityStreams.{named}
+use Rattle.uac_entities.specs.EntityInterfaces.{entity_by_id}
 use Rattle.uac_entities.specs.declared.entity.Entity.{Entity}
 use Rattle.uac_store.specs.ControlTable.{IsSmall, selectors_of}
 use Rattle.uac_store.specs.StoreControls.{IsKeyed, count_of, pins_of}
@@ -18,7 +18,7 @@ use Rattle.uac_mixer.specs.ViewWorld.{IsViewOf, ViewWorld}
 -- a declared control of these entities
 pub record IsElementOf (entities : List Entity) (x : Element) : Type 0 where
   pub entity : Entity
-  pub found : named entities x.key.entity ≡ Some entity
+  pub found : entity_by_id entities x.key.entity ≡ Some entity
   pub shows : kind_at entity.kind x.key.selector ≡ Some x.kind
   pub channel : nat_lt x.key.channel (count_of entities entity) ≡ true
   pub declared : is_declared_on entity.kind entity x.key.selector x.key.channel ≡ true
@@ -60,27 +60,27 @@ unmapped P f (x ∷ xs) all = (all.0, unmapped P f xs all.1)
 -- ---- each entity is the one with its id
 
 -- none after an entity has its id
-none_behind : (x e : Entity) (ys : List Entity) → AllByRecursion (λ y. nat_eq x.id y ≡ false) (map (λ e. e.id) ys) → x.id ≡ e.id → named ys e.id ≡ Some e → false ≡ true
-unfolding named
-none_behind x e [] all same found = cc
-none_behind x e (y ∷ ys) all same found = step (y.id == e.id) refl found (none_behind x e ys all.1 same) where
-  step : (b : Bool) → (y.id == e.id) ≡ b → (if b then Some y else named ys e.id) ≡ Some e → (named ys e.id ≡ Some e → false ≡ true) → false ≡ true
+none_following : (x e : Entity) (ys : List Entity) → AllByRecursion (λ y. nat_eq x.id y ≡ false) (map (λ e. e.id) ys) → x.id ≡ e.id → entity_by_id ys e.id ≡ Some e → false ≡ true
+unfolding entity_by_id
+none_following x e [] all same found = cc
+none_following x e (y ∷ ys) all same found = step (y.id == e.id) refl found (none_following x e ys all.1 same) where
+  step : (b : Bool) → (y.id == e.id) ≡ b → (if b then Some y else entity_by_id ys e.id) ≡ Some e → (entity_by_id ys e.id ≡ Some e → false ≡ true) → false ≡ true
   step true here is rest = (let it : x.id ≡ y.id = same ∙ sym (eqb-true y.id e.id here) in absurd (eqb-false x.id y.id all.0 it))
   step false there is rest = rest is
 
-apart_named : (x : Entity) (xs : List Entity) (e : Entity) → AllByRecursion (λ y. nat_eq x.id y ≡ false) (map (λ e. e.id) xs) → named xs e.id ≡ Some e → named (x ∷ xs) e.id ≡ Some e
-unfolding named
+apart_named : (x : Entity) (xs : List Entity) (e : Entity) → AllByRecursion (λ y. nat_eq x.id y ≡ false) (map (λ e. e.id) xs) → entity_by_id xs e.id ≡ Some e → entity_by_id (x ∷ xs) e.id ≡ Some e
+unfolding entity_by_id
 apart_named x xs e apart is = from (x.id == e.id) refl where
-  from : (b : Bool) → (x.id == e.id) ≡ b → (if b then Some x else named xs e.id) ≡ Some e
-  from true here = (let no : false ≡ true = none_behind x e xs apart (eqb-true x.id e.id here) is in cc)
+  from : (b : Bool) → (x.id == e.id) ≡ b → (if b then Some x else entity_by_id xs e.id) ≡ Some e
+  from true here = (let no : false ≡ true = none_following x e xs apart (eqb-true x.id e.id here) is in cc)
   from false there = is
 
-named_itself : (xs : List Entity) → IsDistinct nat_eq (map (λ e. e.id) xs) → AllByRecursion (λ e. named xs e.id ≡ Some e) xs
-unfolding named IsDistinct
+named_itself : (xs : List Entity) → IsDistinct nat_eq (map (λ e. e.id) xs) → AllByRecursion (λ e. entity_by_id xs e.id ≡ Some e) xs
+unfolding entity_by_id IsDistinct
 named_itself [] distinct = tt
 named_itself (x ∷ xs) distinct = (
   (let self : (x.id == x.id) ≡ true = eq-eqb x.id x.id refl in rw self refl),
-  weaker (λ e. named xs e.id ≡ Some e) (λ e. named (x ∷ xs) e.id ≡ Some e) xs (λ e is. apart_named x xs e distinct.0 is) (named_itself xs distinct.1),
+  weaker (λ e. entity_by_id xs e.id ≡ Some e) (λ e. entity_by_id (x ∷ xs) e.id ≡ Some e) xs (λ e is. apart_named x xs e distinct.0 is) (named_itself xs distinct.1),
 )
 
 -- ---- the elements
@@ -90,7 +90,7 @@ abbrev unread_on : Entity → ℕ → ℕ → ElementKind → Element
 unread_on e s c k = record { key = key_of e.id s c; kind = k; writable = is_writable_on e.kind e s c; value = None }
 
 -- what it is
-from_control : (entities : List Entity) (e : Entity) (s c : ℕ) (y : Element) → named entities e.id ≡ Some e → c < count_of entities e → element_on e s c ≡ Some y → IsElementOf entities y
+from_control : (entities : List Entity) (e : Entity) (s c : ℕ) (y : Element) → entity_by_id entities e.id ≡ Some e → c < count_of entities e → element_on e s c ≡ Some y → IsElementOf entities y
 from_control entities e s c y found below is = of_kind (kind_at e.kind s) refl is where
   if_declared : (k : ElementKind) (b : Bool) → kind_at e.kind s ≡ Some k → is_declared_on e.kind e s c ≡ b → (if b then Some (unread_on e s c k) else None) ≡ Some y → IsElementOf entities y
   if_declared k true shows declared is =
@@ -119,14 +119,14 @@ in_entity P entities e each =
     (every (λ s. AllByRecursion P (control_elements entities e s)) (range_with_len 1 (selectors_of e.kind))
     (λ s. in_control P entities e s (each s)))
 
-of_entity : (entities : List Entity) (e : Entity) → named entities e.id ≡ Some e → AllByRecursion (IsElementOf entities) (entity_elements entities e)
+of_entity : (entities : List Entity) (e : Entity) → entity_by_id entities e.id ≡ Some e → AllByRecursion (IsElementOf entities) (entity_elements entities e)
 of_entity entities e found = in_entity (IsElementOf entities) entities e (λ s c y below is. from_control entities e s c y found below is)
 
 pub all_listed : (entities : List Entity) → IsDistinct nat_eq (map (λ e. e.id) entities) → AllByRecursion (IsElementOf entities) (element_list entities)
 unfolding element_list
 all_listed entities distinct =
     flat (IsElementOf entities) (entity_elements entities) entities
-    (weaker (λ e. named entities e.id ≡ Some e) (λ e. AllByRecursion (IsElementOf entities) (entity_elements entities e)) entities
+    (weaker (λ e. entity_by_id entities e.id ≡ Some e) (λ e. AllByRecursion (IsElementOf entities) (entity_elements entities e)) entities
     (λ e found. of_entity entities e found) (named_itself entities distinct))
 
 -- what is so of it for each kind

@@ -10,11 +10,11 @@ use Rattle.uac_entities.specs.declared.entity.EntityKind.TheVariants as kind
 use Rattle.uac_store.specs.declared.keys.Key.{Key}
 use Rattle.uac_store.specs.declared.controls.Control.{Control}
 use Rattle.uac_store.specs.ControlTable.{choices, control_of, is_frequency, is_one_to, is_switch, selectors_of, takes_by}
-use Rattle.uac_store.proofs.Tabled.{one_or_two}
+use Rattle.uac_store.proofs.ControlTableLemmas.{one_or_two}
 use Rattle.uac_request.specs.Requests.{entity_bytes, entity_width, is_signed, kept_bytes}
 use Rattle.uac_mixer.specs.declared.kinds.ElementKind.{ElementKind}
 use Rattle.uac_mixer.specs.declared.kinds.ElementKind.TheVariants as shown
-use Rattle.uac_mixer.specs.MixerElements.{element_of, fits_element, is_below, is_gain, is_signed_word, kind_at, width_of}
+use Rattle.uac_mixer.specs.MixerElements.{element_of, fits_element, is_below, is_gain, is_signed_16, kind_at, width_of}
 
 -- ---- values that are taken fit
 
@@ -61,7 +61,7 @@ le_from : (a : Bool) (n m : ℕ) → (a && nat_le n m) ≡ true → n ≤ m
 le_from true n m h = grind arith
 le_from false n m h = cc
 
-in_gain : (v : ℤ) → is_some (gain_of v) ≡ true → is_signed_word v ≡ true
+in_gain : (v : ℤ) → is_some (gain_of v) ≡ true → is_signed_16 v ≡ true
 in_gain (pos n) there =
     let few : n ≤ 3072 =
     above n (n % 256 == 0 && nat_le n 3072) (n % 256 == 128 && nat_le n 2944) (raised_gain (n / 256)) (half_above (raised_gain (n / 256)))

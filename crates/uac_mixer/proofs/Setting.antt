@@ -2,13 +2,13 @@
 use Rattle.std.proofs.Common.{◌≡◌, ◌∙◌, refl, ap, sym, ℕ, ◌⊎◌, ◌==◌, Bool, true, false, if◌then◌else◌, List, Option, Some, None, is_some, inl, inr, take}
 use Rattle.std.specs.Option.{option_map, option_map_or}
 use Rattle.std.proofs.lemmas.Bool.{and_parts, cases_Bool, eqb-true}
-use Rattle.uac_entities.specs.EntityStreams.{named}
+use Rattle.uac_entities.specs.EntityInterfaces.{entity_by_id}
 use Rattle.uac_entities.specs.declared.entity.Entity.{Entity}
 use Rattle.uac_entities.specs.declared.stream.StreamInterface.{StreamInterface}
 use Rattle.uac_topology.specs.Function.{FunctionFields, interface_in}
 use Rattle.uac_store.specs.StoreControls.{IsStoreOf}
 use Rattle.uac_store.specs.Keyed.{with_value}
-use Rattle.uac_request.specs.Requests.{Held, after_request, answered, by_entity, by_stream, controls_set, cur_named, first_broken, high, is_done, is_stalled, key_named, left_by, low, owner_of, reply_of, sent_value, sets_cur, sets_interface, with_bytes}
+use Rattle.uac_request.specs.Requests.{RequestState, after_request, unbroken_reply, by_entity, by_streaming_interface, controls_set, cur_named, first_broken, high, is_done, is_stalled, key_named, left_by, low, owner_of, reply_of, sent_value, sets_cur, sets_interface, with_bytes}
 use Rattle.uac_request.specs.declared.setup.Setup.{Setup}
 use Rattle.uac_alt.specs.AltSettings.{with_setting}
 use Rattle.uac_request.proofs.Asked.{answered_cur, answered_set, left_cur, left_set}
@@ -17,7 +17,7 @@ use Rattle.uac_request.proofs.Lasting.{IsSet, is_set, set_leaves}
 -- ---- what is set
 
 -- a control of an entity was set
-pub record WasSet (f : FunctionFields) (h : Held) (p : Setup) (sent : List ℕ) : Type 0 where
+pub record WasSet (f : FunctionFields) (h : RequestState) (p : Setup) (sent : List ℕ) : Type 0 where
   pub type' : p.request_type ≡ 33
   pub number : p.request ≡ 1
   pub set : IsSet f h p sent
@@ -25,11 +25,11 @@ pub record WasSet (f : FunctionFields) (h : Held) (p : Setup) (sent : List ℕ) 
   pub told : reply_of f h p sent ≡ is_done
 
 -- no control was set; a request to set one was stalled
-pub record WasLeft (f : FunctionFields) (h : Held) (p : Setup) (sent : List ℕ) : Type 0 where
+pub record WasLeft (f : FunctionFields) (h : RequestState) (p : Setup) (sent : List ℕ) : Type 0 where
   pub controls : (after_request f h p sent).controls ≡ h.controls
   pub told : p.request_type ≡ 33 → p.request ≡ 1 → (rule : ℕ) × (reply_of f h p sent ≡ is_stalled rule)
 
-module _ (f : FunctionFields) (h : Held) (p : Setup) (sent : List ℕ) where
+module _ (f : FunctionFields) (h : RequestState) (p : Setup) (sent : List ℕ) where
   -- a request that breaks a rule, and one that breaks none
   broken_after : (rule : ℕ) → first_broken f h p sent ≡ Some rule → after_request f h p sent ≡ h
   unfolding after_request
@@ -37,15 +37,15 @@ module _ (f : FunctionFields) (h : Held) (p : Setup) (sent : List ℕ) where
 
   broken_told : (rule : ℕ) → first_broken f h p sent ≡ Some rule → reply_of f h p sent ≡ is_stalled rule
   unfolding reply_of
-  broken_told rule is = ap (λ (o : Option ℕ). option_map_or is_stalled o (answered f h p)) is
+  broken_told rule is = ap (λ (o : Option ℕ). option_map_or is_stalled o (unbroken_reply f h p)) is
 
   met_after : first_broken f h p sent ≡ None → after_request f h p sent ≡ left_by f h p sent
   unfolding after_request
   met_after none = ap (λ (o : Option ℕ). if is_some o then h else left_by f h p sent) none
 
-  met_told : first_broken f h p sent ≡ None → reply_of f h p sent ≡ answered f h p
+  met_told : first_broken f h p sent ≡ None → reply_of f h p sent ≡ unbroken_reply f h p
   unfolding reply_of
-  met_told none = ap (λ (o : Option ℕ). option_map_or is_stalled o (answered f h p)) none
+  met_told none = ap (λ (o : Option ℕ). option_map_or is_stalled o (unbroken_reply f h p)) none
 
   -- a request for a value leaves the controls, broken or not
   pub get_after : p.request_type ≡ 161 → (after_request f h p sent).controls ≡ h.controls
@@ -53,7 +53,7 @@ module _ (f : FunctionFields) (h : Held) (p : Setup) (sent : List ℕ) where
   get_after type = from (is_some (first_broken f h p sent)) where
     from : (b : Bool) → (if b then h else left_by f h p sent).controls ≡ h.controls
     from true = refl
-    from false = ap (λ (l : Held). l.controls) (left_cur f h p sent type)
+    from false = ap (λ (l : RequestState). l.controls) (left_cur f h p sent type)
 
   pub get_reply : p.request_type ≡ 161 → p.request ≡ 1 → reply_of f h p sent ≡ option_map_or is_stalled (first_broken f h p sent) (with_bytes (take p.length (cur_named f h p)))
   unfolding reply_of
@@ -84,27 +84,27 @@ module _ (f : FunctionFields) (h : Held) (p : Setup) (sent : List ℕ) where
   changes store = from (first_broken f h p sent) refl where
     unbroken : first_broken f h p sent ≡ None → (s : Bool) → sets_cur p ≡ s → WasLeft f h p sent ⊎ WasSet f h p sent
     unbroken none true is =
-        let named = named_by is in
-        let set : IsSet f h p sent = is_set f h p sent store named.0 named.1 none in
+        let key_is = named_by is in
+        let set : IsSet f h p sent = is_set f h p sent store key_is.0 key_is.1 none in
         inr (record {
-          type' = named.0;
-          number = named.1;
+          type' = key_is.0;
+          number = key_is.1;
           set = set;
-          controls = ap (λ (l : Held). l.controls) (met_after none ∙ left_set f h p sent named.0 named.1) ∙ set_leaves f h p sent set.e set.owner;
-          told = met_told none ∙ answered_set f h p named.0 named.1;
+          controls = ap (λ (l : RequestState). l.controls) (met_after none ∙ left_set f h p sent key_is.0 key_is.1) ∙ set_leaves f h p sent set.e set.owner;
+          told = met_told none ∙ answered_set f h p key_is.0 key_is.1;
         })
     unbroken none false is = inl (record {
-      controls = ap (λ (l : Held). l.controls) (met_after none) ∙ unset_left is;
+      controls = ap (λ (l : RequestState). l.controls) (met_after none) ∙ unset_left is;
       told = λ type number. (let yes : sets_cur p ≡ true = rw (type, number) refl in let no : false ≡ true = sym is ∙ yes in cc);
     })
 
     from : (o : Option ℕ) → first_broken f h p sent ≡ o → WasLeft f h p sent ⊎ WasSet f h p sent
-    from (Some rule) is = inl (record { controls = ap (λ (l : Held). l.controls) (broken_after rule is); told = λ type number. (rule, broken_told rule is) })
+    from (Some rule) is = inl (record { controls = ap (λ (l : RequestState). l.controls) (broken_after rule is); told = λ type number. (rule, broken_told rule is) })
     from None is = unbroken is (sets_cur p) refl
 
 -- ---- what keeps a control
 
-by_stream_alone : (found : Option StreamInterface) (e : Entity) → option_map by_stream found ≡ Some (by_entity e) → false ≡ true
+by_stream_alone : (found : Option StreamInterface) (e : Entity) → option_map by_streaming_interface found ≡ Some (by_entity e) → false ≡ true
 by_stream_alone (Some s) e same = cc
 by_stream_alone None e same = cc
 
@@ -113,12 +113,12 @@ unfolding owner_of
 on_control f index e is = elim (cases_Bool (low index == f.control_interface)) [
   | inl own ↦ own
   | inr other ↦ elim (cases_Bool (high index == 0)) [
-    | inl none_named ↦ (let stream : option_map by_stream (interface_in f (low index)) ≡ Some (by_entity e) = rw (other, none_named) at is in let no : false ≡ true = by_stream_alone (interface_in f (low index)) e stream in cc)
+    | inl none_named ↦ (let stream : option_map by_streaming_interface (interface_in f (low index)) ≡ Some (by_entity e) = rw (other, none_named) at is in let no : false ≡ true = by_stream_alone (interface_in f (low index)) e stream in cc)
     | inr more ↦ (let none : None ≡ Some (by_entity e) = rw (other, more) at is in cc)
   ]
 ]
 
 -- what keeps the control of an entity that is named on the control interface
-pub owner_is : (f : FunctionFields) (index : ℕ) (e : Entity) → (low index == f.control_interface) ≡ true → named f.entities (high index) ≡ Some e → owner_of f index ≡ Some (by_entity e)
+pub owner_is : (f : FunctionFields) (index : ℕ) (e : Entity) → (low index == f.control_interface) ≡ true → entity_by_id f.entities (high index) ≡ Some e → owner_of f index ≡ Some (by_entity e)
 unfolding owner_of
 owner_is f index e own is = rw (own, is) refl

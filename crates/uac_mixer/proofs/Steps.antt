@@ -5,7 +5,7 @@ use Rattle.std.proofs.lemmas.Option.{slice_get-map, slice_get_within, get_or_fro
 use Rattle.uac_topology.specs.Function.{FunctionFields}
 use Rattle.uac_store.specs.StoreControls.{IsKeyed, IsStoreOf}
 use Rattle.uac_store.specs.Keyed.{value_of}
-use Rattle.uac_request.specs.Requests.{Held, AnswerFields, after_request, held_by, is_done, is_stalled, left_by, value_bytes, with_bytes}
+use Rattle.uac_request.specs.Requests.{RequestState, AnswerFields, after_request, request_state, is_done, is_stalled, left_by, value_bytes, with_bytes}
 use Rattle.uac_request.specs.declared.setup.Setup.{Setup}
 use Rattle.uac_device.specs.DeviceKept.{DeviceFields}
 use Rattle.uac_mixer.specs.declared.element.Element.{Element}
@@ -67,7 +67,7 @@ pub got_none : (x : Element) (before after : ViewWorld) (old new : LinkFields) �
 got_none x before after old new made = made.view ∙ get_broke old.device.function.control_interface x before
 
 -- it leaves the device as it was
-get_held : (f : FunctionFields) (h : Held) (x : Element) → after_request f h (get_of f.control_interface x) [] ≡ h
+get_held : (f : FunctionFields) (h : RequestState) (x : Element) → after_request f h (get_of f.control_interface x) [] ≡ h
 unfolding after_request left_by
 get_held f h x = same _ where
   same : (b : Bool) → (if b then h else h) ≡ h
@@ -77,8 +77,8 @@ get_held f h x = same _ where
 as_before : (x : Element) (came : Option AnswerFields) (old new : DeviceFields) → Went (get_of old.function.control_interface x) [] came old new → IsAsBefore old new
 as_before x came old new (inl is) = record { function = ap (λ (d : DeviceFields). d.function) is.1; controls = ap (λ (d : DeviceFields). d.controls) is.1; settings = ap (λ (d : DeviceFields). d.settings) is.1 }
 as_before x came old new (inr is) =
-    let held : held_by new.controls new.settings ≡ kept_by old = is.1.held ∙ get_held old.function (kept_by old) x in
-    record { function = is.1.function; controls = ap (λ (h : Held). h.controls) held; settings = ap (λ (h : Held). h.settings) held }
+    let held : request_state new.controls new.settings ≡ kept_by old = is.1.held ∙ get_held old.function (kept_by old) x in
+    record { function = is.1.function; controls = ap (λ (h : RequestState). h.controls) held; settings = ap (λ (h : RequestState). h.settings) held }
 
 pub got_as_before : (x : Element) (came : Option AnswerFields) (old new : LinkFields) → IsTransferred (get_of old.device.function.control_interface x) [] came old new → IsAsBefore old.device new.device
 got_as_before x came old new transfer =

@@ -3,7 +3,7 @@ use Rattle.std.proofs.Common.{◌≡◌, refl, ap, ℕ, ◌-◌, ◌≤◌, ◌<
 use Rattle.uac_request.specs.Requests.{value_bytes, value_from}
 use Rattle.uac_mixer.specs.declared.kinds.ElementKind.{ElementKind}
 use Rattle.uac_mixer.specs.declared.kinds.ElementKind.TheVariants as shown
-use Rattle.uac_mixer.specs.MixerElements.{fits_element, is_below, is_gain, is_signed_word, width_of}
+use Rattle.uac_mixer.specs.MixerElements.{fits_element, is_below, is_gain, is_signed_16, width_of}
 
 -- ---- numbers
 
@@ -48,7 +48,7 @@ byte : (v : ℤ) → is_below 256 v ≡ true → value_from false (value_bytes 1
 byte (pos n) fits = let below : n < 256 = grind arith in one_byte n below
 byte (negsuc n) fits = cc
 
-gain : (v : ℤ) → is_signed_word v ≡ true → value_from true (value_bytes 2 v) ≡ v
+gain : (v : ℤ) → is_signed_16 v ≡ true → value_from true (value_bytes 2 v) ≡ v
 gain (pos n) fits = let below : n < 32768 = grind arith in signed_above n below
 gain (negsuc n) fits = let below : n < 32768 = grind arith in signed_below n below
 

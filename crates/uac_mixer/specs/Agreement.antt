@@ -6,7 +6,7 @@ use Rattle.uac_store.specs.StoreControls.{IsStoreOf, initial_controls}
 use Rattle.uac_store.specs.Keyed.{value_of}
 use Rattle.uac_topology.specs.Function.{FunctionFields}
 use Rattle.uac_topology.specs.Topology.{IsSoundFunction}
-use Rattle.uac_request.specs.Requests.{Held, AnswerFields, after_request, reply_of}
+use Rattle.uac_request.specs.Requests.{RequestState, AnswerFields, after_request, reply_of}
 use Rattle.uac_request.specs.declared.setup.Setup.{Setup}
 use Rattle.uac_mixer.specs.declared.element.Element.{Element}
 use Rattle.uac_mixer.specs.MixerElements.{element_list}
@@ -26,11 +26,11 @@ ControlsStart = (function : FunctionFields) → IsSoundFunction function → IsS
 
 -- no request changes that
 abbrev pub ControlsStay : Type 0
-ControlsStay = (function : FunctionFields) (held : Held) (p : Setup) (sent : List ℕ) → IsStoreOf function.entities held.controls
+ControlsStay = (function : FunctionFields) (held : RequestState) (p : Setup) (sent : List ℕ) → IsStoreOf function.entities held.controls
     → IsStoreOf function.entities (after_request function held p sent).controls
 
 -- what is known stays so, whatever came back of a transfer: an answer, a break after the device acted, or one before
-pub record StaysAgreed (function : FunctionFields) (held : Held) (p : Setup) (sent : List ℕ) (view : ViewWorld) : Type 0 where
+pub record StaysAgreed (function : FunctionFields) (held : RequestState) (p : Setup) (sent : List ℕ) (view : ViewWorld) : Type 0 where
   pub answered :
       IsAgreed (after_request function held p sent).controls
       (view_after function.control_interface p sent (Some (reply_of function held p sent)) view)
@@ -38,7 +38,7 @@ pub record StaysAgreed (function : FunctionFields) (held : Held) (p : Setup) (se
   pub broken_before : IsAgreed held.controls (view_after function.control_interface p sent None view)
 
 abbrev pub KnownValuesStay : Type 0
-KnownValuesStay = (function : FunctionFields) (held : Held) (p : Setup) (sent : List ℕ) (view : ViewWorld)
+KnownValuesStay = (function : FunctionFields) (held : RequestState) (p : Setup) (sent : List ℕ) (view : ViewWorld)
     → IsSoundFunction function → IsStoreOf function.entities held.controls → IsViewOf function.entities view → IsAgreed held.controls view
     → StaysAgreed function held p sent view
 

@@ -106,9 +106,9 @@ is_below bound (pos n) = nat_lt n bound
 is_below bound (negsuc n) = false
 
 -- a number of 16 bits in two's complement
-abbrev pub is_signed_word : ℤ → Bool
-is_signed_word (pos n) = nat_lt n 32768
-is_signed_word (negsuc n) = nat_lt n 32768
+abbrev pub is_signed_16 : ℤ → Bool
+is_signed_16 (pos n) = nat_lt n 32768
+is_signed_16 (negsuc n) = nat_lt n 32768
 
 -- a value fits the bytes of its element's control (profile: a frequency is less than 2147483648)
 abbrev pub fits_element : ElementKind → ℤ → Bool
@@ -116,8 +116,8 @@ fits_element shown.Rate v = is_below 2147483648 v
 fits_element shown.Clock v = is_below 256 v
 fits_element shown.Times v = is_below 65536 v
 fits_element shown.Over v = is_below 65536 v
-fits_element shown.Mix v = is_signed_word v
+fits_element shown.Mix v = is_signed_16 v
 fits_element shown.Select v = is_below 256 v
 fits_element shown.Mute v = is_below 256 v
-fits_element shown.Volume v = is_signed_word v
+fits_element shown.Volume v = is_signed_16 v
 fits_element shown.Enable v = is_below 256 v

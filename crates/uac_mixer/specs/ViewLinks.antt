@@ -10,7 +10,7 @@ use Rattle.uac_mixer.specs.ViewTransfers.{get_of}
 
 -- what a link is seen as
 pub record LinkFields : Type 0 where
-  -- the device behind it
+  -- the device at its end
   pub device : DeviceFields
   -- the last answer that the device gave through this link, if any
   pub last : Option AnswerFields

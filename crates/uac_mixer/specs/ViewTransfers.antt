@@ -4,7 +4,7 @@ use Rattle.uac_store.specs.Keyed.{same_key}
 use Rattle.uac_request.specs.Requests.{AnswerFields, is_done, is_stalled, with_bytes, with_descriptor}
 use Rattle.uac_request.specs.Requests.{key_named, low, answer_fields, value_bytes, value_from}
 use Rattle.uac_request.specs.declared.setup.Setup.{Setup}
-use Rattle.uac_request.specs.declared.told.Answer.{Answer}
+use Rattle.uac_request.specs.declared.reply.Answer.{Answer}
 use Rattle.uac_mixer.specs.declared.element.Element.{Element}
 use Rattle.uac_mixer.specs.declared.link.Broken.{Broken}
 use Rattle.uac_mixer.specs.declared.faults.SetFault.{SetFault}

@@ -1,4 +1,4 @@
-// What holds of views and of the devices behind them.
+// What holds of views and of the devices that they are of.
 ghost use Rattle.uac_mixer.specs.Agreement.{ControlsStart, ControlsStay, KnownValuesStay};
 
 use uac_store::laws::sound_functions_have_keys_and_rates;

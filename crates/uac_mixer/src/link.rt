@@ -17,7 +17,7 @@ pub enum When {
     After,
 }
 
-/// A way to a device, on which transfers may break. It has the device behind it, the last answer that the device gave
+/// A way to a device, on which transfers may break. It has the device at its end, the last answer that the device gave
 /// through it, a count of breaks that never falls and, where it tells it, the fault of its next transfer.
 pub trait Link {
     ghost use Rattle.std.specs.Prelude.{◌≡◌};
@@ -28,8 +28,8 @@ pub trait Link {
     // What it is seen as.
     ghost state: { Self → LinkFields };
 
-    // The place of the device, where it is lent: who lends it to the link knows by that what became of it.
-    ghost place: { Self → GName };
+    // Who lends the device, where it is lent: the lender knows by that what became of it.
+    ghost lender: { Self → GName };
 
     /// The device's function.
     fn function(&self) -> &Function
@@ -40,7 +40,7 @@ pub trait Link {
     /// before the transfer, or those that the device's answer leaves. Else the device answered this, and the last answer is
     /// this one. Where the fault is told, the transfer breaks exactly by that, and after it the fault told is none.
     fn control(&mut self, setup: &Setup, sent: &[u8]) -> Result<Answer, Broken>
-        ensures place { place self.new ≡ place self.old }
+        ensures lender { lender self.new ≡ lender self.old }
         ensures transfer { IsTransferred setup.now sent.now (came_of result) (state self.old) (state self.new) };
 }
 
@@ -108,7 +108,7 @@ impl<'a> Link for DeviceLink<'a> {
       fault = Some l.fault;
     } };
 
-    ghost place = { λ l. l.device.ghost_name };
+    ghost lender = { λ l. l.device.ghost_name };
 
     fn function(&self) -> &Function {
         self.device.function()

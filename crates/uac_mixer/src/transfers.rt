@@ -13,7 +13,7 @@ ghost use Rattle.uac_mixer.specs.Readable.{IsReadable};
 use crate::element::Element;
 use crate::link::Broken;
 use uac_request::bytes::value_from;
-use uac_request::{Answer, Setup, key_named, low_byte, word};
+use uac_request::{Answer, Setup, key_named, low_byte, two_byte_number};
 
 /// bmRequestType of a request to a control, from the host (Audio Class 2.0, 5.2.1).
 pub(crate) const SET: u8 = 0x21;
@@ -31,8 +31,8 @@ pub(crate) fn setup_of(request_type: u8, control: u8, element: Element) -> Setup
     Setup {
         request_type,
         request: CUR,
-        value: word(element.key.channel, element.key.selector),
-        index: word(control, element.key.entity),
+        value: two_byte_number(element.key.channel, element.key.selector),
+        index: two_byte_number(control, element.key.entity),
         length: u16::from(element.kind.width()),
     }
 }

@@ -50,7 +50,7 @@ impl View {
     /// `Broken` comes only where the link's count of breaks rose, and where the link tells its fault only where that isn't none. Without
     /// memory no transfer is made.
     pub fn read<L: Link>(alloc: Global, link: &mut L) -> Result<View, ViewFault>
-        ensures place { L.place link.new ≡ L.place link.old }
+        ensures lender { L.lender link.new ≡ L.lender link.old }
         ensures view { IfOk result (λ view.
             view ≡ known_view (L.state link.old).device.function.entities (L.state link.old).device.controls) }
         ensures of_function { IfOk result (λ view. IsViewOf (L.state link.new).device.function.entities view) }
@@ -68,7 +68,7 @@ impl View {
     // Reads each element in turn, where none is known yet.
     fn read_all<L: Link>(&mut self, link: &mut L) -> Result<(), Broken>
         requires { self.old.elements ≡ element_list (L.state link.old).device.function.entities }
-        ensures place { L.place link.new ≡ L.place link.old }
+        ensures lender { L.lender link.new ≡ L.lender link.old }
         ensures view { OnOk result
             (self.new ≡ known_view (L.state link.old).device.function.entities (L.state link.old).device.controls) }
         ensures of_function { OnOk result (IsViewOf (L.state link.new).device.function.entities self.new) }
@@ -102,7 +102,7 @@ impl View {
     pub fn get<L: Link>(&mut self, at: usize, link: &mut L) -> Result<i32, Broken>
         requires of_function { IsViewOf (L.state link.old).device.function.entities self.old }
         requires at { at < length self.old.elements }
-        ensures place { L.place link.new ≡ L.place link.old }
+        ensures lender { L.lender link.new ≡ L.lender link.old }
         ensures made { (x : Element) → slice_get self.old.elements at ≡ Some x
             → IsMade (get_of (L.state link.old).device.function.control_interface x) [] (came_of_get x result)
             self.old self.new (L.state link.old) (L.state link.new) }
@@ -127,7 +127,7 @@ impl View {
         requires of_function { IsViewOf (L.state link.old).device.function.entities self.old }
         requires at { at < length self.old.elements }
         requires fits { (x : Element) → slice_get self.old.elements at ≡ Some x → fits_element x.kind value ≡ true }
-        ensures place { L.place link.new ≡ L.place link.old }
+        ensures lender { L.lender link.new ≡ L.lender link.old }
         ensures made { (x : Element) → slice_get self.old.elements at ≡ Some x
             → IsMade (set_of (L.state link.old).device.function.control_interface x) (value_bytes (width_of x.kind) value)
             (came_of_set result) self.old self.new (L.state link.old) (L.state link.new) }
@@ -154,7 +154,7 @@ impl View {
         sent: &[u8],
     ) -> Result<Answer, Broken>
         requires of_function { IsViewOf (L.state link.old).device.function.entities self.old }
-        ensures place { L.place link.new ≡ L.place link.old }
+        ensures lender { L.lender link.new ≡ L.lender link.old }
         ensures made { IsMade setup.now sent.now (came_of result) self.old self.new (L.state link.old) (L.state link.new) }
     {
         let control = link.function().control_interface();
@@ -174,7 +174,7 @@ impl View {
         requires of_function { IsViewOf (L.state link.old).device.function.entities self.old }
         requires at { at < length self.old.elements }
         requires named { (x : Element) → slice_get self.old.elements at ≡ Some x → x.key ≡ key_named setup.now }
-        ensures place { L.place link.new ≡ L.place link.old }
+        ensures lender { L.lender link.new ≡ L.lender link.old }
         ensures made { IsMade setup.now sent.now (came_of result) self.old self.new (L.state link.old) (L.state link.new) }
     {
         let control = link.function().control_interface();
@@ -187,7 +187,7 @@ impl View {
     #[inline(always)]
     fn pass_on<L: Link>(&self, link: &mut L, setup: &Setup, sent: &[u8]) -> Result<Answer, Broken>
         requires of_function { IsViewOf (L.state link.old).device.function.entities self.now }
-        ensures place { L.place link.new ≡ L.place link.old }
+        ensures lender { L.lender link.new ≡ L.lender link.old }
         ensures keyed { IsKeyed (L.state link.old).device.function.entities }
         ensures readable { All (IsReadable (L.state link.old).device.function.control_interface setup.now sent.now (came_of result))
             self.now.elements }

@@ -19,7 +19,7 @@ use Rattle.uac_transcript.specs.Transcript.{Said, says_over, says_under}
 use Rattle.uac_streaming.specs.Telling.{at_rest}
 use Rattle.uac_streaming.specs.StreamingWorld.{StreamingWorld, all_settled, finds_empty, finds_full, goes_out, is_out_due, loses_out, numbers, out_packets, out_turn, over_lines, packet_sent, packet_to, sent_lines}
 use Rattle.uac_running.specs.RunningWorld.{RunningWorld, streaming_of}
-use Rattle.uac_running.specs.Events.{all_given, domain_microframe, domain_microframes, tick, tick_times}
+use Rattle.uac_running.specs.Events.{after_all_jacks, domain_microframe, domain_microframes, tick, tick_times}
 use Rattle.uac_bands.specs.Life.{Life}
 use Rattle.uac_bands.specs.BandRun.{RunInBand, StreamInBand}
 use Rattle.uac_bands.proofs.Once.{Among, apart_from, first_or_later, numbers_differ, other_number}
@@ -98,11 +98,11 @@ module _ (k : ℕ) where
   -- ---- ticks
 
   -- where it isn't its ring
-  tick_not : (c : ℕ) (r : RunningWorld) → finds_full c (all_given c r) k ≡ false → All NotOver (tick c r).lines
+  tick_not : (c : ℕ) (r : RunningWorld) → finds_full c (after_all_jacks c r) k ≡ false → All NotOver (tick c r).lines
   tick_not c r fails =
-      tick_says NotOver quiet c r (each_says NotOver says_under (finds_empty c (all_given c r)) (λ n passes same. cc))
-      (each_says NotOver says_over (finds_full c (all_given c r)) (λ n passes same.
-      (let number : n ≡ k = cc in true≢false (sym passes ∙ ap (finds_full c (all_given c r)) number ∙ fails))))
+      tick_says NotOver quiet c r (each_says NotOver says_under (finds_empty c (after_all_jacks c r)) (λ n passes same. cc))
+      (each_says NotOver says_over (finds_full c (after_all_jacks c r)) (λ n passes same.
+      (let number : n ≡ k = cc in true≢false (sym passes ∙ ap (finds_full c (after_all_jacks c r)) number ∙ fails))))
 
   -- and its levels are no such lines
   pub ends_not : (detail : ℕ) (w : StreamingWorld) → All NotOver (all_settled detail w).lines
@@ -112,7 +112,7 @@ module _ (k : ℕ) where
 
   none_tick : (c : ℕ) (r : RunningWorld) → SendsNoneNow k r → All NotOver (tick c r).lines
   none_tick c r none =
-      let w : DeviceWorld = all_given c r in
+      let w : DeviceWorld = after_all_jacks c r in
       tick_not c r
       (ap (λ (i : Option InStream). is_on w c k && option_map_or is_full i false) (given_sends_none k c r none) ∙ and-false (is_on w c k))
 
@@ -186,14 +186,14 @@ module _ (p : Spot) (spot : IsSpot p) (after : ℕ) where
   other_tick : (few : ℕ) (steps : List ℕ) (c : ℕ) (r : RunningWorld) → (p.clock == c) ≡ false → Rings p after few steps r.device
       → All Not (tick c r).lines
   other_tick few steps c r other s =
-      let w : DeviceWorld = all_given c r in
+      let w : DeviceWorld = after_all_jacks c r in
       let there = given_rings p spot after few steps c r s in
       tick_not p.interface c r
       (ap (λ (b : Bool). b && option_map_or is_full (w.ins p.interface) false) (on_clock_only p spot w c there.function ∙ other))
 
   own_tick : (few : ℕ) (steps : List ℕ) (r : RunningWorld) → few < 2048 → Rings p after few steps r.device → All Not (tick p.clock r).lines
   own_tick few steps r room s =
-      let w : DeviceWorld = all_given p.clock r in
+      let w : DeviceWorld = after_all_jacks p.clock r in
       let there = given_rings p spot after few steps p.clock r s in
       tick_not p.interface p.clock r
       (ap (λ (i : Option InStream). is_on w p.clock p.interface && option_map_or is_full i false) there.in_

@@ -8,7 +8,7 @@ use Rattle.std.proofs.lemmas.Option.{option_and_then_some}
 use Rattle.uac_clock.specs.Nominal.{IsNominal, nominal_of, step_of}
 use Rattle.uac_clock.specs.Ticks.{ticks_in}
 use Rattle.uac_clock.specs.declared.values.Nominal.{Nominal}
-use Rattle.uac_clock.proofs.Listed.{has_room}
+use Rattle.uac_clock.proofs.NominalLemmas.{has_room}
 use Rattle.uac_rate.specs.Levels.{IsInterval, Within}
 use Rattle.uac_rate.specs.Steadiness.{is_slight}
 use Rattle.uac_rate.proofs.LevelsLemmas.{interval_size, slight_step, whole_ticks}
@@ -27,7 +27,7 @@ use Rattle.uac_script.specs.Phrase.{SaidMark}
 use Rattle.uac_streaming.specs.StreamingWorld.{all_settled, comes_in, goes_out, out_packets}
 use Rattle.uac_running.specs.RunningWorld.{RunningWorld, streaming_of, with_streaming}
 use Rattle.uac_running.specs.Events.{domain_microframes, ends_and_reports, microframe, packets_and_ticks}
-use Rattle.uac_bands.specs.Life.{clock_on, domain_on}
+use Rattle.uac_bands.specs.Life.{domain_id_on, domain_on}
 use Rattle.uac_bands.specs.BandRun.{RunInBand}
 use Rattle.uac_bands.specs.BandTransfers.{IsSoundRun}
 use Rattle.uac_bands.proofs.Numbers.{placed_at, times_more}
@@ -108,8 +108,8 @@ one_way function k comes goes = by (interface_in function k) comes goes
 -- ---- one stream from the device
 
 module _ (marks : List SaidMark) (r : RunningWorld) (band : RunInBand r) (sound : IsSoundRun r) (k : ℕ) (i : InStream) (d : Domain) (clock : ℕ)
-    (there : r.device.ins k ≡ Some i) (rec : IsRecorded r k i d) (on_clock : clock_on r k ≡ Some clock)
-    (found : find (λ d. d.clock == clock) r.device.domains ≡ Some d) where
+    (there : r.device.ins k ≡ Some i) (rec : IsRecorded r k i d) (on_clock : domain_id_on r k ≡ Some clock)
+    (found : find (λ d. d.id == clock) r.device.domains ≡ Some d) where
   abbrev p : Spot
   p = record {
     function = r.device.function;
@@ -213,9 +213,9 @@ module _ (marks : List SaidMark) (r : RunningWorld) (band : RunInBand r) (sound 
       (at_most (in_level after) (less + ticks) (most_after i.stream.service i.stream.nominal.hi (i.microframes + 1)) level
       (after_ticks i.stream.service i.stream.nominal.hi i.microframes ticks (is_due i.stream i.microframes) rec.serves refl some_ticks)))
 
-  pub recorded_behind : (after : InStream) → (microframe marks r).world.device.ins k ≡ Some after
+  pub recorded_following : (after : InStream) → (microframe marks r).world.device.ins k ≡ Some after
       → (d : Domain) × IsRecorded (microframe marks r).world k after d
-  recorded_behind after now =
+  recorded_following after now =
       let s = following in
       let w : DeviceWorld = (microframe marks r).world.device in
       let same : s.ring ≡ after = let both : Some s.ring ≡ Some after = sym s.in_ ∙ now in cc in (
@@ -224,13 +224,13 @@ module _ (marks : List SaidMark) (r : RunningWorld) (band : RunInBand r) (sound 
           comes = ap (λ (f : FunctionFields). comes_in f k) s.function ∙ rec.comes;
           set = (rec.set.0, ap (λ (ss : List InterfaceSetting). setting_of ss k) s.settings ∙ rec.set.1, rec.set.2);
           domain =
-              ap (λ (f : FunctionFields). option_and_then (λ clock. find (λ d. d.clock == clock) w.domains) (option_map (λ s. (entity f.entities s.terminal).clock) (interface_in f k))) s.function
-              ∙ ap (λ (o : Option ℕ). option_and_then (λ clock. find (λ d. d.clock == clock) w.domains) o) on_clock
+              ap (λ (f : FunctionFields). option_and_then (λ clock. find (λ d. d.id == clock) w.domains) (option_map (λ s. (entity f.entities s.terminal).clock) (interface_in f k))) s.function
+              ∙ ap (λ (o : Option ℕ). option_and_then (λ clock. find (λ d. d.id == clock) w.domains) o) on_clock
               ∙ s.domain;
           nominal = subst (λ (t : StreamFields). IsNominal t.nominal) (sym s.is.stream) rec.nominal;
           rate =
-              ap (λ (f : FunctionFields). option_and_then nominal_of (rate_of f.entities w.controls d.clock)) s.function
-              ∙ ap (λ (cs : List (Key × ℤ)). option_and_then nominal_of (rate_of r.device.function.entities cs d.clock)) s.controls
+              ap (λ (f : FunctionFields). option_and_then nominal_of (rate_of f.entities w.controls d.id)) s.function
+              ∙ ap (λ (cs : List (Key × ℤ)). option_and_then nominal_of (rate_of r.device.function.entities cs d.id)) s.controls
               ∙ rec.rate ∙ ap (λ (t : StreamFields). Some t.nominal) (sym s.is.stream);
           serves = subst (λ (t : StreamFields). IsInterval t.service) (sym s.is.stream) rec.serves;
           fits = subst (λ (t : StreamFields). t.service * t.nominal.hi ≤ t.most) (sym s.is.stream) rec.fits;
@@ -243,8 +243,8 @@ module _ (marks : List SaidMark) (r : RunningWorld) (band : RunInBand r) (sound 
 
 -- the clock of a stream that is recorded
 opened_in : {R : Type 0} (r : RunningWorld) (k : ℕ) (d : Domain) → domain_on r k ≡ Some d
-    → ((clock : ℕ) → clock_on r k ≡ Some clock → find (λ d. d.clock == clock) r.device.domains ≡ Some d → R) → R
-opened_in r k d on goes_on = option_and_then_some _ (clock_on r k) d on (λ clock on_clock found. goes_on clock on_clock found)
+    → ((clock : ℕ) → domain_id_on r k ≡ Some clock → find (λ d. d.id == clock) r.device.domains ≡ Some d → R) → R
+opened_in r k d on goes_on = option_and_then_some _ (domain_id_on r k) d on (λ clock on_clock found. goes_on clock on_clock found)
 
 pub microframes_stay_recorded : MicroframesStayRecorded
 microframes_stay_recorded marks r band sound recorded = record {
@@ -260,7 +260,7 @@ microframes_stay_recorded marks r band sound recorded = record {
     stays k after now (Some i) there =
         let rec = recorded k i there in
         opened_in r k rec.0 rec.1.domain (λ clock on_clock found.
-        recorded_behind marks r band sound k i rec.0 clock there rec.1 on_clock found after now)
+        recorded_following marks r band sound k i rec.0 clock there rec.1 on_clock found after now)
 
     ticks_quiet_at : (k : ℕ) (o : Option InStream) → r.device.ins k ≡ o
         → All (NotOver k) (domain_microframes (fetched marks r).device.function.domains (fetched marks r)).lines

@@ -1,7 +1,7 @@
 -- A microframe starts no stream: an interface that runs none from the device runs none after it.
 use Rattle.std.proofs.Common.{◌≡◌, ℕ, ℤ, if◌then◌else◌, List, None}
 use Rattle.uac_flow.specs.FlowStreams.{InStream, after_putting, after_sending, settled_in}
-use Rattle.uac_graph.specs.GraphControls.{held_in}
+use Rattle.uac_graph.specs.GraphControls.{controls_in}
 use Rattle.uac_graph.specs.Meaning.{meaning}
 use Rattle.uac_graph.specs.Needs.{is_end}
 use Rattle.uac_device.specs.DeviceWorld.{DeviceWorld, after_advance, entity_in, input_of, is_on, played_to, after_receiving, set_jack, after_settling, after_tick}
@@ -9,13 +9,13 @@ use Rattle.uac_device.specs.DeviceWorld.{after_sending_packet as device_sends}
 use Rattle.uac_script.specs.Phrase.{SaidMark}
 use Rattle.uac_streaming.specs.StreamingWorld.{StreamingWorld, in_packets, out_packets, packet_fetched, packet_sent, report_made}
 use Rattle.uac_running.specs.RunningWorld.{RunningWorld, streaming_of, with_streaming}
-use Rattle.uac_running.specs.Events.{all_given, domain_microframe, microframe, tick}
+use Rattle.uac_running.specs.Events.{after_all_jacks, domain_microframe, microframe, tick}
 use Rattle.uac_bands.proofs.Once.{none_at, none_where}
 use Rattle.uac_bands.proofs.KeptSteps.{IsKeptByEach, advanced_keeps, before_ticks_keep, domain_keeps, given_keeps, microframe_keeps, tick_keeps}
 
 -- what a tick of a domain has its terminals play, and what each stream from them has of it
 abbrev pub playing : ℕ → DeviceWorld → ℕ → List ℤ
-playing c w id = if is_end c (entity_in w id) then meaning w.function.entities (held_in w.controls) (input_of c w) id else w.played id
+playing c w id = if is_end c (entity_in w id) then meaning w.function.entities (controls_in w.controls) (input_of c w) id else w.played id
 
 abbrev pub putting : ℕ → DeviceWorld → ℕ → InStream → InStream
 putting c w interface = after_putting (played_to w (playing c w) interface)
@@ -42,7 +42,7 @@ module _ (k : ℕ) where
 
   -- ---- the parts of a microframe
 
-  pub given_sends_none : (c : ℕ) (r : RunningWorld) → SendsNoneNow r → (all_given c r).ins k ≡ None
+  pub given_sends_none : (c : ℕ) (r : RunningWorld) → SendsNoneNow r → (after_all_jacks c r).ins k ≡ None
   given_sends_none = given_keeps SendsNone starts_none
 
   pub tick_sends_none : (c : ℕ) (r : RunningWorld) → SendsNoneNow r → SendsNoneNow (tick c r).world

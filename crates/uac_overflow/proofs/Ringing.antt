@@ -20,7 +20,7 @@ use Rattle.uac_streaming.specs.Telling.{at_rest}
 use Rattle.uac_streaming.specs.StreamingWorld.{StreamingWorld, all_reported, all_settled, comes_in, fetched_lines, in_packet_turn, in_packets, is_in_due, is_out_due, loses_in, loses_out, loses_report, numbers, out_packets, out_turn, packet_fetched, packet_sent, packet_to, report_lines, report_made, report_turn, sent_lines, settled_turn}
 use Rattle.uac_running.specs.declared.jacks.Jack.{Jack}
 use Rattle.uac_running.specs.RunningWorld.{RunningWorld}
-use Rattle.uac_running.specs.Events.{all_given, domain_microframe, domain_microframes, next_frame, tick, tick_times}
+use Rattle.uac_running.specs.Events.{after_all_jacks, domain_microframe, domain_microframes, next_frame, tick, tick_times}
 use Rattle.uac_bands.proofs.Once.{Among, domain_other, domain_same, known_among, none_at, none_where, numbers_differ, own_number, row_once, turns_keep, turns_once, where_false, where_true}
 use Rattle.uac_bands.proofs.Shown.{if_false, if_true}
 use Rattle.uac_bands.proofs.Ticked.{a_row, clock_only}
@@ -60,7 +60,7 @@ pub record Rings (p : Spot) (after few : ℕ) (steps : List ℕ) (w : DeviceWorl
   pub ring : InStream
   pub in_ : w.ins p.interface ≡ Some ring
   pub is : IsRing p.stream after few ring
-  pub domain : find (λ d. d.clock == p.clock) w.domains ≡ Some (record p.domain { steps = steps })
+  pub domain : find (λ d. d.id == p.clock) w.domains ≡ Some (record p.domain { steps = steps })
 
 -- ---- one stream
 
@@ -272,7 +272,7 @@ module _ (p : Spot) (spot : IsSpot p) (small : All (λ s. s.number < 256) p.func
 abbrev pub step_at : Spot → ℕ
 step_at p =
     option_map_or (λ values. step_of values p.domain.deviation)
-    (option_and_then nominal_of (rate_of p.function.entities p.controls p.domain.clock)) 0
+    (option_and_then nominal_of (rate_of p.function.entities p.controls p.domain.id)) 0
 
 -- its domain's steps with those of the microframe that comes
 abbrev pub steps_on : Spot → List ℕ → List ℕ
@@ -294,9 +294,9 @@ module _ (p : Spot) (spot : IsSpot p) (after : ℕ) where
     domain = s.domain;
   })
 
-  pub given_rings : (few : ℕ) (steps : List ℕ) (c : ℕ) (r : RunningWorld) → Rings p after few steps r.device → Rings p after few steps (all_given c r)
-  unfolding all_given
-  given_rings few steps c r s = jacks_ring few steps (filter (λ (j : Jack). j.clock == c) r.jacks) r.device s
+  pub given_rings : (few : ℕ) (steps : List ℕ) (c : ℕ) (r : RunningWorld) → Rings p after few steps r.device → Rings p after few steps (after_all_jacks c r)
+  unfolding after_all_jacks
+  given_rings few steps c r s = jacks_ring few steps (filter (λ (j : Jack). j.domain == c) r.jacks) r.device s
 
   ticked_other : (few : ℕ) (steps : List ℕ) (c : ℕ) (w : DeviceWorld) → (p.clock == c) ≡ false → Rings p after few steps w
       → Rings p after few steps (after_tick c w)
@@ -328,12 +328,12 @@ module _ (p : Spot) (spot : IsSpot p) (after : ℕ) where
   pub tick_other : (few : ℕ) (steps : List ℕ) (c : ℕ) (r : RunningWorld) → (p.clock == c) ≡ false → Rings p after few steps r.device
       → Rings p after few steps (tick c r).world.device
   unfolding tick
-  tick_other few steps c r other s = ticked_other few steps c (all_given c r) other (given_rings few steps c r s)
+  tick_other few steps c r other s = ticked_other few steps c (after_all_jacks c r) other (given_rings few steps c r s)
 
   pub tick_own : (few : ℕ) (steps : List ℕ) (r : RunningWorld) → Rings p after few steps r.device
       → Rings p after (suc few) steps (tick p.clock r).world.device
   unfolding tick
-  tick_own few steps r s = ticked_own few steps (all_given p.clock r) (given_rings few steps p.clock r s)
+  tick_own few steps r s = ticked_own few steps (after_all_jacks p.clock r) (given_rings few steps p.clock r s)
 
   ticks_other : (few : ℕ) (steps : List ℕ) (count c : ℕ) (r : RunningWorld) → (p.clock == c) ≡ false → Rings p after few steps r.device
       → Rings p after few steps (tick_times count c r).world.device
@@ -358,8 +358,8 @@ module _ (p : Spot) (spot : IsSpot p) (after : ℕ) where
   step_rings : (few : ℕ) (steps : List ℕ) (w : DeviceWorld) → Rings p after few steps w → step_in w (record p.domain { steps = steps }) ≡ step_at p
   unfolding step_in
   step_rings few steps w s =
-      ap (λ (f : FunctionFields). option_map_or (λ values. step_of values p.domain.deviation) (option_and_then nominal_of (rate_of f.entities w.controls p.domain.clock)) 0) s.function
-      ∙ ap (λ (cs : List (Key × ℤ)). option_map_or (λ values. step_of values p.domain.deviation) (option_and_then nominal_of (rate_of p.function.entities cs p.domain.clock)) 0) s.controls
+      ap (λ (f : FunctionFields). option_map_or (λ values. step_of values p.domain.deviation) (option_and_then nominal_of (rate_of f.entities w.controls p.domain.id)) 0) s.function
+      ∙ ap (λ (cs : List (Key × ℤ)). option_map_or (λ values. step_of values p.domain.deviation) (option_and_then nominal_of (rate_of p.function.entities cs p.domain.id)) 0) s.controls
 
   pub advanced_other : (few : ℕ) (steps : List ℕ) (c : ℕ) (w : DeviceWorld) → (p.clock == c) ≡ false → Rings p after few steps w
       → Rings p after few steps (after_advance c w)

@@ -26,7 +26,7 @@ use Rattle.uac_device.proofs.LinkedLemmas.{linked}
 use Rattle.uac_device.proofs.SettingStreams.{stream_fits}
 use Rattle.uac_running.specs.RunningWorld.{RunningWorld, at_start, with_detail, with_deviation, with_samples_on, with_tone, with_track}
 use Rattle.uac_running.specs.RunningTransfers.{with_break}
-use Rattle.uac_bands.specs.Life.{clock_on, domain_on}
+use Rattle.uac_bands.specs.Life.{domain_id_on, domain_on}
 use Rattle.uac_bands.specs.BandRun.{RunInBand}
 use Rattle.uac_bands.specs.BandTransfers.{IsInSetting, IsSoundRun}
 use Rattle.uac_bands.proofs.Asked.{asked_of, parts_of}
@@ -55,7 +55,7 @@ module _ (r other : RunningWorld) (cs : List (Key × ℤ)) (ss : List InterfaceS
   entities = r.device.function.entities
 
   stays_there : (k : ℕ) (i : InStream) (d : Domain) → IsRecorded r k i d → setting_of ss k ≡ setting_of r.device.settings k
-      → rate_of entities cs d.clock ≡ rate_of entities r.device.controls d.clock → IsRecorded changed k i d
+      → rate_of entities cs d.id ≡ rate_of entities r.device.controls d.id → IsRecorded changed k i d
   stays_there k i d rec setting rate = record {
     comes = rec.comes;
     set = (rec.set.0, setting ∙ rec.set.1, rec.set.2);
@@ -79,11 +79,11 @@ carried r other recorded k i there =
 module _ (clock : ℕ) (ppm : ℤ) (r : RunningWorld) where
   domain_off : (k : ℕ) → domain_on (with_deviation clock ppm r) k ≡ option_map (off clock ppm) (domain_on r k)
   unfolding with_deviation after_deviation
-  domain_off k = by (clock_on r k)
+  domain_off k = by (domain_id_on r k)
     where
       by : (o : Option ℕ)
-          → option_and_then (λ c. find (λ d. d.clock == c) (map (off clock ppm) r.device.domains)) o
-          ≡ option_map (off clock ppm) (option_and_then (λ c. find (λ d. d.clock == c) r.device.domains) o)
+          → option_and_then (λ c. find (λ d. d.id == c) (map (off clock ppm) r.device.domains)) o
+          ≡ option_map (off clock ppm) (option_and_then (λ c. find (λ d. d.id == c) r.device.domains) o)
       by None = refl
       by (Some c) = found_off clock ppm c r.device.domains
 
@@ -125,7 +125,7 @@ module _ (r : RunningWorld) (band : RunInBand r) (sound : IsSoundRun r) (k numbe
     (is : stream_in_setting r.device.function r.device.controls k number ≡ Some s) (comes : s.out ≡ false) where
   -- its domain
   has_domain : (streaming_interface : StreamInterface) → find (λ c. c.number == k) r.device.function.streams ≡ Some streaming_interface
-      → (d : Domain) × (find (λ d. d.clock == (entity r.device.function.entities streaming_interface.terminal).clock) r.device.domains ≡ Some d)
+      → (d : Domain) × (find (λ d. d.id == (entity r.device.function.entities streaming_interface.terminal).clock) r.device.domains ≡ Some d)
   has_domain streaming_interface there =
       let function : FunctionFields = r.device.function in
       let asked = asked_of function r.device.controls k number s is in
@@ -138,7 +138,7 @@ module _ (r : RunningWorld) (band : RunInBand r) (sound : IsSoundRun r) (k numbe
       let output = found_stream (λ c. c.out ≡ false → IsOutput (entity function.entities c.terminal)) k function.streams streaming_interface (linked function sound.sound).outputs there in
       let clock : ℕ = (entity function.entities streaming_interface.terminal).clock in
       let known = output_known function sound.sound streaming_interface (output goes some) in
-      some_of (find (λ (d : Domain). d.clock == clock) r.device.domains)
+      some_of (find (λ (d : Domain). d.id == clock) r.device.domains)
       (known_clock clock r.device.domains
       ∙ ap (list_any (λ (n : ℕ). n == clock)) band.ordered.clocks ∙ any_among clock function.domains known)
 
@@ -155,16 +155,16 @@ module _ (r : RunningWorld) (band : RunInBand r) (sound : IsSoundRun r) (k numbe
       let found = has_domain asked.streaming_interface asked.there in
       let d : Domain = found.0 in
       let here = found_domain (λ d. is_slight d.deviation ≡ true) clock r.device.domains d sound.slight found.1 in
-      let on_clock : clock_on r k ≡ Some clock = ap (option_map (λ (c : StreamInterface). (entity function.entities c.terminal).clock)) asked.there in (
+      let on_clock : domain_id_on r k ≡ Some clock = ap (option_map (λ (c : StreamInterface). (entity function.entities c.terminal).clock)) asked.there in (
         d,
         record {
           comes = ap (λ (o : Option StreamInterface). option_map_or (λ c. not c.out) o false) fits.there ∙ ap not (sym fits.out ∙ comes);
           set = (number, setting, parts.setting);
-          domain = ap (option_and_then (λ (c : ℕ). find (λ (d : Domain). d.clock == c) r.device.domains)) on_clock ∙ found.1;
+          domain = ap (option_and_then (λ (c : ℕ). find (λ (d : Domain). d.id == c) r.device.domains)) on_clock ∙ found.1;
           nominal = fits.runs.rate;
           rate =
               ap (option_and_then nominal_of)
-              (rates d.clock ∙ ap (rate_of function.entities r.device.controls) here.1 ∙ asked.at)
+              (rates d.id ∙ ap (rate_of function.entities r.device.controls) here.1 ∙ asked.at)
               ∙ parts.nominal;
           serves = fits.runs.serves;
           fits = interval_fits function asked.rate k number s sound.sound asked.of;
@@ -187,7 +187,7 @@ module _ (p : Setup) (bytes : List ℕ) (r : RunningWorld) (band : RunInBand r) 
         rec.0,
         stays_there r other (after p bytes r).controls (after p bytes r).settings r.device.outs r.device.ins k i rec.0 rec.1
             (ap (λ (ss : List InterfaceSetting). setting_of ss k) (same_settings r.device.function (held p bytes r) p bytes not_set))
-            (rates_last k rec.1.set rec.0.clock),
+            (rates_last k rec.1.set rec.0.id),
       )
 
   module _ (other : RunningWorld) (set : (sets_interface p && done p bytes r) ≡ true) where
@@ -206,7 +206,7 @@ module _ (p : Setup) (bytes : List ℕ) (r : RunningWorld) (band : RunInBand r) 
           rec.0,
           stays_there r other (after p bytes r).controls (after p bytes r).settings outs_then ins_then k i rec.0 rec.1
               (ap (λ (ss : List InterfaceSetting). setting_of ss k) (settings_are p bytes r set) ∙ other_setting k p.index p.value r.device.settings apart)
-              (rates_last k rec.1.set rec.0.clock),
+              (rates_last k rec.1.set rec.0.id),
         )
 
     here : (i : InStream) (b : Option StreamFields) → begun p bytes r ≡ b → option_and_then in_from b ≡ Some i → Then p.index i
@@ -238,5 +238,5 @@ module _ (p : Setup) (bytes : List ℕ) (r : RunningWorld) (band : RunInBand r) 
 pub transfers_stay_recorded : TransfersStayRecorded
 transfers_stay_recorded p bytes r band sound recorded =
     transferred_so p bytes r AreRecorded
-    (restarts p bytes r band sound recorded (record (seen p bytes r) { host = with_stream p.index (begun p bytes r) r.host; given = given_then p bytes r }))
+    (restarts p bytes r band sound recorded (record (seen p bytes r) { host = with_stream p.index (begun p bytes r) r.host; history = given_then p bytes r }))
     (acts_alone p bytes r band sound recorded (seen p bytes r)) (carried r (seen p bytes r) recorded)

@@ -35,7 +35,7 @@ pub record IsRecorded (r : RunningWorld) (interface : ℕ) (i : InStream) (d : D
   pub set : IsInSetting r interface
   pub domain : domain_on r interface ≡ Some d
   pub nominal : IsNominal i.stream.nominal
-  pub rate : option_and_then nominal_of (rate_of r.device.function.entities r.device.controls d.clock) ≡ Some i.stream.nominal
+  pub rate : option_and_then nominal_of (rate_of r.device.function.entities r.device.controls d.id) ≡ Some i.stream.nominal
   pub serves : IsInterval i.stream.service
   pub fits : i.stream.service * i.stream.nominal.hi ≤ i.stream.most
   pub gone : i.gone ≤ length i.made
@@ -46,7 +46,7 @@ abbrev pub AreRecorded : RunningWorld → Type 0
 AreRecorded r =
     (interface : ℕ) (i : InStream) → r.device.ins interface ≡ Some i → (d : Domain) × IsRecorded r interface i d
 
--- then each holds at most what an interval can bring, and no packet leaves frames behind
+-- then each holds at most what an interval can bring, and no packet leaves frames over
 abbrev pub RingsHoldAnInterval : Type 0
 RingsHoldAnInterval =
     (r : RunningWorld) (interface : ℕ) (i : InStream) → AreRecorded r → r.device.ins interface ≡ Some i

@@ -10,7 +10,7 @@ use Rattle.std.proofs.lemmas.Nat.{div-mul-add}
 use Rattle.std.proofs.lemmas.Option.{slice_get-map}
 use Rattle.uac_pcm.specs.SampleWords.{cut, sample_of_word}
 use Rattle.uac_pcm.specs.Frames.{IsFormat, bytes_of_frame, frame_of_bytes}
-use Rattle.uac_pcm.specs.Packets.{IsFrame, packed, unpacked, whole_frames}
+use Rattle.uac_pcm.specs.Packets.{IsFrame, bytes_of_frames, frames_of_bytes, whole_frames}
 use Rattle.uac_pcm.proofs.Packing.{length-bytes_of_frame, frame_of_bytes-bytes_of_frame}
 
 -- the front of two lists in a row, where it has that length, and what is after it
@@ -55,38 +55,38 @@ length-first_chunks n zero xs = refl
 length-first_chunks n (suc k) xs = ap (λ (j : ℕ). suc j) (length-first_chunks n k (drop n xs))
 
 -- each frame has the same number of bytes
-pub length-packed : (count size resolution : ℕ) (frames : List (List ℤ)) → All (λ samples. length samples ≡ count) frames
-    → length (packed size resolution frames) ≡ length frames * (count * size)
-length-packed count size resolution [] even = sym (zero-mul (count * size))
-length-packed count size resolution (f ∷ fs) even =
+pub length-bytes_of_frames : (count size resolution : ℕ) (frames : List (List ℤ)) → All (λ samples. length samples ≡ count) frames
+    → length (bytes_of_frames size resolution frames) ≡ length frames * (count * size)
+length-bytes_of_frames count size resolution [] even = sym (zero-mul (count * size))
+length-bytes_of_frames count size resolution (f ∷ fs) even =
     let first : length f ≡ count = even 0 f (omega arith) in
-    let others : length (packed size resolution fs) ≡ length fs * (count * size) =
-    length-packed count size resolution fs (λ k d below. even (suc k) d (omega arith)) in
+    let others : length (bytes_of_frames size resolution fs) ≡ length fs * (count * size) =
+    length-bytes_of_frames count size resolution fs (λ k d below. even (suc k) d (omega arith)) in
     let front : length (bytes_of_frame size resolution f) ≡ count * size = length-bytes_of_frame size resolution f ∙ ap (λ (n : ℕ). n * size) first in
-    length-append (bytes_of_frame size resolution f) (packed size resolution fs) ∙ omega (arith, suc-mul (length fs) (count * size))
+    length-append (bytes_of_frame size resolution f) (bytes_of_frames size resolution fs) ∙ omega (arith, suc-mul (length fs) (count * size))
 
 -- the bytes of the i-th frame
 pub frame_of_packed : (count size resolution i : ℕ) (frames : List (List ℤ)) (d : List ℤ) → All (λ samples. length samples ≡ count) frames → i < length frames
-    → take (count * size) (drop (i * (count * size)) (packed size resolution frames)) ≡ bytes_of_frame size resolution (get_or frames i d)
+    → take (count * size) (drop (i * (count * size)) (bytes_of_frames size resolution frames)) ≡ bytes_of_frame size resolution (get_or frames i d)
 frame_of_packed count size resolution i [] d even inside = absurd (omega arith)
 frame_of_packed count size resolution zero (f ∷ fs) d even inside =
     let long : length (bytes_of_frame size resolution f) ≡ count * size =
     length-bytes_of_frame size resolution f ∙ ap (λ (n : ℕ). n * size) (even 0 f (omega arith)) in
-    ap (λ (m : ℕ). take (count * size) (drop m (packed size resolution (f ∷ fs)))) (zero-mul (count * size))
-    ∙ take_front (count * size) (bytes_of_frame size resolution f) (packed size resolution fs) long
+    ap (λ (m : ℕ). take (count * size) (drop m (bytes_of_frames size resolution (f ∷ fs)))) (zero-mul (count * size))
+    ∙ take_front (count * size) (bytes_of_frame size resolution f) (bytes_of_frames size resolution fs) long
 frame_of_packed count size resolution (suc i) (f ∷ fs) d even inside =
     let long : length (bytes_of_frame size resolution f) ≡ count * size =
     length-bytes_of_frame size resolution f ∙ ap (λ (n : ℕ). n * size) (even 0 f (omega arith)) in
     let step : suc i * (count * size) ≡ count * size + i * (count * size) = omega (arith, suc-mul i (count * size)) in
-    ap (λ (m : ℕ). take (count * size) (drop m (packed size resolution (f ∷ fs)))) step
-    ∙ ap (take (count * size)) (sym (drop-drop (count * size) (i * (count * size)) (packed size resolution (f ∷ fs))))
-    ∙ ap (λ (bs : List ℕ). take (count * size) (drop (i * (count * size)) bs)) (drop_front (count * size) (bytes_of_frame size resolution f) (packed size resolution fs) long)
+    ap (λ (m : ℕ). take (count * size) (drop m (bytes_of_frames size resolution (f ∷ fs)))) step
+    ∙ ap (take (count * size)) (sym (drop-drop (count * size) (i * (count * size)) (bytes_of_frames size resolution (f ∷ fs))))
+    ∙ ap (λ (bs : List ℕ). take (count * size) (drop (i * (count * size)) bs)) (drop_front (count * size) (bytes_of_frame size resolution f) (bytes_of_frames size resolution fs) long)
     ∙ frame_of_packed count size resolution i fs d (λ k e below. even (suc k) e (omega arith)) (omega arith)
 
 -- frames whose bytes are the front of a packet, and one more that is written after them
 pub one_written : (channels size bits start n : ℕ) (frames more : List (List ℤ)) (frame : List ℤ) (old new rest : List ℕ) → length frame ≡ channels
-    → start ≡ n * (channels * size) → start ≤ length old → more ≡ frames ++ frame ∷ [] → take start old ≡ packed size bits frames
-    → new ≡ take start old ++ (bytes_of_frame size bits frame ++ rest) → take ((n + 1) * (channels * size)) new ≡ packed size bits more
+    → start ≡ n * (channels * size) → start ≤ length old → more ≡ frames ++ frame ∷ [] → take start old ≡ bytes_of_frames size bits frames
+    → new ≡ take start old ++ (bytes_of_frame size bits frame ++ rest) → take ((n + 1) * (channels * size)) new ≡ bytes_of_frames size bits more
 one_written channels size bits start n frames more frame old new rest wide is_start inside grown so_far written =
     let bytes : List ℕ = bytes_of_frame size bits frame in
     let front : List ℕ = take start old in
@@ -98,17 +98,17 @@ one_written channels size bits start n frames more frame old new rest wide is_st
     ∙ take_at (front ++ bytes) rest ((n + 1) * (channels * size)) many
     ∙ ap (λ (bs : List ℕ). bs ++ bytes) so_far
     ∙ flat_map_more (bytes_of_frame size bits) [] frames frame
-    ∙ ap (packed size bits) (sym grown)
+    ∙ ap (bytes_of_frames size bits) (sym grown)
 
 -- the frames that are read are those that were packed, cut
 chunks_read : (count size resolution : ℕ) (frames : List (List ℤ)) (rest : List ℕ) → IsFormat count size resolution → All (IsFrame count) frames
-    → map (frame_of_bytes count size resolution) (first_chunks (count * size) (length frames) (packed size resolution frames ++ rest))
+    → map (frame_of_bytes count size resolution) (first_chunks (count * size) (length frames) (bytes_of_frames size resolution frames ++ rest))
     ≡ map (map (cut resolution)) frames
 chunks_read count size resolution [] rest format framed = refl
 chunks_read count size resolution (f ∷ fs) rest format framed =
     let is_frame : IsFrame count f = framed 0 f (omega arith) in
     let bytes : List ℕ = bytes_of_frame size resolution f in
-    let others : List ℕ = packed size resolution fs ++ rest in
+    let others : List ℕ = bytes_of_frames size resolution fs ++ rest in
     let long : length bytes ≡ count * size = length-bytes_of_frame size resolution f ∙ ap (λ (n : ℕ). n * size) is_frame.0 in
     let front : take (count * size) (bytes ++ others) ≡ bytes = take_front (count * size) bytes others long in
     let back : drop (count * size) (bytes ++ others) ≡ others = drop_front (count * size) bytes others long in
@@ -116,7 +116,7 @@ chunks_read count size resolution (f ∷ fs) rest format framed =
     ap (frame_of_bytes count size resolution) (sym (append-nil bytes))
     ∙ ap (λ (n : ℕ). frame_of_bytes n size resolution (bytes ++ [])) (sym is_frame.0)
     ∙ frame_of_bytes-bytes_of_frame size resolution f [] format.3 format.4 format.5 is_frame.1 in
-    ap (λ (bs : List ℕ). map (frame_of_bytes count size resolution) (first_chunks (count * size) (suc (length fs)) bs)) (append_assoc bytes (packed size resolution fs) rest)
+    ap (λ (bs : List ℕ). map (frame_of_bytes count size resolution) (first_chunks (count * size) (suc (length fs)) bs)) (append_assoc bytes (bytes_of_frames size resolution fs) rest)
     ∙ ap (λ (bs : List ℕ). frame_of_bytes count size resolution bs ∷ map (frame_of_bytes count size resolution) (first_chunks (count * size) (length fs) (drop (count * size) (bytes ++ others)))) front
     ∙ ap (λ (zs : List ℤ). zs ∷ map (frame_of_bytes count size resolution) (first_chunks (count * size) (length fs) (drop (count * size) (bytes ++ others)))) read
     ∙ ap (λ (bs : List ℕ). map (cut resolution) f ∷ map (frame_of_bytes count size resolution) (first_chunks (count * size) (length fs) bs)) back
@@ -124,33 +124,33 @@ chunks_read count size resolution (f ∷ fs) rest format framed =
     (chunks_read count size resolution fs rest format (λ k d below. framed (suc k) d (omega arith)))
 
 -- as many frames are whole as were packed
-pub whole_frames-packed : (count size resolution : ℕ) (frames : List (List ℤ)) (rest : List ℕ) → All (λ samples. length samples ≡ count) frames
-    → length rest < count * size → whole_frames count size (packed size resolution frames ++ rest) ≡ length frames
-whole_frames-packed count size resolution frames rest even short =
-    let long : length (packed size resolution frames ++ rest) ≡ length frames * (count * size) + length rest =
-    length-append (packed size resolution frames) rest ∙ ap (λ (n : ℕ). n + length rest) (length-packed count size resolution frames even) in
+pub whole_frames-bytes_of_frames : (count size resolution : ℕ) (frames : List (List ℤ)) (rest : List ℕ) → All (λ samples. length samples ≡ count) frames
+    → length rest < count * size → whole_frames count size (bytes_of_frames size resolution frames ++ rest) ≡ length frames
+whole_frames-bytes_of_frames count size resolution frames rest even short =
+    let long : length (bytes_of_frames size resolution frames ++ rest) ≡ length frames * (count * size) + length rest =
+    length-append (bytes_of_frames size resolution frames) rest ∙ ap (λ (n : ℕ). n + length rest) (length-bytes_of_frames count size resolution frames even) in
     ap (λ (n : ℕ). n / (count * size)) long ∙ div-mul-add (length frames) (count * size) (length rest) short
 
-pub unpacked-packed : (count size resolution : ℕ) (frames : List (List ℤ)) (rest : List ℕ) → IsFormat count size resolution → All (IsFrame count) frames
-    → length rest < count * size → unpacked count size resolution (packed size resolution frames ++ rest) ≡ map (map (cut resolution)) frames
-unpacked-packed count size resolution frames rest format framed short =
+pub frames_of_bytes-bytes_of_frames : (count size resolution : ℕ) (frames : List (List ℤ)) (rest : List ℕ) → IsFormat count size resolution → All (IsFrame count) frames
+    → length rest < count * size → frames_of_bytes count size resolution (bytes_of_frames size resolution frames ++ rest) ≡ map (map (cut resolution)) frames
+frames_of_bytes-bytes_of_frames count size resolution frames rest format framed short =
     let even : All (λ samples. length samples ≡ count) frames = λ k d below. (framed k d below).0 in
-    let bytes : List ℕ = packed size resolution frames ++ rest in
+    let bytes : List ℕ = bytes_of_frames size resolution frames ++ rest in
     ap (λ (n : ℕ). map (frame_of_bytes count size resolution) (first_chunks (count * size) n bytes))
-    (whole_frames-packed count size resolution frames rest even short)
+    (whole_frames-bytes_of_frames count size resolution frames rest even short)
     ∙ chunks_read count size resolution frames rest format framed
 
 -- what is read at a place
-pub slice_get-unpacked : (count size resolution i : ℕ) (bytes : List ℕ) → i < whole_frames count size bytes
-    → slice_get (unpacked count size resolution bytes) i ≡ Some (frame_of_bytes count size resolution (take (count * size) (drop (i * (count * size)) bytes)))
-slice_get-unpacked count size resolution i bytes inside =
+pub slice_get-frames_of_bytes : (count size resolution i : ℕ) (bytes : List ℕ) → i < whole_frames count size bytes
+    → slice_get (frames_of_bytes count size resolution bytes) i ≡ Some (frame_of_bytes count size resolution (take (count * size) (drop (i * (count * size)) bytes)))
+slice_get-frames_of_bytes count size resolution i bytes inside =
     slice_get-map (frame_of_bytes count size resolution) (first_chunks (count * size) (whole_frames count size bytes) bytes) i
     ∙ ap (option_map (frame_of_bytes count size resolution)) (slice_get-first_chunks (count * size) (whole_frames count size bytes) i bytes inside)
 
 -- a frame that was read from its part of a packet
 pub read_at : (count size resolution number start width : ℕ) (packet part bytes : List ℕ) (samples : List ℤ) → width ≡ count * size → start ≡ number * width
     → number < whole_frames count size packet → part ≡ packet → bytes ≡ take (start + width - start) (drop start part)
-    → samples ≡ frame_of_bytes count size resolution bytes → slice_get (unpacked count size resolution packet) number ≡ Some samples
+    → samples ≡ frame_of_bytes count size resolution bytes → slice_get (frames_of_bytes count size resolution packet) number ≡ Some samples
 read_at count size resolution number start width packet part bytes samples wide begins inside whole cutting read =
     let long : start + width - start ≡ count * size = omega arith in
     let begins_at : start ≡ number * (count * size) = begins ∙ ap (λ (n : ℕ). number * n) wide in
@@ -159,17 +159,17 @@ read_at count size resolution number start width packet part bytes samples wide 
     ∙ ap (λ (n : ℕ). take n (drop start part)) long
     ∙ ap (λ (n : ℕ). take (count * size) (drop n part)) begins_at
     ∙ ap (λ (bs : List ℕ). take (count * size) (drop (number * (count * size)) bs)) whole in
-    slice_get-unpacked count size resolution number packet inside
+    slice_get-frames_of_bytes count size resolution number packet inside
     ∙ ap (λ (xs : List ℤ). Some xs) (ap (frame_of_bytes count size resolution) (sym same) ∙ sym read)
 
-pub length-unpacked : (count size resolution : ℕ) (bytes : List ℕ) → length (unpacked count size resolution bytes) ≡ whole_frames count size bytes
-length-unpacked count size resolution bytes =
+pub length-frames_of_bytes : (count size resolution : ℕ) (bytes : List ℕ) → length (frames_of_bytes count size resolution bytes) ≡ whole_frames count size bytes
+length-frames_of_bytes count size resolution bytes =
     length-map (first_chunks (count * size) (whole_frames count size bytes) bytes) (frame_of_bytes count size resolution)
     ∙ length-first_chunks (count * size) (whole_frames count size bytes) bytes
 
 -- bytes that begin with those of a frame
 pub unpacked_first : (count size resolution : ℕ) (bytes front rest : List ℕ) → 0 < count * size → bytes ≡ front ++ rest → length front ≡ count * size
-    → unpacked count size resolution bytes ≡ frame_of_bytes count size resolution front ∷ unpacked count size resolution rest
+    → frames_of_bytes count size resolution bytes ≡ frame_of_bytes count size resolution front ∷ frames_of_bytes count size resolution rest
 unpacked_first count size resolution bytes front rest some split whole =
     let width : ℕ = count * size in
     let lengths : length bytes ≡ width + length rest =
@@ -185,13 +185,13 @@ unpacked_first count size resolution bytes front rest some split whole =
     ∷ map (frame_of_bytes count size resolution) (first_chunks width (whole_frames count size rest) bs)) others
 
 -- bytes that are too few for a frame
-pub unpacked_short : (count size resolution : ℕ) (bytes : List ℕ) → length bytes < count * size → unpacked count size resolution bytes ≡ []
+pub unpacked_short : (count size resolution : ℕ) (bytes : List ℕ) → length bytes < count * size → frames_of_bytes count size resolution bytes ≡ []
 unpacked_short count size resolution bytes short =
     ap (λ (n : ℕ). map (frame_of_bytes count size resolution) (first_chunks (count * size) n bytes)) (div-eq_of_lt short)
 
 -- each frame that is read has a sample for each channel
-pub unpacked-even : (count size resolution : ℕ) (bytes : List ℕ) → All (λ samples. length samples ≡ count) (unpacked count size resolution bytes)
-unpacked-even count size resolution bytes = along (first_chunks (count * size) (whole_frames count size bytes) bytes) where
+pub frames_of_bytes-even : (count size resolution : ℕ) (bytes : List ℕ) → All (λ samples. length samples ≡ count) (frames_of_bytes count size resolution bytes)
+frames_of_bytes-even count size resolution bytes = along (first_chunks (count * size) (whole_frames count size bytes) bytes) where
   one : (bs : List ℕ) → length (frame_of_bytes count size resolution bs) ≡ count
   one bs = length-map (first_chunks size count bs) (sample_of_word size resolution) ∙ length-first_chunks size count bs
 

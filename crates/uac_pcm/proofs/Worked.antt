@@ -3,7 +3,7 @@ use Rattle.std.proofs.Common.{◌≡◌, pos, negsuc, [], ◌∷◌, refl}
 use Rattle.std.specs.Int.{int_wrap}
 use Rattle.uac_pcm.specs.SampleWords.{cut, word_of, sample_of_word}
 use Rattle.uac_pcm.specs.Frames.{bytes_of_frame, frame_of_bytes}
-use Rattle.uac_pcm.specs.Packets.{packed, unpacked}
+use Rattle.uac_pcm.specs.Packets.{bytes_of_frames, frames_of_bytes}
 use Rattle.uac_pcm.specs.Tones.{tone_sample}
 use Rattle.uac_pcm.specs.declared.tones.Tone.TheVariants.{Ramp, Noise}
 
@@ -17,12 +17,12 @@ unfolding cut word_of
 written_24_of_32 = refl
 
 -- two frames of two channels at 16 bits, cut, and a byte after them that makes no frame
-packed_pair : packed 2 16 ((pos 0x12345678 ∷ negsuc 0 ∷ []) ∷ (pos 0x1ffff ∷ pos 0x7fff0000 ∷ []) ∷ [])
+packed_pair : bytes_of_frames 2 16 ((pos 0x12345678 ∷ negsuc 0 ∷ []) ∷ (pos 0x1ffff ∷ pos 0x7fff0000 ∷ []) ∷ [])
     ≡ 0x34 ∷ 0x12 ∷ 0xff ∷ 0xff ∷ 0x01 ∷ 0x00 ∷ 0xff ∷ 0x7f ∷ []
 unfolding cut word_of
 packed_pair = refl
 
-unpacked_pair : unpacked 2 2 16 (0x34 ∷ 0x12 ∷ 0xff ∷ 0xff ∷ 0x01 ∷ 0x00 ∷ 0xff ∷ 0x7f ∷ 0x55 ∷ [])
+unpacked_pair : frames_of_bytes 2 2 16 (0x34 ∷ 0x12 ∷ 0xff ∷ 0xff ∷ 0x01 ∷ 0x00 ∷ 0xff ∷ 0x7f ∷ 0x55 ∷ [])
     ≡ (pos 0x12340000 ∷ negsuc 65535 ∷ []) ∷ (pos 0x10000 ∷ pos 0x7fff0000 ∷ []) ∷ []
 unfolding cut sample_of_word int_wrap
 unpacked_pair = refl

@@ -10,8 +10,8 @@ abbrev pub IsFrame : ℕ → List ℤ → Type 0
 IsFrame count samples = (length samples ≡ count) × All (FitsSigned w32) samples
 
 -- the bytes of the frames
-abbrev pub packed : ℕ → ℕ → List (List ℤ) → List ℕ
-packed size resolution frames = flat_map (bytes_of_frame size resolution) frames
+abbrev pub bytes_of_frames : ℕ → ℕ → List (List ℤ) → List ℕ
+bytes_of_frames size resolution frames = flat_map (bytes_of_frame size resolution) frames
 
 -- the bytes of the frame of a number, from 0
 abbrev pub bytes_of_frame_at : ℕ → ℕ → ℕ → List ℕ → List ℕ
@@ -22,6 +22,6 @@ abbrev pub whole_frames : ℕ → ℕ → List ℕ → ℕ
 whole_frames count size bytes = length bytes / (count * size)
 
 -- the frames that stand whole in the bytes
-abbrev pub unpacked : ℕ → ℕ → ℕ → List ℕ → List (List ℤ)
-unpacked count size resolution bytes =
+abbrev pub frames_of_bytes : ℕ → ℕ → ℕ → List ℕ → List (List ℤ)
+frames_of_bytes count size resolution bytes =
     map (frame_of_bytes count size resolution) (first_chunks (count * size) (whole_frames count size bytes) bytes)

@@ -4,7 +4,7 @@ ghost use Rattle.std.specs.Prelude.{Some, IsTrue, IsSome, IfSome};
 ghost use Rattle.std.specs.Bool.{OnTrue, OnFalse};
 ghost use Rattle.arrayvec.specs.ArrayVec.{array_vec_len};
 ghost use Rattle.uac_pcm.specs.Frames.{IsFormat, bytes_of_frame, frame_of_bytes};
-ghost use Rattle.uac_pcm.specs.Packets.{packed, unpacked, whole_frames};
+ghost use Rattle.uac_pcm.specs.Packets.{bytes_of_frames, frames_of_bytes, whole_frames};
 
 use crate::blanks::{ZEROS, silence};
 use crate::words::{read_words, write_words};
@@ -55,8 +55,8 @@ impl Format {
         ensures fits { IsTrue result ↔ (array_vec_len packet.old + self.now.channels * self.now.subslot ≤ 3072) }
         ensures appended { OnTrue result
             (packet.new.items ≡ packet.old.items ++ bytes_of_frame self.now.subslot self.now.bits frame.now.items) }
-        ensures packed { (frames : List (List ℤ)) → packet.old.items ≡ packed self.now.subslot self.now.bits frames
-            → OnTrue result (packet.new.items ≡ packed self.now.subslot self.now.bits (frames ++ frame.now.items ∷ [])) }
+        ensures packed { (frames : List (List ℤ)) → packet.old.items ≡ bytes_of_frames self.now.subslot self.now.bits frames
+            → OnTrue result (packet.new.items ≡ bytes_of_frames self.now.subslot self.now.bits (frames ++ frame.now.items ∷ [])) }
         ensures len { OnTrue result (array_vec_len packet.new ≡ array_vec_len packet.old + self.now.channels * self.now.subslot) }
         ensures full { OnFalse result (packet.new ≡ packet.old) }
     {
@@ -151,7 +151,7 @@ impl Format {
     pub fn frame_at(&self, packet: &Packet, number: u32, frame: &mut Frame) -> bool
         ensures there { IsTrue result ↔ (number < whole_frames self.now.channels self.now.subslot packet.now.items) }
         ensures samples { OnTrue result
-            (slice_get (unpacked self.now.channels self.now.subslot self.now.bits packet.now.items) number ≡ Some frame.new.items) }
+            (slice_get (frames_of_bytes self.now.channels self.now.subslot self.now.bits packet.now.items) number ≡ Some frame.new.items) }
         ensures len { OnTrue result (array_vec_len frame.new ≡ self.now.channels) }
         ensures unchanged { OnFalse result (frame.new ≡ frame.old) }
     {

@@ -3,7 +3,7 @@ ghost use Rattle.std.specs.Prelude.{◌≡◌, ℕ, ◌<◌, ◌≤◌, ◌*◌,
 ghost use Rattle.std.specs.Int.{w32};
 ghost use Rattle.std.specs.List.{All};
 ghost use Rattle.uac_pcm.specs.Frames.{IsFormat, bytes_of_frame, frame_of_bytes};
-ghost use Rattle.uac_pcm.specs.Packets.{IsFrame, packed, bytes_of_frame_at, whole_frames, unpacked};
+ghost use Rattle.uac_pcm.specs.Packets.{IsFrame, bytes_of_frames, bytes_of_frame_at, whole_frames, frames_of_bytes};
 ghost use Rattle.uac_pcm.specs.SampleWords.{cut, word_of, sample_of_word};
 
 /// Reading the word of a sample gives the sample, cut to the resolution; and a sample that was cut stays as it is.
@@ -27,27 +27,28 @@ pub fn frame_is_read_back()
 pub fn frames_are_read_back()
     ensures read { (count size resolution : ℕ) (frames : List (List ℤ)) (rest : List ℕ)
         → IsFormat count size resolution → All (IsFrame count) frames → length rest < count * size
-        → unpacked count size resolution (packed size resolution frames ++ rest) ≡ map (map (cut resolution)) frames }
+        → frames_of_bytes count size resolution (bytes_of_frames size resolution frames ++ rest) ≡ map (map (cut resolution)) frames }
     ensures whole { (count size resolution : ℕ) (frames : List (List ℤ)) (rest : List ℕ)
         → All (λ samples. length samples ≡ count) frames → length rest < count * size
-        → whole_frames count size (packed size resolution frames ++ rest) ≡ length frames }
+        → whole_frames count size (bytes_of_frames size resolution frames ++ rest) ≡ length frames }
     ensures bytes { (count size resolution : ℕ) (frames : List (List ℤ)) → All (λ samples. length samples ≡ count) frames
-        → length (packed size resolution frames) ≡ length frames * (count * size) }
+        → length (bytes_of_frames size resolution frames) ≡ length frames * (count * size) }
     ensures numbered { (count size resolution number : ℕ) (frames : List (List ℤ)) (any : List ℤ)
         → All (λ samples. length samples ≡ count) frames → number < length frames
-        → bytes_of_frame_at count size number (packed size resolution frames)
+        → bytes_of_frame_at count size number (bytes_of_frames size resolution frames)
         ≡ bytes_of_frame size resolution (slice_index_or frames number any) }
     ensures rows { (size resolution : ℕ) (frames more : List (List ℤ))
-        → packed size resolution (frames ++ more) ≡ packed size resolution frames ++ packed size resolution more }
+        → bytes_of_frames size resolution (frames ++ more)
+        ≡ bytes_of_frames size resolution frames ++ bytes_of_frames size resolution more }
 {}
 
 /// Bytes have as many frames as stand whole in them, each with a sample for each channel; the frame of a number is read from its own bytes.
 pub fn unpacked_frames_are_whole()
     ensures frames { (count size resolution : ℕ) (bytes : List ℕ)
-        → length (unpacked count size resolution bytes) ≡ whole_frames count size bytes }
+        → length (frames_of_bytes count size resolution bytes) ≡ whole_frames count size bytes }
     ensures numbered { (count size resolution number : ℕ) (bytes : List ℕ) → number < whole_frames count size bytes
-        → slice_get (unpacked count size resolution bytes) number
+        → slice_get (frames_of_bytes count size resolution bytes) number
         ≡ Some (frame_of_bytes count size resolution (bytes_of_frame_at count size number bytes)) }
     ensures channels { (count size resolution : ℕ) (bytes : List ℕ)
-        → All (λ samples. length samples ≡ count) (unpacked count size resolution bytes) }
+        → All (λ samples. length samples ≡ count) (frames_of_bytes count size resolution bytes) }
 {}

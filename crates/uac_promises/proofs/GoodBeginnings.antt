@@ -2,11 +2,11 @@
 use Rattle.std.proofs.Common.{◌≡◌, refl, ℕ, List, [], ◌∷◌}
 use Rattle.std.proofs.lemmas.List.Elements.{All-nil}
 use Rattle.uac_descriptor.specs.BlockReading.{AreBytes}
-use Rattle.uac_script.specs.Phrase.{Phrase, feeds}
+use Rattle.uac_script.specs.Phrase.{Phrase, bytes_line}
 use Rattle.uac_units.specs.Hearing.{Reading}
 use Rattle.uac_running.specs.RunningWorld.{at_start}
 use Rattle.uac_running.specs.RunningLines.{ready_line}
-use Rattle.uac_bus.specs.BusWorld.{World, describing, running, step_describing}
+use Rattle.uac_bus.specs.BusWorld.{BusWorld, describing, running, step_describing}
 use Rattle.uac_bands.proofs.Begun.{runs_start_in_band}
 use Rattle.uac_bands.proofs.SoundStart.{runs_start_sound}
 use Rattle.uac_homing.specs.Past.{Pasts}
@@ -17,10 +17,10 @@ use Rattle.uac_promises.proofs.GoodRuns.{LawsOfSteps}
 use Rattle.uac_promises.proofs.OneByOne.{KeepsAll, leaves_plain}
 
 module _ (laws : LawsOfSteps) (bytes : List ℕ) (meters : List Reading) (pasts : Pasts) where
-  abbrev w : World
+  abbrev w : BusWorld
   w = describing bytes meters
 
-  pub describing_keeps_all : (phrase : Phrase) → AreBytes bytes → ((more : List ℕ) → phrase ≡ feeds more → AreBytes more)
+  pub describing_keeps_all : (phrase : Phrase) → AreBytes bytes → ((more : List ℕ) → phrase ≡ bytes_line more → AreBytes more)
       → KeepsAll (microframes_of phrase) w pasts (step_describing bytes meters phrase)
   describing_keeps_all =
       describing_is (λ phrase s. KeepsAll (microframes_of phrase) w pasts s) (λ phrase fault. tt) bytes meters

@@ -8,7 +8,7 @@ use Rattle.uac_rate.specs.Steadiness.{is_steady}
 use Rattle.uac_script.specs.Phrase.{SaidMark}
 use Rattle.uac_running.specs.RunningWorld.{RunningWorld}
 use Rattle.uac_running.specs.Events.{microframe, microframes}
-use Rattle.uac_bus.specs.BusWorld.{World, describing, running}
+use Rattle.uac_bus.specs.BusWorld.{BusWorld, describing, running}
 use Rattle.uac_bands.specs.BandRun.{RunInBand}
 use Rattle.uac_bands.specs.BandTransfers.{IsSoundRun}
 use Rattle.uac_bands.proofs.NearLevels.{tell_near}
@@ -40,12 +40,12 @@ pub record IsGoodRun (r : RunningWorld) (pasts : Pasts) : Type 0 where
   pub trails : HaveTrails r pasts
 
 -- a descriptor's bytes are bytes; a running device is all that
-abbrev pub IsGoodIn : World → Pasts → Type 0
+abbrev pub IsGoodIn : BusWorld → Pasts → Type 0
 IsGoodIn (describing bytes meters) pasts = AreBytes bytes
 IsGoodIn (running r) pasts = IsGoodRun r pasts
 
 -- so it is after what was seen, and all that was seen is as promised
-pub record LeavesKept (next : World) (seen : Seen) : Type 0 where
+pub record LeavesKept (next : BusWorld) (seen : Seen) : Type 0 where
   pub good : IsGoodIn next seen.pasts
   pub kept : All IsKeptPromise seen.lines
 
@@ -60,7 +60,7 @@ module _ (laws : LawsOfSteps) where
   }
 
   microframe_keeps : (marks : List SaidMark) (r : RunningWorld) (pasts : Pasts) → IsGoodRun r pasts
-      → is_steady (microframe marks r).world.given ≡ true
+      → is_steady (microframe marks r).world.history ≡ true
       → LeavesKept (running (microframe marks r).world) (microframe_seen marks r pasts)
   microframe_keeps marks r pasts good steady =
       let records = laws.microframes_recorded marks r good.band good.sound good.recorded in
@@ -79,7 +79,7 @@ module _ (laws : LawsOfSteps) where
       }
 
   pub microframes_keep : (marks : List SaidMark) (count : ℕ) (r : RunningWorld) (pasts : Pasts) → IsGoodRun r pasts
-      → is_steady (microframes marks count r).world.given ≡ true
+      → is_steady (microframes marks count r).world.history ≡ true
       → LeavesKept (running (microframes marks count r).world) (microframes_seen marks count r pasts)
   unfolding microframes microframes_seen
   microframes_keep marks zero r pasts good steady = record { good = good; kept = All-nil IsKeptPromise }

@@ -4,12 +4,12 @@ use Rattle.std.specs.List.{All, AllByRecursion, AllZip}
 use Rattle.std.proofs.lemmas.List.Elements.{All-append, All-from_recursion, All-map, All-nil, All-weaker, recursion_from_All}
 use Rattle.uac_descriptor.specs.BlockReading.{AreBytes}
 use Rattle.uac_units.specs.Hearing.{Reading}
-use Rattle.uac_script.specs.Phrase.{Phrase, feeds}
+use Rattle.uac_script.specs.Phrase.{Phrase, bytes_line}
 use Rattle.uac_script.specs.Line.{Says}
 use Rattle.uac_script.specs.LineReading.{answer}
 use Rattle.uac_script.proofs.Answered.{says_only}
 use Rattle.uac_transcript.specs.Transcript.{Said}
-use Rattle.uac_bus.specs.BusWorld.{Step, World, describing, done, refused, running, start, step}
+use Rattle.uac_bus.specs.BusWorld.{Step, BusWorld, describing, done, refused, running, start, step}
 use Rattle.uac_bus.specs.After.{After, after, and_then, said_step, with_one_more}
 use Rattle.uac_bus.proofs.AfterLemmas.{after_one_more}
 use Rattle.uac_bands.specs.BandRun.{IsNearLevel, IsNoUnder}
@@ -28,30 +28,30 @@ use Rattle.uac_promises.proofs.GoodBeginnings.{describing_keeps_all}
 -- ---- lines in a row
 
 -- a world that lines leave, and what was seen on the way
-record LeavesAll (next : World) (seen : List Watch) : Type 0 where
+record LeavesAll (next : BusWorld) (seen : List Watch) : Type 0 where
   band : IsInBand next
   recorded : IsRecordedIn next
   kept : All IsKeptPromise seen
 
-in_band : (w : World) (pasts : Pasts) → IsGoodIn w pasts → IsInBand w
+in_band : (w : BusWorld) (pasts : Pasts) → IsGoodIn w pasts → IsInBand w
 in_band (describing bytes meters) pasts good = tt
 in_band (running r) pasts good = good.band
 
-in_rings : (w : World) (pasts : Pasts) → IsGoodIn w pasts → IsRecordedIn w
+in_rings : (w : BusWorld) (pasts : Pasts) → IsGoodIn w pasts → IsRecordedIn w
 in_rings (describing bytes meters) pasts good = tt
 in_rings (running r) pasts good = good.recorded
 
-none_more : (w : World) (pasts : Pasts) → IsGoodIn w pasts → LeavesAll w []
+none_more : (w : BusWorld) (pasts : Pasts) → IsGoodIn w pasts → LeavesAll w []
 none_more w pasts good = record { band = in_band w pasts good; recorded = in_rings w pasts good; kept = All-nil IsKeptPromise }
 
 -- what these lines leave, from whatever good world
 abbrev TheRest : List (Result Phrase ℕ) → Type 0
 TheRest saids =
-    (next : World) (later : Pasts) → IsGoodIn next later → is_steady_in (after saids next).world ≡ true
+    (next : BusWorld) (later : Pasts) → IsGoodIn next later → is_steady_in (after saids next).world ≡ true
     → LeavesAll (after saids next).world (seen_after saids next later).lines
 
 -- a line, and those after it
-with_first : (saids : List (Result Phrase ℕ)) (w : World) (pasts : Pasts) → IsGoodIn w pasts
+with_first : (saids : List (Result Phrase ℕ)) (w : BusWorld) (pasts : Pasts) → IsGoodIn w pasts
     → (phrase : Phrase) (s : Step) → KeepsAll (microframes_of phrase) w pasts s → TheRest saids
     → is_steady_in (and_then s w (after saids)).world ≡ true
     → LeavesAll (and_then s w (after saids)).world (and_then_seen s (microframes_of phrase) w pasts (seen_after saids)).lines
@@ -67,8 +67,8 @@ with_first saids w pasts good phrase (done next lines) keeps rest h =
 with_first saids w pasts good phrase (refused fault) keeps rest h = none_more w pasts good
 
 module _ (laws : LawsOfSteps) where
-  step_keeps_all : (phrase : Phrase) (w : World) (pasts : Pasts) → IsGoodIn w pasts
-      → ((more : List ℕ) → phrase ≡ feeds more → AreBytes more) → KeepsAll (microframes_of phrase) w pasts (step phrase w)
+  step_keeps_all : (phrase : Phrase) (w : BusWorld) (pasts : Pasts) → IsGoodIn w pasts
+      → ((more : List ℕ) → phrase ≡ bytes_line more → AreBytes more) → KeepsAll (microframes_of phrase) w pasts (step phrase w)
   unfolding step
   step_keeps_all phrase (describing bytes meters) pasts good feed = describing_keeps_all laws bytes meters pasts phrase good feed
   step_keeps_all phrase (running r) pasts good feed = running_keeps_all laws r pasts good phrase
@@ -85,7 +85,7 @@ module _ (laws : LawsOfSteps) where
       by (Ok phrase) is rest h =
           with_first saids w pasts good phrase (step phrase w)
           (step_keeps_all phrase w pasts good
-          (λ more same. feeds_bytes text more (let all : answer text ≡ Ok (feeds more) = cc in all))) rest h
+          (λ more same. feeds_bytes text more (let all : answer text ≡ Ok (bytes_line more) = cc in all))) rest h
       by (Err rule) is rest h = none_more w pasts good
 
   pub steady_scripts_keep_promises : SteadyScriptsKeepPromises

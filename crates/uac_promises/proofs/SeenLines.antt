@@ -1,13 +1,13 @@
 -- The lines that are seen are those that are printed.
 use Rattle.std.proofs.Common.{◌≡◌, refl, ap, ℕ, zero, suc, List, [], ◌∷◌, ◌++◌, map, Option, None, Some, Ok, Err}
 use Rattle.std.proofs.lemmas.List.{map-append}
-use Rattle.uac_script.specs.Phrase.{SaidMark, Phrase, runs}
+use Rattle.uac_script.specs.Phrase.{SaidMark, Phrase, microframes_line}
 use Rattle.uac_units.specs.Hearing.{Reading}
 use Rattle.uac_transcript.specs.Transcript.{Said}
 use Rattle.uac_running.specs.RunningWorld.{RunningWorld}
-use Rattle.uac_running.specs.Naming.{size_of}
+use Rattle.uac_running.specs.RunningNames.{size_of}
 use Rattle.uac_running.specs.Events.{microframe, microframes}
-use Rattle.uac_bus.specs.BusWorld.{Step, World, describing, done, refused, running, step, step_describing, step_running}
+use Rattle.uac_bus.specs.BusWorld.{Step, BusWorld, describing, done, refused, running, step, step_describing, step_running}
 use Rattle.uac_bus.specs.After.{after, and_then}
 use Rattle.uac_homing.specs.Past.{Pasts, pasts_after}
 use Rattle.uac_steady.proofs.Steps.{gone_on, unless_is}
@@ -19,7 +19,7 @@ said_in watch = watch.said
 
 -- ---- lists of lines
 
-each_seen : (w : World) (pasts : Pasts) (lines : List Said) → map said_in (map (watched_in w pasts) lines) ≡ lines
+each_seen : (w : BusWorld) (pasts : Pasts) (lines : List Said) → map said_in (map (watched_in w pasts) lines) ≡ lines
 each_seen w pasts [] = refl
 each_seen w pasts (said ∷ lines) = ap (λ (rest : List Said). said ∷ rest) (each_seen w pasts lines)
 
@@ -40,11 +40,11 @@ microframes_are_seen marks (suc count) r pasts =
     (each_seen (running next) later (microframe marks r).lines) (microframes_are_seen marks count next later)
 
 -- what is seen of a line that was done is what it printed
-abbrev IsSeen : Option Microframes → World → Pasts → Step → Type 0
+abbrev IsSeen : Option Microframes → BusWorld → Pasts → Step → Type 0
 IsSeen m w pasts (done next lines) = map said_in (line_seen m w next lines pasts).lines ≡ lines
 IsSeen m w pasts (refused fault) = Unit {0}
 
-whole_line : (w : World) (pasts : Pasts) (s : Step) → IsSeen None w pasts s
+whole_line : (w : BusWorld) (pasts : Pasts) (s : Step) → IsSeen None w pasts s
 unfolding line_seen
 whole_line w pasts (done next lines) = each_seen next pasts lines
 whole_line w pasts (refused fault) = tt
@@ -59,12 +59,12 @@ line_of_describing (Some m) bytes meters pasts (refused fault) = tt
 line_of_running : (phrase : Phrase) (r : RunningWorld) (pasts : Pasts)
     → IsSeen (microframes_of phrase) (running r) pasts (step_running r phrase)
 unfolding line_seen
-line_of_running (runs count marks) r pasts =
-    unless_is (IsSeen (microframes_of (runs count marks)) (running r) pasts) (λ fault. tt) _ 6 (gone_on r count marks)
+line_of_running (microframes_line count marks) r pasts =
+    unless_is (IsSeen (microframes_of (microframes_line count marks)) (running r) pasts) (λ fault. tt) _ 6 (gone_on r count marks)
     (microframes_are_seen marks (size_of count) r pasts)
 line_of_running phrase r pasts = whole_line (running r) pasts (step_running r phrase)
 
-line_is_seen : (phrase : Phrase) (w : World) (pasts : Pasts) → IsSeen (microframes_of phrase) w pasts (step phrase w)
+line_is_seen : (phrase : Phrase) (w : BusWorld) (pasts : Pasts) → IsSeen (microframes_of phrase) w pasts (step phrase w)
 unfolding step
 line_is_seen phrase (describing bytes meters) pasts =
     line_of_describing (microframes_of phrase) bytes meters pasts (step_describing bytes meters phrase)
@@ -78,7 +78,7 @@ lines_are_seen [] w pasts = refl
 lines_are_seen (Ok phrase ∷ saids) w pasts = by (step phrase w) (line_is_seen phrase w pasts) (lines_are_seen saids)
   where
     by : (s : Step) → IsSeen (microframes_of phrase) w pasts s
-        → ((next : World) (later : Pasts) → map said_in (seen_after saids next later).lines ≡ (after saids next).lines)
+        → ((next : BusWorld) (later : Pasts) → map said_in (seen_after saids next later).lines ≡ (after saids next).lines)
         → map said_in (and_then_seen s (microframes_of phrase) w pasts (seen_after saids)).lines ≡ (and_then s w (after saids)).lines
     by (done next lines) first rest =
         let seen = line_seen (microframes_of phrase) w next lines pasts in

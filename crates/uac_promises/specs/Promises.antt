@@ -5,7 +5,7 @@ use Rattle.uac_units.specs.Hearing.{Reading}
 use Rattle.uac_script.specs.Line.{Says}
 use Rattle.uac_script.specs.Phrase.{Phrase}
 use Rattle.uac_transcript.specs.Transcript.{Said}
-use Rattle.uac_bus.specs.BusWorld.{World, describing, done, running, start}
+use Rattle.uac_bus.specs.BusWorld.{BusWorld, describing, done, running, start}
 use Rattle.uac_bus.specs.After.{after, said_step}
 use Rattle.uac_bands.specs.BandRun.{IsNearLevel, IsNoUnder}
 use Rattle.uac_overflow.specs.Recording.{AreRecorded, IsNoOver}
@@ -15,7 +15,7 @@ use Rattle.uac_steady.specs.Scripts.{IsInBand, is_steady_in}
 use Rattle.uac_promises.specs.Watched.{Watch, seen_after}
 
 -- a level is close in a world
-abbrev pub IsCloseIn : World → Pasts → Said → Type 0
+abbrev pub IsCloseIn : BusWorld → Pasts → Said → Type 0
 IsCloseIn (describing bytes meters) pasts said = Unit {0}
 IsCloseIn (running r) pasts said = IsClose r pasts said
 
@@ -29,14 +29,14 @@ pub record IsKeptPromise (w : Watch) : Type 0 where
   pub close : IsCloseIn w.world w.pasts w.said
 
 -- rings of streams from the device hold no more than their interval can bring
-abbrev pub IsRecordedIn : World → Type 0
+abbrev pub IsRecordedIn : BusWorld → Type 0
 IsRecordedIn (describing bytes meters) = Unit {0}
 IsRecordedIn (running r) = AreRecorded r
 
 -- the lines that are seen are those that are printed
 abbrev pub LinesAreSeen : Type 0
 LinesAreSeen =
-    (saids : List (Result Phrase ℕ)) (w : World) (pasts : Pasts)
+    (saids : List (Result Phrase ℕ)) (w : BusWorld) (pasts : Pasts)
     → map (λ watch. watch.said) (seen_after saids w pasts).lines ≡ (after saids w).lines
 
 -- what the lines of a script said, which leave a steady world: each stream is in its band there, and every line that they printed is as
@@ -61,6 +61,6 @@ pub record PrintsKept (lines : List Said) : Type 0 where
 abbrev pub OneMoreLineIsKept : Type 0
 OneMoreLineIsKept =
     (texts : List (List ℕ)) (saids : List (Result Phrase ℕ)) (text : List ℕ) (said : Result Phrase ℕ) (shown : List Reading)
-    (next : World) (lines : List Said) → AllZip Says texts saids → Says text said
+    (next : BusWorld) (lines : List Said) → AllZip Says texts saids → Says text said
     → (after saids (start shown)).refusal ≡ None → said_step said (after saids (start shown)).world ≡ done next lines
     → is_steady_in next ≡ true → PrintsKept lines

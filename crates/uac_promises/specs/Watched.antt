@@ -1,22 +1,23 @@
 -- The lines that a script prints, each with the world in which it is printed, and with how long ago each stream was primed and lost a
 -- packet (profile).
 use Rattle.std.specs.Prelude.{ℕ, zero, suc, List, [], ◌∷◌, ◌++◌, map, Option, Some, None, Result, Ok, Err}
-use Rattle.uac_script.specs.Phrase.{SaidMark, Phrase, idle, feeds, goes, controls, gets, sets, shows, breaks}
-use Rattle.uac_script.specs.Phrase.{appends, tracks, jacks, deviates, runs, details, reports}
+use Rattle.uac_script.specs.Phrase.{SaidMark, Phrase, nothing_line, bytes_line, go_line, control_line, get_line, set_line, show_line}
+use Rattle.uac_script.specs.Phrase.{break_line}
+use Rattle.uac_script.specs.Phrase.{append_line, track_line, jack_line, deviate_line, microframes_line, detail_line, report_line}
 use Rattle.uac_transcript.specs.Transcript.{Said}
 use Rattle.uac_running.specs.RunningWorld.{RunningWorld}
-use Rattle.uac_running.specs.Naming.{size_of}
+use Rattle.uac_running.specs.RunningNames.{size_of}
 use Rattle.uac_running.specs.Events.{microframe}
-use Rattle.uac_bus.specs.BusWorld.{Step, World, describing, done, refused, running, step}
+use Rattle.uac_bus.specs.BusWorld.{Step, BusWorld, describing, done, refused, running, step}
 use Rattle.uac_homing.specs.Past.{Pasts, pasts_after}
 
 -- a printed line, the world after the microframe or the line of the script that printed it, and the pasts of its streams there
 pub record Watch : Type 0 where
   pub said : Said
-  pub world : World
+  pub world : BusWorld
   pub pasts : Pasts
 
-abbrev pub watched_in : World → Pasts → Said → Watch
+abbrev pub watched_in : BusWorld → Pasts → Said → Watch
 watched_in w pasts said = record { said = said; world = w; pasts = pasts }
 
 -- printed lines, and the pasts after them
@@ -41,37 +42,37 @@ pub record Microframes : Type 0 where
   pub marks : List SaidMark
 
 abbrev pub microframes_of : Phrase → Option Microframes
-microframes_of idle = None
-microframes_of (feeds bytes) = None
-microframes_of goes = None
-microframes_of (controls setup sent) = None
-microframes_of (gets name) = None
-microframes_of (sets name value) = None
-microframes_of (shows name) = None
-microframes_of (breaks after) = None
-microframes_of (appends number samples) = None
-microframes_of (tracks number voice) = None
-microframes_of (jacks terminal voice) = None
-microframes_of (deviates clock ppm) = None
-microframes_of (runs count marks) = Some (record { count = size_of count; marks = marks })
-microframes_of (details level) = None
-microframes_of reports = None
+microframes_of nothing_line = None
+microframes_of (bytes_line bytes) = None
+microframes_of go_line = None
+microframes_of (control_line setup sent) = None
+microframes_of (get_line name) = None
+microframes_of (set_line name value) = None
+microframes_of (show_line name) = None
+microframes_of (break_line after) = None
+microframes_of (append_line number samples) = None
+microframes_of (track_line number tone) = None
+microframes_of (jack_line terminal tone) = None
+microframes_of (deviate_line domain ppm) = None
+microframes_of (microframes_line count marks) = Some (record { count = size_of count; marks = marks })
+microframes_of (detail_line level) = None
+microframes_of report_line = None
 
 -- a line of a script that was done in a world: the microframes that it asks for are seen one by one; and else the lines that it prints, in
 -- the world that it leaves
-unfoldable pub line_seen : Option Microframes → World → World → List Said → Pasts → Seen
+unfoldable pub line_seen : Option Microframes → BusWorld → BusWorld → List Said → Pasts → Seen
 line_seen None w next lines pasts = record { lines = map (watched_in next pasts) lines; pasts = pasts }
 line_seen (Some m) (describing bytes meters) next lines pasts = record { lines = map (watched_in next pasts) lines; pasts = pasts }
 line_seen (Some m) (running r) next lines pasts = microframes_seen m.marks m.count r pasts
 
 -- one line after the other, up to the first that is refused
-abbrev pub and_then_seen : Step → Option Microframes → World → Pasts → (World → Pasts → Seen) → Seen
+abbrev pub and_then_seen : Step → Option Microframes → BusWorld → Pasts → (BusWorld → Pasts → Seen) → Seen
 and_then_seen (done next lines) m w pasts go =
     let first = line_seen m w next lines pasts in
     seen_first first.lines (go next first.pasts)
 and_then_seen (refused fault) m w pasts go = record { lines = []; pasts = pasts }
 
-unfoldable pub seen_after : List (Result Phrase ℕ) → World → Pasts → Seen
+unfoldable pub seen_after : List (Result Phrase ℕ) → BusWorld → Pasts → Seen
 seen_after [] w pasts = record { lines = []; pasts = pasts }
 seen_after (Ok phrase ∷ saids) w pasts = and_then_seen (step phrase w) (microframes_of phrase) w pasts (seen_after saids)
 seen_after (Err rule ∷ saids) w pasts = record { lines = []; pasts = pasts }

@@ -8,7 +8,7 @@ use Rattle.uac_clock.specs.declared.values.Nominal.{Nominal}
 use Rattle.uac_clock.specs.Nominal.{HasRoom, IsNominal, is_listed, values_of, nominal_of, step_of}
 use Rattle.uac_rate.specs.Reports.{report_of}
 use Rattle.uac_rate.specs.Steadiness.{is_slight}
-use Rattle.uac_rate.specs.Levels.{HasBand, IsInterval, AreIntervals, Point, Within, stored, owed, since, came_of, Interval, value_after, Reported, IsLow, IsHigh, IsTarget, IsCounted, IsRobust, Anchor, anchor_of, aged, anchor_after, tight_bound, HasDrifted, IsTight, IsJustPrimed, IsPriming, Fills, Moment, IsHeld, FallsDue}
+use Rattle.uac_rate.specs.Levels.{HasBand, IsInterval, AreIntervals, Point, Within, level_and_remainder, target_and_remainder, since, came_of, Interval, value_after, TakesReport, IsLow, IsHigh, IsTarget, IsCounted, IsRobust, Anchor, anchor_of, anchor_after_interval, anchor_after, tight_bound, HasDrifted, IsTight, IsJustPrimed, IsPriming, Fills, Moment, IsSafeLevel, FallsDue}
 
 -- an interval has 1 to 8 microframes
 pub interval_size : (n : ℕ) → IsInterval n → (1 ≤ n) × (n ≤ 8)
@@ -127,12 +127,12 @@ not_long period p reports counted =
     omega arith
 
 report_counted : (values : Nominal) (period : ℕ) (report_lost : Bool) (p q : Point)
-    → Reported values period report_lost p q → IsCounted period p → IsCounted period q
+    → TakesReport values period report_lost p q → IsCounted period p → IsCounted period q
 report_counted values period report_lost p q r counted =
     record { host = omega arith; clock = omega arith; lost = r.few; waited = omega arith }
 
 -- a lost report changes neither the value in force nor the time since one came
-since_lost : (values : Nominal) (period : ℕ) (p q : Point) → Reported values period true p q → since period q ≡ since period p
+since_lost : (values : Nominal) (period : ℕ) (p q : Point) → TakesReport values period true p q → since period q ≡ since period p
 since_lost values period p q r =
     let more : q.lost * period ≡ suc p.lost * period = ap (λ (n : ℕ). n * period) r.lost_is in
     omega arith
@@ -165,7 +165,7 @@ robust_near values band service period p reports robust = (below robust.high, ab
   below (inr held) = omega arith
 
 report_low : (values : Nominal) (band service period : ℕ) (report_lost : Bool) (p q : Point) → HasBand values band → IsInterval period
-    → Reported values period report_lost p q → IsRobust values band service period p → IsLow values band period p → IsLow values band period q
+    → TakesReport values period report_lost p q → IsRobust values band service period p → IsLow values band period p → IsLow values band period q
 report_low values band service period false p q facts reports r robust low = from (cases_lt (p.level + band) p.target) where
   held : IsHeldReport values p.target p.level (report_of values p.target p.level)
   held = report_held values p.target p.level (omega (arith, facts.below, facts.above))
@@ -185,7 +185,7 @@ report_low values band service period true p q facts reports r robust (inl far) 
 report_low values band service period true p q facts reports r robust (inr held) = inr (omega arith, r.value_is ∙ held.1)
 
 report_high : (values : Nominal) (band service period : ℕ) (report_lost : Bool) (p q : Point) → HasBand values band → IsInterval period
-    → Reported values period report_lost p q → IsRobust values band service period p → IsHigh values band period p → IsHigh values band period q
+    → TakesReport values period report_lost p q → IsRobust values band service period p → IsHigh values band period p → IsHigh values band period q
 report_high values band service period false p q facts reports r robust high = from (cases_lt (p.target + band) p.level) where
   held : IsHeldReport values p.target p.level (report_of values p.target p.level)
   held = report_held values p.target p.level (omega (arith, facts.below, facts.above))
@@ -212,7 +212,7 @@ value_in_range values band service period false p facts robust =
 value_in_range values band service period true p facts robust = (robust.least, robust.most)
 
 pub report_robust : (values : Nominal) (band service period : ℕ) (report_lost : Bool) (p q : Point)
-    → HasBand values band → AreIntervals service period → Reported values period report_lost p q
+    → HasBand values band → AreIntervals service period → TakesReport values period report_lost p q
     → IsRobust values band service period p → IsRobust values band service period q
 report_robust values band service period report_lost p q facts intervals r robust =
     let range = value_in_range values band service period report_lost p facts robust in
@@ -259,7 +259,7 @@ held_half A B v f e m S R D drift pulls start =
 
 -- a tight stream is as near its target, remainders counted, as its anchor was
 pub tight_near : (values : Nominal) (band period : ℕ) (anchor : Anchor) (p : Point) → HasBand values band → IsInterval period
-    → IsTight values period anchor p → Within (tight_bound values) (stored p.level p.host) (owed p.target p.clock)
+    → IsTight values period anchor p → Within (tight_bound values) (level_and_remainder p.level p.host) (target_and_remainder p.target p.clock)
 tight_near values band period anchor p facts reports tight = (above held.above, below held.below) where
   held : IsHeldReport values p.target anchor.level (report_of values p.target anchor.level)
   held = report_held values p.target anchor.level (omega (arith, facts.below, facts.above))
@@ -268,43 +268,43 @@ tight_near values band period anchor p facts reports tight = (above held.above, 
   left = let short = not_long period p reports tight.counted in omega (arith, tight.age)
 
   above : (report_of values p.target anchor.level ≡ values.lo * 65536) ⊎ (report_of values p.target anchor.level + 1024 * anchor.level ≤ values.f + 1024 * p.target)
-      → stored p.level p.host ≤ owed p.target p.clock + tight_bound values
+      → level_and_remainder p.level p.host ≤ target_and_remainder p.target p.clock + tight_bound values
   above (inl least) =
-      held_half (stored p.level p.host) (owed p.target p.clock) p.value values.f values.e anchor.age (owed p.target anchor.clock)
-      (stored anchor.level anchor.host) (tight_bound values) (omega (arith, tight.drift)) (omega (arith, facts.below, tight.value)) tight.start.0
+      held_half (level_and_remainder p.level p.host) (target_and_remainder p.target p.clock) p.value values.f values.e anchor.age (target_and_remainder p.target anchor.clock)
+      (level_and_remainder anchor.level anchor.host) (tight_bound values) (omega (arith, tight.drift)) (omega (arith, facts.below, tight.value)) tight.start.0
   above (inr asks) =
-      near_half (stored p.level p.host) (owed p.target p.clock) p.value values.f values.e anchor.age (64 - anchor.age) anchor.level p.target anchor.host
+      near_half (level_and_remainder p.level p.host) (target_and_remainder p.target p.clock) p.value values.f values.e anchor.age (64 - anchor.age) anchor.level p.target anchor.host
       anchor.clock (omega (arith, tight.drift)) (omega (arith, tight.value)) left tight.host tight.start.0
 
   below : (report_of values p.target anchor.level ≡ values.hi * 65536) ⊎ (values.f + 1024 * p.target ≤ report_of values p.target anchor.level + 1024 * anchor.level)
-      → owed p.target p.clock ≤ stored p.level p.host + tight_bound values
+      → target_and_remainder p.target p.clock ≤ level_and_remainder p.level p.host + tight_bound values
   below (inl greatest) =
-      held_half (owed p.target p.clock) (stored p.level p.host) values.f p.value values.e anchor.age (stored anchor.level anchor.host)
-      (owed p.target anchor.clock) (tight_bound values) (omega (arith, tight.drift)) (omega (arith, facts.above, tight.value)) tight.start.1
+      held_half (target_and_remainder p.target p.clock) (level_and_remainder p.level p.host) values.f p.value values.e anchor.age (level_and_remainder anchor.level anchor.host)
+      (target_and_remainder p.target anchor.clock) (tight_bound values) (omega (arith, tight.drift)) (omega (arith, facts.above, tight.value)) tight.start.1
   below (inr asks) =
-      near_half (owed p.target p.clock) (stored p.level p.host) values.f p.value values.e anchor.age (64 - anchor.age) p.target anchor.level anchor.clock
+      near_half (target_and_remainder p.target p.clock) (level_and_remainder p.level p.host) values.f p.value values.e anchor.age (64 - anchor.age) p.target anchor.level anchor.clock
       anchor.host (omega (arith, tight.drift)) (omega (arith, tight.value)) left tight.clock tight.start.1
 
 -- the free formula
 pub free : (values : Nominal) (anchor : Anchor) (p : Point) → anchor.age ≤ 64 → p.value + 1024 * anchor.level ≡ values.f + 1024 * p.target
     → HasDrifted values anchor p
     → Within (64 * (anchor.age * values.e))
-    (64 * stored p.level p.host + (64 - anchor.age) * owed p.target anchor.clock + anchor.age * anchor.clock)
-    (64 * owed p.target p.clock + (64 - anchor.age) * stored anchor.level anchor.host + anchor.age * anchor.host)
+    (64 * level_and_remainder p.level p.host + (64 - anchor.age) * target_and_remainder p.target anchor.clock + anchor.age * anchor.clock)
+    (64 * target_and_remainder p.target p.clock + (64 - anchor.age) * level_and_remainder anchor.level anchor.host + anchor.age * anchor.host)
 free values anchor p young asks drift =
     let left : (64 - anchor.age) + anchor.age ≡ 64 = omega arith in (
-      free_half (stored p.level p.host) (owed p.target p.clock) p.value values.f values.e anchor.age (64 - anchor.age) anchor.level p.target anchor.host
+      free_half (level_and_remainder p.level p.host) (target_and_remainder p.target p.clock) p.value values.f values.e anchor.age (64 - anchor.age) anchor.level p.target anchor.host
           anchor.clock (omega arith) (omega arith) left,
-      free_half (owed p.target p.clock) (stored p.level p.host) values.f p.value values.e anchor.age (64 - anchor.age) p.target anchor.level anchor.clock
+      free_half (target_and_remainder p.target p.clock) (level_and_remainder p.level p.host) values.f p.value values.e anchor.age (64 - anchor.age) p.target anchor.level anchor.clock
           anchor.host (omega arith) (omega arith) left,
     )
 
 pub interval_tight : (values : Nominal) (service period : ℕ) (anchor : Anchor) (p q : Point) → Interval values service period false p q
-    → IsTight values period anchor p → IsTight values period (aged service anchor) q
+    → IsTight values period anchor p → IsTight values period (anchor_after_interval service anchor) q
 interval_tight values service period anchor p q i tight =
     let later = since_interval values service period false p q i in
     let same : (anchor.age + service) * q.value ≡ (anchor.age + service) * p.value = ap (λ (n : ℕ). (anchor.age + service) * n) i.value_is in
-    let moved : stored q.level q.host + owed p.target p.clock + i.steps ≡ stored p.level p.host + owed q.target q.clock + service * p.value = omega arith in
+    let moved : level_and_remainder q.level q.host + target_and_remainder p.target p.clock + i.steps ≡ level_and_remainder p.level p.host + target_and_remainder q.target q.clock + service * p.value = omega arith in
     record {
       counted = interval_counted values service period false p q i tight.counted;
       host = tight.host;
@@ -316,7 +316,7 @@ interval_tight values service period anchor p q i tight =
     }
 
 pub report_tight : (values : Nominal) (band service period : ℕ) (report_lost : Bool) (anchor : Anchor) (p q : Point) → HasBand values band
-    → AreIntervals service period → Reported values period report_lost p q → IsTight values period anchor p
+    → AreIntervals service period → TakesReport values period report_lost p q → IsTight values period anchor p
     → IsTight values period (anchor_after report_lost anchor p) q
 report_tight values band service period false anchor p q facts intervals r tight =
     let near = tight_near values band period anchor p facts intervals.reports tight in
@@ -374,7 +374,7 @@ primed_tight values band service period p facts primed = record {
 
 -- what a ring holds at some moment
 pub moment_held : (values : Nominal) (service period : ℕ) (p : Point) (held : ℕ) → HasRoom values → AreIntervals service period
-    → IsRobust values 65 service period p → Moment values service p held → IsHeld service held
+    → IsRobust values 65 service period p → Moment values service p held → IsSafeLevel service held
 moment_held values service period p held room intervals robust m = record {
   single = λ one.
       let few : service * values.hi ≡ 1 * values.hi = ap (λ (n : ℕ). n * values.hi) one in

@@ -4,7 +4,7 @@ use Rattle.std.proofs.lemmas.Bool.{eqb-true, eqb-false, eq-eqb, false≢true}
 use Rattle.std.proofs.lemmas.Grind.{common_steps, get_or-set_at}
 use Rattle.std.proofs.lemmas.List.{get_or-set_other}
 use Rattle.std.specs.List.{list_all, list_any}
-use Rattle.uac_rate.specs.Steadiness.{Given, SteadyFields, KeepsGiven, one_more, with_report_given, is_slight, run, has_four_lost, keeps_feedback, eight_streams, is_steady, latest_run, HasFourInARow}
+use Rattle.uac_rate.specs.Steadiness.{SteadyHistory, SteadyFields, SteadyStands, one_more, with_report_given, is_slight, run, has_four_lost, keeps_feedback, eight_streams, is_steady, latest_run, HasFourInARow}
 
 here : (p ok a n : Bool) → ((p && ok) && (a && (if n then ok else true))) ≡ ((p && a) && ok)
 here false ok a n = refl
@@ -70,7 +70,7 @@ and_last : (a b c : Bool) → (a && (b && c)) ≡ ((a && b) && c)
 and_last false b c = refl
 and_last true b c = refl
 
-steady_after : (given : Given) (stream : ℕ) (lost : Bool) → stream < 8
+steady_after : (given : SteadyHistory) (stream : ℕ) (lost : Bool) → stream < 8
     → is_steady (with_report_given stream lost given) ≡ (is_steady given && nat_lt (latest_run (one_more lost (given.feedback stream))) 4)
 unfolding keeps
 steady_after given stream lost below =
@@ -95,10 +95,10 @@ held_at_four (suc (suc zero)) = refl
 held_at_four (suc (suc (suc zero))) = refl
 held_at_four (suc (suc (suc (suc n)))) = grind (arith, common_steps)
 
-pub report_stands : (kept : SteadyFields) (given : Given) (stream : ℕ) (lost : Bool) (kept_run : ℕ) (holds : Bool) → stream < 8 → KeepsGiven kept given
+pub report_stands : (kept : SteadyFields) (given : SteadyHistory) (stream : ℕ) (lost : Bool) (kept_run : ℕ) (holds : Bool) → stream < 8 → SteadyStands kept given
     → kept_run ≡ min (latest_run (one_more lost (given.feedback stream))) 4
     → holds ≡ (kept.holds && nat_lt kept_run 4)
-    → KeepsGiven (record { holds = holds; runs = slice_set kept.runs stream kept_run }) (with_report_given stream lost given)
+    → SteadyStands (record { holds = holds; runs = slice_set kept.runs stream kept_run }) (with_report_given stream lost given)
 report_stands kept given stream lost kept_run holds below stood run_is holds_is =
     let r = latest_run (one_more lost (given.feedback stream)) in
     let short : nat_lt kept_run 4 ≡ nat_lt r 4 = ap (λ (n : ℕ). nat_lt n 4) run_is ∙ held_at_four r in

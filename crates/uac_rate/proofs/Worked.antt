@@ -3,7 +3,7 @@ use Rattle.std.proofs.Common.{◌≡◌, ℕ, pos, negsuc, true, false, [], ◌�
 use Rattle.uac_clock.specs.Nominal.{values_of}
 use Rattle.uac_rate.specs.PacketSizes.{frames_in_packet}
 use Rattle.uac_rate.specs.Reports.{report_of}
-use Rattle.uac_rate.specs.Steadiness.{Given, nothing_given, with_deviation_given, with_report_given, with_restart_given, is_steady}
+use Rattle.uac_rate.specs.Steadiness.{SteadyHistory, nothing_given, with_deviation_given, with_report_given, with_restart_given, is_steady}
 
 -- at 44,100 Hz packets have five frames and six in turn, since the first leaves half a frame
 first_of_44100 : frames_in_packet 1 (361267 ∷ []) ≡ 5
@@ -55,10 +55,10 @@ slow : is_steady (with_deviation_given (pos 0) (with_deviation_given (negsuc 100
 slow = refl
 
 -- reports of a stream that were lost, in succession
-abbrev lost_one : ℕ → Given → Given
+abbrev lost_one : ℕ → SteadyHistory → SteadyHistory
 lost_one stream given = with_report_given stream true given
 
-abbrev lost_three : ℕ → Given → Given
+abbrev lost_three : ℕ → SteadyHistory → SteadyHistory
 lost_three stream given = lost_one stream (lost_one stream (lost_one stream given))
 
 three_lost : is_steady (lost_three 1 (with_restart_given 1 nothing_given)) ≡ true

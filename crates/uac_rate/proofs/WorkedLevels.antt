@@ -2,7 +2,7 @@
 use Rattle.std.proofs.Common.{arith, ◌≡◌, ℕ, ◌+◌, ◌-◌, ◌*◌, [], ◌∷◌, map, false, inl, inr, refl}
 use Rattle.uac_clock.specs.declared.values.Nominal.{Nominal}
 use Rattle.uac_clock.specs.Nominal.{twelve_rates, values_of}
-use Rattle.uac_rate.specs.Levels.{Point, Interval, Reported, IsLow, IsTarget}
+use Rattle.uac_rate.specs.Levels.{Point, Interval, TakesReport, IsLow, IsTarget}
 
 -- the nominal values of the twelve rates
 table : map values_of twelve_rates ≡
@@ -82,7 +82,7 @@ seven_ticks = record {
 }
 
 -- the report that is due then asks for 1,024 more
-asks_for_more : Reported at_48000 8 false (point 257 393216 8 3) (point 257 394240 0 0)
+asks_for_more : TakesReport at_48000 8 false (point 257 393216 8 3) (point 257 394240 0 0)
 asks_for_more = record {
   due = refl;
   waited_is = refl;

@@ -5,9 +5,10 @@ use Rattle.uac_clock.specs.declared.values.Nominal.{Nominal}
 use Rattle.uac_clock.specs.Nominal.{IsNominal, HasRoom, step_of}
 use Rattle.uac_rate.specs.PacketSizes.{frames_in_packet}
 use Rattle.uac_rate.specs.Steadiness.{is_slight}
-use Rattle.uac_rate.specs.Levels.{HasBand, AreIntervals, Point, Within, stored, owed, Interval, Reported}
+use Rattle.uac_rate.specs.Levels.{HasBand, AreIntervals, Point, Within, level_and_remainder, target_and_remainder, Interval, TakesReport}
 use Rattle.uac_rate.specs.Levels.{IsTarget, IsRobust, Anchor, anchor_of}
-use Rattle.uac_rate.specs.Levels.{aged, anchor_after, HasDrifted, IsTight, IsJustPrimed, IsPriming, Fills, Moment, IsHeld, FallsDue}
+use Rattle.uac_rate.specs.Levels.{anchor_after_interval, anchor_after, HasDrifted, IsTight, IsJustPrimed, IsPriming, Fills, Moment}
+use Rattle.uac_rate.specs.Levels.{IsSafeLevel, FallsDue}
 
 -- each of the twelve rates has room, and a band of 65 frames
 abbrev pub RatesHaveBands : Type 0
@@ -63,7 +64,7 @@ IntervalsKeepRobust =
 abbrev pub ReportsKeepRobust : Type 0
 ReportsKeepRobust =
     (values : Nominal) (band service period : ℕ) (report_lost : Bool) (p q : Point) → HasBand values band → AreIntervals service period
-    → Reported values period report_lost p q → IsRobust values band service period p → IsRobust values band service period q
+    → TakesReport values period report_lost p q → IsRobust values band service period p → IsRobust values band service period q
 
 -- where the report of the anchor isn't held at either end: in 64ths, each microframe since the anchor takes one of its error, and leaves
 -- the remainders of the anchor and at most what the clock deviated
@@ -72,20 +73,21 @@ FreeFormula =
     (values : Nominal) (anchor : Anchor) (p : Point) → anchor.age ≤ 64 → p.value + 1024 * anchor.level ≡ values.f + 1024 * p.target
     → HasDrifted values anchor p
     → Within (64 * (anchor.age * values.e))
-    (64 * stored p.level p.host + (64 - anchor.age) * owed p.target anchor.clock + anchor.age * anchor.clock)
-    (64 * owed p.target p.clock + (64 - anchor.age) * stored anchor.level anchor.host + anchor.age * anchor.host)
+    (64 * level_and_remainder p.level p.host + (64 - anchor.age) * target_and_remainder p.target anchor.clock + anchor.age * anchor.clock)
+    (64 * target_and_remainder p.target p.clock + (64 - anchor.age) * level_and_remainder anchor.level anchor.host + anchor.age *
+    anchor.host)
 
 -- an interval whose packet came keeps a tight stream tight
 abbrev pub IntervalsKeepTight : Type 0
 IntervalsKeepTight =
     (values : Nominal) (service period : ℕ) (anchor : Anchor) (p q : Point) → Interval values service period false p q
-    → IsTight values period anchor p → IsTight values period (aged service anchor) q
+    → IsTight values period anchor p → IsTight values period (anchor_after_interval service anchor) q
 
 -- so does a report, whether it came, which makes a new anchor, or was lost
 abbrev pub ReportsKeepTight : Type 0
 ReportsKeepTight =
     (values : Nominal) (band service period : ℕ) (report_lost : Bool) (anchor : Anchor) (p q : Point) → HasBand values band
-    → AreIntervals service period → Reported values period report_lost p q → IsTight values period anchor p
+    → AreIntervals service period → TakesReport values period report_lost p q → IsTight values period anchor p
     → IsTight values period (anchor_after report_lost anchor p) q
 
 -- a robust stream is within 130 frames of its target at the end of an interval, and a tight one within 3
@@ -103,7 +105,7 @@ TightIsNear =
 abbrev pub RingsHoldEnough : Type 0
 RingsHoldEnough =
     (values : Nominal) (service period : ℕ) (p : Point) (held : ℕ) → HasRoom values → AreIntervals service period
-    → IsRobust values 65 service period p → Moment values service p held → IsHeld service held
+    → IsRobust values 65 service period p → Moment values service p held → IsSafeLevel service held
 
 -- a stream is primed at a level in its range: it was below the least one until a packet came at the nominal value, or an interval's zeros
 abbrev pub PrimedInRange : Type 0

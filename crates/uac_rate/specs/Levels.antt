@@ -42,11 +42,11 @@ abbrev pub Within : ℕ → ℕ → ℕ → Type 0
 Within most a b = (a ≤ b + most) × (b ≤ a + most)
 
 -- the frames in the ring with the host's remainder, and the target with the clock's
-abbrev pub stored : ℕ → ℕ → ℕ
-stored level host = 65536 * level + host
+abbrev pub level_and_remainder : ℕ → ℕ → ℕ
+level_and_remainder level host = 65536 * level + host
 
-abbrev pub owed : ℕ → ℕ → ℕ
-owed target clock = 65536 * target + clock
+abbrev pub target_and_remainder : ℕ → ℕ → ℕ
+target_and_remainder target clock = 65536 * target + clock
 
 -- the microframes since a report came, or since the stream's start
 abbrev pub since : ℕ → Point → ℕ
@@ -85,7 +85,7 @@ value_after false values p = report_of values p.target p.level
 value_after true values p = p.value
 
 -- a report that fell due at the end of an interval and came, or was lost, but wasn't the fourth in succession
-pub record Reported (values : Nominal) (period : ℕ) (report_lost : Bool) (p q : Point) : Type 0 where
+pub record TakesReport (values : Nominal) (period : ℕ) (report_lost : Bool) (p q : Point) : Type 0 where
   pub due : p.waited ≡ period
   pub waited_is : q.waited ≡ 0
   pub lost_is : q.lost ≡ lost_after report_lost p.lost
@@ -137,8 +137,8 @@ pub record Anchor : Type 0 where
 abbrev pub anchor_of : Point → Anchor
 anchor_of p = record { level = p.level; host = p.host; clock = p.clock; age = 0 }
 
-abbrev pub aged : ℕ → Anchor → Anchor
-aged service anchor = record anchor { age = anchor.age + service }
+abbrev pub anchor_after_interval : ℕ → Anchor → Anchor
+anchor_after_interval service anchor = record anchor { age = anchor.age + service }
 
 -- a report that comes is a new anchor
 abbrev pub anchor_after : Bool → Anchor → Point → Anchor
@@ -152,15 +152,15 @@ tight_bound values = 65535 + 64 * values.e
 -- since the anchor the level moved by what the value in force is over the nominal one, but for what the clock deviated
 abbrev pub HasDrifted : Nominal → Anchor → Point → Type 0
 HasDrifted values anchor p =
-    Within (anchor.age * values.e) (stored p.level p.host + owed p.target anchor.clock + anchor.age * values.f)
-    (owed p.target p.clock + stored anchor.level anchor.host + anchor.age * p.value)
+    Within (anchor.age * values.e) (level_and_remainder p.level p.host + target_and_remainder p.target anchor.clock + anchor.age * values.f)
+    (target_and_remainder p.target p.clock + level_and_remainder anchor.level anchor.host + anchor.age * p.value)
 
 -- the value in force is the report of the anchor, which lies close to the target
 pub record IsTight (values : Nominal) (period : ℕ) (anchor : Anchor) (p : Point) : Type 0 where
   pub counted : IsCounted period p
   pub host : anchor.host < 65536
   pub clock : anchor.clock < 65536
-  pub start : Within (tight_bound values) (stored anchor.level anchor.host) (owed p.target anchor.clock)
+  pub start : Within (tight_bound values) (level_and_remainder anchor.level anchor.host) (target_and_remainder p.target anchor.clock)
   pub value : p.value ≡ report_of values p.target anchor.level
   pub age : anchor.age ≤ since period p
   pub drift : HasDrifted values anchor p
@@ -201,7 +201,7 @@ pub record Moment (values : Nominal) (service : ℕ) (p : Point) (held : ℕ) : 
   pub held_is : held + played ≡ p.level + came
 
 -- the frames that a primed ring holds
-pub record IsHeld (service held : ℕ) : Type 0 where
+pub record IsSafeLevel (service held : ℕ) : Type 0 where
   pub single : service ≡ 1 → (101 ≤ held) × (held ≤ 435)
   pub longer : 1 < service → (182 ≤ held) × (held ≤ 1041)
 

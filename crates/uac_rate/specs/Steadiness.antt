@@ -5,11 +5,11 @@ use Rattle.std.specs.List.{list_all}
 
 -- what was given: the deviations, in ppm, the latest first; and by stream a list for each start, the latest first, of whether
 -- each feedback report since then was lost, the latest first
-pub record Given : Type 0 where
+pub record SteadyHistory : Type 0 where
   pub deviations : List ℤ
   pub feedback : ℕ → List (List Bool)
 
-abbrev pub nothing_given : Given
+abbrev pub nothing_given : SteadyHistory
 nothing_given = record { deviations = []; feedback = λ stream. [] }
 
 -- the reports of each start with one more in the latest start
@@ -17,14 +17,14 @@ abbrev pub one_more : Bool → List (List Bool) → List (List Bool)
 one_more lost [] = (lost ∷ []) ∷ []
 one_more lost (latest ∷ earlier) = (lost ∷ latest) ∷ earlier
 
-abbrev pub with_deviation_given : ℤ → Given → Given
+abbrev pub with_deviation_given : ℤ → SteadyHistory → SteadyHistory
 with_deviation_given ppm given = record given { deviations = ppm ∷ given.deviations }
 
-abbrev pub with_report_given : ℕ → Bool → Given → Given
+abbrev pub with_report_given : ℕ → Bool → SteadyHistory → SteadyHistory
 with_report_given stream lost given =
     record given { feedback = λ k. if k == stream then one_more lost (given.feedback k) else given.feedback k }
 
-abbrev pub with_restart_given : ℕ → Given → Given
+abbrev pub with_restart_given : ℕ → SteadyHistory → SteadyHistory
 with_restart_given stream given = record given { feedback = λ k. if k == stream then [] ∷ given.feedback k else given.feedback k }
 
 -- a clock is off by at most a thousandth
@@ -59,11 +59,11 @@ abbrev pub eight_streams : List ℕ
 eight_streams = 0 ∷ 1 ∷ 2 ∷ 3 ∷ 4 ∷ 5 ∷ 6 ∷ 7 ∷ []
 
 -- no deviation passed a thousandth, and no stream lost four feedback reports in succession
-abbrev pub is_steady : Given → Bool
+abbrev pub is_steady : SteadyHistory → Bool
 is_steady given = list_all is_slight given.deviations && keeps_feedback given.feedback eight_streams
 
 -- all that was given is steady, as a fact
-abbrev pub IsSteady : Given → Type 0
+abbrev pub IsSteady : SteadyHistory → Type 0
 IsSteady given = is_steady given ≡ true
 
 -- what is kept of that
@@ -77,7 +77,7 @@ latest_run [] = 0
 latest_run (latest ∷ earlier) = run latest
 
 -- what `Steady` keeps of all that was given
-pub record KeepsGiven (kept : SteadyFields) (given : Given) : Type 0 where
+pub record SteadyStands (kept : SteadyFields) (given : SteadyHistory) : Type 0 where
   pub holds : kept.holds ≡ is_steady given
   pub eight : length kept.runs ≡ 8
   pub runs : (stream : ℕ) → stream < 8 → get_or kept.runs stream 0 ≡ min (latest_run (given.feedback stream)) 4

@@ -21,12 +21,12 @@ impl Model for Steady {
 
 impl Steady {
     ghost use Rattle.std.specs.Prelude.{◌≡◌, ◌<◌, false};
-    ghost use Rattle.uac_rate.specs.Steadiness.{KeepsGiven, Given, nothing_given, with_deviation_given, with_report_given};
+    ghost use Rattle.uac_rate.specs.Steadiness.{SteadyStands, SteadyHistory, nothing_given, with_deviation_given, with_report_given};
     ghost use Rattle.uac_rate.specs.Steadiness.{with_restart_given, is_steady};
 
     /// Nothing was given yet.
     pub fn new() -> Steady
-        ensures stands { KeepsGiven result nothing_given }
+        ensures stands { SteadyStands result nothing_given }
     {
         Steady {
             holds: true,
@@ -36,7 +36,7 @@ impl Steady {
 
     /// A clock is off by so many ppm from now on.
     pub fn deviate(&mut self, ppm: i32)
-        ensures stands { (given : Given) → KeepsGiven self.old given → KeepsGiven self.new (with_deviation_given ppm given) }
+        ensures stands { (given : SteadyHistory) → SteadyStands self.old given → SteadyStands self.new (with_deviation_given ppm given) }
         ensures never_again { self.old.holds ≡ false → self.new.holds ≡ false }
     {
         self.holds = self.holds && -1000 <= ppm && ppm <= 1000;
@@ -45,7 +45,8 @@ impl Steady {
     /// A feedback report of this stream came, or was lost.
     pub fn report(&mut self, stream: u8, lost: bool)
         requires { stream < 8 }
-        ensures stands { (given : Given) → KeepsGiven self.old given → KeepsGiven self.new (with_report_given stream lost given) }
+        ensures stands { (given : SteadyHistory) → SteadyStands self.old given
+            → SteadyStands self.new (with_report_given stream lost given) }
         ensures never_again { self.old.holds ≡ false → self.new.holds ≡ false }
     {
         let run = if lost {
@@ -60,7 +61,7 @@ impl Steady {
     /// Starts a stream anew: reports lost before are no part of a run of reports after.
     pub fn restart(&mut self, stream: u8)
         requires { stream < 8 }
-        ensures stands { (given : Given) → KeepsGiven self.old given → KeepsGiven self.new (with_restart_given stream given) }
+        ensures stands { (given : SteadyHistory) → SteadyStands self.old given → SteadyStands self.new (with_restart_given stream given) }
         ensures never_again { self.old.holds ≡ false → self.new.holds ≡ false }
     {
         self.runs[usize::from(stream)] = 0;
@@ -68,7 +69,7 @@ impl Steady {
 
     /// Whether all that was given is steady. Once it isn't, it never is again.
     pub fn holds(&self) -> bool
-        ensures { (given : Given) → KeepsGiven self.now given → result ≡ is_steady given }
+        ensures { (given : SteadyHistory) → SteadyStands self.now given → result ≡ is_steady given }
     {
         self.holds
     }

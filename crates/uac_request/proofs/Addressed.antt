@@ -3,7 +3,7 @@ use Rattle.std.proofs.Common.{◌≡◌, ◌∙◌, sym, ap, refl, ℕ, ◌+◌,
 use Rattle.std.specs.Option.{option_map_or}
 use Rattle.std.proofs.Math.Seq.{take-length}
 use Rattle.std.proofs.lemmas.Bool.{cases_Bool}
-use Rattle.uac_entities.specs.EntityStreams.{named}
+use Rattle.uac_entities.specs.EntityInterfaces.{entity_by_id}
 use Rattle.uac_entities.specs.declared.entity.Entity.{Entity}
 use Rattle.uac_entities.specs.declared.entity.EntityKind.{EntityKind}
 use Rattle.uac_entities.specs.declared.entity.EntityKind.TheVariants as kind
@@ -14,10 +14,10 @@ use Rattle.uac_store.specs.declared.keys.Key.{Key}
 use Rattle.uac_store.specs.ControlTable.{selectors_of}
 use Rattle.uac_store.specs.StoreControls.{IsStoreOf}
 use Rattle.uac_store.specs.Keyed.{value_of, with_value}
-use Rattle.uac_store.proofs.Tabled.{at_each}
+use Rattle.uac_store.proofs.ControlTableLemmas.{at_each}
 use Rattle.uac_request.specs.declared.setup.Setup.{Setup}
 use Rattle.uac_request.specs.RequestElements.{get_of, is_present, set_of, signed_at, width_at}
-use Rattle.uac_request.specs.Requests.{after_request, answered, by_entity, controls_set, cur_bytes, cur_named, entity_bytes, entity_width, first_broken, has_interface, Held, held_by, high, is_declared_on, is_done, is_signed, is_stalled, kept_bytes, key_named, left_by, low, Owner, owner_of, reply_of, sent_value, value_bytes, value_from, with_bytes}
+use Rattle.uac_request.specs.Requests.{after_request, unbroken_reply, by_entity, controls_set, cur_bytes, cur_named, entity_bytes, entity_width, first_broken, has_interface, RequestState, request_state, high, is_declared_on, is_done, is_signed, is_stalled, kept_bytes, key_named, left_by, low, Owner, owner_of, reply_of, sent_value, value_bytes, value_from, with_bytes}
 use Rattle.uac_request.proofs.Asked.{answered_cur, answered_set, first_cur, left_cur, left_set}
 use Rattle.uac_request.proofs.Answering.{few_channels, IsKept, kept_in}
 use Rattle.uac_request.proofs.Coming.{length_value}
@@ -91,18 +91,18 @@ module _ (function : FunctionFields) (own : function.control_interface < 256) (k
     unfolding owner_of
     owner_is =
         let own_number : (low p.index == function.control_interface) ≡ true = eq-eqb (low p.index) function.control_interface index_low in
-        let found : named function.entities (high p.index) ≡ Some e = ap (named function.entities) index_high ∙ kept.is in
+        let found : entity_by_id function.entities (high p.index) ≡ Some e = ap (entity_by_id function.entities) index_high ∙ kept.is in
         rw (own_number, found) refl
 
     has_is : has_interface function (low p.index) ≡ true
     has_is = (let own_number : (low p.index == function.control_interface) ≡ true = eq-eqb (low p.index) function.control_interface index_low in rw own_number refl)
 
-    get_none : (held : Held) → p.request_type ≡ 161 → p.request ≡ 1 → is_declared_on e.kind e k.selector k.channel ≡ true → first_broken function held p [] ≡ None
+    get_none : (held : RequestState) → p.request_type ≡ 161 → p.request ≡ 1 → is_declared_on e.kind e k.selector k.channel ≡ true → first_broken function held p [] ≡ None
     get_none held type number declared =
         first_cur function held p [] (by_entity e) has_is owner_is type number
         ∙ rw (value_high, value_low, has_width e.kind k.selector kept.some kept.low, kept.within, declared) refl
 
-    cur_is : (controls : List (Key × ℤ)) (v : ℤ) (held : Held) → held.controls ≡ controls → value_of controls k ≡ Some v → cur_named function held p ≡ value_bytes (width_at function.entities k) v
+    cur_is : (controls : List (Key × ℤ)) (v : ℤ) (held : RequestState) → held.controls ≡ controls → value_of controls k ≡ Some v → cur_named function held p ≡ value_bytes (width_at function.entities k) v
     unfolding cur_bytes
     cur_is controls v held same is =
         let wide : width_at function.entities k ≡ unwrap_or (entity_width e.kind k.selector) 0 = ap (λ o. option_map_or (λ (x : Entity). unwrap_or (entity_width x.kind k.selector) 0) o 0) kept.is in
@@ -112,7 +112,7 @@ module _ (function : FunctionFields) (own : function.control_interface < 256) (k
         let by_value : kept_bytes controls k (entity_width e.kind k.selector) ≡ value_bytes (width_at function.entities k) v = λ j. value_bytes (sym wide j) (unwrap_or (is j) (pos 0)) in
         by_owner ∙ by_key ∙ by_kind ∙ by_value
 
-    controls_are : (held : Held) (sent : List ℕ) → controls_set function held p sent ≡ with_value held.controls k (value_from (signed_at function.entities k) sent)
+    controls_are : (held : RequestState) (sent : List ℕ) → controls_set function held p sent ≡ with_value held.controls k (value_from (signed_at function.entities k) sent)
     controls_are held sent =
         let signed : signed_at function.entities k ≡ is_signed e.kind k.selector = ap (λ o. option_map_or (λ (x : Entity). is_signed x.kind k.selector) o false) kept.is in
         ap (λ o. option_map_or (λ (owner : Owner). with_value held.controls (key_named p) (sent_value owner (high p.value) sent)) o held.controls) owner_is
@@ -123,25 +123,25 @@ module _ (function : FunctionFields) (own : function.control_interface < 256) (k
 
 -- a control that keeps a value and is declared answers with its value
 pub element_answered : (function : FunctionFields) (controls : List (Key × ℤ)) (settings : List InterfaceSetting) (k : Key) (v : ℤ) → IsSoundFunction function → function.control_interface < 256 → IsStoreOf function.entities controls → is_present function.entities k ≡ true → value_of controls k ≡ Some v
-    → reply_of function (held_by controls settings) (get_of function k) [] ≡ with_bytes (value_bytes (width_at function.entities k) v)
+    → reply_of function (request_state controls settings) (get_of function k) [] ≡ with_bytes (value_bytes (width_at function.entities k) v)
 unfolding reply_of get_of
 element_answered function controls settings k v sound own store present is =
     let found = kept_in function.entities controls k v store is in
     let e : Entity = found.0 in
     let kept : IsKept function.entities k e = found.1 in
     let few : k.channel < 256 = few_channels function k e sound kept in
-    let held : Held = held_by controls settings in
+    let held : RequestState = request_state controls settings in
     let wide : ℕ = width_at function.entities k in
     let declared : is_declared_on e.kind e k.selector k.channel ≡ true = ap (λ o. option_map_or (λ (x : Entity). is_declared_on x.kind x k.selector k.channel) o false) (sym kept.is) ∙ present in
     let none = get_none function own k few (get_of function k) refl refl e kept held refl refl declared in
     let cur = cur_is function own k few (get_of function k) refl refl e kept controls v held refl is in
-    ap (λ o. option_map_or is_stalled o (answered function held (get_of function k))) none
+    ap (λ o. option_map_or is_stalled o (unbroken_reply function held (get_of function k))) none
     ∙ answered_cur function held (get_of function k) refl refl
     ∙ ap (λ xs. with_bytes (take wide xs)) cur
     ∙ ap (λ xs. with_bytes xs) (take_all wide (value_bytes wide v) (length_value wide v))
 
 -- and nothing changes
-pub element_keeps : (function : FunctionFields) (held : Held) (k : Key) → after_request function held (get_of function k) [] ≡ held
+pub element_keeps : (function : FunctionFields) (held : RequestState) (k : Key) → after_request function held (get_of function k) [] ≡ held
 unfolding after_request get_of
 element_keeps function held k = elim (cases_Bool (is_some (first_broken function held (get_of function k) []))) [
   | inl stalled ↦ rw stalled refl
@@ -154,15 +154,15 @@ not_stalled (Some rule) done = cc
 
 -- a control whose request to set it is done holds the value that the bytes are
 element_set : (function : FunctionFields) (controls : List (Key × ℤ)) (settings : List InterfaceSetting) (k : Key) (v : ℤ) (sent : List ℕ) → IsSoundFunction function → function.control_interface < 256 → IsStoreOf function.entities controls → value_of controls k ≡ Some v
-    → reply_of function (held_by controls settings) (set_of function k) sent ≡ is_done
-    → (after_request function (held_by controls settings) (set_of function k) sent ≡ held_by (with_value controls k (value_from (signed_at function.entities k) sent)) settings) × (length sent ≡ width_at function.entities k)
+    → reply_of function (request_state controls settings) (set_of function k) sent ≡ is_done
+    → (after_request function (request_state controls settings) (set_of function k) sent ≡ request_state (with_value controls k (value_from (signed_at function.entities k) sent)) settings) × (length sent ≡ width_at function.entities k)
 unfolding reply_of after_request get_of set_of
 element_set function controls settings k v sent sound own store is done =
     let found = kept_in function.entities controls k v store is in
     let e : Entity = found.0 in
     let kept : IsKept function.entities k e = found.1 in
     let few : k.channel < 256 = few_channels function k e sound kept in
-    let held : Held = held_by controls settings in
+    let held : RequestState = request_state controls settings in
     let p : Setup = set_of function k in
     let none : first_broken function held p sent ≡ None = not_stalled (first_broken function held p sent) (ap (option_map_or is_stalled (first_broken function held p sent)) (sym (answered_set function held p refl refl)) ∙ done) in
     let taken : IsTaken function held p sent (by_entity e) = is_taken function held p sent (by_entity e) (has_is function own k few p refl refl e kept) (owner_is function own k few p refl refl e kept) refl refl none in
@@ -173,8 +173,8 @@ element_set function controls settings k v sent sound own store is done =
       taken.whole ∙ wide,
     )
 
-pub set_holds : (function : FunctionFields) (controls : List (Key × ℤ)) (settings : List InterfaceSetting) (k : Key) (v : ℤ) (sent : List ℕ) → IsSoundFunction function → function.control_interface < 256 → IsStoreOf function.entities controls → value_of controls k ≡ Some v → reply_of function (held_by controls settings) (set_of function k) sent ≡ is_done → after_request function (held_by controls settings) (set_of function k) sent ≡ held_by (with_value controls k (value_from (signed_at function.entities k) sent)) settings
+pub set_holds : (function : FunctionFields) (controls : List (Key × ℤ)) (settings : List InterfaceSetting) (k : Key) (v : ℤ) (sent : List ℕ) → IsSoundFunction function → function.control_interface < 256 → IsStoreOf function.entities controls → value_of controls k ≡ Some v → reply_of function (request_state controls settings) (set_of function k) sent ≡ is_done → after_request function (request_state controls settings) (set_of function k) sent ≡ request_state (with_value controls k (value_from (signed_at function.entities k) sent)) settings
 set_holds function controls settings k v sent sound own store is done = (element_set function controls settings k v sent sound own store is done).0
 
-pub set_has_width : (function : FunctionFields) (controls : List (Key × ℤ)) (settings : List InterfaceSetting) (k : Key) (v : ℤ) (sent : List ℕ) → IsSoundFunction function → function.control_interface < 256 → IsStoreOf function.entities controls → value_of controls k ≡ Some v → reply_of function (held_by controls settings) (set_of function k) sent ≡ is_done → length sent ≡ width_at function.entities k
+pub set_has_width : (function : FunctionFields) (controls : List (Key × ℤ)) (settings : List InterfaceSetting) (k : Key) (v : ℤ) (sent : List ℕ) → IsSoundFunction function → function.control_interface < 256 → IsStoreOf function.entities controls → value_of controls k ≡ Some v → reply_of function (request_state controls settings) (set_of function k) sent ≡ is_done → length sent ≡ width_at function.entities k
 set_has_width function controls settings k v sent sound own store is done = (element_set function controls settings k v sent sound own store is done).1

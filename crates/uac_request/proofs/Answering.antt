@@ -5,7 +5,7 @@ use Rattle.std.specs.Option.{option_map_or}
 use Rattle.std.proofs.lemmas.Bool.{and_parts, ltb-true}
 use Rattle.std.proofs.lemmas.List.Folds.{find_at}
 use Rattle.std.proofs.lemmas.Option.{get_or_from_slice_get, slice_get_within}
-use Rattle.uac_entities.specs.EntityStreams.{named}
+use Rattle.uac_entities.specs.EntityInterfaces.{entity_by_id}
 use Rattle.uac_entities.specs.declared.entity.Entity.{Entity}
 use Rattle.uac_entities.specs.declared.entity.EntityKind.{EntityKind}
 use Rattle.uac_entities.specs.declared.entity.EntityKind.TheVariants as kind
@@ -27,12 +27,12 @@ use Rattle.uac_request.proofs.Coming.{taken_within, value_back, width_of_kept}
 
 -- its entity has its selector and its channel
 pub record IsKept (entities : List Entity) (k : Key) (e : Entity) : Type 0 where
-  pub is : named entities k.entity ≡ Some e
+  pub is : entity_by_id entities k.entity ≡ Some e
   pub some : nat_lt 0 k.selector ≡ true
   pub low : nat_le k.selector (selectors_of e.kind) ≡ true
   pub within : nat_lt k.channel (count_of entities e) ≡ true
 
-on_entity : (entities : List Entity) (k : Key) (e : Entity) → named entities k.entity ≡ Some e → has_on entities k e ≡ true → IsKept entities k e
+on_entity : (entities : List Entity) (k : Key) (e : Entity) → entity_by_id entities k.entity ≡ Some e → has_on entities k e ≡ true → IsKept entities k e
 unfolding has_on
 on_entity entities k e is there =
     record {
@@ -44,8 +44,8 @@ on_entity entities k e is there =
 
 pub kept_of : (entities : List Entity) (k : Key) → has_control entities k ≡ true → (e : Entity) × IsKept entities k e
 unfolding has_control
-kept_of entities k there = from (named entities k.entity) refl there where
-  from : (o : Option Entity) → named entities k.entity ≡ o → option_map_or (has_on entities k) o false ≡ true → (e : Entity) × IsKept entities k e
+kept_of entities k there = from (entity_by_id entities k.entity) refl there where
+  from : (o : Option Entity) → entity_by_id entities k.entity ≡ o → option_map_or (has_on entities k) o false ≡ true → (e : Entity) × IsKept entities k e
   from None is there = cc
   from (Some e) is there = (e, on_entity entities k e is there)
 
@@ -53,8 +53,8 @@ kept_of entities k there = from (named entities k.entity) refl there where
 pub kept_in : (entities : List Entity) (controls : List (Key × ℤ)) (k : Key) (v : ℤ) → IsStoreOf entities controls → value_of controls k ≡ Some v → (e : Entity) × IsKept entities k e
 kept_in entities controls k v store is = kept_of entities k (sym (store.keys k) ∙ ap is_some is)
 
-all_named : (P : Entity → Type 0) (entities : List Entity) (id : ℕ) (e : Entity) → All P entities → named entities id ≡ Some e → P e
-unfolding named
+all_named : (P : Entity → Type 0) (entities : List Entity) (id : ℕ) (e : Entity) → All P entities → entity_by_id entities id ≡ Some e → P e
+unfolding entity_by_id
 all_named P entities id e each is =
     let place : ℕ = position_or_len (λ (x : Entity). x.id == id) entities in
     let at : slice_get entities place ≡ Some e = sym (find_at (λ (x : Entity). x.id == id) entities) ∙ is in

@@ -5,36 +5,36 @@ use Rattle.uac_topology.specs.Function.{FunctionFields}
 use Rattle.uac_alt.specs.AltSettings.{setting_of, with_setting}
 use Rattle.uac_request.specs.declared.setup.Setup.{Setup}
 use Rattle.uac_request.specs.Owners.{get_rules, set_rules}
-use Rattle.uac_request.specs.Requests.{answered, breaks_q1, breaks_q2, breaks_q3, breaks_q4, breaks_q5, breaks_q6, breaks_q7, breaks_q8, breaks_q9, breaks_q10, breaks_q11, breaks_q12, can_hold, controls_set, cur_named, first_broken, has_interface, has_setting, Held, is_done, is_empty, is_to_control, is_to_interface, least, left_by, low, owner_of, Owner, ranges_named, with_bytes, with_descriptor}
+use Rattle.uac_request.specs.Requests.{unbroken_reply, breaks_q1, breaks_q2, breaks_q3, breaks_q4, breaks_q5, breaks_q6, breaks_q7, breaks_q8, breaks_q9, breaks_q10, breaks_q11, breaks_q12, can_hold, controls_set, cur_named, first_broken, has_interface, has_setting, RequestState, is_done, is_empty, is_to_control, is_to_interface, least, left_by, low, owner_of, Owner, ranges_named, with_bytes, with_descriptor}
 
 -- ---- answers, and what is left
 
-module _ (function : FunctionFields) (held : Held) (p : Setup) where
-  pub answered_cur : p.request_type ≡ 161 → p.request ≡ 1 → answered function held p ≡ with_bytes (take p.length (cur_named function held p))
-  unfolding answered
+module _ (function : FunctionFields) (held : RequestState) (p : Setup) where
+  pub answered_cur : p.request_type ≡ 161 → p.request ≡ 1 → unbroken_reply function held p ≡ with_bytes (take p.length (cur_named function held p))
+  unfolding unbroken_reply
   answered_cur type number = rw (type, number) refl
 
-  pub answered_range : p.request_type ≡ 161 → p.request ≡ 2 → answered function held p ≡ with_bytes (take p.length (ranges_named function p))
-  unfolding answered
+  pub answered_range : p.request_type ≡ 161 → p.request ≡ 2 → unbroken_reply function held p ≡ with_bytes (take p.length (ranges_named function p))
+  unfolding unbroken_reply
   answered_range type number = rw (type, number) refl
 
-  pub answered_set : p.request_type ≡ 33 → p.request ≡ 1 → answered function held p ≡ is_done
-  unfolding answered
+  pub answered_set : p.request_type ≡ 33 → p.request ≡ 1 → unbroken_reply function held p ≡ is_done
+  unfolding unbroken_reply
   answered_set type number = rw type refl
 
-  pub answered_descriptor : p.request_type ≡ 128 → p.request ≡ 6 → answered function held p ≡ with_descriptor 0 (if nat_le p.length function.total then p.length else function.total)
-  unfolding answered
+  pub answered_descriptor : p.request_type ≡ 128 → p.request ≡ 6 → unbroken_reply function held p ≡ with_descriptor 0 (if nat_le p.length function.total then p.length else function.total)
+  unfolding unbroken_reply
   answered_descriptor type number = rw (type, number) refl
 
-  pub answered_interface : p.request_type ≡ 129 → p.request ≡ 10 → answered function held p ≡ with_bytes (take p.length (unwrap_or (setting_of held.settings p.index) 0 ∷ []))
-  unfolding answered
+  pub answered_interface : p.request_type ≡ 129 → p.request ≡ 10 → unbroken_reply function held p ≡ with_bytes (take p.length (unwrap_or (setting_of held.settings p.index) 0 ∷ []))
+  unfolding unbroken_reply
   answered_interface type number = rw (type, number) refl
 
-  pub answered_set_interface : p.request_type ≡ 1 → p.request ≡ 11 → answered function held p ≡ is_done
-  unfolding answered
+  pub answered_set_interface : p.request_type ≡ 1 → p.request ≡ 11 → unbroken_reply function held p ≡ is_done
+  unfolding unbroken_reply
   answered_set_interface type number = rw type refl
 
-module _ (function : FunctionFields) (held : Held) (p : Setup) (sent : List ℕ) where
+module _ (function : FunctionFields) (held : RequestState) (p : Setup) (sent : List ℕ) where
   pub left_cur : p.request_type ≡ 161 → left_by function held p sent ≡ held
   unfolding left_by
   left_cur type = rw type refl

@@ -9,7 +9,7 @@ use Rattle.uac_entities.specs.declared.entity.EntityKind.{EntityKind}
 use Rattle.uac_entities.specs.declared.entity.EntityKind.TheVariants as kind
 use Rattle.uac_gain.specs.Gain.{gain_of}
 use Rattle.uac_store.specs.ControlTable.{choices, is_frequency, is_one_to, is_switch, selectors_of, takes_by}
-use Rattle.uac_store.proofs.Tabled.{at_each}
+use Rattle.uac_store.proofs.ControlTableLemmas.{at_each}
 use Rattle.uac_request.specs.Requests.{complement, entity_width, is_signed, IsWithin, value_bytes, value_from}
 
 -- ---- numbers

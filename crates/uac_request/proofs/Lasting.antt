@@ -3,7 +3,7 @@ use Rattle.std.proofs.Common.{◌≡◌, ◌∙◌, sym, ap, subst, refl, ℕ, �
 use Rattle.std.specs.List.{list_any}
 use Rattle.std.specs.Option.{option_map, option_map_or}
 use Rattle.std.proofs.lemmas.Bool.{and_parts, cases_Bool, cases_eq}
-use Rattle.uac_entities.specs.EntityStreams.{named}
+use Rattle.uac_entities.specs.EntityInterfaces.{entity_by_id}
 use Rattle.uac_entities.specs.declared.entity.Entity.{Entity}
 use Rattle.uac_entities.specs.declared.entity.EntityKind.{EntityKind}
 use Rattle.uac_entities.specs.declared.stream.Setting.{Setting}
@@ -22,9 +22,9 @@ use Rattle.uac_alt.proofs.Changed.{setting_of_changed}
 use Rattle.uac_store.specs.declared.controls.Control.{Control}
 use Rattle.uac_store.specs.declared.controls.Facts.{Facts}
 use Rattle.uac_store.specs.ControlTable.{control_of, facts_of}
-use Rattle.uac_store.proofs.Tabled.{one_or_two}
+use Rattle.uac_store.proofs.ControlTableLemmas.{one_or_two}
 use Rattle.uac_request.specs.declared.setup.Setup.{Setup}
-use Rattle.uac_request.specs.Requests.{after_request, answered, AreSettingsOf, AreValidSettings, by_entity, by_stream, can_hold, controls_set, cur_named, entity_width, first_broken, gets_cur, gets_descriptor, gets_interface, gets_range, has_interface, has_setting, has_value, Held, held_by, high, is_done, is_empty, is_request, is_stalled, is_to_control, is_valid, key_named, left_by, low, Owner, owner_of, ranges_named, reply_of, sent_value, sets_cur, sets_interface, AnswerFields, with_bytes, with_descriptor}
+use Rattle.uac_request.specs.Requests.{after_request, unbroken_reply, AreSettingsOf, AreValidSettings, by_entity, by_streaming_interface, can_hold, controls_set, cur_named, entity_width, first_broken, gets_cur, gets_descriptor, gets_interface, gets_range, has_interface, has_setting, has_value, RequestState, request_state, high, is_done, is_empty, is_request, is_stalled, is_to_control, is_valid, key_named, left_by, low, Owner, owner_of, ranges_named, reply_of, sent_value, sets_cur, sets_interface, AnswerFields, with_bytes, with_descriptor}
 use Rattle.uac_request.proofs.Asked.{first_set_interface, no_interface, no_owner}
 use Rattle.uac_request.proofs.Owned.{entity_named}
 use Rattle.uac_request.proofs.Sent.{is_held}
@@ -38,8 +38,8 @@ named_by type number p is =
     let parts = and_parts (p.request_type == type) (p.request == number) is in
     (eqb-true p.request_type type parts.0, eqb-true p.request number parts.1)
 
-module _ (function : FunctionFields) (held : Held) (p : Setup) (sent : List ℕ) where
-  pub changes : (P : Held → Type 0) → P held
+module _ (function : FunctionFields) (held : RequestState) (p : Setup) (sent : List ℕ) where
+  pub changes : (P : RequestState → Type 0) → P held
       → (p.request_type ≡ 33 → p.request ≡ 1 → first_broken function held p sent ≡ None → P (record held { controls = controls_set function held p sent }))
       → (p.request_type ≡ 1 → p.request ≡ 11 → first_broken function held p sent ≡ None → P (record held { settings = with_setting held.settings p.index p.value }))
       → P (after_request function held p sent)
@@ -47,8 +47,8 @@ module _ (function : FunctionFields) (held : Held) (p : Setup) (sent : List ℕ)
   changes P here set interface = from (first_broken function held p sent) refl where
     left : first_broken function held p sent ≡ None → (s i : Bool) → sets_cur p ≡ s → sets_interface p ≡ i
         → P (if s then record held { controls = controls_set function held p sent } else if i then record held { settings = with_setting held.settings p.index p.value } else held)
-    left none true i is_set is_interface = (let named = named_by 33 1 p is_set in set named.0 named.1 none)
-    left none false true is_set is_interface = (let named = named_by 1 11 p is_interface in interface named.0 named.1 none)
+    left none true i is_set is_interface = (let addressed = named_by 33 1 p is_set in set addressed.0 addressed.1 none)
+    left none false true is_set is_interface = (let addressed = named_by 1 11 p is_interface in interface addressed.0 addressed.1 none)
     left none false false is_set is_interface = here
 
     from : (o : Option ℕ) → first_broken function held p sent ≡ o → P (if is_some o then held else left_by function held p sent)
@@ -81,20 +81,20 @@ some_of None there = cc
 some_of (Some a) there = (a, refl)
 
 -- what is so of a request to set a control that breaks no rule
-pub record IsSet (function : FunctionFields) (held : Held) (p : Setup) (sent : List ℕ) : Type 0 where
+pub record IsSet (function : FunctionFields) (held : RequestState) (p : Setup) (sent : List ℕ) : Type 0 where
   pub e : Entity
   pub owner : owner_of function p.index ≡ Some (by_entity e)
-  pub is : named function.entities (high p.index) ≡ Some e
+  pub is : entity_by_id function.entities (high p.index) ≡ Some e
   pub taken : IsTaken function held p sent (by_entity e)
   pub there : IsSome (value_of held.controls (key_named p))
 
-pub is_set : (function : FunctionFields) (held : Held) (p : Setup) (sent : List ℕ) → IsStoreOf function.entities held.controls → p.request_type ≡ 33 → p.request ≡ 1 → first_broken function held p sent ≡ None → IsSet function held p sent
+pub is_set : (function : FunctionFields) (held : RequestState) (p : Setup) (sent : List ℕ) → IsStoreOf function.entities held.controls → p.request_type ≡ 33 → p.request ≡ 1 → first_broken function held p sent ≡ None → IsSet function held p sent
 is_set function held p sent store type number none = of_interface (has_interface function (low p.index)) refl where
   control : is_to_control p ≡ true
   control = rw (type, number) refl
 
   from : (owner : Owner) → owner_of function p.index ≡ Some owner → IsTaken function held p sent owner → IsSet function held p sent
-  from (by_stream s) of taken = absurd (let no : false ≡ true = taken.writable in cc)
+  from (by_streaming_interface s) of taken = absurd (let no : false ≡ true = taken.writable in cc)
   from (by_entity e) of taken =
       let is = entity_named function p.index e of in
       let width = some_of (entity_width e.kind (high p.value)) taken.wide in
@@ -115,7 +115,7 @@ is_set function held p sent store type number none = of_interface (has_interface
   of_interface true is = of_owner is (owner_of function p.index) refl
 
 -- it leaves the control with the value
-pub set_leaves : (function : FunctionFields) (held : Held) (p : Setup) (sent : List ℕ) (e : Entity) → owner_of function p.index ≡ Some (by_entity e)
+pub set_leaves : (function : FunctionFields) (held : RequestState) (p : Setup) (sent : List ℕ) (e : Entity) → owner_of function p.index ≡ Some (by_entity e)
     → controls_set function held p sent ≡ with_value held.controls (key_named p) (sent_value (by_entity e) (high p.value) sent)
 set_leaves function held p sent e of =
     ap (λ o. option_map_or (λ (owner : Owner). with_value held.controls (key_named p) (sent_value owner (high p.value) sent)) o held.controls) of
@@ -125,7 +125,7 @@ unfolding is_legal
 legal_taken entities controls k v legal = (and_parts _ _ legal).0
 
 -- the clocks under it, while some setting isn't 0
-same_clocks : (function : FunctionFields) (held : Held) (p : Setup) (sent : List ℕ) (set : IsSet function held p sent) → is_running held.settings ≡ true → SameClocks function.entities held.controls (with_value held.controls (key_named p) (sent_value (by_entity set.e) (high p.value) sent))
+same_clocks : (function : FunctionFields) (held : RequestState) (p : Setup) (sent : List ℕ) (set : IsSet function held p sent) → is_running held.settings ≡ true → SameClocks function.entities held.controls (with_value held.controls (key_named p) (sent_value (by_entity set.e) (high p.value) sent))
 same_clocks function held p sent set running = elim (cases_Bool (is_clock set.e.kind)) [
   | inl clock ↦ (
       let alike : not (has_value held.controls (key_named p) (sent_value (by_entity set.e) (high p.value) sent)) ≡ false = rw (clock, running) at set.taken.still in
@@ -136,7 +136,7 @@ same_clocks function held p sent set running = elim (cases_Bool (is_clock set.e.
 
 -- ---- the store
 
-pub store_stays : (function : FunctionFields) (held : Held) (p : Setup) (sent : List ℕ) → IsStoreOf function.entities held.controls → IsStoreOf function.entities (after_request function held p sent).controls
+pub store_stays : (function : FunctionFields) (held : RequestState) (p : Setup) (sent : List ℕ) → IsStoreOf function.entities held.controls → IsStoreOf function.entities (after_request function held p sent).controls
 store_stays function held p sent store =
     changes function held p sent (λ h. IsStoreOf function.entities h.controls) store
     (λ type number none.
@@ -148,7 +148,7 @@ store_stays function held p sent store =
 
 -- ---- rates
 
-pub rates_stay : (function : FunctionFields) (held : Held) (p : Setup) (sent : List ℕ) → IsStoreOf function.entities held.controls → is_running held.settings ≡ true → (id : ℕ) → rate_of function.entities (after_request function held p sent).controls id ≡ rate_of function.entities held.controls id
+pub rates_stay : (function : FunctionFields) (held : RequestState) (p : Setup) (sent : List ℕ) → IsStoreOf function.entities held.controls → is_running held.settings ≡ true → (id : ℕ) → rate_of function.entities (after_request function held p sent).controls id ≡ rate_of function.entities held.controls id
 rates_stay function held p sent store running id =
     changes function held p sent (λ h. rate_of function.entities h.controls id ≡ rate_of function.entities held.controls id) refl
     (λ type number none.
@@ -160,12 +160,12 @@ rates_stay function held p sent store running id =
 -- ---- settings
 
 -- what is so of a request to set an interface's setting that breaks no rule
-pub record IsHeld (function : FunctionFields) (held : Held) (p : Setup) : Type 0 where
+pub record IsHeld (function : FunctionFields) (held : RequestState) (p : Setup) : Type 0 where
   pub interface : has_interface function p.index ≡ true
   pub has : has_setting function p.index p.value ≡ true
   pub can : can_hold function held.controls p.index p.value ≡ true
 
-is_taken_up : (function : FunctionFields) (held : Held) (p : Setup) (sent : List ℕ) → p.request_type ≡ 1 → p.request ≡ 11 → first_broken function held p sent ≡ None → IsHeld function held p
+is_taken_up : (function : FunctionFields) (held : RequestState) (p : Setup) (sent : List ℕ) → p.request_type ≡ 1 → p.request ≡ 11 → first_broken function held p sent ≡ None → IsHeld function held p
 is_taken_up function held p sent type number none =
     let met = are_met
     ((2, not (has_interface function p.index)) ∷ (8, not (p.length == 0 && is_empty sent)) ∷ (11, not (has_setting function p.index p.value)) ∷ (12, not (can_hold function held.controls p.index p.value)) ∷ [])
@@ -176,7 +176,7 @@ is_taken_up function held p sent type number none =
 new_setting : (function : FunctionFields) (settings : List InterfaceSetting) (interface setting : ℕ) → AreSettingsOf function settings → has_interface function interface ≡ true → (n : ℕ) → setting_of (with_setting settings interface setting) n ≡ (if n == interface then Some setting else setting_of settings n)
 new_setting function settings interface setting are has n = setting_of_changed settings interface setting n (are interface ∙ has)
 
-pub settings_stay : (function : FunctionFields) (held : Held) (p : Setup) (sent : List ℕ) → AreSettingsOf function held.settings → AreSettingsOf function (after_request function held p sent).settings
+pub settings_stay : (function : FunctionFields) (held : RequestState) (p : Setup) (sent : List ℕ) → AreSettingsOf function held.settings → AreSettingsOf function (after_request function held p sent).settings
 settings_stay function held p sent are =
     changes function held p sent (λ h. AreSettingsOf function h.settings) are (λ type number none. are)
     (λ type number none n.
@@ -216,12 +216,12 @@ valid_from function controls interface setting has can = elim (cases_Bool (inter
   from None stream can = cc
   from (Some s) stream can = rw can (or_true (setting == 0))
 
-pub valid_stays : (function : FunctionFields) (held : Held) (p : Setup) (sent : List ℕ) → IsStoreOf function.entities held.controls → AreSettingsOf function held.settings → AreValidSettings function held → AreValidSettings function (after_request function held p sent)
+pub valid_stays : (function : FunctionFields) (held : RequestState) (p : Setup) (sent : List ℕ) → IsStoreOf function.entities held.controls → AreSettingsOf function held.settings → AreValidSettings function held → AreValidSettings function (after_request function held p sent)
 valid_stays function held p sent store are valid =
     changes function held p sent (λ h. AreValidSettings function h) valid
     (λ type number none.
     let set = is_set function held p sent store type number none in
-    subst (λ controls. AreValidSettings function (held_by controls held.settings)) (sym (set_leaves function held p sent set.e set.owner)) (λ interface setting is. elim (cases_Bool (is_running held.settings)) [
+    subst (λ controls. AreValidSettings function (request_state controls held.settings)) (sym (set_leaves function held p sent set.e set.owner)) (λ interface setting is. elim (cases_Bool (is_running held.settings)) [
       | inl running ↦ (
           let after : List (Key × ℤ) = with_value held.controls (key_named p) (sent_value (by_entity set.e) (high p.value) sent) in
           let rates : (id : ℕ) → rate_of function.entities after id ≡ rate_of function.entities held.controls id = same_rate function.entities held.controls after (same_clocks function held p sent set running) in
@@ -250,15 +250,15 @@ starts_at_rest (n ∷ numbers) interface setting is = elim (cases_Bool (n == int
   | inr other ↦ starts_at_rest numbers interface setting (rw other at is)
 ]
 
-pub valid_at_start : (function : FunctionFields) (controls : List (Key × ℤ)) → AreValidSettings function (held_by controls (initial_settings function))
+pub valid_at_start : (function : FunctionFields) (controls : List (Key × ℤ)) → AreValidSettings function (request_state controls (initial_settings function))
 unfolding initial_settings
 valid_at_start function controls interface setting is = rw (starts_at_rest (function.control_interface ∷ map (λ s. s.number) function.streams) interface setting is) refl
 
 -- ---- stalls and descriptors
 
 -- what holds of every answer that is no stall
-each_answer : (T : AnswerFields → Type 0) (function : FunctionFields) (held : Held) (p : Setup) → ((bytes : List ℕ) → T (with_bytes bytes)) → T (with_descriptor 0 (if nat_le p.length function.total then p.length else function.total)) → T is_done → T (answered function held p)
-unfolding answered
+each_answer : (T : AnswerFields → Type 0) (function : FunctionFields) (held : RequestState) (p : Setup) → ((bytes : List ℕ) → T (with_bytes bytes)) → T (with_descriptor 0 (if nat_le p.length function.total then p.length else function.total)) → T is_done → T (unbroken_reply function held p)
+unfolding unbroken_reply
 each_answer T function held p bytes descriptor done = from (gets_cur p) (gets_range p) (gets_descriptor p) (gets_interface p) where
   from : (a b c d : Bool) → T (
       if a then with_bytes (take p.length (cur_named function held p))
@@ -272,17 +272,17 @@ each_answer T function held p bytes descriptor done = from (gets_cur p) (gets_ra
   from false false false true = bytes _
   from false false false false = done
 
-pub stall_leaves_all : (function : FunctionFields) (held : Held) (p : Setup) (sent : List ℕ) (rule : ℕ) → reply_of function held p sent ≡ is_stalled rule → after_request function held p sent ≡ held
+pub stall_leaves_all : (function : FunctionFields) (held : RequestState) (p : Setup) (sent : List ℕ) (rule : ℕ) → reply_of function held p sent ≡ is_stalled rule → after_request function held p sent ≡ held
 unfolding reply_of after_request
 stall_leaves_all function held p sent rule stalled = from (first_broken function held p sent) stalled where
-  from : (o : Option ℕ) → option_map_or is_stalled o (answered function held p) ≡ is_stalled rule → (if is_some o then held else left_by function held p sent) ≡ held
+  from : (o : Option ℕ) → option_map_or is_stalled o (unbroken_reply function held p) ≡ is_stalled rule → (if is_some o then held else left_by function held p sent) ≡ held
   from None is = absurd (each_answer (λ t. t ≡ is_stalled rule → ⊥) function held p (λ bytes e. cc) (λ e. cc) (λ e. cc) is)
   from (Some broken) is = refl
 
 lesser : (a b : ℕ) → (if nat_le a b then a else b) ≤ b
 lesser a b = grind arith
 
-descriptor_within : (function : FunctionFields) (held : Held) (p : Setup) (sent : List ℕ) (start end : ℕ) → reply_of function held p sent ≡ with_descriptor start end → (start ≡ 0) × (end ≤ function.total)
+descriptor_within : (function : FunctionFields) (held : RequestState) (p : Setup) (sent : List ℕ) (start end : ℕ) → reply_of function held p sent ≡ with_descriptor start end → (start ≡ 0) × (end ≤ function.total)
 unfolding reply_of
 descriptor_within function held p sent start end is = from (first_broken function held p sent) is where
   piece : with_descriptor 0 (if nat_le p.length function.total then p.length else function.total) ≡ with_descriptor start end → (start ≡ 0) × (end ≤ function.total)
@@ -291,12 +291,12 @@ descriptor_within function held p sent start end is = from (first_broken functio
       let ends : (if nat_le p.length function.total then p.length else function.total) ≡ end = cc in
       (sym begins, subst (λ n. n ≤ function.total) ends (lesser p.length function.total))
 
-  from : (o : Option ℕ) → option_map_or is_stalled o (answered function held p) ≡ with_descriptor start end → (start ≡ 0) × (end ≤ function.total)
+  from : (o : Option ℕ) → option_map_or is_stalled o (unbroken_reply function held p) ≡ with_descriptor start end → (start ≡ 0) × (end ≤ function.total)
   from None is = each_answer (λ t. t ≡ with_descriptor start end → (start ≡ 0) × (end ≤ function.total)) function held p (λ bytes e. absurd (cc)) piece (λ e. absurd (cc)) is
   from (Some broken) is = cc
 
-pub begins_at_0 : (function : FunctionFields) (held : Held) (p : Setup) (sent : List ℕ) (from to : ℕ) → reply_of function held p sent ≡ with_descriptor from to → from ≡ 0
+pub begins_at_0 : (function : FunctionFields) (held : RequestState) (p : Setup) (sent : List ℕ) (from to : ℕ) → reply_of function held p sent ≡ with_descriptor from to → from ≡ 0
 begins_at_0 function held p sent from to is = (descriptor_within function held p sent from to is).0
 
-pub ends_within : (function : FunctionFields) (held : Held) (p : Setup) (sent : List ℕ) (from to : ℕ) → reply_of function held p sent ≡ with_descriptor from to → to ≤ function.total
+pub ends_within : (function : FunctionFields) (held : RequestState) (p : Setup) (sent : List ℕ) (from to : ℕ) → reply_of function held p sent ≡ with_descriptor from to → to ≤ function.total
 ends_within function held p sent from to is = (descriptor_within function held p sent from to is).1

@@ -2,8 +2,8 @@
 use Rattle.std.proofs.Common.{◌≡◌, ℕ, ◌≤◌, true, unwrap_or, inl, inr, arith}
 use Rattle.uac_entities.specs.declared.entity.EntityKind.{EntityKind}
 use Rattle.uac_entities.specs.declared.entity.EntityKind.TheVariants as kind
-use Rattle.uac_store.proofs.Tabled.{one_or_two, some_so}
-use Rattle.uac_request.specs.Requests.{Owner, by_entity, by_stream, entity_range, entity_width, has_range, width_of}
+use Rattle.uac_store.proofs.ControlTableLemmas.{one_or_two, some_so}
+use Rattle.uac_request.specs.Requests.{Owner, by_entity, by_streaming_interface, entity_range, entity_width, has_range, width_of}
 
 first_narrow : (k : EntityKind) → unwrap_or (entity_width k 1) 0 ≤ 4
 first_narrow kind.ClockSource = omega arith
@@ -36,4 +36,4 @@ narrow_entity k selector ranged = elim (one_or_two k selector (some_so (λ f. f.
 -- a control that has ranges has at most four bytes
 pub narrow_range : (o : Owner) (selector : ℕ) → has_range o selector ≡ true → unwrap_or (width_of o selector) 0 ≤ 4
 narrow_range (by_entity e) selector ranged = narrow_entity e.kind selector ranged
-narrow_range (by_stream s) selector ranged = cc
+narrow_range (by_streaming_interface s) selector ranged = cc

@@ -2,7 +2,7 @@
 use Rattle.std.proofs.Common.{◌≡◌, ◌∙◌, sym, ℕ, ◌==◌, nat_lt, nat_le, true, false, List, Option, Some, None, is_some, refl, inl, inr, ℤ, rules}
 use Rattle.std.proofs.lemmas.Bool.{cases_Bool}
 use Rattle.std.specs.Option.{option_map}
-use Rattle.uac_entities.specs.EntityStreams.{named}
+use Rattle.uac_entities.specs.EntityInterfaces.{entity_by_id}
 use Rattle.uac_entities.specs.declared.entity.Entity.{Entity}
 use Rattle.uac_entities.specs.declared.entity.EntityKind.{EntityKind}
 use Rattle.uac_entities.specs.declared.entity.EntityKind.TheVariants as kind
@@ -12,24 +12,24 @@ use Rattle.uac_store.specs.declared.keys.Key.{Key}
 use Rattle.uac_store.specs.ControlTable.{count_by, selectors_of}
 use Rattle.uac_store.specs.StoreControls.{IsStoreOf, count_of, nodes_of, has_control, has_on}
 use Rattle.uac_store.specs.Keyed.{key_of, value_of}
-use Rattle.uac_request.specs.Requests.{by_entity, by_stream, high, low, owner_of}
+use Rattle.uac_request.specs.Requests.{by_entity, by_streaming_interface, high, low, owner_of}
 
 -- what an entity is by its constructor
 by_entity_alone : (found : Option Entity) (e : Entity) → option_map by_entity found ≡ Some (by_entity e) → found ≡ Some e
 by_entity_alone (Some f) e same = cc
 by_entity_alone None e same = cc
 
-not_by_stream : (found : Option StreamInterface) (e : Entity) → option_map by_stream found ≡ Some (by_entity e) → None ≡ Some e
+not_by_stream : (found : Option StreamInterface) (e : Entity) → option_map by_streaming_interface found ≡ Some (by_entity e) → None ≡ Some e
 not_by_stream (Some f) e same = cc
 not_by_stream None e same = cc
 
 -- an entity that keeps a control is the one that is named
-pub entity_named : (function : FunctionFields) (index : ℕ) (e : Entity) → owner_of function index ≡ Some (by_entity e) → named function.entities (high index) ≡ Some e
+pub entity_named : (function : FunctionFields) (index : ℕ) (e : Entity) → owner_of function index ≡ Some (by_entity e) → entity_by_id function.entities (high index) ≡ Some e
 unfolding owner_of
 entity_named function index e is = elim (cases_Bool (low index == function.control_interface)) [
-  | inl own ↦ by_entity_alone (named function.entities (high index)) e (rw own at is)
+  | inl own ↦ by_entity_alone (entity_by_id function.entities (high index)) e (rw own at is)
   | inr other ↦ elim (cases_Bool (high index == 0)) [
-    | inl none_named ↦ (let stream : option_map by_stream (interface_in function (low index)) ≡ Some (by_entity e) = rw (other, none_named) at is in let not_one : None ≡ Some e = not_by_stream (interface_in function (low index)) e stream in cc)
+    | inl none_named ↦ (let stream : option_map by_streaming_interface (interface_in function (low index)) ≡ Some (by_entity e) = rw (other, none_named) at is in let not_one : None ≡ Some e = not_by_stream (interface_in function (low index)) e stream in cc)
     | inr more ↦ (let none : None ≡ Some (by_entity e) = rw (other, more) at is in cc)
   ]
 ]
@@ -51,7 +51,7 @@ unfolding count_of
 of_terminal entities e k channel is none = sym (channel_alone e.kind (nodes_of entities e) e.cluster.channels channel (rw is none))
 
 -- a control that keeps a value has a channel exactly where the store has one
-pub of_store : (entities : List Entity) (controls : List (Key × ℤ)) (e : Entity) (k : EntityKind) (entity channel : ℕ) → IsStoreOf entities controls → named entities entity ≡ Some e → e.kind ≡ k → nat_le 1 (selectors_of k) ≡ true → is_some (value_of controls (key_of entity 1 channel)) ≡ nat_lt channel (count_of entities e)
+pub of_store : (entities : List Entity) (controls : List (Key × ℤ)) (e : Entity) (k : EntityKind) (entity channel : ℕ) → IsStoreOf entities controls → entity_by_id entities entity ≡ Some e → e.kind ≡ k → nat_le 1 (selectors_of k) ≡ true → is_some (value_of controls (key_of entity 1 channel)) ≡ nat_lt channel (count_of entities e)
 unfolding has_control has_on
 of_store entities controls e k entity channel store is of some =
     store.keys (key_of entity 1 channel) ∙ rw (is, of, some) refl

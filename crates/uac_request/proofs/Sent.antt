@@ -1,7 +1,7 @@
 -- Values that are sent to controls which a host may set.
 use Rattle.std.proofs.Common.{◌≡◌, ◌∙◌, ℕ, ◌==◌, ◌≤◌, nat_lt, nat_le, Bool, true, false, List, Option, Some, None, IsSome, is_some, ℤ, pos, negsuc, refl, subst, inl, inr, rules, arith, length, w32, FitsSigned, ◌%◌, if◌then◌else◌}
 use Rattle.std.proofs.lemmas.Bool.{cases_Bool, cases_lt}
-use Rattle.uac_entities.specs.EntityStreams.{named}
+use Rattle.uac_entities.specs.EntityInterfaces.{entity_by_id}
 use Rattle.uac_entities.specs.declared.entity.Entity.{Entity}
 use Rattle.uac_entities.specs.declared.entity.EntityKind.{EntityKind}
 use Rattle.uac_entities.specs.declared.entity.EntityKind.TheVariants as kind
@@ -54,7 +54,7 @@ pub at_most_four : (k : EntityKind) (e : Entity) (selector channel w : ℕ) → 
 at_most_four k e selector channel w some low wide can = (kept_at k e selector channel w some low wide can).1
 
 -- the store has a control that can be set
-pub is_held : (entities : List Entity) (controls : List (Key × ℤ)) (e : Entity) (k : Key) (w : ℕ) → IsStoreOf entities controls → named entities k.entity ≡ Some e → 1 ≤ k.selector → k.selector ≤ 2 → entity_width e.kind k.selector ≡ Some w → is_writable_on e.kind e k.selector k.channel ≡ true → nat_lt k.channel (count_of entities e) ≡ true → IsSome (value_of controls k)
+pub is_held : (entities : List Entity) (controls : List (Key × ℤ)) (e : Entity) (k : Key) (w : ℕ) → IsStoreOf entities controls → entity_by_id entities k.entity ≡ Some e → 1 ≤ k.selector → k.selector ≤ 2 → entity_width e.kind k.selector ≡ Some w → is_writable_on e.kind e k.selector k.channel ≡ true → nat_lt k.channel (count_of entities e) ≡ true → IsSome (value_of controls k)
 unfolding has_control has_on
 is_held entities controls e k w store is some low wide can within =
     let kept = kept_at e.kind e k.selector k.channel w some low wide can in
@@ -90,7 +90,7 @@ taken_fits kind.Feature pins attributes selector w v some low narrow short taken
 taken_fits kind.Effect pins attributes selector w v some low narrow short taken = short narrow
 
 -- a legal value is one of 32 bits
-pub legal_fits : (entities : List Entity) (controls : List (Key × ℤ)) (e : Entity) (k : Key) (w : ℕ) (v : ℤ) → named entities k.entity ≡ Some e → 1 ≤ k.selector → k.selector ≤ 2 → entity_width e.kind k.selector ≡ Some w → is_writable_on e.kind e k.selector k.channel ≡ true → (w ≤ 2 → FitsSigned w32 v) → is_legal entities controls k v ≡ true → FitsSigned w32 v
+pub legal_fits : (entities : List Entity) (controls : List (Key × ℤ)) (e : Entity) (k : Key) (w : ℕ) (v : ℤ) → entity_by_id entities k.entity ≡ Some e → 1 ≤ k.selector → k.selector ≤ 2 → entity_width e.kind k.selector ≡ Some w → is_writable_on e.kind e k.selector k.channel ≡ true → (w ≤ 2 → FitsSigned w32 v) → is_legal entities controls k v ≡ true → FitsSigned w32 v
 unfolding is_legal takes takes_on
 legal_fits entities controls e k w v is some low wide can short legal =
     let kept = kept_at e.kind e k.selector k.channel w some low wide can in

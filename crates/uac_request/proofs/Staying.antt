@@ -5,7 +5,7 @@ use Rattle.std.specs.Map.{lookup}
 use Rattle.std.specs.Option.{option_and_then, option_map_or}
 use Rattle.std.specs.Ordering.{int_eq}
 use Rattle.std.proofs.lemmas.Bool.{cases_Bool, cases_eq}
-use Rattle.uac_entities.specs.EntityStreams.{named}
+use Rattle.uac_entities.specs.EntityInterfaces.{entity_by_id}
 use Rattle.uac_entities.specs.declared.entity.Entity.{Entity}
 use Rattle.uac_entities.specs.declared.entity.EntityKind.{EntityKind}
 use Rattle.uac_entities.specs.declared.entity.EntityKind.TheVariants as kind
@@ -20,8 +20,8 @@ use Rattle.uac_alt.specs.AltStreams.{stream_of}
 use Rattle.uac_request.specs.Requests.{is_valid}
 
 -- an entity that was found has the id
-pub id_of_named : (entities : List Entity) (id : ℕ) (e : Entity) → named entities id ≡ Some e → e.id ≡ id
-unfolding named
+pub id_of_named : (entities : List Entity) (id : ℕ) (e : Entity) → entity_by_id entities id ≡ Some e → e.id ≡ id
+unfolding entity_by_id
 id_of_named [] id e found = cc
 id_of_named (x ∷ entities) id e found = elim (cases_Bool (x.id == id)) [
   | inl same ↦ (let here : Some x ≡ Some e = rw same at found in let is : x ≡ e = cc in ap (λ (y : Entity). y.id) (sym is) ∙ eqb-true x.id id same)
@@ -32,10 +32,10 @@ id_of_named (x ∷ entities) id e found = elim (cases_Bool (x.id == id)) [
 
 -- the clocks of these entities have the same values
 pub record SameClocks (entities : List Entity) (before after : List (Key × ℤ)) : Type 0 where
-  pub at : (id : ℕ) (e : Entity) → named entities id ≡ Some e → is_clock e.kind ≡ true → (selector : ℕ) → value_at after e.id selector ≡ value_at before e.id selector
+  pub at : (id : ℕ) (e : Entity) → entity_by_id entities id ≡ Some e → is_clock e.kind ≡ true → (selector : ℕ) → value_at after e.id selector ≡ value_at before e.id selector
 
 module _ (entities : List Entity) (before after : List (Key × ℤ)) (same : SameClocks entities before after) where
-  by_kind : (id : ℕ) (e : Entity) → named entities id ≡ Some e → (below below' : ℕ → Option ℕ) → ((n : ℕ) → below' n ≡ below n) → (k : EntityKind) → e.kind ≡ k → rate_by after below' e k ≡ rate_by before below e k
+  by_kind : (id : ℕ) (e : Entity) → entity_by_id entities id ≡ Some e → (below below' : ℕ → Option ℕ) → ((n : ℕ) → below' n ≡ below n) → (k : EntityKind) → e.kind ≡ k → rate_by after below' e k ≡ rate_by before below e k
   unfolding source_rate chosen_source multiplier_rate
   by_kind id e is below below' under kind.ClockSource of = ap (option_and_then of_frequency) (same.at id e is (ap is_clock of) 1)
   by_kind id e is below below' under kind.ClockSelector of =
@@ -53,8 +53,8 @@ module _ (entities : List Entity) (before after : List (Key × ℤ)) (same : Sam
   rate_stays : (n id : ℕ) → rate_within n entities after id ≡ rate_within n entities before id
   unfolding rate_within rate_step
   rate_stays zero id = refl
-  rate_stays (suc n) id = from (named entities id) refl (rate_stays n) where
-    from : (o : Option Entity) → named entities id ≡ o → ((m : ℕ) → rate_within n entities after m ≡ rate_within n entities before m)
+  rate_stays (suc n) id = from (entity_by_id entities id) refl (rate_stays n) where
+    from : (o : Option Entity) → entity_by_id entities id ≡ o → ((m : ℕ) → rate_within n entities after m ≡ rate_within n entities before m)
         → option_and_then (λ e. rate_by after (rate_within n entities after) e e.kind) o ≡ option_and_then (λ e. rate_by before (rate_within n entities before) e e.kind) o
     from None is under = refl
     from (Some e) is under = by_kind id e is (rate_within n entities before) (rate_within n entities after) under e.kind refl
@@ -81,15 +81,15 @@ pub same_by_value : (entities : List Entity) (controls : List (Key × ℤ)) (k :
 same_by_value entities controls k v is = record { at = λ id e found clock selector. unchanged controls k v is (key_of e.id selector 0) }
 
 -- another entity's control than a clock's
-pub same_by_kind : (entities : List Entity) (controls : List (Key × ℤ)) (k : Key) (v : ℤ) (e : Entity) → IsSome (value_of controls k) → named entities k.entity ≡ Some e → is_clock e.kind ≡ false → SameClocks entities controls (with_value controls k v)
+pub same_by_kind : (entities : List Entity) (controls : List (Key × ℤ)) (k : Key) (v : ℤ) (e : Entity) → IsSome (value_of controls k) → entity_by_id entities k.entity ≡ Some e → is_clock e.kind ≡ false → SameClocks entities controls (with_value controls k v)
 same_by_kind entities controls k v e there is other = record {
   at = λ id c found clock selector. changed_alone controls k v there (key_of c.id selector 0) ∙ apart id c found clock selector;
 } where
-  apart : (id : ℕ) (c : Entity) → named entities id ≡ Some c → is_clock c.kind ≡ true → (selector : ℕ) → (if same_key k (key_of c.id selector 0) then Some v else value_of controls (key_of c.id selector 0)) ≡ value_of controls (key_of c.id selector 0)
+  apart : (id : ℕ) (c : Entity) → entity_by_id entities id ≡ Some c → is_clock c.kind ≡ true → (selector : ℕ) → (if same_key k (key_of c.id selector 0) then Some v else value_of controls (key_of c.id selector 0)) ≡ value_of controls (key_of c.id selector 0)
   apart id c found clock selector = elim (cases_eq k.entity c.id) [
     | inl same ↦ (
         let of_id : c.id ≡ id = id_of_named entities id c found in
-        let of_key : named entities k.entity ≡ Some c = ap (named entities) (same ∙ of_id) ∙ found in
+        let of_key : entity_by_id entities k.entity ≡ Some c = ap (entity_by_id entities) (same ∙ of_id) ∙ found in
         let one : Some e ≡ Some c = sym is ∙ of_key in
         let is_one : e ≡ c = cc in
         let no : false ≡ true = sym other ∙ (ap (λ (x : Entity). is_clock x.kind) is_one ∙ clock) in
@@ -101,4 +101,4 @@ same_by_kind entities controls k v e there is other = record {
 pub valid_alike : (function : FunctionFields) (before after : List (Key × ℤ)) → ((id : ℕ) → rate_of function.entities after id ≡ rate_of function.entities before id) → (s : StreamInterface) (number : ℕ) → is_valid function after s number ≡ is_valid function before s number
 unfolding is_valid
 valid_alike function before after same s number =
-    λ j. number == 0 || option_map_or (λ rate. is_some (stream_of function rate s.number number)) (option_and_then (λ e. same e.clock j) (named function.entities s.terminal)) false
+    λ j. number == 0 || option_map_or (λ rate. is_some (stream_of function rate s.number number)) (option_and_then (λ e. same e.clock j) (entity_by_id function.entities s.terminal)) false

@@ -5,7 +5,7 @@ use Rattle.uac_topology.specs.Function.{FunctionFields}
 use Rattle.uac_store.specs.StoreValues.{is_legal}
 use Rattle.uac_alt.specs.AltSettings.{is_running}
 use Rattle.uac_request.specs.declared.setup.Setup.{Setup}
-use Rattle.uac_request.specs.Requests.{first_broken, has_interface, has_value, Held, high, is_clock_control, is_in_range, is_writable, key_named, least, low, Owner, owner_of, sent_value, width_of}
+use Rattle.uac_request.specs.Requests.{first_broken, has_interface, has_value, RequestState, high, is_clock_control, is_in_range, is_writable, key_named, least, low, Owner, owner_of, sent_value, width_of}
 use Rattle.uac_request.specs.Owners.{set_rules}
 use Rattle.uac_request.proofs.Asked.{first_set}
 
@@ -23,7 +23,7 @@ pub not_false : (b : Bool) → not b ≡ false → b ≡ true
 not_false true is = refl
 not_false false is = cc
 
-pub record IsTaken (function : FunctionFields) (held : Held) (p : Setup) (sent : List ℕ) (owner : Owner) : Type 0 where
+pub record IsTaken (function : FunctionFields) (held : RequestState) (p : Setup) (sent : List ℕ) (owner : Owner) : Type 0 where
   pub wide : is_some (width_of owner (high p.value)) ≡ true
   pub within : is_in_range function.entities owner (low p.value) ≡ true
   pub writable : is_writable owner (high p.value) (low p.value) ≡ true
@@ -31,7 +31,7 @@ pub record IsTaken (function : FunctionFields) (held : Held) (p : Setup) (sent :
   pub legal : is_legal function.entities held.controls (key_named p) (sent_value owner (high p.value) sent) ≡ true
   pub still : (is_clock_control owner && (is_running held.settings && not (has_value held.controls (key_named p) (sent_value owner (high p.value) sent)))) ≡ false
 
-pub is_taken : (function : FunctionFields) (held : Held) (p : Setup) (sent : List ℕ) (owner : Owner) → has_interface function (low p.index) ≡ true → owner_of function p.index ≡ Some owner → p.request_type ≡ 33 → p.request ≡ 1 → first_broken function held p sent ≡ None → IsTaken function held p sent owner
+pub is_taken : (function : FunctionFields) (held : RequestState) (p : Setup) (sent : List ℕ) (owner : Owner) → has_interface function (low p.index) ≡ true → owner_of function p.index ≡ Some owner → p.request_type ≡ 33 → p.request ≡ 1 → first_broken function held p sent ≡ None → IsTaken function held p sent owner
 is_taken function held p sent owner has of type number none =
     let met = are_met (set_rules function held p sent owner) (sym (first_set function held p sent owner has of type number) ∙ none) in
     record {

@@ -7,7 +7,7 @@ use Rattle.uac_entities.specs.declared.entity.EntityKind.{EntityKind}
 use Rattle.uac_entities.specs.declared.entity.EntityKind.TheVariants as kind
 use Rattle.uac_entities.specs.declared.stream.Setting.{Setting}
 use Rattle.uac_entities.specs.declared.stream.StreamInterface.{StreamInterface}
-use Rattle.uac_entities.specs.EntityStreams.{channels_of, named}
+use Rattle.uac_entities.specs.EntityInterfaces.{channels_of, entity_by_id}
 use Rattle.uac_clock.specs.Nominal.{nominal_of, values_of}
 use Rattle.uac_gain.specs.Gain.{decibel_gain, raised_gain}
 use Rattle.uac_topology.specs.Function.{FunctionFields}
@@ -18,7 +18,7 @@ use Rattle.uac_store.specs.Selectors.{CS_SAM_FREQ_CONTROL, CS_CLOCK_VALID_CONTRO
 use Rattle.uac_store.specs.StoreValues.{are_clocked, is_legal, ranges_of}
 use Rattle.uac_alt.specs.AltSettings.{initial_settings, setting_of, with_setting}
 use Rattle.uac_alt.specs.AltStreams.{can_run, linked_channels, stream_at, stream_of}
-use Rattle.uac_request.specs.Requests.{Held, AnswerFields, with_bytes, with_descriptor, is_done, is_stalled, after_request, answered, breaks_q1, breaks_q2, breaks_q3, breaks_q4, breaks_q5, breaks_q6, breaks_q7, breaks_q8, breaks_q9, breaks_q10, breaks_q11, breaks_q12, cur_bytes, entity_bytes, entity_width, first_broken, has_setting, is_signed, is_valid, left_by, node_bit, owner_of, range_bytes, reply_of, setup_of, valid_bytes, value_bytes, value_from}
+use Rattle.uac_request.specs.Requests.{RequestState, AnswerFields, with_bytes, with_descriptor, is_done, is_stalled, after_request, unbroken_reply, breaks_q1, breaks_q2, breaks_q3, breaks_q4, breaks_q5, breaks_q6, breaks_q7, breaks_q8, breaks_q9, breaks_q10, breaks_q11, breaks_q12, cur_bytes, entity_bytes, entity_width, first_broken, has_setting, is_signed, is_valid, left_by, node_bit, owner_of, range_bytes, reply_of, setup_of, valid_bytes, value_bytes, value_from}
 
 abbrev with : ℕ → EntityKind → ℕ → List ℕ → ℕ → ℕ → ℕ → List ℕ → Entity
 with id k type sources clock channels locations controls =
@@ -71,7 +71,7 @@ headset size =
 
 -- ---- the answers, by request and rule
 
-at_start : Held
+at_start : RequestState
 at_start = record { controls = initial_controls entities; settings = initial_settings (headset 150) }
 
 first : List ℕ → List ℕ → AnswerFields
@@ -87,75 +87,75 @@ unfolding first reply_of headset first_broken breaks_q1 breaks_q2 breaks_q3 brea
 no_interface = refl
 
 no_entity : first (161 ∷ 1 ∷ 1 ∷ 2 ∷ 0 ∷ 9 ∷ 2 ∷ 0 ∷ []) [] ≡ is_stalled 3
-unfolding first reply_of headset owner_of entities named first_broken breaks_q1 breaks_q2 breaks_q3 breaks_q4 breaks_q5 breaks_q6 breaks_q7 breaks_q8 breaks_q9 breaks_q10 breaks_q11 breaks_q12
+unfolding first reply_of headset owner_of entities entity_by_id first_broken breaks_q1 breaks_q2 breaks_q3 breaks_q4 breaks_q5 breaks_q6 breaks_q7 breaks_q8 breaks_q9 breaks_q10 breaks_q11 breaks_q12
 no_entity = refl
 
 -- a mute has no range
 no_range : first (161 ∷ 2 ∷ 0 ∷ 1 ∷ 0 ∷ 3 ∷ 2 ∷ 0 ∷ []) [] ≡ is_stalled 4
-unfolding first reply_of headset owner_of entities named count_of first_broken breaks_q1 breaks_q2 breaks_q3 breaks_q4 breaks_q5 breaks_q6 breaks_q7 breaks_q8 breaks_q9 breaks_q10 breaks_q11 breaks_q12
+unfolding first reply_of headset owner_of entities entity_by_id count_of first_broken breaks_q1 breaks_q2 breaks_q3 breaks_q4 breaks_q5 breaks_q6 breaks_q7 breaks_q8 breaks_q9 breaks_q10 breaks_q11 breaks_q12
 no_range = refl
 
 -- the master's volume isn't declared, and there is no third channel
 undeclared : first (161 ∷ 1 ∷ 0 ∷ 2 ∷ 0 ∷ 3 ∷ 2 ∷ 0 ∷ []) [] ≡ is_stalled 5
-unfolding first reply_of headset owner_of entities named count_of first_broken breaks_q1 breaks_q2 breaks_q3 breaks_q4 breaks_q5 breaks_q6 breaks_q7 breaks_q8 breaks_q9 breaks_q10 breaks_q11 breaks_q12
+unfolding first reply_of headset owner_of entities entity_by_id count_of first_broken breaks_q1 breaks_q2 breaks_q3 breaks_q4 breaks_q5 breaks_q6 breaks_q7 breaks_q8 breaks_q9 breaks_q10 breaks_q11 breaks_q12
 undeclared = refl
 
 past_the_channels : first (161 ∷ 1 ∷ 3 ∷ 2 ∷ 0 ∷ 3 ∷ 2 ∷ 0 ∷ []) [] ≡ is_stalled 6
-unfolding first reply_of headset owner_of entities named count_of first_broken breaks_q1 breaks_q2 breaks_q3 breaks_q4 breaks_q5 breaks_q6 breaks_q7 breaks_q8 breaks_q9 breaks_q10 breaks_q11 breaks_q12
+unfolding first reply_of headset owner_of entities entity_by_id count_of first_broken breaks_q1 breaks_q2 breaks_q3 breaks_q4 breaks_q5 breaks_q6 breaks_q7 breaks_q8 breaks_q9 breaks_q10 breaks_q11 breaks_q12
 past_the_channels = refl
 
 -- a clock's validity can't be set, and a volume has two bytes
 read_only : first (33 ∷ 1 ∷ 0 ∷ 2 ∷ 0 ∷ 1 ∷ 1 ∷ 0 ∷ []) (1 ∷ []) ≡ is_stalled 7
-unfolding first reply_of headset owner_of entities named count_of first_broken breaks_q1 breaks_q2 breaks_q3 breaks_q4 breaks_q5 breaks_q6 breaks_q7 breaks_q8 breaks_q9 breaks_q10 breaks_q11 breaks_q12
+unfolding first reply_of headset owner_of entities entity_by_id count_of first_broken breaks_q1 breaks_q2 breaks_q3 breaks_q4 breaks_q5 breaks_q6 breaks_q7 breaks_q8 breaks_q9 breaks_q10 breaks_q11 breaks_q12
 read_only = refl
 
 one_byte : first (33 ∷ 1 ∷ 1 ∷ 2 ∷ 0 ∷ 3 ∷ 2 ∷ 0 ∷ []) (0 ∷ []) ≡ is_stalled 8
-unfolding first reply_of headset owner_of entities named count_of first_broken breaks_q1 breaks_q2 breaks_q3 breaks_q4 breaks_q5 breaks_q6 breaks_q7 breaks_q8 breaks_q9 breaks_q10 breaks_q11 breaks_q12
+unfolding first reply_of headset owner_of entities entity_by_id count_of first_broken breaks_q1 breaks_q2 breaks_q3 breaks_q4 breaks_q5 breaks_q6 breaks_q7 breaks_q8 breaks_q9 breaks_q10 breaks_q11 breaks_q12
 one_byte = refl
 
 -- the range of a volume, cut at the length that is asked for
 range_cut : first (161 ∷ 2 ∷ 1 ∷ 2 ∷ 0 ∷ 3 ∷ 2 ∷ 0 ∷ []) [] ≡ with_bytes (2 ∷ 0 ∷ [])
-unfolding first reply_of headset owner_of entities named count_of answered range_bytes ranges_of has_on value_bytes first_broken breaks_q1 breaks_q2 breaks_q3 breaks_q4 breaks_q5 breaks_q6 breaks_q7 breaks_q8 breaks_q9 breaks_q10 breaks_q11 breaks_q12
+unfolding first reply_of headset owner_of entities entity_by_id count_of unbroken_reply range_bytes ranges_of has_on value_bytes first_broken breaks_q1 breaks_q2 breaks_q3 breaks_q4 breaks_q5 breaks_q6 breaks_q7 breaks_q8 breaks_q9 breaks_q10 breaks_q11 breaks_q12
 range_cut = refl
 
 range_half : first (161 ∷ 2 ∷ 1 ∷ 2 ∷ 0 ∷ 3 ∷ 8 ∷ 0 ∷ []) [] ≡ with_bytes (2 ∷ 0 ∷ 0 ∷ 160 ∷ 0 ∷ 223 ∷ 0 ∷ 1 ∷ [])
-unfolding first reply_of headset owner_of entities named count_of answered range_bytes ranges_of has_on value_bytes first_broken breaks_q1 breaks_q2 breaks_q3 breaks_q4 breaks_q5 breaks_q6 breaks_q7 breaks_q8 breaks_q9 breaks_q10 breaks_q11 breaks_q12
+unfolding first reply_of headset owner_of entities entity_by_id count_of unbroken_reply range_bytes ranges_of has_on value_bytes first_broken breaks_q1 breaks_q2 breaks_q3 breaks_q4 breaks_q5 breaks_q6 breaks_q7 breaks_q8 breaks_q9 breaks_q10 breaks_q11 breaks_q12
 range_half = refl
 
 range_whole : first (161 ∷ 2 ∷ 1 ∷ 2 ∷ 0 ∷ 3 ∷ 14 ∷ 0 ∷ []) []
     ≡ with_bytes (2 ∷ 0 ∷ 0 ∷ 160 ∷ 0 ∷ 223 ∷ 0 ∷ 1 ∷ 0 ∷ 224 ∷ 0 ∷ 12 ∷ 128 ∷ 0 ∷ [])
-unfolding first reply_of headset owner_of entities named count_of answered range_bytes ranges_of has_on value_bytes first_broken breaks_q1 breaks_q2 breaks_q3 breaks_q4 breaks_q5 breaks_q6 breaks_q7 breaks_q8 breaks_q9 breaks_q10 breaks_q11 breaks_q12
+unfolding first reply_of headset owner_of entities entity_by_id count_of unbroken_reply range_bytes ranges_of has_on value_bytes first_broken breaks_q1 breaks_q2 breaks_q3 breaks_q4 breaks_q5 breaks_q6 breaks_q7 breaks_q8 breaks_q9 breaks_q10 breaks_q11 breaks_q12
 range_whole = refl
 
 -- a setting's map and the active setting of interface 1
 valid_settings : first (161 ∷ 1 ∷ 0 ∷ 2 ∷ 1 ∷ 0 ∷ 2 ∷ 0 ∷ []) [] ≡ with_bytes (1 ∷ 3 ∷ [])
-unfolding first at_start reply_of headset owner_of entities named answered cur_bytes valid_bytes is_valid stream_of stream_at can_run linked_channels channels_of rate_of rate_within rate_step source_rate value_of initial_controls controls_of channels_at first_channels count_of start_of nominal_of values_of first_broken breaks_q1 breaks_q2 breaks_q3 breaks_q4 breaks_q5 breaks_q6 breaks_q7 breaks_q8 breaks_q9 breaks_q10 breaks_q11 breaks_q12
+unfolding first at_start reply_of headset owner_of entities entity_by_id unbroken_reply cur_bytes valid_bytes is_valid stream_of stream_at can_run linked_channels channels_of rate_of rate_within rate_step source_rate value_of initial_controls controls_of channels_at first_channels count_of start_of nominal_of values_of first_broken breaks_q1 breaks_q2 breaks_q3 breaks_q4 breaks_q5 breaks_q6 breaks_q7 breaks_q8 breaks_q9 breaks_q10 breaks_q11 breaks_q12
 valid_settings = refl
 
 active_setting : first (161 ∷ 1 ∷ 0 ∷ 1 ∷ 1 ∷ 0 ∷ 1 ∷ 0 ∷ []) [] ≡ with_bytes (0 ∷ [])
-unfolding first at_start reply_of headset owner_of entities named answered cur_bytes setting_of initial_settings first_broken breaks_q1 breaks_q2 breaks_q3 breaks_q4 breaks_q5 breaks_q6 breaks_q7 breaks_q8 breaks_q9 breaks_q10 breaks_q11 breaks_q12
+unfolding first at_start reply_of headset owner_of entities entity_by_id unbroken_reply cur_bytes setting_of initial_settings first_broken breaks_q1 breaks_q2 breaks_q3 breaks_q4 breaks_q5 breaks_q6 breaks_q7 breaks_q8 breaks_q9 breaks_q10 breaks_q11 breaks_q12
 active_setting = refl
 
 -- the configuration's first nine bytes, and the setting of interface 1
 descriptor : first (128 ∷ 6 ∷ 0 ∷ 2 ∷ 0 ∷ 0 ∷ 9 ∷ 0 ∷ []) [] ≡ with_descriptor 0 9
-unfolding first reply_of headset answered first_broken breaks_q1 breaks_q2 breaks_q3 breaks_q4 breaks_q5 breaks_q6 breaks_q7 breaks_q8 breaks_q9 breaks_q10 breaks_q11 breaks_q12
+unfolding first reply_of headset unbroken_reply first_broken breaks_q1 breaks_q2 breaks_q3 breaks_q4 breaks_q5 breaks_q6 breaks_q7 breaks_q8 breaks_q9 breaks_q10 breaks_q11 breaks_q12
 descriptor = refl
 
 interface : first (129 ∷ 10 ∷ 0 ∷ 0 ∷ 1 ∷ 0 ∷ 1 ∷ 0 ∷ []) [] ≡ with_bytes (0 ∷ [])
-unfolding first at_start reply_of headset answered setting_of initial_settings first_broken breaks_q1 breaks_q2 breaks_q3 breaks_q4 breaks_q5 breaks_q6 breaks_q7 breaks_q8 breaks_q9 breaks_q10 breaks_q11 breaks_q12
+unfolding first at_start reply_of headset unbroken_reply setting_of initial_settings first_broken breaks_q1 breaks_q2 breaks_q3 breaks_q4 breaks_q5 breaks_q6 breaks_q7 breaks_q8 breaks_q9 breaks_q10 breaks_q11 breaks_q12
 interface = refl
 
 -- a volume between two steps isn't legal, half a decibel and silence are
 between_steps : first (33 ∷ 1 ∷ 1 ∷ 2 ∷ 0 ∷ 3 ∷ 2 ∷ 0 ∷ []) (64 ∷ 0 ∷ []) ≡ is_stalled 9
-unfolding first at_start reply_of headset owner_of entities named count_of value_from is_legal takes takes_on decibel_gain first_broken breaks_q1 breaks_q2 breaks_q3 breaks_q4 breaks_q5 breaks_q6 breaks_q7 breaks_q8 breaks_q9 breaks_q10 breaks_q11 breaks_q12
+unfolding first at_start reply_of headset owner_of entities entity_by_id count_of value_from is_legal takes takes_on decibel_gain first_broken breaks_q1 breaks_q2 breaks_q3 breaks_q4 breaks_q5 breaks_q6 breaks_q7 breaks_q8 breaks_q9 breaks_q10 breaks_q11 breaks_q12
 between_steps = refl
 
 half_a_decibel : first (33 ∷ 1 ∷ 1 ∷ 2 ∷ 0 ∷ 3 ∷ 2 ∷ 0 ∷ []) (128 ∷ 0 ∷ []) ≡ is_done
-unfolding first at_start reply_of headset owner_of entities named count_of value_from is_legal takes takes_on decibel_gain raised_gain answered first_broken breaks_q1 breaks_q2 breaks_q3 breaks_q4 breaks_q5 breaks_q6 breaks_q7 breaks_q8 breaks_q9 breaks_q10 breaks_q11 breaks_q12
+unfolding first at_start reply_of headset owner_of entities entity_by_id count_of value_from is_legal takes takes_on decibel_gain raised_gain unbroken_reply first_broken breaks_q1 breaks_q2 breaks_q3 breaks_q4 breaks_q5 breaks_q6 breaks_q7 breaks_q8 breaks_q9 breaks_q10 breaks_q11 breaks_q12
 half_a_decibel = refl
 
 silenced : first (33 ∷ 1 ∷ 1 ∷ 2 ∷ 0 ∷ 3 ∷ 2 ∷ 0 ∷ []) (0 ∷ 128 ∷ []) ≡ is_done
-unfolding first at_start reply_of headset owner_of entities named count_of value_from is_legal takes takes_on decibel_gain answered first_broken breaks_q1 breaks_q2 breaks_q3 breaks_q4 breaks_q5 breaks_q6 breaks_q7 breaks_q8 breaks_q9 breaks_q10 breaks_q11 breaks_q12
+unfolding first at_start reply_of headset owner_of entities entity_by_id count_of value_from is_legal takes takes_on decibel_gain unbroken_reply first_broken breaks_q1 breaks_q2 breaks_q3 breaks_q4 breaks_q5 breaks_q6 breaks_q7 breaks_q8 breaks_q9 breaks_q10 breaks_q11 breaks_q12
 silenced = refl
 
 -- a setting that isn't there, and one that is
@@ -163,24 +163,24 @@ no_setting : first (1 ∷ 11 ∷ 2 ∷ 0 ∷ 1 ∷ 0 ∷ 0 ∷ 0 ∷ []) [] ≡ 
 unfolding first reply_of headset has_setting first_broken breaks_q1 breaks_q2 breaks_q3 breaks_q4 breaks_q5 breaks_q6 breaks_q7 breaks_q8 breaks_q9 breaks_q10 breaks_q11 breaks_q12
 no_setting = refl
 
-started : Held
+started : RequestState
 started = after_request (headset 150) at_start (setup_of (1 ∷ 11 ∷ 1 ∷ 0 ∷ 1 ∷ 0 ∷ 0 ∷ 0 ∷ [])) []
 
 runs : setting_of started.settings 1 ≡ Some 1
-unfolding started after_request at_start headset has_setting is_valid stream_of stream_at can_run linked_channels channels_of entities named rate_of rate_within rate_step source_rate value_of initial_controls controls_of channels_at first_channels count_of start_of nominal_of values_of left_by setting_of with_setting initial_settings first_broken breaks_q1 breaks_q2 breaks_q3 breaks_q4 breaks_q5 breaks_q6 breaks_q7 breaks_q8 breaks_q9 breaks_q10 breaks_q11 breaks_q12
+unfolding started after_request at_start headset has_setting is_valid stream_of stream_at can_run linked_channels channels_of entities entity_by_id rate_of rate_within rate_step source_rate value_of initial_controls controls_of channels_at first_channels count_of start_of nominal_of values_of left_by setting_of with_setting initial_settings first_broken breaks_q1 breaks_q2 breaks_q3 breaks_q4 breaks_q5 breaks_q6 breaks_q7 breaks_q8 breaks_q9 breaks_q10 breaks_q11 breaks_q12
 runs = refl
 
 -- while it runs, its clock's rate can't change
 rate_held : reply_of (headset 150) started (setup_of (33 ∷ 1 ∷ 0 ∷ 1 ∷ 0 ∷ 1 ∷ 4 ∷ 0 ∷ [])) (68 ∷ 172 ∷ 0 ∷ 0 ∷ []) ≡ is_stalled 10
-unfolding reply_of started after_request at_start headset has_setting is_valid stream_of stream_at can_run linked_channels channels_of entities named owner_of value_from is_legal takes takes_on are_clocked with_value rate_of rate_within rate_step source_rate value_of initial_controls controls_of channels_at first_channels count_of start_of nominal_of values_of left_by setting_of with_setting initial_settings first_broken breaks_q1 breaks_q2 breaks_q3 breaks_q4 breaks_q5 breaks_q6 breaks_q7 breaks_q8 breaks_q9 breaks_q10 breaks_q11 breaks_q12
+unfolding reply_of started after_request at_start headset has_setting is_valid stream_of stream_at can_run linked_channels channels_of entities entity_by_id owner_of value_from is_legal takes takes_on are_clocked with_value rate_of rate_within rate_step source_rate value_of initial_controls controls_of channels_at first_channels count_of start_of nominal_of values_of left_by setting_of with_setting initial_settings first_broken breaks_q1 breaks_q2 breaks_q3 breaks_q4 breaks_q5 breaks_q6 breaks_q7 breaks_q8 breaks_q9 breaks_q10 breaks_q11 breaks_q12
 rate_held = refl
 
 -- an endpoint of 144 bytes is too small at 192,000 Hz
-fast : Held
+fast : RequestState
 fast = after_request (headset 144) at_start (setup_of (33 ∷ 1 ∷ 0 ∷ 1 ∷ 0 ∷ 1 ∷ 4 ∷ 0 ∷ [])) (0 ∷ 238 ∷ 2 ∷ 0 ∷ [])
 
 too_small : reply_of (headset 144) fast (setup_of (1 ∷ 11 ∷ 1 ∷ 0 ∷ 1 ∷ 0 ∷ 0 ∷ 0 ∷ [])) [] ≡ is_stalled 12
-unfolding reply_of fast after_request at_start headset has_setting is_valid stream_of stream_at can_run linked_channels channels_of entities named owner_of value_from is_legal takes takes_on are_clocked with_value rate_of rate_within rate_step source_rate value_of initial_controls controls_of channels_at first_channels count_of start_of nominal_of values_of left_by setting_of with_setting initial_settings first_broken breaks_q1 breaks_q2 breaks_q3 breaks_q4 breaks_q5 breaks_q6 breaks_q7 breaks_q8 breaks_q9 breaks_q10 breaks_q11 breaks_q12
+unfolding reply_of fast after_request at_start headset has_setting is_valid stream_of stream_at can_run linked_channels channels_of entities entity_by_id owner_of value_from is_legal takes takes_on are_clocked with_value rate_of rate_within rate_step source_rate value_of initial_controls controls_of channels_at first_channels count_of start_of nominal_of values_of left_by setting_of with_setting initial_settings first_broken breaks_q1 breaks_q2 breaks_q3 breaks_q4 breaks_q5 breaks_q6 breaks_q7 breaks_q8 breaks_q9 breaks_q10 breaks_q11 breaks_q12
 too_small = refl
 
 -- ---- values as bytes, both ways
@@ -323,5 +323,5 @@ nine_settings =
     }
 
 two_byte_map : valid_bytes (record (headset 150) { streams = nine_settings ∷ [] }) (initial_controls entities) nine_settings ≡ 2 ∷ 3 ∷ 1 ∷ []
-unfolding nine_settings valid_bytes is_valid stream_of stream_at can_run linked_channels channels_of headset entities named rate_of rate_within rate_step source_rate value_of initial_controls controls_of channels_at first_channels count_of start_of nominal_of values_of
+unfolding nine_settings valid_bytes is_valid stream_of stream_at can_run linked_channels channels_of headset entities entity_by_id rate_of rate_within rate_step source_rate value_of initial_controls controls_of channels_at first_channels count_of start_of nominal_of values_of
 two_byte_map = refl

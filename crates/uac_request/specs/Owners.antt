@@ -9,12 +9,13 @@ use Rattle.uac_request.specs.declared.owner.Owner.TheVariants as owner
 use Rattle.uac_request.specs.declared.request.Request.{Request}
 use Rattle.uac_request.specs.declared.request.Request.TheVariants as ask
 use Rattle.uac_request.specs.declared.setup.Setup.{Setup}
-use Rattle.uac_request.specs.Requests.{Held, Owner, by_entity, by_stream, bytes_of, has_range, has_value, high, is_clock_control}
+use Rattle.uac_request.specs.Requests.{RequestState, Owner, by_entity, by_streaming_interface, bytes_of, has_range, has_value, high}
+use Rattle.uac_request.specs.Requests.{is_clock_control}
 use Rattle.uac_request.specs.Requests.{is_declared, is_empty, is_in_range, is_writable, key_named, low, sent_value, width_of}
 
-abbrev pub owned : declared.Owner → Owner
-owned (owner.Entity e) = by_entity e.now
-owned (owner.Stream s) = by_stream s.now
+abbrev pub owner_fields : declared.Owner → Owner
+owner_fields (owner.Entity e) = by_entity e.now
+owner_fields (owner.Interface s) = by_streaming_interface s.now
 
 abbrev pub IsAsked : Request → Setup → Type 0
 IsAsked ask.GetCur p = (p.request_type ≡ 161) × (p.request ≡ 1)
@@ -34,7 +35,7 @@ get_rules function p sent o range =
     ∷ []
 
 -- the rules to set it
-abbrev pub set_rules : FunctionFields → Held → Setup → List ℕ → Owner → List (ℕ × Bool)
+abbrev pub set_rules : FunctionFields → RequestState → Setup → List ℕ → Owner → List (ℕ × Bool)
 set_rules function held p sent o =
     (4, not (is_some (width_of o (high p.value))))
     ∷ (5, is_in_range function.entities o (low p.value) && not (is_declared o (high p.value) (low p.value)))

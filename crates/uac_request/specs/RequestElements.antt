@@ -1,7 +1,7 @@
 -- The controls of entities by their keys, as a host addresses them (Audio Class 2.0, 5.2.2).
 use Rattle.std.specs.Prelude.{ℕ, ◌+◌, ◌*◌, Bool, false, List, unwrap_or}
 use Rattle.std.specs.Option.{option_map_or}
-use Rattle.uac_entities.specs.EntityStreams.{named}
+use Rattle.uac_entities.specs.EntityInterfaces.{entity_by_id}
 use Rattle.uac_entities.specs.declared.entity.Entity.{Entity}
 use Rattle.uac_topology.specs.Function.{FunctionFields}
 use Rattle.uac_store.specs.declared.keys.Key.{Key}
@@ -10,19 +10,19 @@ use Rattle.uac_request.specs.Requests.{entity_width, is_declared_on, is_signed, 
 
 -- the descriptor declares the control of this key
 abbrev pub is_present : List Entity → Key → Bool
-is_present entities k = option_map_or (λ e. is_declared_on e.kind e k.selector k.channel) (named entities k.entity) false
+is_present entities k = option_map_or (λ e. is_declared_on e.kind e k.selector k.channel) (entity_by_id entities k.entity) false
 
 -- the bytes of the control of this key; 0 where there is none
 abbrev pub width_at : List Entity → Key → ℕ
-width_at entities k = option_map_or (λ e. unwrap_or (entity_width e.kind k.selector) 0) (named entities k.entity) 0
+width_at entities k = option_map_or (λ e. unwrap_or (entity_width e.kind k.selector) 0) (entity_by_id entities k.entity) 0
 
 -- whether a control's values are signed
 abbrev pub signed_at : List Entity → Key → Bool
-signed_at entities k = option_map_or (λ e. is_signed e.kind k.selector) (named entities k.entity) false
+signed_at entities k = option_map_or (λ e. is_signed e.kind k.selector) (entity_by_id entities k.entity) false
 
 -- a host may set it
 abbrev pub is_writable_at : List Entity → Key → Bool
-is_writable_at entities k = option_map_or (λ e. is_writable_on e.kind e k.selector k.channel) (named entities k.entity) false
+is_writable_at entities k = option_map_or (λ e. is_writable_on e.kind e k.selector k.channel) (entity_by_id entities k.entity) false
 
 -- the request for the value of the control of this key: its selector and channel stand in wValue, its entity and the control interface
 -- in wIndex (5.2.2)

@@ -8,7 +8,7 @@ use Rattle.std.specs.Option.{option_and_then, option_map, option_map_or}
 use Rattle.std.specs.Ordering.{int_eq}
 use Rattle.byteorder.specs.Endian.{little_bytes, little_number}
 pub use Rattle.uac_sentence.specs.Grammar.{least}
-use Rattle.uac_entities.specs.EntityStreams.{named}
+use Rattle.uac_entities.specs.EntityInterfaces.{entity_by_id}
 use Rattle.uac_entities.specs.declared.entity.Entity.{Entity}
 use Rattle.uac_entities.specs.declared.entity.EntityKind.{EntityKind}
 use Rattle.uac_entities.specs.declared.entity.EntityKind.TheVariants as kind
@@ -27,8 +27,8 @@ use Rattle.uac_store.specs.Rates.{rate_of}
 use Rattle.uac_store.specs.Selectors.{AS_ACT_ALT_SETTING_CONTROL, AS_VAL_ALT_SETTINGS_CONTROL, CS_CLOCK_VALID_CONTROL}
 use Rattle.uac_store.specs.StoreValues.{ranges_of, is_legal}
 use Rattle.uac_request.specs.declared.setup.Setup.{Setup}
-use Rattle.uac_request.specs.declared.told.Answer.{Answer}
-use Rattle.uac_request.specs.declared.told.Answer.TheVariants as told
+use Rattle.uac_request.specs.declared.reply.Answer.{Answer}
+use Rattle.uac_request.specs.declared.reply.Answer.TheVariants as told
 use Rattle.uac_alt.specs.declared.settings.InterfaceSetting.{InterfaceSetting}
 use Rattle.uac_alt.specs.AltSettings.{setting_of, with_setting, is_running}
 use Rattle.uac_alt.specs.AltStreams.{stream_of}
@@ -91,7 +91,7 @@ low n = n % 256
 -- what keeps a request's control: an entity, or a streaming interface
 pub data Owner : Type 0 where
   by_entity : Entity → Owner
-  by_stream : StreamInterface → Owner
+  by_streaming_interface : StreamInterface → Owner
 
 -- the function has this interface
 abbrev pub has_interface : FunctionFields → ℕ → Bool
@@ -100,8 +100,8 @@ has_interface function number = number == function.control_interface || is_some 
 -- what keeps the controls that wIndex names: on the control interface the entity, on a streaming interface that, where no entity is named
 unfoldable pub owner_of : FunctionFields → ℕ → Option Owner
 owner_of function index =
-    if low index == function.control_interface then option_map by_entity (named function.entities (high index))
-    else if high index == 0 then option_map by_stream (interface_in function (low index))
+    if low index == function.control_interface then option_map by_entity (entity_by_id function.entities (high index))
+    else if high index == 0 then option_map by_streaming_interface (interface_in function (low index))
     else None
 
 -- the bytes of the control with a selector; none where there is none
@@ -118,7 +118,7 @@ stream_width s selector = at_selector ((AS_ACT_ALT_SETTING_CONTROL, 1) ∷ (AS_V
 
 abbrev pub width_of : Owner → ℕ → Option ℕ
 width_of (by_entity e) selector = entity_width e.kind selector
-width_of (by_stream s) selector = stream_width s selector
+width_of (by_streaming_interface s) selector = stream_width s selector
 
 -- the control with a selector answers RANGE (5.2.1)
 abbrev pub entity_range : EntityKind → ℕ → Bool
@@ -126,7 +126,7 @@ entity_range k selector = option_map_or (λ f. f.ranged) (facts_at k selector) f
 
 abbrev pub has_range : Owner → ℕ → Bool
 has_range (by_entity e) selector = entity_range e.kind selector
-has_range (by_stream s) selector = false
+has_range (by_streaming_interface s) selector = false
 
 -- which control word holds a channel's control: a feature and an effect have one for each channel, the master's first
 -- (4.7.2.8, 4.7.2.10)
@@ -151,7 +151,7 @@ node_bit bytes node = get_or bytes (node / 8) 0 / 2 ^ (7 - node % 8) % 2
 -- how many channels, or nodes, a control has
 abbrev pub owner_count : List Entity → Owner → ℕ
 owner_count entities (by_entity e) = count_of entities e
-owner_count entities (by_stream s) = 1
+owner_count entities (by_streaming_interface s) = 1
 
 abbrev pub is_in_range : List Entity → Owner → ℕ → Bool
 is_in_range entities owner channel = nat_lt channel (owner_count entities owner)
@@ -167,7 +167,7 @@ is_declared_on k e selector channel = is_declared_by (spread_of k) e selector ch
 
 abbrev pub is_declared : Owner → ℕ → ℕ → Bool
 is_declared (by_entity e) selector channel = is_declared_on e.kind e selector channel
-is_declared (by_stream s) selector channel = not (stream_bits s selector == 0)
+is_declared (by_streaming_interface s) selector channel = not (stream_bits s selector == 0)
 
 -- the descriptor lets a host set it: its bits are 11, or a node's bit is 1
 abbrev pub is_opened_by : Spread → Entity → ℕ → ℕ → Bool
@@ -182,7 +182,7 @@ is_writable_on k e selector channel = is_settable k selector && is_opened_by (sp
 
 abbrev pub is_writable : Owner → ℕ → ℕ → Bool
 is_writable (by_entity e) selector channel = is_writable_on e.kind e selector channel
-is_writable (by_stream s) selector channel = false
+is_writable (by_streaming_interface s) selector channel = false
 
 -- ---- values as bytes
 
@@ -215,13 +215,13 @@ value_from signed bytes =
 -- ---- the rules
 
 -- what the device keeps that a request may change
-pub record Held : Type 0 where
+pub record RequestState : Type 0 where
   pub controls : List (Key × ℤ)
   pub settings : List InterfaceSetting
 
 -- the rate at which an interface's streams run: that of its terminal's clock, if it has one
 abbrev pub rate_at : FunctionFields → List (Key × ℤ) → StreamInterface → Option ℕ
-rate_at function controls s = option_and_then (λ e. rate_of function.entities controls e.clock) (named function.entities s.terminal)
+rate_at function controls s = option_and_then (λ e. rate_of function.entities controls e.clock) (entity_by_id function.entities s.terminal)
 
 -- a setting of a streaming interface is valid: it is 0, or can run at the rate now
 unfoldable pub is_valid : FunctionFields → List (Key × ℤ) → StreamInterface → ℕ → Bool
@@ -245,11 +245,11 @@ key_named p = key_of (high p.index) (high p.value) (low p.value)
 -- what bytes that are sent say of a control
 abbrev pub sent_value : Owner → ℕ → List ℕ → ℤ
 sent_value (by_entity e) selector sent = value_from (is_signed e.kind selector) sent
-sent_value (by_stream s) selector sent = value_from false sent
+sent_value (by_streaming_interface s) selector sent = value_from false sent
 
 abbrev pub is_clock_control : Owner → Bool
 is_clock_control (by_entity e) = is_clock e.kind
-is_clock_control (by_stream s) = false
+is_clock_control (by_streaming_interface s) = false
 
 -- the bytes of a control; 0 where there is none
 abbrev pub bytes_of : Owner → ℕ → ℕ
@@ -312,13 +312,13 @@ breaks_q8 function p sent =
     || (sets_interface p && not (p.length == 0 && is_empty sent)))
 
 -- Q9 (5.2.1): a request to set a control sends a value that is legal for it
-unfoldable pub breaks_q9 : FunctionFields → Held → Setup → List ℕ → Bool
+unfoldable pub breaks_q9 : FunctionFields → RequestState → Setup → List ℕ → Bool
 breaks_q9 function held p sent =
     sets_cur p
     && is_so_of function p (λ o. not (is_legal function.entities held.controls (key_named p) (sent_value o (high p.value) sent)))
 
 -- Q10 (profile): a request to set a clock's control sends the value that it has, while some interface is in a setting other than 0
-unfoldable pub breaks_q10 : FunctionFields → Held → Setup → List ℕ → Bool
+unfoldable pub breaks_q10 : FunctionFields → RequestState → Setup → List ℕ → Bool
 breaks_q10 function held p sent =
     sets_cur p
     && is_so_of function p (λ o. is_clock_control o
@@ -329,11 +329,11 @@ unfoldable pub breaks_q11 : FunctionFields → Setup → Bool
 breaks_q11 function p = sets_interface p && not (has_setting function p.index p.value)
 
 -- Q12 (profile): a request to set an interface names a setting that is valid at the rate that its clock has
-unfoldable pub breaks_q12 : FunctionFields → Held → Setup → Bool
+unfoldable pub breaks_q12 : FunctionFields → RequestState → Setup → Bool
 breaks_q12 function held p = sets_interface p && not (can_hold function held.controls p.index p.value)
 
 -- the first rule that a request breaks
-unfoldable pub first_broken : FunctionFields → Held → Setup → List ℕ → Option ℕ
+unfoldable pub first_broken : FunctionFields → RequestState → Setup → List ℕ → Option ℕ
 first_broken function held p sent =
     least (
     (1, breaks_q1 p)
@@ -399,14 +399,14 @@ unfoldable pub valid_bytes : FunctionFields → List (Key × ℤ) → StreamInte
 valid_bytes function controls s =
     map_bytes s ∷ little_bytes (map_bytes s) (valid_sum function controls s s.settings)
 
-abbrev pub stream_bytes : FunctionFields → Held → StreamInterface → ℕ → List ℕ
+abbrev pub stream_bytes : FunctionFields → RequestState → StreamInterface → ℕ → List ℕ
 stream_bytes function held s selector =
     if selector == AS_ACT_ALT_SETTING_CONTROL then unwrap_or (setting_of held.settings s.number) 0 ∷ []
     else valid_bytes function held.controls s
 
-unfoldable pub cur_bytes : FunctionFields → Held → Setup → Owner → List ℕ
+unfoldable pub cur_bytes : FunctionFields → RequestState → Setup → Owner → List ℕ
 cur_bytes function held p (by_entity e) = entity_bytes e.kind e held.controls (key_named p)
-cur_bytes function held p (by_stream s) = stream_bytes function held s (high p.value)
+cur_bytes function held p (by_streaming_interface s) = stream_bytes function held s (high p.value)
 
 abbrev pub one_range_bytes : ℕ → Range → List ℕ
 one_range_bytes width r = value_bytes width r.min ++ (value_bytes width r.max ++ value_bytes width r.res)
@@ -417,7 +417,7 @@ range_bytes width ranges =
     little_bytes 2 (length ranges) ++ flat_map (one_range_bytes width) ranges
 
 -- the value of the control that a request names, and its ranges, in bytes
-abbrev pub cur_named : FunctionFields → Held → Setup → List ℕ
+abbrev pub cur_named : FunctionFields → RequestState → Setup → List ℕ
 cur_named function held p = option_map_or (cur_bytes function held p) (owner_of function p.index) []
 
 abbrev pub ranges_named : FunctionFields → Setup → List ℕ
@@ -427,8 +427,8 @@ ranges_named function p =
 
 -- what a request that breaks no rule is answered: a control's value or its ranges, and an interface's setting, cut at wLength; the
 -- configuration up to wLength; or that it is done
-unfoldable pub answered : FunctionFields → Held → Setup → AnswerFields
-answered function held p =
+unfoldable pub unbroken_reply : FunctionFields → RequestState → Setup → AnswerFields
+unbroken_reply function held p =
     if gets_cur p then with_bytes (take p.length (cur_named function held p))
     else if gets_range p then with_bytes (take p.length (ranges_named function p))
     else if gets_descriptor p then with_descriptor 0 (if nat_le p.length function.total then p.length else function.total)
@@ -436,23 +436,23 @@ answered function held p =
     else is_done
 
 -- the controls with the one that a request names set to what it sends
-abbrev pub controls_set : FunctionFields → Held → Setup → List ℕ → List (Key × ℤ)
+abbrev pub controls_set : FunctionFields → RequestState → Setup → List ℕ → List (Key × ℤ)
 controls_set function held p sent =
     option_map_or (λ o. with_value held.controls (key_named p) (sent_value o (high p.value) sent)) (owner_of function p.index) held.controls
 
 -- what it leaves: a value that is set is held, and so is a setting
-unfoldable pub left_by : FunctionFields → Held → Setup → List ℕ → Held
+unfoldable pub left_by : FunctionFields → RequestState → Setup → List ℕ → RequestState
 left_by function held p sent =
     if sets_cur p then record held { controls = controls_set function held p sent }
     else if sets_interface p then record held { settings = with_setting held.settings p.index p.value }
     else held
 
 -- the answer to a request: the rule that it breaks first, where it breaks one
-unfoldable pub reply_of : FunctionFields → Held → Setup → List ℕ → AnswerFields
-reply_of function held p sent = option_map_or is_stalled (first_broken function held p sent) (answered function held p)
+unfoldable pub reply_of : FunctionFields → RequestState → Setup → List ℕ → AnswerFields
+reply_of function held p sent = option_map_or is_stalled (first_broken function held p sent) (unbroken_reply function held p)
 
 -- what the device keeps after it: a stalled request changes nothing
-unfoldable pub after_request : FunctionFields → Held → Setup → List ℕ → Held
+unfoldable pub after_request : FunctionFields → RequestState → Setup → List ℕ → RequestState
 after_request function held p sent = if is_some (first_broken function held p sent) then held else left_by function held p sent
 
 -- each interface of the function, and no other, has a setting
@@ -460,11 +460,11 @@ abbrev pub AreSettingsOf : FunctionFields → List InterfaceSetting → Type 0
 AreSettingsOf function settings = (number : ℕ) → is_some (setting_of settings number) ≡ has_interface function number
 
 -- each interface is in setting 0, or in one of a streaming interface that is valid
-abbrev pub AreValidSettings : FunctionFields → Held → Type 0
+abbrev pub AreValidSettings : FunctionFields → RequestState → Type 0
 AreValidSettings function held =
     (interface setting : ℕ) → setting_of held.settings interface ≡ Some setting
     → (setting == 0 || option_map_or (λ s. is_valid function held.controls s setting) (interface_in function interface) false) ≡ true
 
 -- the controls' values and the settings, as what the device keeps
-abbrev pub held_by : List (Key × ℤ) → List InterfaceSetting → Held
-held_by controls settings = record { controls = controls; settings = settings }
+abbrev pub request_state : List (Key × ℤ) → List InterfaceSetting → RequestState
+request_state controls settings = record { controls = controls; settings = settings }

@@ -7,7 +7,7 @@ ghost use Rattle.byteorder.specs.Endian.{little_bytes, little_number};
 ghost use Rattle.uac_request.specs.Requests as spec;
 ghost use Rattle.uac_request.specs.Requests.{value_bytes};
 
-use crate::told::Reply;
+use crate::reply::Reply;
 use arrayvec::ArrayVec;
 use byteorder::{ByteOrder, LittleEndian};
 

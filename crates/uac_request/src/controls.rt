@@ -2,7 +2,7 @@
 ghost use Rattle.std.specs.Prelude.{◌≡◌, ◌≤◌, IfSome, is_some, true};
 ghost use Rattle.std.specs.List.{filter_map, find};
 ghost use Rattle.std.specs.Option.{option_map};
-ghost use Rattle.uac_request.specs.Owners.{owned};
+ghost use Rattle.uac_request.specs.Owners.{owner_fields};
 ghost use Rattle.uac_request.specs.Requests as spec;
 ghost use Rattle.uac_request.specs.Requests.{by_entity};
 
@@ -15,14 +15,14 @@ use uac_topology::{Entity, EntityKind, Setting, StreamInterface};
 
 /// The bytes of the control with a selector, None where there is none (Audio Class 2.0, 5.2.5).
 pub(crate) fn width_of(owner: Owner<'_>, selector: u8) -> Option<u8>
-    ensures value { result ≡ spec.width_of (owned owner.entry) selector }
+    ensures value { result ≡ spec.width_of (owner_fields owner.entry) selector }
     ensures narrow { IfSome result (λ width. width ≤ 6) }
     ensures some { IfSome result (λ width. 1 ≤ selector) }
     ensures low { IfSome result (λ width. selector ≤ 2) }
 {
     match owner {
         Owner::Entity(entity) => entity_width(entity.kind, selector),
-        Owner::Stream(stream) => stream_width(stream, selector),
+        Owner::Interface(stream) => stream_width(stream, selector),
     }
 }
 
@@ -65,11 +65,11 @@ pub(crate) fn map_bytes(stream: &StreamInterface) -> u8
 
 /// Whether the control answers RANGE (Audio Class 2.0, 5.2.1).
 pub(crate) fn has_range(owner: Owner<'_>, selector: u8) -> bool
-    ensures { result ≡ spec.has_range (owned owner.entry) selector }
+    ensures { result ≡ spec.has_range (owner_fields owner.entry) selector }
 {
     match owner {
         Owner::Entity(entity) => entity_range(entity.kind, selector),
-        Owner::Stream(_) => false,
+        Owner::Interface(_) => false,
     }
 }
 
@@ -85,24 +85,24 @@ fn entity_range(kind: EntityKind, selector: u8) -> bool
 /// Whether the control is declared: its bits aren't 00, and every node of a mixer is (Audio Class 2.0, 4.7.2).
 pub(crate) fn is_declared(owner: Owner<'_>, selector: u8, channel: u8) -> bool
     requires { selector ≤ 2 }
-    ensures { result ≡ spec.is_declared (owned owner.entry) selector channel }
+    ensures { result ≡ spec.is_declared (owner_fields owner.entry) selector channel }
 {
     match owner {
         Owner::Entity(entity) => is_declared_on(entity, selector, channel),
-        Owner::Stream(stream) => stream_bits(stream, selector) != 0,
+        Owner::Interface(stream) => stream_bits(stream, selector) != 0,
     }
 }
 
 /// The entity whose control a host may set, None where that can only be read: its bits are 11, or a node's bit is 1.
 /// The validity of a clock and the controls of terminals and of interfaces can only be read, whatever their bits say.
-pub(crate) fn written<'a>(owner: Owner<'a>, selector: u8, channel: u8) -> Option<&'a Entity>
+pub(crate) fn writable_entity<'a>(owner: Owner<'a>, selector: u8, channel: u8) -> Option<&'a Entity>
     requires { selector ≤ 2 }
-    ensures value { is_some result ≡ spec.is_writable (owned owner.entry) selector channel }
-    ensures of_entity { IfSome result (λ entity. owned owner.entry ≡ by_entity entity.now) }
+    ensures value { is_some result ≡ spec.is_writable (owner_fields owner.entry) selector channel }
+    ensures of_entity { IfSome result (λ entity. owner_fields owner.entry ≡ by_entity entity.now) }
 {
     match owner {
         Owner::Entity(entity) if is_writable_on(entity, selector, channel) => Some(entity),
-        Owner::Entity(_) | Owner::Stream(_) => None,
+        Owner::Entity(_) | Owner::Interface(_) => None,
     }
 }
 

@@ -1,14 +1,14 @@
 // The bytes of a control's value now.
 ghost use Rattle.std.specs.Prelude.{◌≡◌, ◌≤◌, [], IfSome};
-ghost use Rattle.uac_request.specs.Owners.{owned};
+ghost use Rattle.uac_request.specs.Owners.{owner_fields};
 ghost use Rattle.uac_request.specs.Requests as spec;
-ghost use Rattle.uac_request.specs.Requests.{held_by};
+ghost use Rattle.uac_request.specs.Requests.{request_state};
 
 use crate::bytes::{push_number, push_value};
 use crate::controls::{entity_width, map_bytes};
 use crate::owner::Owner;
+use crate::reply::Reply;
 use crate::setup::{Setup, high_byte, key_named};
-use crate::told::Reply;
 use crate::valid::valid_map;
 use uac_alt::Settings;
 use uac_store::selectors::{AS_ACT_ALT_SETTING_CONTROL, CS_CLOCK_VALID_CONTROL};
@@ -26,11 +26,11 @@ pub(crate) fn write_cur(
     owner: Owner<'_>,
 )
     requires { reply.old.items ≡ [] }
-    ensures { reply.new.items ≡ spec.cur_bytes function.now (held_by store.now settings.now) setup.now (owned owner.entry) }
+    ensures { reply.new.items ≡ spec.cur_bytes function.now (request_state store.now settings.now) setup.now (owner_fields owner.entry) }
 {
     match owner {
         Owner::Entity(entity) => write_entity(reply, entity, store, key_named(setup)),
-        Owner::Stream(stream) => {
+        Owner::Interface(stream) => {
             write_stream(
                 reply,
                 function,
@@ -93,7 +93,7 @@ fn write_stream(
     selector: u8,
 )
     requires { reply.old.items ≡ [] }
-    ensures { reply.new.items ≡ spec.stream_bytes function.now (held_by store.now settings.now) stream.now selector }
+    ensures { reply.new.items ≡ spec.stream_bytes function.now (request_state store.now settings.now) stream.now selector }
 {
     if selector == AS_ACT_ALT_SETTING_CONTROL {
         reply.push(settings.get(stream.number).unwrap_or(0));

@@ -1,12 +1,12 @@
 // What a device answers.
 ghost use Rattle.std.specs.Prelude.{◌≡◌};
 ghost use Rattle.uac_store.specs.StoreControls.{IsStoreOf};
-ghost use Rattle.uac_request.specs.Requests.{AreSettingsOf, after_request, held_by, reply_of, answer_fields};
+ghost use Rattle.uac_request.specs.Requests.{AreSettingsOf, after_request, request_state, reply_of, answer_fields};
 
+use crate::reply::Answer;
 use crate::request::{Request, request_of};
 use crate::serve::{get_cur, get_descriptor, get_interface, get_range, set_cur, set_interface};
 use crate::setup::Setup;
-use crate::told::Answer;
 use uac_alt::Settings;
 use uac_store::Store;
 use uac_topology::Function;
@@ -26,8 +26,9 @@ pub fn answer(
 ) -> Answer
     requires of_function { IsStoreOf function.now.entities store.old }
     requires settings { AreSettingsOf function.now settings.old }
-    ensures answer { answer_fields result ≡ reply_of function.now (held_by store.old settings.old) setup.now sent.now }
-    ensures held { held_by store.new settings.new ≡ after_request function.now (held_by store.old settings.old) setup.now sent.now }
+    ensures answer { answer_fields result ≡ reply_of function.now (request_state store.old settings.old) setup.now sent.now }
+    ensures held { request_state store.new settings.new
+        ≡ after_request function.now (request_state store.old settings.old) setup.now sent.now }
     ensures of_function { IsStoreOf function.now.entities store.new }
     ensures still { AreSettingsOf function.now settings.new }
 {

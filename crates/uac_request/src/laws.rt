@@ -10,7 +10,8 @@ ghost use Rattle.uac_store.specs.Keyed.{value_of, with_value};
 ghost use Rattle.uac_store.specs.Rates.{rate_of};
 ghost use Rattle.uac_store.specs.declared.keys.Key.{Key};
 ghost use Rattle.uac_request.specs.RequestElements.{get_of, is_present, set_of, signed_at, width_at};
-ghost use Rattle.uac_request.specs.Requests.{AreSettingsOf, AreValidSettings, Held, IsWithin, after_request, held_by, is_done, is_stalled};
+ghost use Rattle.uac_request.specs.Requests.{AreSettingsOf, AreValidSettings, RequestState, IsWithin, after_request, request_state};
+ghost use Rattle.uac_request.specs.Requests.{is_done, is_stalled};
 ghost use Rattle.uac_request.specs.Requests.{reply_of, value_bytes, value_from, with_bytes, with_descriptor};
 ghost use Rattle.uac_request.specs.declared.setup.Setup.{Setup};
 
@@ -36,9 +37,11 @@ pub fn elements_are_answered()
     ensures value { (function : FunctionFields) (controls : List (Key × ℤ)) (settings : List InterfaceSetting) (k : Key) (v : ℤ)
         → IsSoundFunction function → function.control_interface < 256 → IsStoreOf function.entities controls
         → is_present function.entities k ≡ true → value_of controls k ≡ Some v
-        → reply_of function (held_by controls settings) (get_of function k) [] ≡ with_bytes (value_bytes (width_at function.entities k) v) }
+        → reply_of function (request_state controls settings) (get_of function k) []
+        ≡ with_bytes (value_bytes (width_at function.entities k) v) }
     ensures width { (width : ℕ) (v : ℤ) → length (value_bytes width v) ≡ width }
-    ensures unchanged { (function : FunctionFields) (held : Held) (k : Key) → after_request function held (get_of function k) [] ≡ held }
+    ensures unchanged { (function : FunctionFields) (held : RequestState) (k : Key)
+        → after_request function held (get_of function k) [] ≡ held }
 {}
 
 /// Where the request to set a control is done, the control holds the value that the bytes are, which are as many as its
@@ -47,12 +50,12 @@ pub fn elements_are_answered()
 pub fn sets_hold_the_value()
     ensures held { (function : FunctionFields) (controls : List (Key × ℤ)) (settings : List InterfaceSetting) (k : Key) (v : ℤ)
         (sent : List ℕ) → IsSoundFunction function → function.control_interface < 256 → IsStoreOf function.entities controls
-        → value_of controls k ≡ Some v → reply_of function (held_by controls settings) (set_of function k) sent ≡ is_done
-        → after_request function (held_by controls settings) (set_of function k) sent
-        ≡ held_by (with_value controls k (value_from (signed_at function.entities k) sent)) settings }
+        → value_of controls k ≡ Some v → reply_of function (request_state controls settings) (set_of function k) sent ≡ is_done
+        → after_request function (request_state controls settings) (set_of function k) sent
+        ≡ request_state (with_value controls k (value_from (signed_at function.entities k) sent)) settings }
     ensures width { (function : FunctionFields) (controls : List (Key × ℤ)) (settings : List InterfaceSetting) (k : Key) (v : ℤ)
         (sent : List ℕ) → IsSoundFunction function → function.control_interface < 256 → IsStoreOf function.entities controls
-        → value_of controls k ≡ Some v → reply_of function (held_by controls settings) (set_of function k) sent ≡ is_done
+        → value_of controls k ≡ Some v → reply_of function (request_state controls settings) (set_of function k) sent ≡ is_done
         → length sent ≡ width_at function.entities k }
 {}
 
@@ -60,21 +63,23 @@ pub fn sets_hold_the_value()
 /// held; at the start they are valid.
 #[tactic(auto, using(crate::proofs::Lasting::store_stays, crate::proofs::Lasting::settings_stay, crate::proofs::Lasting::valid_stays, crate::proofs::Lasting::valid_at_start))]
 pub fn settings_stay_valid()
-    ensures store { (function : FunctionFields) (held : Held) (p : Setup) (sent : List ℕ) → IsStoreOf function.entities held.controls
+    ensures store { (function : FunctionFields) (held : RequestState) (p : Setup) (sent : List ℕ)
+        → IsStoreOf function.entities held.controls
         → IsStoreOf function.entities (after_request function held p sent).controls }
-    ensures settings { (function : FunctionFields) (held : Held) (p : Setup) (sent : List ℕ) → AreSettingsOf function held.settings
+    ensures settings { (function : FunctionFields) (held : RequestState) (p : Setup) (sent : List ℕ) → AreSettingsOf function held.settings
         → AreSettingsOf function (after_request function held p sent).settings }
-    ensures valid { (function : FunctionFields) (held : Held) (p : Setup) (sent : List ℕ) → IsStoreOf function.entities held.controls
+    ensures valid { (function : FunctionFields) (held : RequestState) (p : Setup) (sent : List ℕ)
+        → IsStoreOf function.entities held.controls
         → AreSettingsOf function held.settings → AreValidSettings function held
         → AreValidSettings function (after_request function held p sent) }
     ensures starts { (function : FunctionFields) (controls : List (Key × ℤ))
-        → AreValidSettings function (held_by controls (initial_settings function)) }
+        → AreValidSettings function (request_state controls (initial_settings function)) }
 {}
 
 /// While some setting isn't 0, no request changes the rate of a clock.
 #[tactic(auto, using(crate::proofs::Lasting::rates_stay))]
 pub fn running_keeps_rates()
-    ensures { (function : FunctionFields) (held : Held) (p : Setup) (sent : List ℕ) → IsStoreOf function.entities held.controls
+    ensures { (function : FunctionFields) (held : RequestState) (p : Setup) (sent : List ℕ) → IsStoreOf function.entities held.controls
         → is_running held.settings ≡ true → (id : ℕ)
         → rate_of function.entities (after_request function held p sent).controls id ≡ rate_of function.entities held.controls id }
 {}
@@ -82,15 +87,15 @@ pub fn running_keeps_rates()
 /// A stalled request changes nothing.
 #[tactic(auto, using(crate::proofs::Lasting::stall_leaves_all))]
 pub fn stalls_change_nothing()
-    ensures { (function : FunctionFields) (held : Held) (p : Setup) (sent : List ℕ) (rule : ℕ)
+    ensures { (function : FunctionFields) (held : RequestState) (p : Setup) (sent : List ℕ) (rule : ℕ)
         → reply_of function held p sent ≡ is_stalled rule → after_request function held p sent ≡ held }
 {}
 
 /// An answer that is a piece of the configuration begins with its first byte, and ends within it.
 #[tactic(auto, using(crate::proofs::Lasting::begins_at_0, crate::proofs::Lasting::ends_within))]
 pub fn descriptors_end_within_the_total()
-    ensures start { (function : FunctionFields) (held : Held) (p : Setup) (sent : List ℕ) (from to : ℕ)
+    ensures start { (function : FunctionFields) (held : RequestState) (p : Setup) (sent : List ℕ) (from to : ℕ)
         → reply_of function held p sent ≡ with_descriptor from to → from ≡ 0 }
-    ensures end { (function : FunctionFields) (held : Held) (p : Setup) (sent : List ℕ) (from to : ℕ)
+    ensures end { (function : FunctionFields) (held : RequestState) (p : Setup) (sent : List ℕ) (from to : ℕ)
         → reply_of function held p sent ≡ with_descriptor from to → to ≤ function.total }
 {}

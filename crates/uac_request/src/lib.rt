@@ -25,11 +25,11 @@ mod serve;
 /// The setup packet of a control transfer.
 mod setup;
 /// What a request is told.
-mod told;
+mod reply;
 /// The settings that are valid.
 mod valid;
 
 pub use device::answer;
-pub use setup::{Setup, key_named, low_byte, word};
-pub use told::{Answer, Reply};
+pub use reply::{Answer, Reply};
+pub use setup::{Setup, key_named, low_byte, two_byte_number};
 pub use valid::is_valid;

@@ -12,19 +12,19 @@ use uac_topology::{Entity, Function, StreamInterface};
 #[derive(Clone, Copy)]
 pub(crate) enum Owner<'a> {
     Entity(&'a Entity),
-    Stream(&'a StreamInterface),
+    Interface(&'a StreamInterface),
 }
 
 /// What keeps the controls that wIndex names: on the control interface an entity, on a streaming interface that, where
 /// no entity is named (Audio Class 2.0, 5.2.2).
 #[tactic(auto, unfolding(crate::specs::Requests::owner_of))]
 pub(crate) fn owner_of(function: &Function, index: u16) -> Option<Owner<'_>>
-    ensures { option_map owners.owned result ≡ spec.owner_of function.now index }
+    ensures { option_map owners.owner_fields result ≡ spec.owner_of function.now index }
 {
     if low_byte(index) == function.control_interface() {
         function.entity(high_byte(index)).map(Owner::Entity)
     } else if high_byte(index) == 0 {
-        function.interface(low_byte(index)).map(Owner::Stream)
+        function.interface(low_byte(index)).map(Owner::Interface)
     } else {
         None
     }

@@ -2,15 +2,15 @@
 ghost use Rattle.std.specs.Prelude.{◌≡◌, ◌≤◌, ◌+◌, ◌*◌, ◌++◌, true, length, unwrap_or, []};
 ghost use Rattle.arrayvec.specs.ArrayVec.{array_vec_len};
 ghost use Rattle.uac_store.specs.StoreValues.{ranges_of};
-ghost use Rattle.uac_request.specs.Owners.{owned};
+ghost use Rattle.uac_request.specs.Owners.{owner_fields};
 ghost use Rattle.uac_request.specs.Requests as spec;
 ghost use Rattle.uac_request.specs.Requests.{key_named};
 
 use crate::bytes::{push_number, push_value};
 use crate::controls::width_of;
 use crate::owner::Owner;
+use crate::reply::Reply;
 use crate::setup::{Setup, key_named};
-use crate::told::Reply;
 use uac_store::{Range, ranges};
 use uac_topology::Function;
 
@@ -18,8 +18,8 @@ use uac_topology::Function;
 #[tactic(auto, using(crate::proofs::Narrow::narrow_range))]
 pub(crate) fn write_ranges(reply: &mut Reply, function: &Function, setup: &Setup, owner: Owner<'_>)
     requires empty { reply.old.items ≡ [] }
-    requires ranged { spec.has_range (owned owner) (spec.high setup.now.value) ≡ true }
-    ensures { reply.new.items ≡ spec.range_bytes (spec.bytes_of (owned owner.entry) (spec.high setup.now.value))
+    requires ranged { spec.has_range (owner_fields owner) (spec.high setup.now.value) ≡ true }
+    ensures { reply.new.items ≡ spec.range_bytes (spec.bytes_of (owner_fields owner.entry) (spec.high setup.now.value))
         (unwrap_or (ranges_of function.now.entities (key_named setup.now)) []) }
 {
     let key = key_named(setup);

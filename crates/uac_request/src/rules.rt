@@ -3,19 +3,19 @@ ghost use Rattle.std.specs.Prelude.{◌≡◌, ◌≤◌, ◌==◌, IfOk, IfErr,
 ghost use Rattle.std.specs.Prelude.{nat_lt};
 ghost use Rattle.std.specs.Int.{w32};
 ghost use Rattle.std.specs.Int.RustNames.{FitsSigned};
-ghost use Rattle.uac_entities.specs.EntityStreams.{named};
+ghost use Rattle.uac_entities.specs.EntityInterfaces.{entity_by_id};
 ghost use Rattle.uac_entities.specs.declared.entity.Entity.{Entity};
 ghost use Rattle.uac_topology.specs.Function.{FunctionFields};
 ghost use Rattle.uac_alt.specs.declared.settings.InterfaceSetting.{InterfaceSetting};
 ghost use Rattle.uac_store.specs.StoreControls.{IsStoreOf, count_of, takes};
 ghost use Rattle.uac_store.specs.Keyed.{value_of};
 ghost use Rattle.uac_store.specs.StoreValues.{is_legal};
-ghost use Rattle.uac_request.specs.Owners.{get_rules, owned, set_rules};
+ghost use Rattle.uac_request.specs.Owners.{get_rules, owner_fields, set_rules};
 ghost use Rattle.uac_request.specs.Requests as spec;
-ghost use Rattle.uac_request.specs.Requests.{by_entity, first_broken, held_by, key_named, least, owner_of, sent_value};
+ghost use Rattle.uac_request.specs.Requests.{by_entity, first_broken, request_state, key_named, least, owner_of, sent_value};
 
 use crate::bytes::value_from;
-use crate::controls::{has_range, is_declared, width_of, written};
+use crate::controls::{has_range, is_declared, width_of, writable_entity};
 use crate::owner::Owner;
 use crate::setup::{Setup, key_named, low_byte};
 use uac_alt::Settings;
@@ -37,10 +37,10 @@ pub(crate) fn get_broken(
     requires asked { setup.now.request_type ≡ 161 }
     requires number { setup.now.request ≡ (if range then 2 else 1) }
     requires of_interface { spec.has_interface function.now (spec.low setup.now.index) ≡ true }
-    requires of_index { owner_of function.now setup.now.index ≡ Some (owned owner) }
+    requires of_index { owner_of function.now setup.now.index ≡ Some (owner_fields owner) }
     ensures broken { (settings : List InterfaceSetting)
-        → result ≡ first_broken function.now (held_by store.now settings) setup.now sent.now }
-    ensures ranged { result ≡ None → range ≡ true → spec.has_range (owned owner.entry) (spec.high setup.now.value) ≡ true }
+        → result ≡ first_broken function.now (request_state store.now settings) setup.now sent.now }
+    ensures ranged { result ≡ None → range ≡ true → spec.has_range (owner_fields owner.entry) (spec.high setup.now.value) ≡ true }
 {
     broken_at(function, store, setup, sent, range, owner)
 }
@@ -55,9 +55,9 @@ fn broken_at(
     owner: Owner<'_>,
 ) -> Option<u8>
     requires of_function { IsStoreOf function.now.entities store.now }
-    requires of_index { owner_of function.now setup.now.index ≡ Some (owned owner) }
-    ensures broken { result ≡ least (get_rules function.now setup.now sent.now (owned owner.entry) range) }
-    ensures ranged { result ≡ None → range ≡ true → spec.has_range (owned owner.entry) (spec.high setup.now.value) ≡ true }
+    requires of_index { owner_of function.now setup.now.index ≡ Some (owner_fields owner) }
+    ensures broken { result ≡ least (get_rules function.now setup.now sent.now (owner_fields owner.entry) range) }
+    ensures ranged { result ≡ None → range ≡ true → spec.has_range (owner_fields owner.entry) (spec.high setup.now.value) ≡ true }
 {
     let key = key_named(setup);
     if width_of(owner, key.selector).is_none() || (range && !has_range(owner, key.selector)) {
@@ -80,11 +80,12 @@ fn broken_at(
 #[tactic(auto, using(crate::proofs::Owned::entity_named))]
 fn is_in_range(store: &Store, setup: &Setup, owner: Owner<'_>) -> bool
     ensures { (function : FunctionFields) → IsStoreOf function.entities store.now → owner_of function setup.now.index
-        ≡ Some (owned owner.entry) → result ≡ spec.is_in_range function.entities (owned owner.entry) (spec.low setup.now.value) }
+        ≡ Some (owner_fields owner.entry)
+        → result ≡ spec.is_in_range function.entities (owner_fields owner.entry) (spec.low setup.now.value) }
 {
     match owner {
         Owner::Entity(entity) => has_channel(store, entity.kind, key_named(setup)),
-        Owner::Stream(_) => low_byte(setup.value) == 0,
+        Owner::Interface(_) => low_byte(setup.value) == 0,
     }
 }
 
@@ -92,7 +93,8 @@ fn is_in_range(store: &Store, setup: &Setup, owner: Owner<'_>) -> bool
 // terminal's connector is on channel 0 alone.
 #[tactic(auto, using(crate::proofs::Owned::of_terminal, crate::proofs::Owned::of_store))]
 fn has_channel(store: &Store, kind: EntityKind, key: Key) -> bool
-    ensures { (entities : List Entity) (e : Entity) → IsStoreOf entities store.now → named entities key.entity ≡ Some e → e.kind ≡ kind
+    ensures { (entities : List Entity) (e : Entity) → IsStoreOf entities store.now → entity_by_id entities key.entity ≡ Some e
+        → e.kind ≡ kind
         → result ≡ nat_lt key.channel (count_of entities e) }
 {
     if selectors_of(kind) >= 1 {
@@ -115,10 +117,11 @@ pub(crate) fn value_to_set(
     requires asked { setup.now.request_type ≡ 33 }
     requires number { setup.now.request ≡ 1 }
     requires of_interface { spec.has_interface function.now (spec.low setup.now.index) ≡ true }
-    requires of_index { owner_of function.now setup.now.index ≡ Some (owned owner) }
-    ensures broken { IfErr result (λ rule. first_broken function.now (held_by store.now settings.now) setup.now sent.now ≡ Some rule) }
-    ensures met { IfOk result (λ value. first_broken function.now (held_by store.now settings.now) setup.now sent.now ≡ None) }
-    ensures value { IfOk result (λ value. value ≡ sent_value (owned owner.entry) (spec.high setup.now.value) sent.now) }
+    requires of_index { owner_of function.now setup.now.index ≡ Some (owner_fields owner) }
+    ensures broken { IfErr result
+        (λ rule. first_broken function.now (request_state store.now settings.now) setup.now sent.now ≡ Some rule) }
+    ensures met { IfOk result (λ value. first_broken function.now (request_state store.now settings.now) setup.now sent.now ≡ None) }
+    ensures value { IfOk result (λ value. value ≡ sent_value (owner_fields owner.entry) (spec.high setup.now.value) sent.now) }
     ensures kept { IfOk result (λ value. IsSome (value_of store.now (key_named setup.now))) }
     ensures taken { IfOk result (λ value. takes function.now.entities (key_named setup.now) value ≡ true) }
 {
@@ -136,12 +139,14 @@ fn value_sent(
     owner: Owner<'_>,
 ) -> Result<i32, u8>
     requires of_function { IsStoreOf function.now.entities store.now }
-    requires of_index { owner_of function.now setup.now.index ≡ Some (owned owner) }
+    requires of_index { owner_of function.now setup.now.index ≡ Some (owner_fields owner) }
     ensures broken { IfErr result
-        (λ rule. least (set_rules function.now (held_by store.now settings.now) setup.now sent.now (owned owner.entry)) ≡ Some rule) }
+        (λ rule. least (set_rules function.now (request_state store.now settings.now) setup.now sent.now (owner_fields owner.entry))
+        ≡ Some rule) }
     ensures met { IfOk result
-        (λ value. least (set_rules function.now (held_by store.now settings.now) setup.now sent.now (owned owner.entry)) ≡ None) }
-    ensures value { IfOk result (λ value. value ≡ sent_value (owned owner.entry) (spec.high setup.now.value) sent.now) }
+        (λ value. least (set_rules function.now (request_state store.now settings.now) setup.now sent.now (owner_fields owner.entry))
+        ≡ None) }
+    ensures value { IfOk result (λ value. value ≡ sent_value (owner_fields owner.entry) (spec.high setup.now.value) sent.now) }
     ensures kept { IfOk result (λ value. IsSome (value_of store.now (key_named setup.now))) }
     ensures taken { IfOk result (λ value. takes function.now.entities (key_named setup.now) value ≡ true) }
 {
@@ -156,7 +161,7 @@ fn value_sent(
     if !within {
         return Err(6);
     }
-    let Some(entity) = written(owner, key.selector, key.channel) else {
+    let Some(entity) = writable_entity(owner, key.selector, key.channel) else {
         return Err(7);
     };
     if !(setup.length == u16::from(width) && sent.len() == usize::from(width)) {
@@ -181,7 +186,7 @@ fn legal_value(
     sent: &[u8],
 ) -> Option<i32>
     requires of_function { IsStoreOf function.now.entities store.now }
-    requires named { named function.now.entities key.entity ≡ Some entity.now }
+    requires named { entity_by_id function.now.entities key.entity ≡ Some entity.now }
     requires some { 1 ≤ key.selector }
     requires low { key.selector ≤ 2 }
     requires whole { spec.entity_width entity.now.kind key.selector ≡ Some (length sent.now) }

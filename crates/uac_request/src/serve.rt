@@ -3,17 +3,17 @@ ghost use Rattle.std.specs.Prelude.{◌≡◌, ℤ, List, ℕ, IfErr, IfOk, None
 ghost use Rattle.uac_alt.specs.declared.settings.InterfaceSetting.{InterfaceSetting};
 ghost use Rattle.uac_store.specs.StoreControls.{IsStoreOf};
 ghost use Rattle.uac_store.specs.declared.keys.Key.{Key};
-ghost use Rattle.uac_request.specs.Owners.{owned};
+ghost use Rattle.uac_request.specs.Owners.{owner_fields};
 ghost use Rattle.uac_request.specs.Requests as spec;
-ghost use Rattle.uac_request.specs.Requests.{AreSettingsOf, Held, after_request, answer_fields, first_broken};
-ghost use Rattle.uac_request.specs.Requests.{held_by, is_to_control, low, reply_of};
+ghost use Rattle.uac_request.specs.Requests.{AreSettingsOf, RequestState, after_request, answer_fields, first_broken};
+ghost use Rattle.uac_request.specs.Requests.{request_state, is_to_control, low, reply_of};
 
 use crate::current::write_cur;
 use crate::owner::{Owner, has_interface, interface_named, owner_of, setting_named};
 use crate::ranging::write_ranges;
+use crate::reply::{Answer, Reply};
 use crate::rules::{get_broken, value_to_set};
 use crate::setup::{Setup, key_named, low_byte};
-use crate::told::{Answer, Reply};
 use crate::valid::is_valid;
 use arrayvec::ArrayVec;
 use uac_alt::Settings;
@@ -32,8 +32,9 @@ pub(crate) fn get_cur(
     requires of_function { IsStoreOf function.now.entities store.now }
     requires asked { setup.now.request_type ≡ 161 }
     requires number { setup.now.request ≡ 1 }
-    ensures told { answer_fields result ≡ reply_of function.now (held_by store.now settings.now) setup.now sent.now }
-    ensures held { held_by store.now settings.now ≡ after_request function.now (held_by store.now settings.now) setup.now sent.now }
+    ensures told { answer_fields result ≡ reply_of function.now (request_state store.now settings.now) setup.now sent.now }
+    ensures held { request_state store.now settings.now
+        ≡ after_request function.now (request_state store.now settings.now) setup.now sent.now }
 {
     let owner = match owner_named(function, setup) {
         Ok(owner) => owner,
@@ -57,9 +58,9 @@ pub(crate) fn get_range(function: &Function, store: &Store, setup: &Setup, sent:
     requires asked { setup.now.request_type ≡ 161 }
     requires number { setup.now.request ≡ 2 }
     ensures told { (settings : List InterfaceSetting)
-        → answer_fields result ≡ reply_of function.now (held_by store.now settings) setup.now sent.now }
+        → answer_fields result ≡ reply_of function.now (request_state store.now settings) setup.now sent.now }
     ensures held { (settings : List InterfaceSetting)
-        → held_by store.now settings ≡ after_request function.now (held_by store.now settings) setup.now sent.now }
+        → request_state store.now settings ≡ after_request function.now (request_state store.now settings) setup.now sent.now }
 {
     let owner = match owner_named(function, setup) {
         Ok(owner) => owner,
@@ -88,8 +89,9 @@ pub(crate) fn set_cur(
     requires of_function { IsStoreOf function.now.entities store.old }
     requires asked { setup.now.request_type ≡ 33 }
     requires number { setup.now.request ≡ 1 }
-    ensures told { answer_fields result ≡ reply_of function.now (held_by store.old settings.now) setup.now sent.now }
-    ensures held { held_by store.new settings.now ≡ after_request function.now (held_by store.old settings.now) setup.now sent.now }
+    ensures told { answer_fields result ≡ reply_of function.now (request_state store.old settings.now) setup.now sent.now }
+    ensures held { request_state store.new settings.now
+        ≡ after_request function.now (request_state store.old settings.now) setup.now sent.now }
     ensures of_function { IsStoreOf function.now.entities store.new }
 {
     let owner = match owner_named(function, setup) {
@@ -110,8 +112,8 @@ pub(crate) fn set_cur(
 pub(crate) fn get_descriptor(function: &Function, setup: &Setup, sent: &[u8]) -> Answer
     requires asked { setup.now.request_type ≡ 128 }
     requires number { setup.now.request ≡ 6 }
-    ensures told { (held : Held) → answer_fields result ≡ reply_of function.now held setup.now sent.now }
-    ensures held { (held : Held) → held ≡ after_request function.now held setup.now sent.now }
+    ensures told { (held : RequestState) → answer_fields result ≡ reply_of function.now held setup.now sent.now }
+    ensures held { (held : RequestState) → held ≡ after_request function.now held setup.now sent.now }
 {
     if setup.value != 0x0200 {
         return Answer::Stall(4);
@@ -141,9 +143,9 @@ pub(crate) fn get_interface(
     requires asked { setup.now.request_type ≡ 129 }
     requires number { setup.now.request ≡ 10 }
     ensures told { (controls : List (Key × ℤ)) → answer_fields result
-        ≡ reply_of function.now (held_by controls settings.now) setup.now sent.now }
+        ≡ reply_of function.now (request_state controls settings.now) setup.now sent.now }
     ensures held { (controls : List (Key × ℤ))
-        → held_by controls settings.now ≡ after_request function.now (held_by controls settings.now) setup.now sent.now }
+        → request_state controls settings.now ≡ after_request function.now (request_state controls settings.now) setup.now sent.now }
 {
     let Some(interface) = interface_named(function, setup.index) else {
         return Answer::Stall(2);
@@ -169,8 +171,9 @@ pub(crate) fn set_interface(
     requires settings { AreSettingsOf function.now settings.old }
     requires asked { setup.now.request_type ≡ 1 }
     requires number { setup.now.request ≡ 11 }
-    ensures told { answer_fields result ≡ reply_of function.now (held_by store.now settings.old) setup.now sent.now }
-    ensures held { held_by store.now settings.new ≡ after_request function.now (held_by store.now settings.old) setup.now sent.now }
+    ensures told { answer_fields result ≡ reply_of function.now (request_state store.now settings.old) setup.now sent.now }
+    ensures held { request_state store.now settings.new
+        ≡ after_request function.now (request_state store.now settings.old) setup.now sent.now }
     ensures of_function { AreSettingsOf function.now settings.new }
 {
     let Some(interface) = interface_named(function, setup.index) else {
@@ -203,9 +206,10 @@ fn can_hold(function: &Function, store: &Store, interface: u8, setting: u8) -> b
 #[tactic(auto, using(crate::proofs::Asked::no_interface, crate::proofs::Asked::no_owner))]
 fn owner_named<'a>(function: &'a Function, setup: &Setup) -> Result<Owner<'a>, u8>
     requires { is_to_control setup.now ≡ true }
-    ensures none { IfErr result (λ rule. (held : Held) (sent : List ℕ) → first_broken function.now held setup.now sent ≡ Some rule) }
+    ensures none { IfErr result
+        (λ rule. (held : RequestState) (sent : List ℕ) → first_broken function.now held setup.now sent ≡ Some rule) }
     ensures interface { IfOk result (λ owner. spec.has_interface function.now (low setup.now.index) ≡ true) }
-    ensures owner { IfOk result (λ owner. spec.owner_of function.now setup.now.index ≡ Some (owned owner)) }
+    ensures owner { IfOk result (λ owner. spec.owner_of function.now setup.now.index ≡ Some (owner_fields owner)) }
 {
     if !has_interface(function, u16::from(low_byte(setup.index))) {
         return Err(2);

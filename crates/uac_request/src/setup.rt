@@ -28,15 +28,15 @@ impl Setup {
         Setup {
             request_type: bytes[0],
             request: bytes[1],
-            value: word(bytes[2], bytes[3]),
-            index: word(bytes[4], bytes[5]),
-            length: word(bytes[6], bytes[7]),
+            value: two_byte_number(bytes[2], bytes[3]),
+            index: two_byte_number(bytes[4], bytes[5]),
+            length: two_byte_number(bytes[6], bytes[7]),
         }
     }
 }
 
 /// The number of two bytes.
-pub fn word(low: u8, high: u8) -> u16
+pub fn two_byte_number(low: u8, high: u8) -> u16
     ensures { result ≡ low + 256 * high }
 {
     u16::from(low) + 256 * u16::from(high)

@@ -7,13 +7,13 @@ use Rattle.std.proofs.lemmas.List.Sums.{fold-append}
 use Rattle.uac_pcm.specs.Tones.{tone_sample}
 use Rattle.uac_pcm.specs.declared.tones.Tone.{Tone}
 use Rattle.uac_pcm.specs.declared.tones.Tone.TheVariants as tones
-use Rattle.uac_device.specs.DeviceKept.{DeviceFields, Stands}
+use Rattle.uac_device.specs.DeviceKept.{DeviceFields, DeviceStands}
 use Rattle.uac_device.specs.DeviceWorld.{DeviceWorld, is_input_jack, set_jack}
 use Rattle.uac_topology.specs.Function.{FunctionFields}
 use Rattle.uac_graph.specs.Meaning.{entity}
 use Rattle.uac_graph.specs.Wiring.{tone_frame}
 use Rattle.uac_running.specs.declared.jacks.Jack.{Jack}
-use Rattle.uac_running.specs.Events.{after_one, given, given_one, gone_on, next_frame}
+use Rattle.uac_running.specs.Events.{after_one, after_jacks, after_jack, jacks_after_frame, next_frame}
 use Rattle.uac_running.specs.RunningWorld.{jack_with_tone}
 use Rattle.uac_device.proofs.DeviceKeptLemmas.{all_changed}
 use Rattle.uac_lanes.proofs.Turning.{IsTurnedBelow, untouched}
@@ -21,17 +21,17 @@ use Rattle.uac_running.specs.RunningKept.{HasItsJacks, RunningFields}
 
 -- one jack more
 pub given_more : (clock : ℕ) (jacks : List Jack) (i : ℕ) (d : Jack) (w : DeviceWorld) → i < length jacks
-    → given clock (take (i + 1) jacks) w ≡ given_one clock (get_or jacks i d) (given clock (take i jacks) w)
+    → after_jacks clock (take (i + 1) jacks) w ≡ after_jack clock (get_or jacks i d) (after_jacks clock (take i jacks) w)
 given_more clock jacks i d w below =
     let step : DeviceWorld → Jack → DeviceWorld = λ v j. set_jack j.terminal (next_frame j) v in
-    let p : Jack → Bool = λ j. j.clock == clock in
+    let p : Jack → Bool = λ j. j.domain == clock in
     ap (fold step w) (filter_more p jacks i d below)
     ∙ fold-append step w (filter p (take i jacks)) (if p (get_or jacks i d) then get_or jacks i d ∷ [] else [])
     ∙ elim (cases_Bool (p (get_or jacks i d))) [ inl same ↦ rw same refl | inr other ↦ rw other refl ]
 
 -- whatever says nothing of tone and place stays
 kept_after : (P : ℕ → ℕ → Type 0) (clock : ℕ) (j : Jack) → P j.terminal j.channels → P (after_one clock j).terminal (after_one clock j).channels
-kept_after P clock j holds = elim (cases_Bool (j.clock == clock)) [ inl same ↦ rw same holds | inr other ↦ rw other holds ]
+kept_after P clock j holds = elim (cases_Bool (j.domain == clock)) [ inl same ↦ rw same holds | inr other ↦ rw other holds ]
 
 kept_toned : (P : ℕ → ℕ → Type 0) (terminal : ℕ) (tone : Tone) (j : Jack) → P j.terminal j.channels → P (jack_with_tone terminal tone j).terminal (jack_with_tone terminal tone j).channels
 kept_toned P terminal tone j holds = elim (cases_Bool (j.terminal == terminal)) [ inl same ↦ rw same holds | inr other ↦ rw other holds ]
@@ -51,7 +51,7 @@ kept_jacks f p q keeps function is h =
       most = subst (All (λ (j : Jack). most j.terminal j.channels)) (sym is) (all_changed (λ j. most j.terminal j.channels) (λ j. most j.terminal j.channels) f (λ j. keeps most j) p.jacks h.most);
     }
 
-pub jacks_gone_on : (clock : ℕ) (p q : RunningFields) → q.device.function ≡ p.device.function → q.jacks ≡ gone_on clock p.jacks → HasItsJacks p → HasItsJacks q
+pub jacks_gone_on : (clock : ℕ) (p q : RunningFields) → q.device.function ≡ p.device.function → q.jacks ≡ jacks_after_frame clock p.jacks → HasItsJacks p → HasItsJacks q
 jacks_gone_on clock p q = kept_jacks (after_one clock) p q (λ P j holds. kept_after P clock j holds)
 
 pub jacks_toned : (terminal : ℕ) (tone : Tone) (p q : RunningFields) → q.device.function ≡ p.device.function → q.jacks ≡ map (jack_with_tone terminal tone) p.jacks → HasItsJacks p → HasItsJacks q
@@ -59,9 +59,9 @@ jacks_toned terminal tone p q = kept_jacks (jack_with_tone terminal tone) p q (�
 
 -- the next jack gives its frame
 pub gives_next : (clock : ℕ) (old now : List Jack) (i : ℕ) (d : Jack) (w : DeviceWorld) (new : DeviceFields) → i < length old → IsTurnedBelow (after_one clock) now old i
-    → Stands new (given_one clock (get_or now i d) (given clock (take i old) w)) → Stands new (given clock (take (i + 1) old) w)
+    → DeviceStands new (after_jack clock (get_or now i d) (after_jacks clock (take i old) w)) → DeviceStands new (after_jacks clock (take (i + 1) old) w)
 gives_next clock old now i d w new below changed stands =
-    subst (Stands new) (ap (λ (j : Jack). given_one clock j (given clock (take i old) w)) (untouched (after_one clock) now old i d changed) ∙ sym (given_more clock old i d w below)) stands
+    subst (DeviceStands new) (ap (λ (j : Jack). after_jack clock j (after_jacks clock (take i old) w)) (untouched (after_one clock) now old i d changed) ∙ sym (given_more clock old i d w below)) stands
 
 pub jacks_kept : (p q : RunningFields) → q.device.function ≡ p.device.function → q.jacks ≡ p.jacks → HasItsJacks p → HasItsJacks q
 jacks_kept p q function is h = record {
@@ -82,9 +82,9 @@ silent_frame j silent = ap (λ (t : Tone). map (tone_sample t j.place) (range_wi
     zeros from (suc n) = ap (λ (zs : List ℤ). pos 0 ∷ zs) (zeros (from + 1) n)
 
 -- a jack of the domain that sounds its tone's frame gives it
-pub sounded_given : (clock channels : ℕ) (j : Jack) (w : DeviceWorld) (new : DeviceFields) → j.clock ≡ clock → channels ≡ j.channels
-    → Stands new (set_jack j.terminal (tone_frame j.tone j.place channels) w) → Stands new (given_one clock j w)
+pub sounded_given : (clock channels : ℕ) (j : Jack) (w : DeviceWorld) (new : DeviceFields) → j.domain ≡ clock → channels ≡ j.channels
+    → DeviceStands new (set_jack j.terminal (tone_frame j.tone j.place channels) w) → DeviceStands new (after_jack clock j w)
 unfolding next_frame
 sounded_given clock channels j w new here same stands =
-    subst (Stands new) (ap (λ (b : Bool). if b then set_jack j.terminal (next_frame j) w else w) (sym (eq-eqb j.clock clock here)))
-    (subst (λ (n : ℕ). Stands new (set_jack j.terminal (tone_frame j.tone j.place n) w)) same stands)
+    subst (DeviceStands new) (ap (λ (b : Bool). if b then set_jack j.terminal (next_frame j) w else w) (sym (eq-eqb j.domain clock here)))
+    (subst (λ (n : ℕ). DeviceStands new (set_jack j.terminal (tone_frame j.tone j.place n) w)) same stands)

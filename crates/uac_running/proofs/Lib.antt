@@ -2,7 +2,7 @@ pub mod SoFar
 pub mod JackSteps
 pub mod Stillness
 pub mod Resting
-pub mod Counting
+pub mod RunningKeptLemmas
 pub mod Start
 pub mod Steps
 pub mod StreamSteps

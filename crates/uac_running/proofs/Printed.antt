@@ -24,13 +24,13 @@ use Rattle.uac_graph.specs.Needs.{is_end}
 use Rattle.uac_graph.proofs.FromRules.{sound_graph}
 use Rattle.uac_edges.specs.Writing.{Writes}
 use Rattle.uac_transcript.specs.declared.report.StreamCounts.{StreamCounts}
-use Rattle.uac_transcript.specs.Transcript.{Said, says_domain, says_meter, says_played, spelled}
+use Rattle.uac_transcript.specs.Transcript.{Said, says_domain, says_meter, says_played, spelling_of}
 use Rattle.uac_streaming.specs.StreamingWorld as streams
 use Rattle.uac_topology_rules.proofs.Found.{position-below}
-use Rattle.uac_device.specs.DeviceKept.{DeviceFields, Stands}
+use Rattle.uac_device.specs.DeviceKept.{DeviceFields, DeviceStands}
 use Rattle.uac_device.specs.DeviceWorld.{Domain, DeviceWorld, is_jack, is_output_jack, level_of, played_at, target_of}
 use Rattle.uac_running.specs.declared.counts.TickCount.{TickCount}
-use Rattle.uac_running.specs.RunningKept.{counted}
+use Rattle.uac_running.specs.RunningKept.{tick_count_of}
 use Rattle.uac_running.specs.RunningLines.{domain_line, played_line, played_lines, says_stream, stream_line}
 
 -- a line for each of the items that a test keeps
@@ -73,39 +73,39 @@ played_here clock w e own ends =
     let output = and_parts (is_output e.kind) (e.clock == clock) parts.0 in
     ap (λ (x : Entity). if is_output_jack x then Some (w.played e.id) else None) own ∙ cond-true _ _ _ (and_from _ _ output.0 parts.1)
 
-own_of : (device : DeviceFields) (w : DeviceWorld) (e : Entity) → Stands device w → entity device.function.entities e.id ≡ e → entity w.function.entities e.id ≡ e
+own_of : (device : DeviceFields) (w : DeviceWorld) (e : Entity) → DeviceStands device w → entity device.function.entities e.id ≡ e → entity w.function.entities e.id ≡ e
 own_of device w e stands own = ap (λ f. entity f.entities e.id) (sym stands.function) ∙ own
 
 -- the frame of an output jack is the one that is said of it
-pub said-played : (clock : ℕ) (w : DeviceWorld) (device : DeviceFields) (e : Entity) (samples : List ℤ) → Stands device w → entity device.function.entities e.id ≡ e
+pub said-played : (clock : ℕ) (w : DeviceWorld) (device : DeviceFields) (e : Entity) (samples : List ℤ) → DeviceStands device w → entity device.function.entities e.id ≡ e
     → true ≡ (is_end clock e && is_jack e) → Some samples ≡ played_at w e.id → says_played e.id samples ∷ [] ≡ of_entity clock w e
 said-played clock w device e samples stands own ends played =
     let here = played_here clock w e (own_of device w e stands own) ends in
     let same : samples ≡ w.played e.id = cc in
     ap (λ (s : List ℤ). says_played e.id s ∷ []) same ∙ sym (cond-true _ _ _ (sym ends))
 
-pub none_played : (clock : ℕ) (w : DeviceWorld) (device : DeviceFields) (e : Entity) → Stands device w → entity device.function.entities e.id ≡ e
+pub none_played : (clock : ℕ) (w : DeviceWorld) (device : DeviceFields) (e : Entity) → DeviceStands device w → entity device.function.entities e.id ≡ e
     → true ≡ (is_end clock e && is_jack e) → None ≡ played_at w e.id → ⊥
 none_played clock w device e stands own ends played = let here = played_here clock w e (own_of device w e stands own) ends in cc
 
 -- ---- the report
 
 -- the line of the domain at a place, from its count
-pub count_at : (device : DeviceFields) (w : DeviceWorld) (counts : List TickCount) (i : ℕ) (d : Domain) (e c : TickCount) (rate : Option ℕ) → Stands device w
-    → counts ≡ map counted w.domains → i < length w.domains → c ≡ get_or counts i e → rate ≡ rate_of device.function.entities device.controls c.clock
-    → says_domain c.clock rate c.ticks ≡ domain_line w (get_or w.domains i d)
+pub count_at : (device : DeviceFields) (w : DeviceWorld) (counts : List TickCount) (i : ℕ) (d : Domain) (e c : TickCount) (rate : Option ℕ) → DeviceStands device w
+    → counts ≡ map tick_count_of w.domains → i < length w.domains → c ≡ get_or counts i e → rate ≡ rate_of device.function.entities device.controls c.domain
+    → says_domain c.domain rate c.ticks ≡ domain_line w (get_or w.domains i d)
 unfolding domain_line
 count_at device w counts i d e c rate stands same h is is_rate =
-    let here : c ≡ counted (get_or w.domains i d) = is ∙ ap (λ (xs : List TickCount). get_or xs i e) same ∙ get_or-map counted w.domains i d e h in
-    ap (λ (r : Option ℕ). says_domain c.clock r c.ticks)
+    let here : c ≡ tick_count_of (get_or w.domains i d) = is ∙ ap (λ (xs : List TickCount). get_or xs i e) same ∙ get_or-map tick_count_of w.domains i d e h in
+    ap (λ (r : Option ℕ). says_domain c.domain r c.ticks)
     (is_rate
-    ∙ ap (λ (f : List Entity). rate_of f device.controls c.clock) (ap (λ f. f.entities) stands.function)
-    ∙ ap (λ (controls : List (Key × ℤ)). rate_of w.function.entities controls c.clock) stands.controls)
-    ∙ ap (λ (t : TickCount). says_domain t.clock (rate_of w.function.entities w.controls t.clock) t.ticks) here
+    ∙ ap (λ (f : List Entity). rate_of f device.controls c.domain) (ap (λ f. f.entities) stands.function)
+    ∙ ap (λ (controls : List (Key × ℤ)). rate_of w.function.entities controls c.domain) stands.controls)
+    ∙ ap (λ (t : TickCount). says_domain t.domain (rate_of w.function.entities w.controls t.domain) t.ticks) here
 
 -- as many counts as domains
-pub below_domains : (w : DeviceWorld) (counts : List TickCount) (i : ℕ) → counts ≡ map counted w.domains → i < length counts → i < length w.domains
-below_domains w counts i same h = omega (arith, ap length same, length-map w.domains counted)
+pub below_domains : (w : DeviceWorld) (counts : List TickCount) (i : ℕ) → counts ≡ map tick_count_of w.domains → i < length counts → i < length w.domains
+below_domains w counts i same h = omega (arith, ap length same, length-map w.domains tick_count_of)
 
 -- the line of an interface's streams
 pub stream-line : (w : DeviceWorld) (met : ℕ → StreamCounts) (settings : List InterfaceSetting) (s : StreamInterface) (setting level : ℕ) (target : Option ℕ) (counts : StreamCounts)
@@ -122,9 +122,9 @@ stream-line w met settings s setting level target counts same is_setting is_leve
 pub stream-writes : {T E : Type 0} (old new : Option (List ℕ)) (r : Result T E) (w : DeviceWorld) (met : ℕ → StreamCounts) (settings : List InterfaceSetting) (s : StreamInterface)
     (out : Bool) (setting level : ℕ) (target : Option ℕ) (counts : StreamCounts)
     → out ≡ s.out → settings ≡ w.settings → setting ≡ unwrap_or (setting_of settings s.number) 0 → level ≡ level_of w s.number → target ≡ target_of w s.number
-    → counts ≡ met s.number → Writes old new r (spelled (says_stream out s.number setting level target counts)) → Writes old new r (spelled (stream_line w met s))
+    → counts ≡ met s.number → Writes old new r (spelling_of (says_stream out s.number setting level target counts)) → Writes old new r (spelling_of (stream_line w met s))
 stream-writes old new r w met settings s out setting level target counts is_out same is_setting is_level is_target is_met writes =
-    subst (λ (said : Said). Writes old new r (spelled said))
+    subst (λ (said : Said). Writes old new r (spelling_of said))
     (ap (λ (b : Bool). says_stream b s.number setting level target counts) is_out
     ∙ stream-line w met settings s setting level target counts same is_setting is_level is_target is_met)
     writes

@@ -7,26 +7,26 @@ use Rattle.uac_mixer.specs.MixerElements.{name_of}
 use Rattle.uac_mixer.specs.declared.element.Element.{Element}
 use Rattle.uac_running.specs.RunningWorld.{RunningWorld}
 use Rattle.uac_running.specs.RunningTransfers.{read_sight}
-use Rattle.uac_transcript.specs.Transcript.{Outcome, Sight, has_value, says_answer, says_view, spelled, was_broken}
+use Rattle.uac_transcript.specs.Transcript.{TransferOutcome, Sight, has_value, says_answer, says_view, spelling_of, was_broken}
 use Rattle.uac_transcript.specs.Printing.{Prints}
 use Rattle.uac_transcript.proofs.PrintingLemmas.{Prints-line}
 
-pub outcome_printed : {T E : Type 0} (old new : Option (List ℕ)) (r : Result T E) (o p : Outcome) → o ≡ p → Writes old new r (spelled (says_answer p))
+pub outcome_printed : {T E : Type 0} (old new : Option (List ℕ)) (r : Result T E) (o p : TransferOutcome) → o ≡ p → Writes old new r (spelling_of (says_answer p))
     → Prints old new r (says_answer o ∷ [])
-outcome_printed old new r o p is w = Prints-line old new r (says_answer o) (subst (λ (x : Outcome). Writes old new r (spelled (says_answer x))) (sym is) w)
+outcome_printed old new r o p is w = Prints-line old new r (says_answer o) (subst (λ (x : TransferOutcome). Writes old new r (spelling_of (says_answer x))) (sym is) w)
 
-pub outcome_seen : {T E : Type 0} (old new : Option (List ℕ)) (r : Result T E) {o p : Outcome} → o ≡ p → Prints old new r (says_answer o ∷ [])
+pub outcome_seen : {T E : Type 0} (old new : Option (List ℕ)) (r : Result T E) {o p : TransferOutcome} → o ≡ p → Prints old new r (says_answer o ∷ [])
     → Prints old new r (says_answer p ∷ [])
-outcome_seen old new r is w = subst (λ (x : Outcome). Prints old new r (says_answer x ∷ [])) is w
+outcome_seen old new r is w = subst (λ (x : TransferOutcome). Prints old new r (says_answer x ∷ [])) is w
 
 -- a list of one line is that line
 pub one_line : {T E : Type 0} (old new : Option (List ℕ)) (r : Result T E) (s t : Sight) → s ≡ t → Prints old new r (says_view s ∷ [])
     → Prints old new r (says_view t ∷ [])
 one_line old new r s t is w = subst (λ (x : Sight). Prints old new r (says_view x ∷ [])) is w
 
-pub sight_printed : {T E : Type 0} (old new : Option (List ℕ)) (r : Result T E) (s t : Sight) → s ≡ t → Writes old new r (spelled (says_view t))
+pub sight_printed : {T E : Type 0} (old new : Option (List ℕ)) (r : Result T E) (s t : Sight) → s ≡ t → Writes old new r (spelling_of (says_view t))
     → Prints old new r (says_view s ∷ [])
-sight_printed old new r s t is w = Prints-line old new r (says_view s) (subst (λ (x : Sight). Writes old new r (spelled (says_view x))) (sym is) w)
+sight_printed old new r s t is w = Prints-line old new r (says_view s) (subst (λ (x : Sight). Writes old new r (spelling_of (says_view x))) (sym is) w)
 
 -- one element stands at a place
 pub same_element : (xs : List Element) (at : ℕ) (x y : Element) → slice_get xs at ≡ Some x → slice_get xs at ≡ Some y → x ≡ y

@@ -7,14 +7,14 @@ use Rattle.uac_edges.specs.declared.edges.Failed.{Failed}
 use Rattle.uac_transcript.specs.Transcript.{Said}
 use Rattle.uac_transcript.specs.Printing.{text_of}
 use Rattle.uac_streaming.specs.Telling as streams
-use Rattle.uac_streaming.specs.Telling.{Telling}
+use Rattle.uac_streaming.specs.Telling.{Telling, telling_after, at_rest}
 use Rattle.uac_streaming.specs.StreamingWorld.{StreamingWorld, all_reported, all_settled, in_packets, out_packets}
 use Rattle.uac_streaming.proofs.Quiet.{IsQuiet, Quietly, quiet_ends, quiet_in, quiet_out, quiet_reports}
 use Rattle.uac_running.specs.RunningWorld.{RunningWorld, streaming_of, with_streaming}
-use Rattle.uac_running.specs.Events.{Told, all_domains, ends_and_reports, followed_by, of_streams, packets_and_ticks, still, with_lines_first}
-use Rattle.uac_running.specs.RunningKept.{RunningFields, Stands, Tells}
+use Rattle.uac_running.specs.Events.{all_domains, ends_and_reports, followed_by, of_streams, packets_and_ticks}
+use Rattle.uac_running.specs.RunningKept.{RunningFields, RunningStands, RunningTells}
 use Rattle.uac_running.specs.Silence.{packets}
-use Rattle.uac_running.proofs.SoFar.{Appends-nothing, tells_then, with_lines_first-with_lines_first}
+use Rattle.uac_running.proofs.SoFar.{Appends-nothing, tells_then, telling_after-telling_after}
 use Rattle.uac_running.proofs.Steps.{streams_told}
 use Rattle.uac_running.proofs.StreamSteps.{all_settled-keep}
 
@@ -24,34 +24,34 @@ unfolding packets_and_ticks
 packets_first marks r =
     let out = of_streams (out_packets r.detail marks) r in
     let coming = of_streams (in_packets r.detail marks) out.world in
-    sym (with_lines_first-with_lines_first out.lines coming.lines (all_domains coming.world))
+    sym (telling_after-telling_after out.lines coming.lines (all_domains coming.world))
 
-abbrev told_with : RunningWorld → Telling StreamingWorld → Told
+abbrev told_with : RunningWorld → Telling StreamingWorld → Telling RunningWorld
 told_with r told = record { lines = told.lines; world = with_streaming r told.world }
 
-still_streams : (event : StreamingWorld → Telling StreamingWorld) (r : RunningWorld) → event (streaming_of r) ≡ streams.at_rest (streaming_of r) → of_streams event r ≡ still r
+still_streams : (event : StreamingWorld → Telling StreamingWorld) (r : RunningWorld) → event (streaming_of r) ≡ streams.at_rest (streaming_of r) → of_streams event r ≡ at_rest r
 still_streams event r is = ap (told_with r) is
 
-still_told : (told : Told) (p : RunningFields) (meters : List Reading) (r : RunningWorld) (old : Option (List ℕ)) → told ≡ still r → Stands p meters r
-    → Tells {E = Failed} told p meters old old (Ok tt)
-still_told told p meters r old is stands = subst (λ (t : Told). Tells {E = Failed} t p meters old old (Ok tt)) (sym is) (Appends-nothing old, stands)
+still_told : (told : Telling RunningWorld) (p : RunningFields) (meters : List Reading) (r : RunningWorld) (old : Option (List ℕ)) → told ≡ at_rest r → RunningStands p meters r
+    → RunningTells {E = Failed} told p meters old old (Ok tt)
+still_told told p meters r old is stands = subst (λ (t : Telling RunningWorld). RunningTells {E = Failed} t p meters old old (Ok tt)) (sym is) (Appends-nothing old, stands)
 
-pub quiet_packets_told : (marks : List SaidMark) (p : RunningFields) (meters : List Reading) (r : RunningWorld) (old : Option (List ℕ)) → IsQuiet (streaming_of r) → Stands p meters r
-    → Tells {E = Failed} (packets marks r) p meters old old (Ok tt)
+pub quiet_packets_told : (marks : List SaidMark) (p : RunningFields) (meters : List Reading) (r : RunningWorld) (old : Option (List ℕ)) → IsQuiet (streaming_of r) → RunningStands p meters r
+    → RunningTells {E = Failed} (packets marks r) p meters old old (Ok tt)
 quiet_packets_told marks p meters r old none stands =
     still_told (packets marks r) p meters r old
-    (ap (λ (t : Told). with_lines_first t.lines (of_streams (in_packets r.detail marks) t.world))
+    (ap (λ (t : Telling RunningWorld). telling_after t.lines (of_streams (in_packets r.detail marks) t.world))
     (still_streams (out_packets r.detail marks) r (quiet_out r.detail marks (streaming_of r) none))
     ∙ still_streams (in_packets r.detail marks) r (quiet_in r.detail marks (streaming_of r) none))
     stands
 
-pub quiet_ends_told : (marks : List SaidMark) (p : RunningFields) (meters : List Reading) (r : RunningWorld) (old : Option (List ℕ)) → IsQuiet (streaming_of r) → Stands p meters r
-    → Tells {E = Failed} (ends_and_reports marks r) p meters old old (Ok tt)
+pub quiet_ends_told : (marks : List SaidMark) (p : RunningFields) (meters : List Reading) (r : RunningWorld) (old : Option (List ℕ)) → IsQuiet (streaming_of r) → RunningStands p meters r
+    → RunningTells {E = Failed} (ends_and_reports marks r) p meters old old (Ok tt)
 unfolding ends_and_reports
 quiet_ends_told marks p meters r old none stands =
     let ended : Quietly p.streaming p.device (all_settled r.detail (streaming_of r)) = quiet_ends r.detail p.streaming p.device (streaming_of r) none stands.streaming in
     let after = (of_streams (all_settled r.detail) r).world in
-    let first : Tells {E = Failed} (of_streams (all_settled r.detail) r) p meters old old (Ok tt) =
+    let first : RunningTells {E = Failed} (of_streams (all_settled r.detail) r) p meters old old (Ok tt) =
     streams_told meters r p p stands {E = Failed} (all_settled r.detail) old old (Ok tt)
     (subst (λ (ls : List Said). Appends old old (text_of ls)) (sym ended.lines) (Appends-nothing old), ended.stands)
     (all_settled-keep r.detail (streaming_of r)) refl refl refl refl refl (record { view = refl; configuration = refl; breaks = refl }) in

@@ -9,7 +9,7 @@ use Rattle.uac_transcript.specs.Printing.{Prints, text_of}
 use Rattle.uac_transcript.proofs.PrintingLemmas.{Prints-after, front_of_more}
 use Rattle.uac_running.specs.RunningWorld.{RunningWorld, is_steady}
 use Rattle.uac_running.specs.RunningLines.{domain_line, report_lines, stream_line}
-use Rattle.uac_running.specs.RunningKept.{RunningFields, Stands}
+use Rattle.uac_running.specs.RunningKept.{RunningFields, RunningStands}
 
 -- the first two lines
 abbrev pub head_lines : ℕ → Bool → List Said
@@ -21,7 +21,7 @@ rest_lines r meters renders =
     map (domain_line r.device) r.device.domains
     ++ (map (stream_line r.device r.met) r.device.function.streams ++ (map says_meter meters ++ says_renders renders ∷ []))
 
-module _ (p : RunningFields) (meters : List Reading) (r : RunningWorld) (stands : Stands p meters r) (steady : Bool) (is : steady ≡ steadiness.is_steady r.given) where
+module _ (p : RunningFields) (meters : List Reading) (r : RunningWorld) (stands : RunningStands p meters r) (steady : Bool) (is : steady ≡ steadiness.is_steady r.history) where
   head_is : head_lines p.time steady ≡ head_lines r.time (is_steady r)
   unfolding is_steady
   head_is = ap (λ t. head_lines t steady) stands.time ∙ ap (λ b. head_lines r.time b) is

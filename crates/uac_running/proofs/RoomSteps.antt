@@ -18,7 +18,7 @@ use Rattle.uac_streaming.proofs.RoomKept.{controlled_room, deviated_room}
 use Rattle.uac_streaming.proofs.RoomTurns.{IsRoomy, all_reported_keeps, all_settled_room, in_packets_within, out_packets_within}
 use Rattle.uac_running.specs.declared.jacks.Jack.{Jack}
 use Rattle.uac_running.specs.RunningWorld.{RunningWorld, streaming_of, with_detail, with_deviation, with_samples_on, with_streaming, with_tone, with_track}
-use Rattle.uac_running.specs.Events.{all_given, domain_microframe, domain_microframes, ends_and_reports, given, microframe, microframes, next_frame, packets_and_ticks, tick, tick_times}
+use Rattle.uac_running.specs.Events.{after_all_jacks, domain_microframe, domain_microframes, ends_and_reports, after_jacks, microframe, microframes, next_frame, packets_and_ticks, tick, tick_times}
 use Rattle.uac_running.specs.RunningTransfers.{acts, holds_setting, after_transfer, with_break}
 
 -- ---- ticks
@@ -32,10 +32,10 @@ module _ (about : FunctionFields → Type 0) (loses : ℕ → Bool) where
 
   tick_within : (ahead : List ℕ) (clock left : ℕ) (r : RunningWorld) → AreWithin about loses ahead clock (suc left) r.device
       → AreWithin about loses ahead clock left (tick clock r).world.device
-  unfolding tick all_given
+  unfolding tick after_all_jacks
   tick_within ahead clock left r is =
-      ticked_within about loses ahead clock left (given clock r.jacks r.device)
-      (jacks_within ahead clock (suc left) (filter (λ (j : Jack). j.clock == clock) r.jacks) r.device is)
+      ticked_within about loses ahead clock left (after_jacks clock r.jacks r.device)
+      (jacks_within ahead clock (suc left) (filter (λ (j : Jack). j.domain == clock) r.jacks) r.device is)
 
   tick_times_within : (count : ℕ) (ahead : List ℕ) (clock : ℕ) (r : RunningWorld) → AreWithin about loses ahead clock count r.device
       → AreWithin about loses ahead clock 0 (tick_times count clock r).world.device
@@ -68,10 +68,10 @@ unfolding packets_and_ticks
 ticks_within about marks r holds room =
     let sent = with_streaming r (out_packets r.detail marks (streaming_of r)).world in
     let fetched = with_streaming sent (in_packets r.detail marks (streaming_of sent)).world in
-    let behind_packets = in_packets_within about r.detail marks fetched.device.function.domains 0 (streaming_of sent)
+    let after_packets = in_packets_within about r.detail marks fetched.device.function.domains 0 (streaming_of sent)
     (out_packets_within about r.detail marks fetched.device.function.domains 0 (streaming_of r)
     (all_opened about (loses_out marks) fetched.device.function.domains r.device holds room)) in
-    domains_within about (loses_out marks) fetched.device.function.domains fetched behind_packets.apart behind_packets
+    domains_within about (loses_out marks) fetched.device.function.domains fetched after_packets.apart after_packets
 
 -- the zeros fit
 pub zeros_fit_in : (marks : List SaidMark) (r : RunningWorld) → HaveRoom r.device → (interface : ℕ)

@@ -13,7 +13,7 @@ use Rattle.uac_mixer.specs.declared.element.Element.{Element}
 use Rattle.uac_mixer.specs.declared.link.Broken.{Broken}
 use Rattle.uac_alt.specs.declared.settings.InterfaceSetting.{InterfaceSetting}
 use Rattle.uac_store.specs.declared.keys.Key.{Key}
-use Rattle.uac_request.specs.Requests.{AnswerFields, held_by, rate_at, reply_of}
+use Rattle.uac_request.specs.Requests.{AnswerFields, request_state, rate_at, reply_of}
 use Rattle.uac_request.specs.declared.setup.Setup.{Setup}
 use Rattle.uac_topology.specs.Function.{FunctionFields}
 use Rattle.uac_units.specs.Hearing.{Reading}
@@ -33,34 +33,34 @@ use Rattle.uac_streaming.specs.StreamingKept as streaming
 use Rattle.uac_streaming.specs.StreamingWorld.{StreamingWorld, after_following, met_in, numbers, numbers_in, numbers_out}
 use Rattle.uac_running.specs.RunningWorld.{RunningWorld, streaming_of}
 use Rattle.uac_running.specs.RunningTransfers.{IsRead, acts, break_at, breaks_before, comes_back, holds_setting, reply_in, streams_follow, after_transfer, with_break}
-use Rattle.uac_running.specs.RunningKept.{RunningFields, Stands, counted}
+use Rattle.uac_running.specs.RunningKept.{RunningFields, RunningStands, tick_count_of}
 
 -- what a device that stands for a world would answer
-replies : (d : device.DeviceFields) (r : RunningWorld) (p : Setup) (sent : List ℕ) → device.Stands d r.device
-    → reply_of d.function (held_by d.controls d.settings) p sent ≡ reply_in p sent r
+replies : (d : device.DeviceFields) (r : RunningWorld) (p : Setup) (sent : List ℕ) → device.DeviceStands d r.device
+    → reply_of d.function (request_state d.controls d.settings) p sent ≡ reply_in p sent r
 replies d r p sent stands =
-    ap (λ (f : FunctionFields). reply_of f (held_by d.controls d.settings) p sent) stands.function
-    ∙ ap (λ (c : List (Key × ℤ)). reply_of r.device.function (held_by c d.settings) p sent) stands.controls
-    ∙ ap (λ (s : List InterfaceSetting). reply_of r.device.function (held_by r.device.controls s) p sent) stands.settings
+    ap (λ (f : FunctionFields). reply_of f (request_state d.controls d.settings) p sent) stands.function
+    ∙ ap (λ (c : List (Key × ℤ)). reply_of r.device.function (request_state c d.settings) p sent) stands.controls
+    ∙ ap (λ (s : List InterfaceSetting). reply_of r.device.function (request_state r.device.controls s) p sent) stands.settings
 
 -- what comes back over a link that tells its fault
 came_by : (fault : Option When) (came : Option AnswerFields) (p : Setup) (sent : List ℕ) (old new : LinkFields) (reply : AnswerFields)
     → IsAsTold fault p sent came old new → IsAnswered p sent came old new
-    → reply_of old.device.function (held_by old.device.controls old.device.settings) p sent ≡ reply
+    → reply_of old.device.function (request_state old.device.controls old.device.settings) p sent ≡ reply
     → came ≡ (if is_some fault then None else Some reply)
 came_by None None p sent old new reply told answered is = absurd (let some = told.breaks.0 refl in cc)
 came_by None (Some t) p sent old new reply told answered is = ap Some (answered.device.answer ∙ is)
 came_by (Some w) came p sent old new reply told answered is = told.breaks.1 refl
 
--- what the device behind it stands for
+-- what the device after it stands for
 acted : (fault : Option When) (came : Option AnswerFields) (p : Setup) (sent : List ℕ) (old new : LinkFields) (w : DeviceWorld)
-    → IsAsTold fault p sent came old new → IsAnswered p sent came old new → device.Stands old.device w
-    → device.Stands new.device (acts fault w (after_control p sent w))
+    → IsAsTold fault p sent came old new → IsAnswered p sent came old new → device.DeviceStands old.device w
+    → device.DeviceStands new.device (acts fault w (after_control p sent w))
 acted None None p sent old new w told answered stands = absurd (let some = told.breaks.0 refl in cc)
 acted None (Some t) p sent old new w told answered stands = answered.device.stands w stands
 acted (Some when.Before) came p sent old new w told answered stands =
     let kept : IsUntouched old new = told.at when.Before refl in
-    subst (λ (d : device.DeviceFields). device.Stands d w) (sym kept.device) stands
+    subst (λ (d : device.DeviceFields). device.DeviceStands d w) (sym kept.device) stands
 acted (Some when.After) came p sent old new w told answered stands =
     let stream_fields : BreaksAs when.After p sent old new = told.at when.After refl in
     stream_fields.1.device.stands w stands
@@ -91,8 +91,8 @@ abbrev pub with_device : DeviceWorld → StreamingWorld → StreamingWorld
 with_device w s = record s { device = w }
 
 -- streams that stand beside a device stand beside one that acted
-pub beside : (s : streaming.StreamingFields) (d e : device.DeviceFields) (w : StreamingWorld) (v : DeviceWorld) → streaming.Stands s d w → device.Stands e v
-    → v.function ≡ w.device.function → streaming.Stands s e (with_device v w)
+pub beside : (s : streaming.StreamingFields) (d e : device.DeviceFields) (w : StreamingWorld) (v : DeviceWorld) → streaming.StreamingStands s d w → device.DeviceStands e v
+    → v.function ≡ w.device.function → streaming.StreamingStands s e (with_device v w)
 beside s d e w v stands acted same = record {
   device = acted;
   host = stands.host;
@@ -107,7 +107,7 @@ beside s d e w v stands acted same = record {
 -- the last answer over a link that tells its fault was that the device was done: it acted and was
 told_done : (fault : Option When) (came : Option AnswerFields) (p : Setup) (sent : List ℕ) (old new : LinkFields) (reply : AnswerFields)
     → IsAsTold fault p sent came old new → IsAnswered p sent came old new → old.last ≡ None
-    → reply_of old.device.function (held_by old.device.controls old.device.settings) p sent ≡ reply
+    → reply_of old.device.function (request_state old.device.controls old.device.settings) p sent ≡ reply
     → option_map_or tells_done new.last false ≡ (not (breaks_before fault) && tells_done reply)
 told_done None None p sent old new reply told answered unanswered is = absurd (let some = told.breaks.0 refl in cc)
 told_done None (Some t) p sent old new reply told answered unanswered is =
@@ -156,10 +156,10 @@ pub record IsRest (p q : RunningFields) : Type 0 where
   pub renders : q.renders ≡ p.renders
 
 module _ (meters : List Reading) (r : RunningWorld) (p q : RunningFields) (setup : Setup) (sent : List ℕ) (came : Option AnswerFields) (old new : LinkFields)
-    (stands : Stands p meters r) (lent : old.device ≡ p.device) (fault : old.fault ≡ Some p.breaks)
+    (stands : RunningStands p meters r) (lent : old.device ≡ p.device) (fault : old.fault ≡ Some p.breaks)
     (made : IsMade setup sent came p.view q.view old new) where
-  stands_lent : device.Stands old.device r.device
-  stands_lent = subst (λ (d : device.DeviceFields). device.Stands d r.device) (sym lent) stands.streaming.device
+  stands_lent : device.DeviceStands old.device r.device
+  stands_lent = subst (λ (d : device.DeviceFields). device.DeviceStands d r.device) (sym lent) stands.streaming.device
 
   pub came_back : came ≡ comes_back setup sent r
   unfolding comes_back
@@ -180,44 +180,44 @@ module _ (meters : List Reading) (r : RunningWorld) (p q : RunningFields) (setup
   domains_kept : (acts r.breaks r.device (after_control setup sent r.device)).domains ≡ r.device.domains
   domains_kept = acts_kept (λ d. d.domains) r.breaks r.device (after_control setup sent r.device) (controlled_domains setup sent r.device)
 
-  device_stands : device.Stands new.device (acts r.breaks r.device (after_control setup sent r.device))
+  device_stands : device.DeviceStands new.device (acts r.breaks r.device (after_control setup sent r.device))
   device_stands =
-      subst (λ (o : Option When). device.Stands new.device (acts o r.device (after_control setup sent r.device))) stands.breaks
+      subst (λ (o : Option When). device.DeviceStands new.device (acts o r.device (after_control setup sent r.device))) stands.breaks
       (acted p.breaks came setup sent old new r.device (made.transfer.told p.breaks fault) made.transfer.answered stands_lent)
 
   -- before the host's streams follow
-  pub streams_stand : streaming.Stands p.streaming new.device (with_device (acts r.breaks r.device (after_control setup sent r.device)) (streaming_of r))
+  pub streams_stand : streaming.StreamingStands p.streaming new.device (with_device (acts r.breaks r.device (after_control setup sent r.device)) (streaming_of r))
   streams_stand =
       beside p.streaming p.device new.device (streaming_of r) (acts r.breaks r.device (after_control setup sent r.device)) stands.streaming device_stands function_kept
 
   -- the streams that followed, where the setting is held, and those that didn't, where it isn't
   pub followed_stand : (s : streaming.StreamingFields) (begun : Option StreamFields) (f : FunctionFields) → holds_setting setup sent r ≡ true
       → begun ≡ stream_in_setting r.device.function r.device.controls setup.index setup.value → f ≡ new.device.function
-      → ((d : device.DeviceFields) (w : StreamingWorld) → streaming.Stands p.streaming d w → w.device.function ≡ f → streaming.Stands s d (after_following setup.index begun w))
-      → streaming.Stands s new.device
+      → ((d : device.DeviceFields) (w : StreamingWorld) → streaming.StreamingStands p.streaming d w → w.device.function ≡ f → streaming.StreamingStands s d (after_following setup.index begun w))
+      → streaming.StreamingStands s new.device
       (streams_follow setup sent r (with_device (acts r.breaks r.device (after_control setup sent r.device)) (streaming_of r)))
   followed_stand s begun f holds asked same follows =
       let world : StreamingWorld = with_device (acts r.breaks r.device (after_control setup sent r.device)) (streaming_of r) in
       let function = function_kept ∙ sym stands_lent.function ∙ sym made.function ∙ sym same in
-      subst (λ (b : Bool). streaming.Stands s new.device
+      subst (λ (b : Bool). streaming.StreamingStands s new.device
       (if b then after_following setup.index (stream_in_setting r.device.function r.device.controls setup.index setup.value) world else world)) (sym holds)
-      (subst (λ (o : Option StreamFields). streaming.Stands s new.device (after_following setup.index o world)) asked (follows new.device world streams_stand function))
+      (subst (λ (o : Option StreamFields). streaming.StreamingStands s new.device (after_following setup.index o world)) asked (follows new.device world streams_stand function))
 
-  pub rested_stand : holds_setting setup sent r ≡ false → streaming.Stands p.streaming new.device
+  pub rested_stand : holds_setting setup sent r ≡ false → streaming.StreamingStands p.streaming new.device
       (streams_follow setup sent r (with_device (acts r.breaks r.device (after_control setup sent r.device)) (streaming_of r)))
   rested_stand rests =
       let world : StreamingWorld = with_device (acts r.breaks r.device (after_control setup sent r.device)) (streaming_of r) in
-      subst (λ (b : Bool). streaming.Stands p.streaming new.device
+      subst (λ (b : Bool). streaming.StreamingStands p.streaming new.device
       (if b then after_following setup.index (stream_in_setting r.device.function r.device.controls setup.index setup.value) world else world)) (sym rests) streams_stand
 
   pub transfer_stands : q.device ≡ new.device → q.breaks ≡ None → IsRest p q
-      → streaming.Stands q.streaming new.device
+      → streaming.StreamingStands q.streaming new.device
       (streams_follow setup sent r (with_device (acts r.breaks r.device (after_control setup sent r.device)) (streaming_of r)))
-      → Stands q meters (after_transfer setup sent r)
+      → RunningStands q meters (after_transfer setup sent r)
   unfolding after_transfer
   transfer_stands kept used rest follows = record {
     streaming =
-        subst (λ (d : device.DeviceFields). streaming.Stands q.streaming d
+        subst (λ (d : device.DeviceFields). streaming.StreamingStands q.streaming d
         (streams_follow setup sent r (with_device (acts r.breaks r.device (after_control setup sent r.device)) (streaming_of r)))) (sym kept) follows;
     view =
         made.view
@@ -230,8 +230,8 @@ module _ (meters : List Reading) (r : RunningWorld) (p q : RunningFields) (setup
     counts =
         rest.counts
         ∙ stands.counts
-        ∙ ap (map counted) (sym domains_kept)
-        ∙ ap (λ (d : DeviceWorld). map counted d.domains)
+        ∙ ap (map tick_count_of) (sym domains_kept)
+        ∙ ap (λ (d : DeviceWorld). map tick_count_of d.domains)
         (sym (follow_device (holds_setting setup sent r) setup.index (stream_in_setting r.device.function r.device.controls setup.index setup.value)
         (with_device (acts r.breaks r.device (after_control setup sent r.device)) (streaming_of r))));
     time = rest.time ∙ stands.time;
@@ -241,11 +241,11 @@ module _ (meters : List Reading) (r : RunningWorld) (p q : RunningFields) (setup
   }
 
 -- a break is set
-pub break_set : (meters : List Reading) (r : RunningWorld) (p q : RunningFields) (after : Bool) → Stands p meters r → q ≡ record p { breaks = Some (break_at after) }
-    → Stands q meters (with_break after r)
+pub break_set : (meters : List Reading) (r : RunningWorld) (p q : RunningFields) (after : Bool) → RunningStands p meters r → q ≡ record p { breaks = Some (break_at after) }
+    → RunningStands q meters (with_break after r)
 unfolding with_break
 break_set meters r p q after stands is =
-    subst (λ (f : RunningFields). Stands f meters (with_break after r)) (sym is)
+    subst (λ (f : RunningFields). RunningStands f meters (with_break after r)) (sym is)
     (record {
       streaming = stands.streaming;
       view = stands.view;

@@ -28,13 +28,13 @@ use Rattle.uac_store.specs.StoreControls.{initial_controls}
 use Rattle.uac_configuration.specs.Configuration.{configuration_of}
 use Rattle.uac_running.specs.declared.counts.TickCount.{TickCount}
 use Rattle.uac_running.specs.declared.jacks.Jack.{Jack}
-use Rattle.uac_running.specs.RunningKept.{HasItsDomains, HasItsJacks, RunningFields, StandsBetween, counted, none_counted}
+use Rattle.uac_running.specs.RunningKept.{HasItsDomains, HasItsJacks, RunningFields, RunningStandsBetween, tick_count_of, none_counted}
 use Rattle.uac_running.specs.RunningWorld.{at_start, silent_jack}
-use Rattle.uac_running.proofs.Counting.{clocks_of}
+use Rattle.uac_running.proofs.RunningKeptLemmas.{clocks_of}
 use Rattle.uac_streaming.proofs.RoomKept.{fresh_room}
 
 -- no domain has ticked
-pub counts-rest : (clocks : List ℕ) → map none_counted clocks ≡ map counted (map at_rest clocks)
+pub counts-rest : (clocks : List ℕ) → map none_counted clocks ≡ map tick_count_of (map at_rest clocks)
 counts-rest [] = refl
 counts-rest (c ∷ cs) = ap (λ (ns : List TickCount). none_counted c ∷ ns) (counts-rest cs)
 
@@ -121,18 +121,18 @@ module _ (entities : List Entity) (graph : IsSignalGraph entities) where
 
 -- ---- all of it
 
-pub function_kept : (function : FunctionFields) (d : device.DeviceFields) → device.Stands d (fresh function) → d.function ≡ function
+pub function_kept : (function : FunctionFields) (d : device.DeviceFields) → device.DeviceStands d (fresh function) → d.function ≡ function
 unfolding fresh
 function_kept function d stands = stands.function
 
 -- what is read of a fresh device
-pub known_start : (function : FunctionFields) (d : device.DeviceFields) → device.Stands d (fresh function)
+pub known_start : (function : FunctionFields) (d : device.DeviceFields) → device.DeviceStands d (fresh function)
     → known_view d.function.entities d.controls ≡ known_view function.entities (initial_controls function.entities)
 unfolding fresh
 known_start function d stands =
     ap (λ (f : FunctionFields). known_view f.entities d.controls) stands.function ∙ ap (known_view function.entities) stands.controls
 
-module _ (function : FunctionFields) (sound : IsSoundFunction function) (p : RunningFields) (fresh_now : device.Stands p.device (fresh function))
+module _ (function : FunctionFields) (sound : IsSoundFunction function) (p : RunningFields) (fresh_now : device.DeviceStands p.device (fresh function))
     (jacks : p.jacks ≡ map silent_jack (filter is_input_jack function.entities)) (counts : p.counts ≡ map none_counted function.domains) where
   own : function ≡ p.device.function
   own = sym (function_kept function p.device fresh_now)
@@ -158,9 +158,9 @@ module _ (function : FunctionFields) (sound : IsSoundFunction function) (p : Run
     once = subst (IsDistinct eqb) (sym (ap clocks_of counts ∙ clocks-none function.domains)) each_domain_once;
   }
 
-  pub stands_start : streaming.Stands p.streaming p.device (streaming_start function) → p.view ≡ known_view function.entities (initial_controls function.entities) → p.breaks ≡ None
+  pub stands_start : streaming.StreamingStands p.streaming p.device (streaming_start function) → p.view ≡ known_view function.entities (initial_controls function.entities) → p.breaks ≡ None
       → p.time ≡ 0 → p.detail ≡ 0 → p.renders ≡ 0 → (descriptor : List ℕ) (meters : List Reading) → p.configuration ≡ configuration_of descriptor
-      → StandsBetween p meters (at_start descriptor function meters)
+      → RunningStandsBetween p meters (at_start descriptor function meters)
   unfolding at_start fresh streaming_start
   stands_start streams view breaks time detail renders descriptor meters bytes = record {
     now = record {

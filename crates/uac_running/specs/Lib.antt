@@ -1,7 +1,7 @@
 -- The running device under its jacks' tones: the world, its events, what is said of them, and what is kept of it.
 -- What the program's theorem says: to be read and believed.
 pub mod RunningWorld
-pub mod Naming
+pub mod RunningNames
 pub mod RunningLines
 pub mod RunningTransfers
 pub mod Events

@@ -14,7 +14,7 @@ use Rattle.uac_streaming.specs.Room.{HaveRoom}
 use Rattle.uac_mixer.specs.ViewWorld.{ViewWorld}
 use Rattle.uac_mixer.specs.declared.link.When.{When}
 use Rattle.uac_running.specs.RunningWorld.{RunningWorld, streaming_of}
-use Rattle.uac_running.specs.Events.{Told}
+use Rattle.uac_streaming.specs.Telling.{Telling}
 use Rattle.uac_running.specs.RunningLines.{ticks_since}
 use Rattle.uac_configuration.specs.Configuration.{configuration_of}
 
@@ -31,33 +31,33 @@ pub record RunningFields : Type 0 where
   pub detail : ℕ
   pub renders : ℕ
 
-abbrev pub counted : Domain → TickCount
-counted d = record { clock = d.clock; ticks = ticks_since d }
+abbrev pub tick_count_of : Domain → TickCount
+tick_count_of d = record { domain = d.id; ticks = ticks_since d }
 
 -- a domain that hasn't ticked
 abbrev pub none_counted : ℕ → TickCount
-none_counted clock = record { clock = clock; ticks = 0 }
+none_counted domain = record { domain = domain; ticks = 0 }
 
 -- a domain's ticks, and so many more where it is the one with this clock
 abbrev pub more_counted : ℕ → ℕ → TickCount → TickCount
-more_counted clock ticks c = if c.clock == clock then record c { ticks = at_most_u64 (c.ticks + ticks) } else c
+more_counted domain ticks c = if c.domain == domain then record c { ticks = at_most_u64 (c.ticks + ticks) } else c
 
 -- a running device stands for this world, with meters that show these readings
-pub record Stands (running : RunningFields) (shown : List Reading) (r : RunningWorld) : Type 0 where
-  pub streaming : streaming.Stands running.streaming running.device (streaming_of r)
+pub record RunningStands (running : RunningFields) (shown : List Reading) (r : RunningWorld) : Type 0 where
+  pub streaming : streaming.StreamingStands running.streaming running.device (streaming_of r)
   pub view : running.view ≡ r.view
   pub configuration : running.configuration ≡ configuration_of r.descriptor
   pub breaks : running.breaks ≡ r.breaks
   pub jacks : running.jacks ≡ r.jacks
-  pub counts : running.counts ≡ map counted r.device.domains
+  pub counts : running.counts ≡ map tick_count_of r.device.domains
   pub time : running.time ≡ r.time
   pub detail : running.detail ≡ r.detail
   pub meters : shown ≡ r.meters
   pub renders : running.renders ≡ r.renders
 
 -- between two microframes it stands for a world whose rings have room for the zeros of lost packets
-pub record StandsBetween (running : RunningFields) (shown : List Reading) (r : RunningWorld) : Type 0 where
-  pub now : Stands running shown r
+pub record RunningStandsBetween (running : RunningFields) (shown : List Reading) (r : RunningWorld) : Type 0 where
+  pub now : RunningStands running shown r
   pub room : HaveRoom r.device
 
 -- a running device's jacks are input jacks of its function, each with its channels
@@ -68,14 +68,16 @@ pub record HasItsJacks (running : RunningFields) : Type 0 where
 
 -- each of its domains is counted, once
 pub record HasItsDomains (running : RunningFields) : Type 0 where
-  pub counted : map (λ c. c.clock) running.counts ≡ running.device.function.domains
-  pub once : IsDistinct nat_eq (map (λ c. c.clock) running.counts)
+  pub counted : map (λ c. c.domain) running.counts ≡ running.device.function.domains
+  pub once : IsDistinct nat_eq (map (λ c. c.domain) running.counts)
 
 -- what was told was printed: all of it, and what is kept stands for its world, within a microframe or between two; or at an error a front
 -- of it
-abbrev pub Tells : {E : Type 0} → Told → RunningFields → List Reading → Option (List ℕ) → Option (List ℕ) → Result (Unit {0}) E → Type 0
-Tells told running meters old new result = Prints old new result told.lines × OnOk result (Stands running meters told.world)
+abbrev pub RunningTells : {E : Type 0} → Telling RunningWorld → RunningFields → List Reading → Option (List ℕ) → Option (List ℕ)
+    → Result (Unit {0}) E → Type 0
+RunningTells told running meters old new result = Prints old new result told.lines × OnOk result (RunningStands running meters told.world)
 
-abbrev pub TellsBetween : {E : Type 0} → Told → RunningFields → List Reading → Option (List ℕ) → Option (List ℕ) → Result (Unit {0}) E
-    → Type 0
-TellsBetween told running meters old new result = Prints old new result told.lines × OnOk result (StandsBetween running meters told.world)
+abbrev pub RunningTellsBetween : {E : Type 0} → Telling RunningWorld → RunningFields → List Reading → Option (List ℕ) → Option (List ℕ)
+    → Result (Unit {0}) E → Type 0
+RunningTellsBetween told running meters old new result = Prints old new result told.lines
+    × OnOk result (RunningStandsBetween running meters told.world)

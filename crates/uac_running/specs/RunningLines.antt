@@ -18,7 +18,7 @@ ready_line function = says_ready (length function.entities) (length function.str
 
 -- the output jacks of a domain, in block order
 abbrev pub output_jacks : ℕ → DeviceWorld → List Entity
-output_jacks clock w = filter (is_output_jack_of clock) w.function.entities
+output_jacks domain w = filter (is_output_jack_of domain) w.function.entities
 
 -- what an output jack played
 abbrev pub played_line : DeviceWorld → Entity → Said
@@ -26,7 +26,7 @@ played_line w e = says_played e.id (w.played e.id)
 
 -- what a domain's output jacks played
 unfoldable pub played_lines : ℕ → DeviceWorld → List Said
-played_lines clock w = map (played_line w) (output_jacks clock w)
+played_lines domain w = map (played_line w) (output_jacks domain w)
 
 -- ---- the report
 
@@ -35,7 +35,7 @@ abbrev pub ticks_since : Domain → ℕ
 ticks_since d = at_most_u64 (sum d.steps / 65536)
 
 unfoldable pub domain_line : DeviceWorld → Domain → Said
-domain_line w d = says_domain d.clock (rate_of w.function.entities w.controls d.clock) (ticks_since d)
+domain_line w d = says_domain d.id (rate_of w.function.entities w.controls d.id) (ticks_since d)
 
 -- an interface's streams: whether they go to the device, the interface, its setting, the level of the one that runs, its target,
 -- and what they met

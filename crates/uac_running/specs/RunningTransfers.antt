@@ -6,7 +6,7 @@ use Rattle.std.specs.List.{find}
 use Rattle.std.specs.Str.{bytes_eq}
 use Rattle.uac_configuration.specs.Configuration.{configuration_of}
 use Rattle.uac_store.specs.Keyed.{value_of}
-use Rattle.uac_request.specs.Requests.{AnswerFields, held_by, reply_of, value_bytes, with_bytes, with_descriptor, is_done, is_stalled}
+use Rattle.uac_request.specs.Requests.{AnswerFields, request_state, reply_of, value_bytes, with_bytes, with_descriptor, is_done, is_stalled}
 use Rattle.uac_request.specs.declared.setup.Setup.{Setup}
 use Rattle.uac_device.specs.DeviceWorld.{DeviceWorld, after_control, sets_interface, stream_in_setting, tells_done}
 use Rattle.uac_streaming.specs.StreamingWorld.{StreamingWorld, after_following}
@@ -16,17 +16,17 @@ use Rattle.uac_mixer.specs.declared.element.Element.{Element}
 use Rattle.uac_mixer.specs.declared.link.Broken.{Broken}
 use Rattle.uac_mixer.specs.declared.link.When.{When}
 use Rattle.uac_mixer.specs.declared.link.When.TheVariants as when
-use Rattle.uac_transcript.specs.Transcript.{Outcome, gave, was_done, stalled, broke, Sight, has_value, is_unknown, was_set, was_stalled}
+use Rattle.uac_transcript.specs.Transcript.{TransferOutcome, gave, was_done, stalled, broke, Sight, has_value, is_unknown, was_set}
+use Rattle.uac_transcript.specs.Transcript.{was_stalled}
 use Rattle.uac_transcript.specs.Transcript.{was_broken, says_answer, says_view}
 use Rattle.uac_running.specs.RunningWorld.{RunningWorld, streaming_of, with_streaming}
-use Rattle.uac_running.specs.Events as events
-use Rattle.uac_running.specs.Events.{still}
+use Rattle.uac_streaming.specs.Telling.{Telling, at_rest}
 
 -- ---- a transfer
 
 -- what the device would answer
 abbrev pub reply_in : Setup → List ℕ → RunningWorld → AnswerFields
-reply_in p sent r = reply_of r.device.function (held_by r.device.controls r.device.settings) p sent
+reply_in p sent r = reply_of r.device.function (request_state r.device.controls r.device.settings) p sent
 
 -- what comes back of the next transfer: nothing where it breaks
 unfoldable pub comes_back : Setup → List ℕ → RunningWorld → Option AnswerFields
@@ -79,7 +79,7 @@ abbrev pub piece : ℕ → ℕ → List ℕ → List ℕ
 piece from to bytes = drop from (take to bytes)
 
 -- what came back, as a line says it: a descriptor is a piece of the configuration's bytes
-unfoldable pub outcome_of : List ℕ → Option AnswerFields → Outcome
+unfoldable pub outcome_of : List ℕ → Option AnswerFields → TransferOutcome
 outcome_of configuration None = broke
 outcome_of configuration (Some (with_bytes bytes)) = gave bytes
 outcome_of configuration (Some (with_descriptor from to)) = gave (piece from to configuration)
@@ -87,7 +87,7 @@ outcome_of configuration (Some is_done) = was_done
 outcome_of configuration (Some (is_stalled rule)) = stalled rule
 
 -- a control transfer
-unfoldable pub transfer : Setup → List ℕ → RunningWorld → events.Told
+unfoldable pub transfer : Setup → List ℕ → RunningWorld → Telling RunningWorld
 transfer p sent r =
     record {
       lines = says_answer (outcome_of (configuration_of r.descriptor) (comes_back p sent r)) ∷ [];
@@ -104,7 +104,7 @@ element_named r name = find (λ x. bytes_eq (name_of x) name) r.view.elements
 abbrev pub read_sight : Element → RunningWorld → Sight
 read_sight x r = if is_some r.breaks then was_broken else has_value (name_of x) (unwrap_or (value_of r.device.controls x.key) (pos 0))
 
-unfoldable pub read_element : Element → RunningWorld → events.Told
+unfoldable pub read_element : Element → RunningWorld → Telling RunningWorld
 read_element x r =
     record {
       lines = says_view (read_sight x r) ∷ [];
@@ -119,7 +119,7 @@ set_sight (Some (with_descriptor from to)) = was_set
 set_sight (Some is_done) = was_set
 set_sight (Some (is_stalled rule)) = was_stalled rule
 
-unfoldable pub set_element : Element → ℤ → RunningWorld → events.Told
+unfoldable pub set_element : Element → ℤ → RunningWorld → Telling RunningWorld
 set_element x value r =
     let p = set_of r.device.function.control_interface x in
     let bytes : List ℕ = value_bytes (width_of x.kind) value in
@@ -130,8 +130,8 @@ abbrev pub shown_sight : Element → Option ℤ → Sight
 shown_sight x None = is_unknown (name_of x)
 shown_sight x (Some value) = has_value (name_of x) value
 
-unfoldable pub show_element : Element → RunningWorld → events.Told
-show_element x r = record (still r) { lines = says_view (shown_sight x x.value) ∷ [] }
+unfoldable pub show_element : Element → RunningWorld → Telling RunningWorld
+show_element x r = record (at_rest r) { lines = says_view (shown_sight x x.value) ∷ [] }
 
 -- what reading an element answers: the device's value, or that the transfer broke
 abbrev pub IsRead : Element → RunningWorld → Result ℤ Broken → Type 0

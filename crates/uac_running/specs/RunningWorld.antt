@@ -10,7 +10,7 @@ use Rattle.uac_host.specs.HostWorld.{HostWorld, fresh_host}
 use Rattle.uac_host.specs.Calls as calls
 use Rattle.uac_host.specs.Calls.{with_samples}
 use Rattle.uac_rate.specs.Steadiness as steadiness
-use Rattle.uac_rate.specs.Steadiness.{Given, nothing_given}
+use Rattle.uac_rate.specs.Steadiness.{SteadyHistory, nothing_given}
 use Rattle.uac_streaming.specs.StreamingWorld.{StreamingWorld, nothing_met}
 use Rattle.uac_mixer.specs.ViewWorld.{ViewWorld, known_view}
 use Rattle.uac_mixer.specs.declared.link.When.{When}
@@ -29,7 +29,7 @@ pub record RunningWorld : Type 0 where
   -- the microframes since the start, up to the greatest number of 64 bits
   pub time : ℕ
   -- the deviations that were given, and by streaming interface, in block order, of each start the feedback reports
-  pub given : Given
+  pub history : SteadyHistory
   -- how much is printed
   pub detail : ℕ
   -- when the next transfer breaks; none where it doesn't
@@ -43,7 +43,7 @@ pub record RunningWorld : Type 0 where
 
 -- an input jack at the start: silent
 abbrev pub silent_jack : Entity → Jack
-silent_jack e = record { terminal = e.id; clock = e.clock; channels = e.cluster.channels; tone = Silent; place = 0 }
+silent_jack e = record { terminal = e.id; domain = e.clock; channels = e.cluster.channels; tone = Silent; place = 0 }
 
 -- just after the descriptor with these bytes was accepted
 unfoldable pub at_start : List ℕ → FunctionFields → List Reading → RunningWorld
@@ -55,7 +55,7 @@ at_start descriptor function meters =
       descriptor = descriptor;
       jacks = map silent_jack (filter is_input_jack function.entities);
       time = 0;
-      given = nothing_given;
+      history = nothing_given;
       detail = 0;
       breaks = None;
       met = λ interface. nothing_met;
@@ -73,8 +73,8 @@ with_tone terminal tone r = record r { jacks = map (jack_with_tone terminal tone
 
 -- a domain's clock is off by so many ppm from now on
 unfoldable pub with_deviation : ℕ → ℤ → RunningWorld → RunningWorld
-with_deviation clock ppm r =
-    record r { device = after_deviation clock ppm r.device; given = steadiness.with_deviation_given ppm r.given }
+with_deviation domain ppm r =
+    record r { device = after_deviation domain ppm r.device; history = steadiness.with_deviation_given ppm r.history }
 
 -- so much is printed from now on
 unfoldable pub with_detail : ℕ → RunningWorld → RunningWorld
@@ -82,17 +82,17 @@ with_detail level r = record r { detail = level }
 
 -- no deviation passed a thousandth, and no stream lost four feedback reports in succession
 unfoldable pub is_steady : RunningWorld → Bool
-is_steady r = steadiness.is_steady r.given
+is_steady r = steadiness.is_steady r.history
 
 -- ---- streams
 
 -- the device, its host, and what happened between them
 abbrev pub streaming_of : RunningWorld → StreamingWorld
-streaming_of r = record { device = r.device; host = r.host; met = r.met; given = r.given }
+streaming_of r = record { device = r.device; host = r.host; met = r.met; history = r.history }
 
 -- a world with others of these
 abbrev pub with_streaming : RunningWorld → StreamingWorld → RunningWorld
-with_streaming r s = record r { device = s.device; host = s.host; met = s.met; given = s.given }
+with_streaming r s = record r { device = s.device; host = s.host; met = s.met; history = s.history }
 
 -- samples wait after those of an interface's track
 unfoldable pub with_samples_on : ℕ → List ℤ → RunningWorld → RunningWorld

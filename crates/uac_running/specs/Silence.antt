@@ -9,7 +9,8 @@ use Rattle.uac_script.specs.Phrase.{SaidMark}
 use Rattle.uac_streaming.specs.StreamingWorld.{in_packets, out_packets}
 use Rattle.uac_running.specs.declared.jacks.Jack.{Jack}
 use Rattle.uac_running.specs.RunningWorld.{RunningWorld}
-use Rattle.uac_running.specs.Events.{Told, followed_by, of_streams}
+use Rattle.uac_streaming.specs.Telling.{Telling}
+use Rattle.uac_running.specs.Events.{followed_by, of_streams}
 
 -- a tone is more than silence
 abbrev pub sounds : Tone → Bool
@@ -19,17 +20,17 @@ sounds (tones.Noise seed) = true
 
 -- of these jacks one of a domain sounds
 abbrev pub one_sounds : ℕ → List Jack → Bool
-one_sounds clock jacks = list_any (λ j. j.clock == clock && sounds j.tone) jacks
+one_sounds domain jacks = list_any (λ j. j.domain == domain && sounds j.tone) jacks
 
 -- a jack gave silence last, if it is of a domain
 abbrev pub GaveSilence : ℕ → DeviceWorld → Jack → Type 0
-GaveSilence clock w j = j.clock ≡ clock → w.given j.terminal ≡ silence j.channels
+GaveSilence domain w j = j.domain ≡ domain → w.given j.terminal ≡ silence j.channels
 
 -- each of a domain is silent, and gave silence last
-pub record AreAtRest (clock : ℕ) (jacks : List Jack) (w : DeviceWorld) : Type 0 where
-  pub silent : one_sounds clock jacks ≡ false
-  pub gave : All (GaveSilence clock w) jacks
+pub record AreAtRest (domain : ℕ) (jacks : List Jack) (w : DeviceWorld) : Type 0 where
+  pub silent : one_sounds domain jacks ≡ false
+  pub gave : All (GaveSilence domain w) jacks
 
 -- the packets of a microframe: those to the device, and those from it
-abbrev pub packets : List SaidMark → RunningWorld → Told
+abbrev pub packets : List SaidMark → RunningWorld → Telling RunningWorld
 packets marks r = followed_by (of_streams (out_packets r.detail marks)) (of_streams (in_packets r.detail marks)) r

@@ -8,7 +8,7 @@ use uac_descriptor::NoMemory;
 /// A clock domain and how often it ticked since the start; the count stands still at 18446744073709551615.
 #[derive(Clone, Copy, Debug, PartialEq, Eq)]
 pub struct TickCount {
-    pub clock: u8,
+    pub domain: u8,
     pub ticks: u64,
 }
 
@@ -19,7 +19,7 @@ pub(crate) fn no_ticks(alloc: Global, domains: &[u8]) -> Result<Vec<TickCount>, 
     let mut counts = Vec::new(alloc);
     for clock in domains {
         let count = TickCount {
-            clock: *clock,
+            domain: *clock,
             ticks: 0,
         };
         counts.push(count)?;
@@ -39,7 +39,7 @@ pub(crate) fn count_ticks(counts: &mut [TickCount], domain: u8, ticks: u32)
 fn after_ticks(count: TickCount, domain: u8, ticks: u32) -> TickCount
     ensures { result ≡ more_counted domain ticks count }
 {
-    if count.clock == domain {
+    if count.domain == domain {
         TickCount {
             ticks: count.ticks.saturating_add(u64::from(ticks)),
             ..count

@@ -2,10 +2,10 @@
 ghost use Rattle.std.specs.Prelude.{◌≡◌, ◌≤◌, true, IfOk, map, filter};
 ghost use Rattle.std.specs.List.{All};
 ghost use Rattle.uac_graph.specs.Meaning.{entity};
-ghost use Rattle.uac_device.specs.DeviceKept.{Stands};
+ghost use Rattle.uac_device.specs.DeviceKept.{DeviceStands};
 ghost use Rattle.uac_device.specs.DeviceWorld.{DeviceWorld};
 ghost use Rattle.uac_device.specs.DeviceWorld as world;
-ghost use Rattle.uac_running.specs.Events.{after_one, given, given_one, gone_on};
+ghost use Rattle.uac_running.specs.Events.{after_one, after_jacks, after_jack, jacks_after_frame};
 ghost use Rattle.uac_running.specs.RunningWorld as spec;
 ghost use Rattle.uac_running.specs.Silence as silence;
 ghost use Rattle.uac_running.specs.Silence.{AreAtRest};
@@ -21,7 +21,7 @@ use uac_pcm::Tone;
 #[derive(Clone, Copy, Debug, PartialEq, Eq)]
 pub struct Jack {
     pub terminal: u8,
-    pub clock: u8,
+    pub domain: u8,
     pub channels: u8,
     pub tone: Tone,
     pub place: u64,
@@ -46,7 +46,7 @@ fn silent_jack(entity: &Entity) -> Jack
 {
     Jack {
         terminal: entity.id,
-        clock: entity.clock,
+        domain: entity.clock,
         channels: entity.cluster.channels,
         tone: Tone::Silent,
         place: 0,
@@ -82,7 +82,7 @@ pub(crate) fn one_sounds(jacks: &[Jack], domain: u8) -> bool
 {
     jacks
         .iter()
-        .any(|jack| jack.clock == domain && sounds(jack.tone))
+        .any(|jack| jack.domain == domain && sounds(jack.tone))
 }
 
 fn sounds(tone: Tone) -> bool
@@ -99,9 +99,9 @@ fn sounds(tone: Tone) -> bool
 pub(crate) fn next_frames(device: &mut Device, jacks: &mut [Jack], domain: u8, rest: bool)
     requires kinds { All (λ j. world.is_input_jack (entity device.old.function.entities j.terminal) ≡ true) jacks.old }
     requires channels { All (λ j. (entity device.old.function.entities j.terminal).cluster.channels ≡ j.channels) jacks.old }
-    ensures stands { (w : DeviceWorld) → Stands device.old w → (rest ≡ true → AreAtRest domain jacks.old w)
-        → Stands device.new (given domain jacks.old w) }
-    ensures jacks { jacks.new ≡ gone_on domain jacks.old }
+    ensures stands { (w : DeviceWorld) → DeviceStands device.old w → (rest ≡ true → AreAtRest domain jacks.old w)
+        → DeviceStands device.new (after_jacks domain jacks.old w) }
+    ensures jacks { jacks.new ≡ jacks_after_frame domain jacks.old }
     ensures function { device.new.function ≡ device.old.function }
 {
     if rest {
@@ -113,7 +113,7 @@ pub(crate) fn next_frames(device: &mut Device, jacks: &mut [Jack], domain: u8, r
 
 /// The jacks of a domain gave one frame more.
 fn pass_frames(jacks: &mut [Jack], domain: u8)
-    ensures { jacks.new ≡ gone_on domain jacks.old }
+    ensures { jacks.new ≡ jacks_after_frame domain jacks.old }
 {
     for passed in jacks.iter_mut() {
         pass_frame(passed, domain);
@@ -124,7 +124,7 @@ fn pass_frames(jacks: &mut [Jack], domain: u8)
 fn pass_frame(jack: &mut Jack, domain: u8)
     ensures { jack.new ≡ after_one domain jack.old }
 {
-    if jack.clock == domain {
+    if jack.domain == domain {
         jack.place = jack.place.saturating_add(1);
     }
 }
@@ -133,8 +133,8 @@ fn pass_frame(jack: &mut Jack, domain: u8)
 fn give_jacks(device: &mut Device, jacks: &mut [Jack], domain: u8)
     requires kinds { All (λ j. world.is_input_jack (entity device.old.function.entities j.terminal) ≡ true) jacks.old }
     requires channels { All (λ j. (entity device.old.function.entities j.terminal).cluster.channels ≡ j.channels) jacks.old }
-    ensures stands { (w : DeviceWorld) → Stands device.old w → Stands device.new (given domain jacks.old w) }
-    ensures jacks { jacks.new ≡ gone_on domain jacks.old }
+    ensures stands { (w : DeviceWorld) → DeviceStands device.old w → DeviceStands device.new (after_jacks domain jacks.old w) }
+    ensures jacks { jacks.new ≡ jacks_after_frame domain jacks.old }
     ensures function { device.new.function ≡ device.old.function }
 {
     for jack in jacks.iter_mut() {
@@ -146,12 +146,12 @@ fn give_jacks(device: &mut Device, jacks: &mut [Jack], domain: u8)
 fn give_jack(device: &mut Device, jack: &mut Jack, domain: u8)
     requires kind { world.is_input_jack (entity device.old.function.entities jack.old.terminal) ≡ true }
     requires channels { (entity device.old.function.entities jack.old.terminal).cluster.channels ≡ jack.old.channels }
-    ensures stands { (w : DeviceWorld) → Stands device.old w
-        → Stands device.new (given_one domain jack.old w) }
+    ensures stands { (w : DeviceWorld) → DeviceStands device.old w
+        → DeviceStands device.new (after_jack domain jack.old w) }
     ensures jack { jack.new ≡ after_one domain jack.old }
     ensures function { device.new.function ≡ device.old.function }
 {
-    if jack.clock == domain {
+    if jack.domain == domain {
         device.sound(jack.terminal, jack.tone, jack.place);
         jack.place = jack.place.saturating_add(1);
     }

@@ -13,9 +13,10 @@ ghost use Rattle.uac_transcript.specs.Printing.{Prints};
 ghost use Rattle.uac_streaming.specs.StreamingWorld.{all_reported, all_settled, found_lines, in_packets, out_packets};
 ghost use Rattle.uac_running.specs.RunningWorld.{RunningWorld};
 ghost use Rattle.uac_running.specs.RunningLines.{played_lines};
-ghost use Rattle.uac_running.specs.Events.{all_given, domain_microframe, domain_microframes, ends_and_reports, microframe, microframes};
+ghost use Rattle.uac_running.specs.Events.{after_all_jacks, domain_microframe, domain_microframes, ends_and_reports, microframe};
+ghost use Rattle.uac_running.specs.Events.{microframes};
 ghost use Rattle.uac_running.specs.Events.{number_said, of_streams, packets_and_ticks, tick, tick_times};
-ghost use Rattle.uac_running.specs.RunningKept.{Stands, StandsBetween, Tells, TellsBetween};
+ghost use Rattle.uac_running.specs.RunningKept.{RunningStands, RunningStandsBetween, RunningTells, RunningTellsBetween};
 ghost use Rattle.uac_running.specs.Silence.{AreAtRest, packets};
 ghost use Rattle.uac_running.specs.Silence as silence;
 
@@ -52,8 +53,9 @@ impl Running {
         sink: &mut K,
     ) -> Result<(), Failed>
         requires rack { IsFitted (λ v x. (⟦<dyn Unit as Unit>⟧ v).kind_of x) rack.now }
-        ensures tells { (r : RunningWorld) → StandsBetween self.old (readings (λ v x. (⟦<dyn Meter as Meter>⟧ v).reading_of x) meters.old) r
-            → TellsBetween (microframes (map said_mark marks.now) count r) self.new
+        ensures tells { (r : RunningWorld)
+            → RunningStandsBetween self.old (readings (λ v x. (⟦<dyn Meter as Meter>⟧ v).reading_of x) meters.old) r
+            → RunningTellsBetween (microframes (map said_mark marks.now) count r) self.new
             (readings (λ v x. (⟦<dyn Meter as Meter>⟧ v).reading_of x) meters.new)
             (K.written sink.old) (K.written sink.new) result }
         ensures cause { HasCause (K.faults sink.old) (K.faults sink.new) result }
@@ -76,8 +78,9 @@ impl Running {
     ) -> Result<(), Failed>
         requires rack { IsFitted (λ v x. (⟦<dyn Unit as Unit>⟧ v).kind_of x) rack.now }
         requires small { All (λ s. s.number < 256) self.old.device.function.streams }
-        ensures tells { (r : RunningWorld) → StandsBetween self.old (readings (λ v x. (⟦<dyn Meter as Meter>⟧ v).reading_of x) meters.old) r
-            → TellsBetween (microframe (map said_mark marks.now) r) self.new
+        ensures tells { (r : RunningWorld)
+            → RunningStandsBetween self.old (readings (λ v x. (⟦<dyn Meter as Meter>⟧ v).reading_of x) meters.old) r
+            → RunningTellsBetween (microframe (map said_mark marks.now) r) self.new
             (readings (λ v x. (⟦<dyn Meter as Meter>⟧ v).reading_of x) meters.new)
             (K.written sink.old) (K.written sink.new) result }
         ensures cause { HasCause (K.faults sink.old) (K.faults sink.new) result }
@@ -98,8 +101,8 @@ impl Running {
         sink: &mut K,
     ) -> Result<(), Failed>
         requires rack { IsFitted (λ v x. (⟦<dyn Unit as Unit>⟧ v).kind_of x) rack.now }
-        ensures tells { (r : RunningWorld) → Stands self.old (readings (λ v x. (⟦<dyn Meter as Meter>⟧ v).reading_of x) meters.old) r
-            → Tells (packets_and_ticks (map said_mark marks.now) r) self.new
+        ensures tells { (r : RunningWorld) → RunningStands self.old (readings (λ v x. (⟦<dyn Meter as Meter>⟧ v).reading_of x) meters.old) r
+            → RunningTells (packets_and_ticks (map said_mark marks.now) r) self.new
             (readings (λ v x. (⟦<dyn Meter as Meter>⟧ v).reading_of x) meters.new)
             (K.written sink.old) (K.written sink.new) result }
         ensures cause { HasCause (K.faults sink.old) (K.faults sink.new) result }
@@ -111,8 +114,8 @@ impl Running {
 
     /// The packets of a microframe: those to the device, and those from it. Where no stream runs there are none.
     fn packets<K: Sink>(&mut self, marks: &[Mark], sink: &mut K) -> Result<(), Failed>
-        ensures tells { (meters : List Reading) (r : RunningWorld) → Stands self.old meters r
-            → Tells (packets (map said_mark marks.now) r) self.new meters (K.written sink.old) (K.written sink.new) result }
+        ensures tells { (meters : List Reading) (r : RunningWorld) → RunningStands self.old meters r
+            → RunningTells (packets (map said_mark marks.now) r) self.new meters (K.written sink.old) (K.written sink.new) result }
         ensures cause { HasCause (K.faults sink.old) (K.faults sink.new) result }
         ensures function { self.new.device.function ≡ self.old.device.function }
     {
@@ -126,9 +129,9 @@ impl Running {
     /// The end of a microframe for each stream, and the feedback reports; nothing happens where no stream runs. Where a packet was lost,
     /// its ring has room for the zeros.
     fn ends_and_reports<K: Sink>(&mut self, marks: &[Mark], sink: &mut K) -> Result<(), Failed>
-        ensures tells { (meters : List Reading) (r : RunningWorld) → Stands self.old meters r
+        ensures tells { (meters : List Reading) (r : RunningWorld) → RunningStands self.old meters r
             → ((interface : ℕ) → ZerosFitIn r.device interface)
-            → Tells (ends_and_reports (map said_mark marks.now) r) self.new meters (K.written sink.old) (K.written sink.new) result }
+            → RunningTells (ends_and_reports (map said_mark marks.now) r) self.new meters (K.written sink.old) (K.written sink.new) result }
         ensures cause { HasCause (K.faults sink.old) (K.faults sink.new) result }
         ensures function { self.new.device.function ≡ self.old.device.function }
     {
@@ -141,8 +144,8 @@ impl Running {
 
     /// The packets to the device.
     fn out_packets<K: Sink>(&mut self, marks: &[Mark], sink: &mut K) -> Result<(), Failed>
-        ensures tells { (meters : List Reading) (r : RunningWorld) → Stands self.old meters r
-            → Tells (of_streams (out_packets r.detail (map said_mark marks.now)) r) self.new meters
+        ensures tells { (meters : List Reading) (r : RunningWorld) → RunningStands self.old meters r
+            → RunningTells (of_streams (out_packets r.detail (map said_mark marks.now)) r) self.new meters
             (K.written sink.old) (K.written sink.new) result }
         ensures cause { HasCause (K.faults sink.old) (K.faults sink.new) result }
         ensures function { self.new.device.function ≡ self.old.device.function }
@@ -153,8 +156,8 @@ impl Running {
 
     /// The packets from the device.
     fn in_packets<K: Sink>(&mut self, marks: &[Mark], sink: &mut K) -> Result<(), Failed>
-        ensures tells { (meters : List Reading) (r : RunningWorld) → Stands self.old meters r
-            → Tells (of_streams (in_packets r.detail (map said_mark marks.now)) r) self.new meters
+        ensures tells { (meters : List Reading) (r : RunningWorld) → RunningStands self.old meters r
+            → RunningTells (of_streams (in_packets r.detail (map said_mark marks.now)) r) self.new meters
             (K.written sink.old) (K.written sink.new) result }
         ensures cause { HasCause (K.faults sink.old) (K.faults sink.new) result }
         ensures function { self.new.device.function ≡ self.old.device.function }
@@ -165,9 +168,9 @@ impl Running {
 
     /// The end of the microframe for each stream.
     fn settle<K: Sink>(&mut self, sink: &mut K) -> Result<(), Failed>
-        ensures tells { (meters : List Reading) (r : RunningWorld) → Stands self.old meters r
+        ensures tells { (meters : List Reading) (r : RunningWorld) → RunningStands self.old meters r
             → ((interface : ℕ) → ZerosFitIn r.device interface)
-            → Tells (of_streams (all_settled r.detail) r) self.new meters (K.written sink.old) (K.written sink.new) result }
+            → RunningTells (of_streams (all_settled r.detail) r) self.new meters (K.written sink.old) (K.written sink.new) result }
         ensures cause { HasCause (K.faults sink.old) (K.faults sink.new) result }
         ensures function { self.new.device.function ≡ self.old.device.function }
     {
@@ -176,8 +179,8 @@ impl Running {
 
     /// The feedback reports.
     fn reports<K: Sink>(&mut self, marks: &[Mark], sink: &mut K) -> Result<(), Failed>
-        ensures tells { (meters : List Reading) (r : RunningWorld) → Stands self.old meters r
-            → Tells (of_streams (all_reported r.detail (map said_mark marks.now)) r) self.new meters
+        ensures tells { (meters : List Reading) (r : RunningWorld) → RunningStands self.old meters r
+            → RunningTells (of_streams (all_reported r.detail (map said_mark marks.now)) r) self.new meters
             (K.written sink.old) (K.written sink.new) result }
         ensures cause { HasCause (K.faults sink.old) (K.faults sink.new) result }
         ensures function { self.new.device.function ≡ self.old.device.function }
@@ -212,8 +215,8 @@ impl Running {
         sink: &mut K,
     ) -> Result<(), Failed>
         requires rack { IsFitted (λ v x. (⟦<dyn Unit as Unit>⟧ v).kind_of x) rack.now }
-        ensures tells { (r : RunningWorld) → Stands self.old (readings (λ v x. (⟦<dyn Meter as Meter>⟧ v).reading_of x) meters.old) r
-            → Tells (domain_microframes r.device.function.domains r) self.new
+        ensures tells { (r : RunningWorld) → RunningStands self.old (readings (λ v x. (⟦<dyn Meter as Meter>⟧ v).reading_of x) meters.old) r
+            → RunningTells (domain_microframes r.device.function.domains r) self.new
             (readings (λ v x. (⟦<dyn Meter as Meter>⟧ v).reading_of x) meters.new)
             (K.written sink.old) (K.written sink.new) result }
         ensures cause { HasCause (K.faults sink.old) (K.faults sink.new) result }
@@ -249,8 +252,8 @@ impl Running {
         sink: &mut K,
     ) -> Result<(), Failed>
         requires rack { IsFitted (λ v x. (⟦<dyn Unit as Unit>⟧ v).kind_of x) rack.now }
-        ensures tells { (r : RunningWorld) → Stands self.old (readings (λ v x. (⟦<dyn Meter as Meter>⟧ v).reading_of x) meters.old) r
-            → Tells (domain_microframe domain r) self.new (readings (λ v x. (⟦<dyn Meter as Meter>⟧ v).reading_of x) meters.new)
+        ensures tells { (r : RunningWorld) → RunningStands self.old (readings (λ v x. (⟦<dyn Meter as Meter>⟧ v).reading_of x) meters.old) r
+            → RunningTells (domain_microframe domain r) self.new (readings (λ v x. (⟦<dyn Meter as Meter>⟧ v).reading_of x) meters.new)
             (K.written sink.old) (K.written sink.new) result }
         ensures cause { HasCause (K.faults sink.old) (K.faults sink.new) result }
         ensures function { self.new.device.function ≡ self.old.device.function }
@@ -261,9 +264,9 @@ impl Running {
 
     /// A domain's clock goes on by one microframe; answers how often it ticks. These ticks are counted.
     fn advance(&mut self, domain: u8) -> u32
-        ensures stands { (meters : List Reading) (r : RunningWorld) → Stands self.old meters r
-            → Stands self.new meters (record r { device = after_advance domain r.device }) }
-        ensures ticks { (meters : List Reading) (r : RunningWorld) → Stands self.old meters r → result ≡ next_ticks domain r.device }
+        ensures stands { (meters : List Reading) (r : RunningWorld) → RunningStands self.old meters r
+            → RunningStands self.new meters (record r { device = after_advance domain r.device }) }
+        ensures ticks { (meters : List Reading) (r : RunningWorld) → RunningStands self.old meters r → result ≡ next_ticks domain r.device }
         ensures function { self.new.device.function ≡ self.old.device.function }
     {
         let ticks = self.device.ticks(domain);
@@ -282,8 +285,8 @@ impl Running {
         sink: &mut K,
     ) -> Result<(), Failed>
         requires rack { IsFitted (λ v x. (⟦<dyn Unit as Unit>⟧ v).kind_of x) rack.now }
-        ensures tells { (r : RunningWorld) → Stands self.old (readings (λ v x. (⟦<dyn Meter as Meter>⟧ v).reading_of x) meters.old) r
-            → Tells (tick_times count domain r) self.new (readings (λ v x. (⟦<dyn Meter as Meter>⟧ v).reading_of x) meters.new)
+        ensures tells { (r : RunningWorld) → RunningStands self.old (readings (λ v x. (⟦<dyn Meter as Meter>⟧ v).reading_of x) meters.old) r
+            → RunningTells (tick_times count domain r) self.new (readings (λ v x. (⟦<dyn Meter as Meter>⟧ v).reading_of x) meters.new)
             (K.written sink.old) (K.written sink.new) result }
         ensures cause { HasCause (K.faults sink.old) (K.faults sink.new) result }
         ensures function { self.new.device.function ≡ self.old.device.function }
@@ -314,11 +317,12 @@ impl Running {
         sink: &mut K,
     ) -> Result<(), Failed>
         requires rack { IsFitted (λ v x. (⟦<dyn Unit as Unit>⟧ v).kind_of x) rack.now }
-        ensures tells { (r : RunningWorld) → Stands self.old (readings (λ v x. (⟦<dyn Meter as Meter>⟧ v).reading_of x) meters.old) r
+        ensures tells { (r : RunningWorld) → RunningStands self.old (readings (λ v x. (⟦<dyn Meter as Meter>⟧ v).reading_of x) meters.old) r
             → (rest.jacks ≡ true → AreAtRest domain r.jacks r.device) → (rest.lanes ≡ true → IsStill domain r.device)
-            → Tells (tick domain r) self.new (readings (λ v x. (⟦<dyn Meter as Meter>⟧ v).reading_of x) meters.new)
+            → RunningTells (tick domain r) self.new (readings (λ v x. (⟦<dyn Meter as Meter>⟧ v).reading_of x) meters.new)
             (K.written sink.old) (K.written sink.new) result }
-        ensures rests { (meters : List Reading) (r : RunningWorld) → Stands self.old meters r → silence.one_sounds domain r.jacks ≡ false
+        ensures rests { (meters : List Reading) (r : RunningWorld) → RunningStands self.old meters r
+            → silence.one_sounds domain r.jacks ≡ false
             → AreAtRest domain (tick domain r).world.jacks (tick domain r).world.device }
         ensures cause { HasCause (K.faults sink.old) (K.faults sink.new) result }
         ensures function { self.new.device.function ≡ self.old.device.function }
@@ -331,13 +335,15 @@ impl Running {
     /// are counted, and what rings were found empty and full. Answers which: none where the lanes rest.
     fn sound(&mut self, rest: Rest, domain: u8, rack: &Rack, meters: &mut Meters) -> Ticked
         requires rack { IsFitted (λ v x. (⟦<dyn Unit as Unit>⟧ v).kind_of x) rack.now }
-        ensures stands { (r : RunningWorld) → Stands self.old (readings (λ v x. (⟦<dyn Meter as Meter>⟧ v).reading_of x) meters.old) r
+        ensures stands { (r : RunningWorld)
+            → RunningStands self.old (readings (λ v x. (⟦<dyn Meter as Meter>⟧ v).reading_of x) meters.old) r
             → (rest.jacks ≡ true → AreAtRest domain r.jacks r.device) → (rest.lanes ≡ true → IsStill domain r.device)
-            → Stands self.new (readings (λ v x. (⟦<dyn Meter as Meter>⟧ v).reading_of x) meters.new) (tick domain r).world }
-        ensures found { (r : RunningWorld) → Stands self.old (readings (λ v x. (⟦<dyn Meter as Meter>⟧ v).reading_of x) meters.old) r
+            → RunningStands self.new (readings (λ v x. (⟦<dyn Meter as Meter>⟧ v).reading_of x) meters.new) (tick domain r).world }
+        ensures found { (r : RunningWorld) → RunningStands self.old (readings (λ v x. (⟦<dyn Meter as Meter>⟧ v).reading_of x) meters.old) r
             → (rest.jacks ≡ true → AreAtRest domain r.jacks r.device) → (rest.lanes ≡ true → IsStill domain r.device)
-            → result ≡ met_of domain (all_given domain r) }
-        ensures rests { (meters : List Reading) (r : RunningWorld) → Stands self.old meters r → silence.one_sounds domain r.jacks ≡ false
+            → result ≡ met_of domain (after_all_jacks domain r) }
+        ensures rests { (meters : List Reading) (r : RunningWorld) → RunningStands self.old meters r
+            → silence.one_sounds domain r.jacks ≡ false
             → AreAtRest domain (tick domain r).world.jacks (tick domain r).world.device }
         ensures function { self.new.device.function ≡ self.old.device.function }
         ensures detail { self.new.detail ≡ self.old.detail }
@@ -356,7 +362,7 @@ impl Running {
     /// Prints what a tick of a domain found, and from detail 1 on what its output jacks played.
     fn show<K: Sink>(&self, domain: u8, found: Ticked, sink: &mut K) -> Result<(), Failed>
         ensures printed { (before after : DeviceWorld) → before.function ≡ self.now.device.function → found ≡ met_of domain before
-            → device.Stands self.now.device after
+            → device.DeviceStands self.now.device after
             → Prints (K.written sink.old) (K.written sink.new) result
             (found_lines domain before ++ (if nat_le 1 self.now.detail then played_lines domain after else [])) }
         ensures cause { HasCause (K.faults sink.old) (K.faults sink.new) result }
@@ -367,7 +373,7 @@ impl Running {
 
     /// Prints what a domain's output jacks played, from detail 1 on.
     fn show_played<K: Sink>(&self, domain: u8, sink: &mut K) -> Result<(), Failed>
-        ensures printed { (w : DeviceWorld) → device.Stands self.now.device w
+        ensures printed { (w : DeviceWorld) → device.DeviceStands self.now.device w
             → Prints (K.written sink.old) (K.written sink.new) result (if nat_le 1 self.now.detail then played_lines domain w else []) }
         ensures cause { HasCause (K.faults sink.old) (K.faults sink.new) result }
     {

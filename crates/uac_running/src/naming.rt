@@ -4,8 +4,8 @@ ghost use Rattle.std.specs.List.{list_all, list_any, find};
 ghost use Rattle.std.specs.Option.{option_map};
 ghost use Rattle.uac_script.specs.Line.{said_mark};
 ghost use Rattle.uac_units.specs.Hearing.{Reading};
-ghost use Rattle.uac_running.specs.RunningKept.{StandsBetween};
-ghost use Rattle.uac_running.specs.Naming as spec;
+ghost use Rattle.uac_running.specs.RunningKept.{RunningStandsBetween};
+ghost use Rattle.uac_running.specs.RunningNames as spec;
 ghost use Rattle.uac_running.specs.RunningWorld.{RunningWorld};
 
 use crate::jacks::Jack;
@@ -16,14 +16,14 @@ use uac_topology::{Function, StreamInterface};
 impl Running {
     /// Whether there is an input jack with this id.
     pub fn has_jack(&self, terminal: u8) -> bool
-        ensures { (meters : List Reading) (r : RunningWorld) → StandsBetween self.now meters r → result ≡ spec.has_jack r terminal }
+        ensures { (meters : List Reading) (r : RunningWorld) → RunningStandsBetween self.now meters r → result ≡ spec.has_jack r terminal }
     {
         has_jack(&self.jacks, terminal)
     }
 
-    /// Whether there is a domain with this clock.
+    /// Whether there is a domain with this id.
     pub fn has_domain(&self, domain: u8) -> bool
-        ensures { (meters : List Reading) (r : RunningWorld) → StandsBetween self.now meters r → result ≡ spec.has_domain r domain }
+        ensures { (meters : List Reading) (r : RunningWorld) → RunningStandsBetween self.now meters r → result ≡ spec.has_domain r domain }
     {
         self.device.function().domains().contains(&domain)
     }
@@ -66,7 +66,7 @@ fn has_in(streams: &[StreamInterface], number: u8) -> bool
 
 /// Whether a mark names an interface that has such packets or reports.
 fn is_placed(streams: &[StreamInterface], mark: &Mark) -> bool
-    ensures { result ≡ spec.is_placed streams.now (said_mark mark.now) }
+    ensures { result ≡ spec.names_stream streams.now (said_mark mark.now) }
 {
     match mark.kind {
         MarkKind::Out => has_out(streams, mark.interface),
@@ -77,7 +77,7 @@ fn is_placed(streams: &[StreamInterface], mark: &Mark) -> bool
 
 /// Whether each mark does.
 pub fn are_placed(streams: &[StreamInterface], marks: &[Mark]) -> bool
-    ensures { result ≡ list_all (λ mark. spec.is_placed streams.now (said_mark mark)) marks.now }
+    ensures { result ≡ list_all (λ mark. spec.names_stream streams.now (said_mark mark)) marks.now }
 {
     marks.iter().all(|mark| is_placed(streams, mark))
 }
@@ -93,7 +93,7 @@ fn out_terminal(streams: &[StreamInterface], number: u8) -> Option<u8>
 }
 
 /// Whether so many samples are whole frames of the interface that carries a stream to the device.
-#[tactic(auto, unfolding(crate::specs::Naming::are_frames, uac_graph::specs::Meaning::entity))]
+#[tactic(auto, unfolding(crate::specs::RunningNames::are_frames, uac_graph::specs::Meaning::entity))]
 pub fn are_frames(function: &Function, number: u8, count: usize) -> bool
     ensures { result ≡ spec.are_frames function.now number count }
 {

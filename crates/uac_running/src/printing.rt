@@ -2,7 +2,7 @@
 ghost use Rattle.std.specs.Prelude.{◌≡◌, if◌then◌else◌, [], ◌∷◌};
 ghost use Rattle.uac_edges.specs.Faults.{HasCause};
 ghost use Rattle.uac_graph.specs.Meaning as meaning;
-ghost use Rattle.uac_device.specs.DeviceKept.{Stands};
+ghost use Rattle.uac_device.specs.DeviceKept.{DeviceStands};
 ghost use Rattle.uac_device.specs.DeviceWorld.{DeviceWorld, is_output_jack_of};
 ghost use Rattle.uac_transcript.specs.Printing.{Prints};
 ghost use Rattle.uac_running.specs.RunningLines.{played_line, played_lines};
@@ -15,7 +15,7 @@ use uac_transcript::write_played;
 
 /// Prints what the output jacks of a domain played in the last tick, in block order.
 pub(crate) fn write_jacks<K: Sink>(sink: &mut K, device: &Device, domain: u8) -> Result<(), Failed>
-    ensures printed { (w : DeviceWorld) → Stands device.now w
+    ensures printed { (w : DeviceWorld) → DeviceStands device.now w
         → Prints (K.written sink.old) (K.written sink.new) result (played_lines domain w) }
     ensures cause { HasCause (K.faults sink.old) (K.faults sink.new) result }
 {
@@ -35,7 +35,7 @@ fn write_entity<K: Sink>(
     entity: &Entity,
 ) -> Result<(), Failed>
     requires { meaning.entity device.now.function.entities entity.now.id ≡ entity.now }
-    ensures printed { (w : DeviceWorld) → Stands device.now w → Prints (K.written sink.old) (K.written sink.new) result
+    ensures printed { (w : DeviceWorld) → DeviceStands device.now w → Prints (K.written sink.old) (K.written sink.new) result
         (if is_output_jack_of domain entity.now then played_line w entity.now ∷ [] else []) }
     ensures cause { HasCause (K.faults sink.old) (K.faults sink.new) result }
 {

@@ -4,11 +4,11 @@ ghost use Rattle.uac_edges.specs.Faults.{HasCause};
 ghost use Rattle.uac_edges.specs.Writing.{Writes};
 ghost use Rattle.uac_store.specs.Rates.{rate_of};
 ghost use Rattle.uac_units.specs.Panel.{readings};
-ghost use Rattle.uac_device.specs.DeviceKept.{Stands};
+ghost use Rattle.uac_device.specs.DeviceKept.{DeviceStands};
 ghost use Rattle.uac_device.specs.DeviceWorld.{DeviceWorld};
 ghost use Rattle.uac_transcript.specs.Printing.{Prints};
-ghost use Rattle.uac_transcript.specs.Transcript.{says_meter, says_passed, says_renders, says_steady, spelled};
-ghost use Rattle.uac_running.specs.RunningKept.{counted};
+ghost use Rattle.uac_transcript.specs.Transcript.{says_meter, says_passed, says_renders, says_steady, spelling_of};
+ghost use Rattle.uac_running.specs.RunningKept.{tick_count_of};
 ghost use Rattle.uac_running.specs.RunningLines.{domain_line, stream_line};
 ghost use Rattle.uac_streaming.specs.StreamingWorld.{met_in, place_of};
 
@@ -41,8 +41,8 @@ pub(crate) fn write_rest<K: Sink>(
     meters: &Meters,
     renders: u64,
 ) -> Result<(), Failed>
-    ensures printed { (w : DeviceWorld) (met : ℕ → StreamCounts) → Stands device.now w → streaming.now.met ≡ met_in met w.function
-        → counts.now ≡ map counted w.domains → Prints (K.written sink.old) (K.written sink.new) result
+    ensures printed { (w : DeviceWorld) (met : ℕ → StreamCounts) → DeviceStands device.now w → streaming.now.met ≡ met_in met w.function
+        → counts.now ≡ map tick_count_of w.domains → Prints (K.written sink.old) (K.written sink.new) result
         (map (domain_line w) w.domains ++ (map (stream_line w met) w.function.streams
         ++ (map says_meter (readings (λ v x. (⟦<dyn Meter as Meter>⟧ v).reading_of x) meters.now) ++ says_renders renders ∷ []))) }
     ensures cause { HasCause (K.faults sink.old) (K.faults sink.new) result }
@@ -64,15 +64,15 @@ fn write_last<K: Sink>(sink: &mut K, meters: &Meters, renders: u64) -> Result<()
 
 /// Prints each domain's rate and ticks.
 fn write_domains<K: Sink>(sink: &mut K, device: &Device, counts: &[TickCount]) -> Result<(), Failed>
-    ensures printed { (w : DeviceWorld) → Stands device.now w → counts.now ≡ map counted w.domains
+    ensures printed { (w : DeviceWorld) → DeviceStands device.now w → counts.now ≡ map tick_count_of w.domains
         → Prints (K.written sink.old) (K.written sink.new) result (map (domain_line w) w.domains) }
     ensures cause { HasCause (K.faults sink.old) (K.faults sink.new) result }
 {
     for count in counts {
         write_domain(
             sink,
-            count.clock,
-            domain_rate(device, count.clock),
+            count.domain,
+            domain_rate(device, count.domain),
             count.ticks,
         )?;
     }
@@ -92,7 +92,7 @@ fn write_streams<K: Sink>(
     device: &Device,
     streaming: &Streaming,
 ) -> Result<(), Failed>
-    ensures printed { (w : DeviceWorld) (met : ℕ → StreamCounts) → Stands device.now w → streaming.now.met ≡ met_in met w.function
+    ensures printed { (w : DeviceWorld) (met : ℕ → StreamCounts) → DeviceStands device.now w → streaming.now.met ≡ met_in met w.function
         → Prints (K.written sink.old) (K.written sink.new) result (map (stream_line w met) w.function.streams) }
     ensures cause { HasCause (K.faults sink.old) (K.faults sink.new) result }
 {
@@ -109,10 +109,10 @@ fn write_stream<K: Sink>(
     streaming: &Streaming,
     stream: &StreamInterface,
 ) -> Result<(), Failed>
-    ensures written { (w : DeviceWorld) (met : ℕ → StreamCounts) (place : ℕ) → Stands device.now w
+    ensures written { (w : DeviceWorld) (met : ℕ → StreamCounts) (place : ℕ) → DeviceStands device.now w
         → streaming.now.met ≡ met_in met w.function
         → place_of w.function stream.now.number ≡ Some place
-        → Writes (K.written sink.old) (K.written sink.new) result (spelled (stream_line w met stream.now)) }
+        → Writes (K.written sink.old) (K.written sink.new) result (spelling_of (stream_line w met stream.now)) }
     ensures cause { HasCause (K.faults sink.old) (K.faults sink.new) result }
 {
     let setting = device.settings().get(stream.number).unwrap_or(0);

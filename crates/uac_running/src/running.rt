@@ -9,10 +9,10 @@ ghost use Rattle.uac_running.specs.RunningWorld.{RunningWorld, at_start};
 ghost use Rattle.uac_running.specs.RunningWorld.{with_detail, with_deviation, with_samples_on, with_tone, with_track};
 ghost use Rattle.uac_running.specs.RunningWorld as spec;
 ghost use Rattle.uac_transcript.specs.Printing.{Prints};
-ghost use Rattle.uac_transcript.specs.Transcript.{spelled};
+ghost use Rattle.uac_transcript.specs.Transcript.{spelling_of};
 ghost use Rattle.uac_running.specs.RunningLines.{ready_line, report_lines};
 ghost use Rattle.uac_configuration.specs.Configuration.{configuration_of};
-ghost use Rattle.uac_running.specs.RunningKept.{StandsBetween, none_counted};
+ghost use Rattle.uac_running.specs.RunningKept.{RunningStandsBetween, none_counted};
 ghost use Rattle.uac_device.specs.DeviceKept as kept;
 ghost use Rattle.uac_device.specs.DeviceWorld.{fresh, is_input_jack};
 ghost use Rattle.uac_streaming.specs.StreamingKept as streams;
@@ -108,7 +108,7 @@ impl Running {
         configuration: ByteList,
     ) -> Result<Running, NoMemory>
         ensures stands { IfOk result (λ running. (descriptor : List ℕ) (meters : List Reading) → configuration ≡ configuration_of descriptor
-            → StandsBetween running meters (at_start descriptor function meters)) }
+            → RunningStandsBetween running meters (at_start descriptor function meters)) }
         ensures function { IfOk result (λ running. running.device.function ≡ function) }
     {
         functions_are_sound(&function);
@@ -137,8 +137,8 @@ impl Running {
 
     /// An input jack gives this tone from now on, from its first frame.
     pub fn set_tone(&mut self, terminal: u8, tone: Tone)
-        ensures stands { (meters : List Reading) (r : RunningWorld) → StandsBetween self.old meters r
-            → StandsBetween self.new meters (with_tone terminal tone r) }
+        ensures stands { (meters : List Reading) (r : RunningWorld) → RunningStandsBetween self.old meters r
+            → RunningStandsBetween self.new meters (with_tone terminal tone r) }
         ensures function { self.new.device.function ≡ self.old.device.function }
     {
         set_tone(&mut self.jacks, terminal, tone);
@@ -148,8 +148,8 @@ impl Running {
     pub fn deviate(&mut self, domain: u8, ppm: i32)
         requires low { negsuc 99999 ≤ℤ ppm }
         requires high { ppm ≤ℤ pos 100000 }
-        ensures stands { (meters : List Reading) (r : RunningWorld) → StandsBetween self.old meters r
-            → StandsBetween self.new meters (with_deviation domain ppm r) }
+        ensures stands { (meters : List Reading) (r : RunningWorld) → RunningStandsBetween self.old meters r
+            → RunningStandsBetween self.new meters (with_deviation domain ppm r) }
         ensures function { self.new.device.function ≡ self.old.device.function }
     {
         self.device.deviate(domain, ppm);
@@ -158,8 +158,8 @@ impl Running {
 
     /// Sets how much is printed from now on: 0, 1 or 2.
     pub fn set_detail(&mut self, level: u8)
-        ensures stands { (meters : List Reading) (r : RunningWorld) → StandsBetween self.old meters r
-            → StandsBetween self.new meters (with_detail level r) }
+        ensures stands { (meters : List Reading) (r : RunningWorld) → RunningStandsBetween self.old meters r
+            → RunningStandsBetween self.new meters (with_detail level r) }
         ensures function { self.new.device.function ≡ self.old.device.function }
     {
         self.detail = level;
@@ -168,9 +168,9 @@ impl Running {
     /// Frames wait after those that do on an interface: samples of full scale, channel after channel, in whole frames of its terminal.
     /// After `NoMemory` all is as it was.
     pub fn append(&mut self, interface: u8, samples: &[i32]) -> Result<(), NoMemory>
-        ensures stands { (meters : List Reading) (r : RunningWorld) → StandsBetween self.old meters r
+        ensures stands { (meters : List Reading) (r : RunningWorld) → RunningStandsBetween self.old meters r
             → AreWhole r.host.function interface samples.now
-            → OnOk result (StandsBetween self.new meters (with_samples_on interface samples.now r)) }
+            → OnOk result (RunningStandsBetween self.new meters (with_samples_on interface samples.now r)) }
         ensures unchanged { OnErr result (self.new ≡ self.old) }
         ensures function { self.new.device.function ≡ self.old.device.function }
     {
@@ -179,8 +179,8 @@ impl Running {
 
     /// A tone follows the frames that wait on an interface, from its first frame.
     pub fn track(&mut self, interface: u8, tone: Tone)
-        ensures stands { (meters : List Reading) (r : RunningWorld) → StandsBetween self.old meters r
-            → StandsBetween self.new meters (with_track interface tone r) }
+        ensures stands { (meters : List Reading) (r : RunningWorld) → RunningStandsBetween self.old meters r
+            → RunningStandsBetween self.new meters (with_track interface tone r) }
         ensures function { self.new.device.function ≡ self.old.device.function }
     {
         self.streaming.track(interface, tone);
@@ -189,7 +189,7 @@ impl Running {
     /// Prints the report.
     pub fn report<K: Sink>(&self, meters: &Meters, sink: &mut K) -> Result<(), Failed>
         ensures printed { (r : RunningWorld)
-            → StandsBetween self.now (readings (λ v x. (⟦<dyn Meter as Meter>⟧ v).reading_of x) meters.now) r
+            → RunningStandsBetween self.now (readings (λ v x. (⟦<dyn Meter as Meter>⟧ v).reading_of x) meters.now) r
             → Prints (K.written sink.old) (K.written sink.new) result (report_lines r) }
         ensures cause { HasCause (K.faults sink.old) (K.faults sink.new) result }
     {
@@ -206,7 +206,7 @@ impl Running {
 
     /// Prints the line of the descriptor's end.
     pub fn ready<K: Sink>(&self, sink: &mut K) -> Result<(), Failed>
-        ensures written { Writes (K.written sink.old) (K.written sink.new) result (spelled (ready_line self.now.device.function)) }
+        ensures written { Writes (K.written sink.old) (K.written sink.new) result (spelling_of (ready_line self.now.device.function)) }
         ensures cause { HasCause (K.faults sink.old) (K.faults sink.new) result }
     {
         let function = self.device.function();
@@ -229,8 +229,8 @@ struct Beside {
 
 /// What is kept beside a fresh device of a function: a host of which no stream runs, silent jacks, and no ticks yet.
 fn fresh_beside(alloc: Global, function: &Function) -> Result<Beside, NoMemory>
-    ensures streaming { IfOk result (λ beside. (d : kept.DeviceFields) → kept.Stands d (fresh function.now)
-        → streams.Stands beside.streaming d (streaming_start function.now)) }
+    ensures streaming { IfOk result (λ beside. (d : kept.DeviceFields) → kept.DeviceStands d (fresh function.now)
+        → streams.StreamingStands beside.streaming d (streaming_start function.now)) }
     ensures jacks { IfOk result (λ beside. beside.jacks.items ≡ map spec.silent_jack (filter is_input_jack function.now.entities)) }
     ensures counts { IfOk result (λ beside. beside.counts.items ≡ map none_counted function.now.domains) }
 {

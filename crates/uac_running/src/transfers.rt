@@ -20,7 +20,7 @@ ghost use Rattle.uac_running.specs.RunningTransfers.{comes_back, element_named, 
 ghost use Rattle.uac_running.specs.RunningTransfers.{after_transfer};
 ghost use Rattle.uac_running.specs.RunningTransfers.{with_break};
 ghost use Rattle.uac_running.specs.RunningTransfers as spec;
-ghost use Rattle.uac_running.specs.RunningKept.{Stands, StandsBetween, TellsBetween};
+ghost use Rattle.uac_running.specs.RunningKept.{RunningStands, RunningStandsBetween, RunningTellsBetween};
 
 use crate::running::Running;
 use std::alloc::Global;
@@ -47,7 +47,7 @@ pub(crate) struct Viewed {
 fn with_view(alloc: Global, device: Device) -> Result<Viewed, NoMemory>
     ensures view { IfOk result (λ viewed. viewed.view ≡ known_view device.function.entities device.controls) }
     ensures of_function { IfOk result (λ viewed. IsViewOf viewed.device.function.entities viewed.view) }
-    ensures stands { IfOk result (λ viewed. (w : DeviceWorld) → kept.Stands device w → kept.Stands viewed.device w) }
+    ensures stands { IfOk result (λ viewed. (w : DeviceWorld) → kept.DeviceStands device w → kept.DeviceStands viewed.device w) }
     ensures function { IfOk result (λ viewed. viewed.device.function ≡ device.function) }
 {
     controls_are_stored(&device);
@@ -73,7 +73,7 @@ pub fn fresh_view(alloc: Global, function: Function) -> Result<View, NoMemory>
 pub(crate) fn fresh_viewed(alloc: Global, function: Function) -> Result<Viewed, NoMemory>
     ensures view { IfOk result (λ viewed. viewed.view ≡ known_view function.entities (initial_controls function.entities)) }
     ensures of_function { IfOk result (λ viewed. IsViewOf viewed.device.function.entities viewed.view) }
-    ensures stands { IfOk result (λ viewed. kept.Stands viewed.device (fresh function)) }
+    ensures stands { IfOk result (λ viewed. kept.DeviceStands viewed.device (fresh function)) }
     ensures function { IfOk result (λ viewed. viewed.device.function ≡ function) }
 {
     let device = Device::new(alloc, function)?;
@@ -101,8 +101,8 @@ fn break_at(after: bool) -> When
 impl Running {
     /// The next transfer breaks before or after the device acted; a break that was pending is forgotten.
     pub fn set_break(&mut self, after: bool)
-        ensures stands { (meters : List Reading) (r : RunningWorld) → StandsBetween self.old meters r
-            → StandsBetween self.new meters (with_break after r) }
+        ensures stands { (meters : List Reading) (r : RunningWorld) → RunningStandsBetween self.old meters r
+            → RunningStandsBetween self.new meters (with_break after r) }
         ensures function { self.new.device.function ≡ self.old.device.function }
     {
         self.breaks = Some(break_at(after));
@@ -115,8 +115,8 @@ impl Running {
         sent: &[u8],
         sink: &mut K,
     ) -> Result<(), Failed>
-        ensures tells { (meters : List Reading) (r : RunningWorld) → StandsBetween self.old meters r
-            → TellsBetween (transfer setup.now sent.now r) self.new meters (K.written sink.old) (K.written sink.new) result }
+        ensures tells { (meters : List Reading) (r : RunningWorld) → RunningStandsBetween self.old meters r
+            → RunningTellsBetween (transfer setup.now sent.now r) self.new meters (K.written sink.old) (K.written sink.new) result }
         ensures cause { HasCause (K.faults sink.old) (K.faults sink.new) result }
     {
         let came = self.transfer(setup, sent);
@@ -126,9 +126,9 @@ impl Running {
     /// A control transfer: the device acts, unless it breaks before, the host's streams follow it, and the view follows what comes back.
     #[inline(always)]
     fn transfer(&mut self, setup: &Setup, sent: &[u8]) -> Result<Answer, Broken>
-        ensures stands { (meters : List Reading) (r : RunningWorld) → Stands self.old meters r
-            → Stands self.new meters (after_transfer setup.now sent.now r) }
-        ensures came { (meters : List Reading) (r : RunningWorld) → Stands self.old meters r
+        ensures stands { (meters : List Reading) (r : RunningWorld) → RunningStands self.old meters r
+            → RunningStands self.new meters (after_transfer setup.now sent.now r) }
+        ensures came { (meters : List Reading) (r : RunningWorld) → RunningStands self.old meters r
             → came_of result ≡ comes_back setup.now sent.now r }
     {
         controls_are_stored(&self.device);
@@ -190,7 +190,7 @@ impl Running {
 
     /// The place of the first element with a name.
     pub fn element(&self, name: &[u8]) -> Option<usize>
-        ensures named { (meters : List Reading) (r : RunningWorld) → StandsBetween self.now meters r
+        ensures named { (meters : List Reading) (r : RunningWorld) → RunningStandsBetween self.now meters r
             → option_and_then (slice_get r.view.elements) result ≡ element_named r name.now }
         ensures there { IfSome result (λ at. at < length self.now.view.elements) }
     {
@@ -216,9 +216,9 @@ impl Running {
     /// Reads the element at a place from the device, and prints its value.
     pub fn read_element<K: Sink>(&mut self, at: usize, sink: &mut K) -> Result<(), Failed>
         requires { at < length self.old.view.elements }
-        ensures tells { (meters : List Reading) (r : RunningWorld) (x : Element) → StandsBetween self.old meters r
+        ensures tells { (meters : List Reading) (r : RunningWorld) (x : Element) → RunningStandsBetween self.old meters r
             → slice_get r.view.elements at ≡ Some x
-            → TellsBetween (spec.read_element x r) self.new meters (K.written sink.old) (K.written sink.new) result }
+            → RunningTellsBetween (spec.read_element x r) self.new meters (K.written sink.old) (K.written sink.new) result }
         ensures cause { HasCause (K.faults sink.old) (K.faults sink.new) result }
     {
         let name = self.element_at(at).name();
@@ -231,10 +231,10 @@ impl Running {
     /// The value of the element at a place, as the device tells it.
     fn read(&mut self, at: usize) -> Result<i32, Broken>
         requires { at < length self.old.view.elements }
-        ensures stands { (meters : List Reading) (r : RunningWorld) (x : Element) → Stands self.old meters r
+        ensures stands { (meters : List Reading) (r : RunningWorld) (x : Element) → RunningStands self.old meters r
             → slice_get r.view.elements at ≡ Some x
-            → Stands self.new meters (after_transfer (get_of r.device.function.control_interface x) [] r) }
-        ensures value { (meters : List Reading) (r : RunningWorld) (x : Element) → Stands self.old meters r
+            → RunningStands self.new meters (after_transfer (get_of r.device.function.control_interface x) [] r) }
+        ensures value { (meters : List Reading) (r : RunningWorld) (x : Element) → RunningStands self.old meters r
             → slice_get r.view.elements at ≡ Some x
             → spec.IsRead x r result }
     {
@@ -253,9 +253,9 @@ impl Running {
     ) -> Result<(), Failed>
         requires at { at < length self.old.view.elements }
         requires fits { (x : Element) → slice_get self.old.view.elements at ≡ Some x → fits_element x.kind value ≡ true }
-        ensures tells { (meters : List Reading) (r : RunningWorld) (x : Element) → StandsBetween self.old meters r
+        ensures tells { (meters : List Reading) (r : RunningWorld) (x : Element) → RunningStandsBetween self.old meters r
             → slice_get r.view.elements at ≡ Some x
-            → TellsBetween (spec.set_element x value r) self.new meters (K.written sink.old) (K.written sink.new) result }
+            → RunningTellsBetween (spec.set_element x value r) self.new meters (K.written sink.old) (K.written sink.new) result }
         ensures cause { HasCause (K.faults sink.old) (K.faults sink.new) result }
     {
         match self.set(at, value) {
@@ -269,11 +269,12 @@ impl Running {
     fn set(&mut self, at: usize, value: i32) -> Result<(), SetFault>
         requires at { at < length self.old.view.elements }
         requires fits { (x : Element) → slice_get self.old.view.elements at ≡ Some x → fits_element x.kind value ≡ true }
-        ensures stands { (meters : List Reading) (r : RunningWorld) (x : Element) → Stands self.old meters r
+        ensures stands { (meters : List Reading) (r : RunningWorld) (x : Element) → RunningStands self.old meters r
             → slice_get r.view.elements at ≡ Some x
-            → Stands self.new meters (after_transfer (set_of r.device.function.control_interface x) (value_bytes (width_of x.kind) value)
+            → RunningStands self.new meters
+            (after_transfer (set_of r.device.function.control_interface x) (value_bytes (width_of x.kind) value)
             r) }
-        ensures came { (meters : List Reading) (r : RunningWorld) (x : Element) → Stands self.old meters r
+        ensures came { (meters : List Reading) (r : RunningWorld) (x : Element) → RunningStands self.old meters r
             → slice_get r.view.elements at ≡ Some x
             → came_of_set result ≡ comes_back (set_of r.device.function.control_interface x) (value_bytes (width_of x.kind) value) r }
     {

@@ -11,10 +11,10 @@ use Rattle.std.specs.Result.{result_ok}
 use Rattle.uac_script.specs.declared.line.Line.{Line}
 use Rattle.uac_script.specs.declared.lent.LentLine.{LentLine}
 use Rattle.uac_script.specs.Words.{Word, words_of, is_idle, hex_of}
-use Rattle.uac_script.specs.Phrase.{Phrase, idle, feeds, goes, controls, gets, sets, shows, breaks, appends, tracks, jacks, deviates, runs, details, reports, is_in_range}
+use Rattle.uac_script.specs.Phrase.{Phrase, nothing_line, bytes_line, go_line, control_line, get_line, set_line, show_line, break_line, append_line, track_line, jack_line, deviate_line, microframes_line, detail_line, report_line, is_in_range}
 use Rattle.uac_script.specs.Line.{IsRow, Spells, begins_known, phrase_of, HasNoEmptyPart, IsLineInRange, Says, IsOutOfRange, IsMisspelt, IsUnknown}
-use Rattle.uac_script.specs.Lent.{lent_phrase, lent_said, LentKeeps}
-use Rattle.uac_script.specs.LineReading.{row_of, judged, judged_row, answer_of, answer, said}
+use Rattle.uac_script.specs.Lent.{lent_phrase, lent_phrase_result, LentKeeps}
+use Rattle.uac_script.specs.LineReading.{row_of, verdict_of, row_verdict, answer_of, answer, phrase_result}
 use Rattle.uac_script.proofs.Grammar.{row_sound, row_complete, row_of-letter}
 
 -- ---- the first byte of a text, by its first word
@@ -36,7 +36,7 @@ not_a_letter letter words p h e = let g : row_of 35 words ≡ Some (Some p) = ap
 pub record Answers (text : List ℕ) (p : Phrase) : Type 0 where
   pub not_idle : is_idle text ≡ false
   pub known : begins_known (words_of text) ≡ true
-  pub answered : answer text ≡ judged (Some p)
+  pub answered : answer text ≡ verdict_of (Some p)
 
 pub answers : (text : List ℕ) (p : Phrase) → IsRow (words_of text) p → Answers text p
 unfolding answer
@@ -46,25 +46,25 @@ answers text p h =
     record {
       not_idle = quiet;
       known = ap begins_known r.words-is ∙ sym (row_of-letter r.letter r.following) ∙ ap is_some r.row-is;
-      answered = cond-false _ _ _ quiet ∙ ap answer_of r.words-is ∙ ap judged_row r.row-is;
+      answered = cond-false _ _ _ quiet ∙ ap answer_of r.words-is ∙ ap row_verdict r.row-is;
     }
 
 -- ---- the four kinds of texts
 
 data Case (text : List ℕ) : Type 0 where
-  idles : is_idle text ≡ true → answer text ≡ Ok idle → Case text
+  idles : is_idle text ≡ true → answer text ≡ Ok nothing_line → Case text
   unknown : is_idle text ≡ false → begins_known (words_of text) ≡ false → answer text ≡ Err 2 → Case text
   misspelt : is_idle text ≡ false → begins_known (words_of text) ≡ true → answer text ≡ Err 3 → Case text
-  spelt : (p : Phrase) → IsRow (words_of text) p → answer text ≡ judged (Some p) → Case text
+  spelt : (p : Phrase) → IsRow (words_of text) p → answer text ≡ verdict_of (Some p) → Case text
 
 case_row : (text : List ℕ) (c : ℕ) (ws : List Word) (row : Option (Option Phrase)) → is_idle text ≡ false → words_of text ≡ (c ∷ []) ∷ ws → row_of c ws ≡ row → Case text
 unfolding answer
 case_row text c ws None quiet h e =
-    unknown quiet (ap begins_known h ∙ sym (row_of-letter c ws) ∙ ap is_some e) (cond-false _ _ _ quiet ∙ ap answer_of h ∙ ap judged_row e)
+    unknown quiet (ap begins_known h ∙ sym (row_of-letter c ws) ∙ ap is_some e) (cond-false _ _ _ quiet ∙ ap answer_of h ∙ ap row_verdict e)
 case_row text c ws (Some None) quiet h e =
-    misspelt quiet (ap begins_known h ∙ sym (row_of-letter c ws) ∙ ap is_some e) (cond-false _ _ _ quiet ∙ ap answer_of h ∙ ap judged_row e)
+    misspelt quiet (ap begins_known h ∙ sym (row_of-letter c ws) ∙ ap is_some e) (cond-false _ _ _ quiet ∙ ap answer_of h ∙ ap row_verdict e)
 case_row text c ws (Some (Some p)) quiet h e =
-    spelt p (subst (λ words. IsRow words p) (sym h) (row_sound c ws p e)) (cond-false _ _ _ quiet ∙ ap answer_of h ∙ ap judged_row e)
+    spelt p (subst (λ words. IsRow words p) (sym h) (row_sound c ws p e)) (cond-false _ _ _ quiet ∙ ap answer_of h ∙ ap row_verdict e)
 
 case_words : (text : List ℕ) (words : List Word) → is_idle text ≡ false → words_of text ≡ words → Case text
 unfolding answer
@@ -99,8 +99,8 @@ judged_not : (q : Phrase) (b : Bool) (rule : ℕ) → (rule ≡ 4 → ⊥) → c
 judged_not q true rule other h = cc
 judged_not q false rule other h = other (sym (same_rule 4 rule h))
 
-idle_ok : (p : Phrase) → ◌≡◌ {A = Result Phrase ℕ} (Ok idle) (Ok p) → (p ≡ idle) × (is_in_range p ≡ true)
-idle_ok p h = let e : p ≡ idle = cc in (e, ap is_in_range e)
+idle_ok : (p : Phrase) → ◌≡◌ {A = Result Phrase ℕ} (Ok nothing_line) (Ok p) → (p ≡ nothing_line) × (is_in_range p ≡ true)
+idle_ok p h = let e : p ≡ nothing_line = cc in (e, ap is_in_range e)
 
 ok_then : (text : List ℕ) (p : Phrase) → Case text → answer text ≡ Ok p → Spells text p × (is_in_range p ≡ true)
 ok_then text p (idles quiet e) h = let i = idle_ok p (sym e ∙ h) in (inl (quiet, i.0), i.1)
@@ -178,21 +178,21 @@ hex_there [] bytes h = cc
 hex_there (c ∷ rest) bytes h = bytes_there (c ∷ rest) bytes (decode_of (c ∷ rest)) (omega arith) refl h
 
 row_there : (words : List Word) (p : Phrase) → IsRow words p → HasNoEmptyPart p
-row_there words idle h = tt
-row_there words (feeds bytes) h = hex_there h.0 bytes h.2
-row_there words goes h = tt
-row_there words (controls setup sent) h = tt
-row_there words (gets name) h = h.1
-row_there words (sets name value) h = h.1
-row_there words (shows name) h = h.1
-row_there words (breaks after) h = tt
-row_there words (appends z samples) h = h.1
-row_there words (tracks z v) h = tt
-row_there words (jacks z v) h = tt
-row_there words (deviates y z) h = tt
-row_there words (runs z losses) h = tt
-row_there words (details z) h = tt
-row_there words reports h = tt
+row_there words nothing_line h = tt
+row_there words (bytes_line bytes) h = hex_there h.0 bytes h.2
+row_there words go_line h = tt
+row_there words (control_line setup sent) h = tt
+row_there words (get_line name) h = h.1
+row_there words (set_line name value) h = h.1
+row_there words (show_line name) h = h.1
+row_there words (break_line after) h = tt
+row_there words (append_line z samples) h = h.1
+row_there words (track_line z v) h = tt
+row_there words (jack_line z v) h = tt
+row_there words (deviate_line y z) h = tt
+row_there words (microframes_line z losses) h = tt
+row_there words (detail_line z) h = tt
+row_there words report_line h = tt
 
 spells_there : (text : List ℕ) (p : Phrase) → Spells text p → HasNoEmptyPart p
 spells_there text p (inl i) = subst HasNoEmptyPart (sym i.1) tt
@@ -207,14 +207,14 @@ says_err text rule (misspelt a b e) h = let three = same_rule 3 rule (sym e ∙ 
 says_err text rule (spelt q row e) h =
     let four = judged_rule q (is_in_range q) rule (sym e ∙ h) in inr (inr (sym four, four_then text (spelt q row e) (h ∙ ap (λ r. Err r) (sym four))))
 
-says_answer : (text : List ℕ) (said : Result Phrase ℕ) → answer text ≡ said → Says text said
+says_answer : (text : List ℕ) (told : Result Phrase ℕ) → answer text ≡ told → Says text told
 says_answer text (Ok phrase) h = ok_then text phrase (case_of text) h
 says_answer text (Err rule) h = says_err text rule (case_of text) h
 
 pub answer_says : (text : List ℕ) → Says text (answer text)
 answer_says text = says_answer text (answer text) refl
 
-pub says_only : (text : List ℕ) (said : Result Phrase ℕ) → Says text said → said ≡ answer text
+pub says_only : (text : List ℕ) (told : Result Phrase ℕ) → Says text told → told ≡ answer text
 says_only text (Ok phrase) h = sym (then_ok text phrase h.0 h.1)
 says_only text (Err rule) (inl h) = ap (λ r. Err r) h.0 ∙ sym (then_two text (case_of text) h.1)
 says_only text (Err rule) (inr (inl h)) = ap (λ r. Err r) h.0 ∙ sym (then_three text (case_of text) h.1)
@@ -234,21 +234,21 @@ refuses_answer : (text : List ℕ) (r : Result Phrase ℕ) → r ≡ answer text
 refuses_answer text (Ok phrase) e = tt
 refuses_answer text (Err rule) e = rules_only text rule (case_of text) (sym e)
 
-pub read_says : (text : List ℕ) (r : Result Line ℕ) → said r ≡ answer text → Says text (said r)
-read_says text r e = says_answer text (said r) (sym e)
+pub read_says : (text : List ℕ) (r : Result Line ℕ) → phrase_result r ≡ answer text → Says text (phrase_result r)
+read_says text r e = says_answer text (phrase_result r) (sym e)
 
-pub read_keeps : (text : List ℕ) (r : Result Line ℕ) → said r ≡ answer text → IfOk r IsLineInRange
+pub read_keeps : (text : List ℕ) (r : Result Line ℕ) → phrase_result r ≡ answer text → IfOk r IsLineInRange
 read_keeps text (Ok line) e = keeps_answer text (Ok (phrase_of line)) e
 read_keeps text (Err rule) e = tt
 
-pub read_refuses : (text : List ℕ) (r : Result Line ℕ) → said r ≡ answer text → IfErr r (λ rule. (2 ≤ rule) × (rule ≤ 4))
+pub read_refuses : (text : List ℕ) (r : Result Line ℕ) → phrase_result r ≡ answer text → IfErr r (λ rule. (2 ≤ rule) × (rule ≤ 4))
 read_refuses text (Ok line) e = tt
 read_refuses text (Err rule) e = refuses_answer text (Err rule) e
 
-pub lent_keeps : (text : List ℕ) (r : Result LentLine ℕ) → lent_said r ≡ answer text → IfOk r LentKeeps
+pub lent_keeps : (text : List ℕ) (r : Result LentLine ℕ) → lent_phrase_result r ≡ answer text → IfOk r LentKeeps
 lent_keeps text (Ok line) e = keeps_answer text (Ok (lent_phrase line)) e
 lent_keeps text (Err rule) e = tt
 
-pub lent_refuses : (text : List ℕ) (r : Result LentLine ℕ) → lent_said r ≡ answer text → IfErr r (λ rule. (2 ≤ rule) × (rule ≤ 4))
+pub lent_refuses : (text : List ℕ) (r : Result LentLine ℕ) → lent_phrase_result r ≡ answer text → IfErr r (λ rule. (2 ≤ rule) × (rule ≤ 4))
 lent_refuses text (Ok line) e = tt
 lent_refuses text (Err rule) e = refuses_answer text (Err rule) e

@@ -11,9 +11,9 @@ use Rattle.uac_script.specs.declared.line.MarkKind.TheVariants.{Out, In, Feedbac
 use Rattle.uac_script.specs.Words.{Word, hex_of}
 use Rattle.uac_edges.specs.Numerals.{numeral}
 use Rattle.uac_script.specs.ScriptNumerals.{is_number, value_of}
-use Rattle.uac_script.specs.Phrase.{SaidTone, silent, ramps, hisses, SaidMark, Phrase, idle, feeds, goes, controls, gets, sets, shows, breaks, appends, tracks, jacks, deviates, runs, details, reports}
+use Rattle.uac_script.specs.Phrase.{SaidTone, silent, ramp_tone, noise_tone, SaidMark, Phrase, nothing_line, bytes_line, go_line, control_line, get_line, set_line, show_line, break_line, append_line, track_line, jack_line, deviate_line, microframes_line, detail_line, report_line}
 use Rattle.uac_script.specs.Line.{IsRow, tone_words, letter_of, mark_word, letters}
-use Rattle.uac_script.specs.LineReading.{when_empty, only_of, pair_of, then_of, name_in, numbered, feeds_of, setup_of, sent_of, controls_of, sets_of, element_of, break_at, breaks_of, appends_of, ramp_of, tone_read, signal_of, tracks_of, jacks_of, deviation_of, deviates_of, kind_of, is_mark, mark_of, runs_of, details_of, row_of}
+use Rattle.uac_script.specs.LineReading.{when_empty, only_of, pair_of, then_of, name_in, from_number, bytes_line_of, setup_of, sent_of, control_line_of, set_line_of, element_of, break_at, break_line_of, append_line_of, ramp_of, tone_read, signal_of, track_line_of, jack_line_of, deviation_of, deviate_line_of, kind_of, is_mark, mark_of, microframes_line_of, detail_line_of, row_of}
 use Rattle.uac_script.proofs.Numerals.{is_number-numeral, value_of-numeral, numeral-value_of}
 
 -- ---- what a step of reading needs to give something
@@ -58,11 +58,11 @@ same_word word other h = (bytes_eq-Decides word other).0 h
 Allows : ℕ → List Word → Phrase → Type 0
 Allows letter words phrase = IsRow ((letter ∷ []) ∷ words) phrase
 
-feeds_sound : (words : List Word) (p : Phrase) → feeds_of words ≡ Some p → Allows 100 words p
+feeds_sound : (words : List Word) (p : Phrase) → bytes_line_of words ≡ Some p → Allows 100 words p
 unfolding Allows
 feeds_sound words p h =
-    let o = then_some (λ word. option_map feeds (hex_of word)) (only_of words) p h in
-    let m = map_some feeds (hex_of o.0) p o.2 in
+    let o = then_some (λ word. option_map bytes_line (hex_of word)) (only_of words) p h in
+    let m = map_some bytes_line (hex_of o.0) p o.2 in
     subst (λ q. IsRow ((100 ∷ []) ∷ words) q) m.2 (o.0, ap (λ ws. (100 ∷ []) ∷ ws) (only_some words o.0 o.1), m.1)
 
 alone_sound : (letter : ℕ) (words : List Word) (alone p : Phrase) → IsRow ((letter ∷ []) ∷ []) alone → when_empty alone words ≡ Some p → Allows letter words p
@@ -84,37 +84,37 @@ sent_some head (word ∷ words) sent h =
     let o = then_some hex_of (only_of (word ∷ words)) sent h in
     inr (o.0, ap (λ ws. codes "c" ∷ head ∷ ws) (only_some (word ∷ words) o.0 o.1), o.2)
 
-controls_sound : (words : List Word) (p : Phrase) → controls_of words ≡ Some p → Allows 99 words p
+controls_sound : (words : List Word) (p : Phrase) → control_line_of words ≡ Some p → Allows 99 words p
 unfolding Allows
 controls_sound [] p h = cc
 controls_sound (head ∷ words) p h =
-    let t = then_some (λ setup. option_map (controls setup) (sent_of words)) (setup_of head) p h in
-    let m = map_some (controls t.0) (sent_of words) p t.2 in
+    let t = then_some (λ setup. option_map (control_line setup) (sent_of words)) (setup_of head) p h in
+    let m = map_some (control_line t.0) (sent_of words) p t.2 in
     let s = setup_some head t.0 t.1 in
     subst (λ q. IsRow ((99 ∷ []) ∷ head ∷ words) q) m.2 (head, s.0, s.1, sent_some head words m.0 m.1)
 
-breaks_sound : (words : List Word) (p : Phrase) → breaks_of words ≡ Some p → Allows 98 words p
+breaks_sound : (words : List Word) (p : Phrase) → break_line_of words ≡ Some p → Allows 98 words p
 unfolding Allows
 breaks_sound words p h =
     let o = then_some break_at (only_of words) p h in
     let e = only_some words o.0 o.1 in
-    chosen (bytes_eq o.0 (codes "before")) (Some (breaks false)) _ (Some p) o.2 (λ t x. subst (λ q. IsRow ((98 ∷ []) ∷ words) q) (same_Some _ _ x) (ap (λ ws. (98 ∷ []) ∷ ws) (e ∙ ap (λ w. w ∷ []) (same_word o.0 _ t))))
-    (λ t x. let parts = cond_some (bytes_eq o.0 (codes "after")) (breaks true) p x in subst (λ q. IsRow ((98 ∷ []) ∷ words) q) parts.1 (ap (λ ws. (98 ∷ []) ∷ ws) (e ∙ ap (λ w. w ∷ []) (same_word o.0 _ parts.0))))
+    chosen (bytes_eq o.0 (codes "before")) (Some (break_line false)) _ (Some p) o.2 (λ t x. subst (λ q. IsRow ((98 ∷ []) ∷ words) q) (same_Some _ _ x) (ap (λ ws. (98 ∷ []) ∷ ws) (e ∙ ap (λ w. w ∷ []) (same_word o.0 _ t))))
+    (λ t x. let parts = cond_some (bytes_eq o.0 (codes "after")) (break_line true) p x in subst (λ q. IsRow ((98 ∷ []) ∷ words) q) parts.1 (ap (λ ws. (98 ∷ []) ∷ ws) (e ∙ ap (λ w. w ∷ []) (same_word o.0 _ parts.0))))
 
-deviates_sound : (words : List Word) (p : Phrase) → deviates_of words ≡ Some p → Allows 107 words p
+deviates_sound : (words : List Word) (p : Phrase) → deviate_line_of words ≡ Some p → Allows 107 words p
 unfolding Allows
 deviates_sound words p h =
     let t = then_some deviation_of (pair_of words) p h in
     let e = pair_some words t.0 t.1 in
-    let parts = cond_some (is_number t.0.0 && is_number t.0.1) (deviates (value_of t.0.0) (value_of t.0.1)) p t.2 in
+    let parts = cond_some (is_number t.0.0 && is_number t.0.1) (deviate_line (value_of t.0.0) (value_of t.0.1)) p t.2 in
     let numbers = and_parts (is_number t.0.0) (is_number t.0.1) parts.0 in
     subst (λ q. IsRow ((107 ∷ []) ∷ words) q) parts.1 (ap (λ ws. (107 ∷ []) ∷ ws) (e ∙ ap (λ w. w ∷ t.0.1 ∷ []) (numeral-value_of t.0.0 numbers.0) ∙ ap (λ w. numeral (value_of t.0.0) ∷ w ∷ []) (numeral-value_of t.0.1 numbers.1)))
 
-details_sound : (words : List Word) (p : Phrase) → details_of words ≡ Some p → Allows 118 words p
+details_sound : (words : List Word) (p : Phrase) → detail_line_of words ≡ Some p → Allows 118 words p
 unfolding Allows
 details_sound words p h =
-    let t = then_some (numbered details) (only_of words) p h in
-    let parts = cond_some (is_number t.0) (details (value_of t.0)) p t.2 in
+    let t = then_some (from_number detail_line) (only_of words) p h in
+    let parts = cond_some (is_number t.0) (detail_line (value_of t.0)) p t.2 in
     subst (λ q. IsRow ((118 ∷ []) ∷ words) q) parts.1 (ap (λ ws. (118 ∷ []) ∷ ws) (only_some words t.0 t.1 ∙ ap (λ w. w ∷ []) (numeral-value_of t.0 parts.0)))
 
 named_some : (words : List Word) (name : Word) → then_of name_in (only_of words) ≡ Some name → (words ≡ name ∷ []) × (name ≢ [])
@@ -123,27 +123,27 @@ named_some words name h =
     let n = name_some t.0 name t.2 in
     (only_some words t.0 t.1 ∙ ap (λ w. w ∷ []) n.0, n.1)
 
-gets_sound : (verb : Word) (words : List Word) (p : Phrase) → verb ≡ codes "get" → option_map gets (then_of name_in (only_of words)) ≡ Some p → Allows 104 (verb ∷ words) p
+gets_sound : (verb : Word) (words : List Word) (p : Phrase) → verb ≡ codes "get" → option_map get_line (then_of name_in (only_of words)) ≡ Some p → Allows 104 (verb ∷ words) p
 unfolding Allows
 gets_sound verb words p same h =
-    let m = map_some gets (then_of name_in (only_of words)) p h in
+    let m = map_some get_line (then_of name_in (only_of words)) p h in
     let n = named_some words m.0 m.1 in
     subst (λ q. IsRow ((104 ∷ []) ∷ verb ∷ words) q) m.2 (ap (λ w. (104 ∷ []) ∷ w ∷ words) same ∙ ap (λ ws. (104 ∷ []) ∷ codes "get" ∷ ws) n.0, n.1)
 
-shows_sound : (verb : Word) (words : List Word) (p : Phrase) → verb ≡ codes "show" → option_map shows (then_of name_in (only_of words)) ≡ Some p → Allows 104 (verb ∷ words) p
+shows_sound : (verb : Word) (words : List Word) (p : Phrase) → verb ≡ codes "show" → option_map show_line (then_of name_in (only_of words)) ≡ Some p → Allows 104 (verb ∷ words) p
 unfolding Allows
 shows_sound verb words p same h =
-    let m = map_some shows (then_of name_in (only_of words)) p h in
+    let m = map_some show_line (then_of name_in (only_of words)) p h in
     let n = named_some words m.0 m.1 in
     subst (λ q. IsRow ((104 ∷ []) ∷ verb ∷ words) q) m.2 (ap (λ w. (104 ∷ []) ∷ w ∷ words) same ∙ ap (λ ws. (104 ∷ []) ∷ codes "show" ∷ ws) n.0, n.1)
 
-sets_sound : (verb : Word) (words : List Word) (p : Phrase) → verb ≡ codes "set" → then_of sets_of (pair_of words) ≡ Some p → Allows 104 (verb ∷ words) p
+sets_sound : (verb : Word) (words : List Word) (p : Phrase) → verb ≡ codes "set" → then_of set_line_of (pair_of words) ≡ Some p → Allows 104 (verb ∷ words) p
 unfolding Allows
 sets_sound verb words p same h =
-    let t = then_some sets_of (pair_of words) p h in
-    chosen (is_number t.0.1) (option_map (λ word. sets word (value_of t.0.1)) (name_in t.0.0)) None (Some p) t.2
+    let t = then_some set_line_of (pair_of words) p h in
+    chosen (is_number t.0.1) (option_map (λ word. set_line word (value_of t.0.1)) (name_in t.0.0)) None (Some p) t.2
     (λ number x.
-    let m = map_some (λ word. sets word (value_of t.0.1)) (name_in t.0.0) p x in
+    let m = map_some (λ word. set_line word (value_of t.0.1)) (name_in t.0.0) p x in
     let n = name_some t.0.0 m.0 m.1 in
     subst (λ q. IsRow ((104 ∷ []) ∷ verb ∷ words) q) m.2 (
       ap (λ w. (104 ∷ []) ∷ w ∷ words) same
@@ -155,11 +155,11 @@ sets_sound verb words p same h =
 element_sound : (words : List Word) (p : Phrase) → element_of words ≡ Some p → Allows 104 words p
 element_sound [] p h = cc
 element_sound (verb ∷ words) p h =
-    chosen (bytes_eq verb (codes "get")) (option_map gets (then_of name_in (only_of words))) _ (Some p) h
+    chosen (bytes_eq verb (codes "get")) (option_map get_line (then_of name_in (only_of words))) _ (Some p) h
     (λ t x. gets_sound verb words p (same_word verb _ t) x)
-    (λ _ g. chosen (bytes_eq verb (codes "set")) (then_of sets_of (pair_of words)) _ (Some p) g
+    (λ _ g. chosen (bytes_eq verb (codes "set")) (then_of set_line_of (pair_of words)) _ (Some p) g
     (λ t x. sets_sound verb words p (same_word verb _ t) x)
-    (λ _ g. chosen (bytes_eq verb (codes "show")) (option_map shows (then_of name_in (only_of words))) None (Some p) g
+    (λ _ g. chosen (bytes_eq verb (codes "show")) (option_map show_line (then_of name_in (only_of words))) None (Some p) g
     (λ t x. shows_sound verb words p (same_word verb _ t) x)
     (λ _ x. cc)))
 
@@ -169,12 +169,12 @@ all_numerals (word ∷ words) h =
     let parts = and_parts (is_number word) _ h in
     ap (λ w. w ∷ words) (numeral-value_of word parts.0) ∙ ap (λ ws. numeral (value_of word) ∷ ws) (all_numerals words parts.1)
 
-appends_sound : (words : List Word) (p : Phrase) → appends_of words ≡ Some p → Allows 97 words p
+appends_sound : (words : List Word) (p : Phrase) → append_line_of words ≡ Some p → Allows 97 words p
 unfolding Allows
 appends_sound [] p h = cc
 appends_sound (word ∷ []) p h = cc
 appends_sound (word ∷ sample ∷ samples) p h =
-    let parts = cond_some (is_number word && list_all is_number (sample ∷ samples)) (appends (value_of word) (map value_of (sample ∷ samples))) p h in
+    let parts = cond_some (is_number word && list_all is_number (sample ∷ samples)) (append_line (value_of word) (map value_of (sample ∷ samples))) p h in
     let numbers = and_parts (is_number word) _ parts.0 in
     subst (λ q. IsRow ((97 ∷ []) ∷ word ∷ sample ∷ samples) q) parts.1 (
       ap (λ w. (97 ∷ []) ∷ w ∷ sample ∷ samples) (numeral-value_of word numbers.0) ∙ ap (λ ws. (97 ∷ []) ∷ numeral (value_of word) ∷ ws) (all_numerals (sample ∷ samples) numbers.1),
@@ -184,15 +184,15 @@ appends_sound (word ∷ sample ∷ samples) p h =
 ramp_sound : (words : List Word) (v : SaidTone) → then_of ramp_of (pair_of words) ≡ Some v → codes "ramp" ∷ words ≡ tone_words v
 ramp_sound words v h =
     let t = then_some ramp_of (pair_of words) v h in
-    let parts = cond_some (is_number t.0.0 && is_number t.0.1) (ramps (value_of t.0.0) (value_of t.0.1)) v t.2 in
+    let parts = cond_some (is_number t.0.0 && is_number t.0.1) (ramp_tone (value_of t.0.0) (value_of t.0.1)) v t.2 in
     let numbers = and_parts (is_number t.0.0) (is_number t.0.1) parts.0 in
     ap (λ ws. codes "ramp" ∷ ws) (pair_some words t.0 t.1 ∙ ap (λ w. w ∷ t.0.1 ∷ []) (numeral-value_of t.0.0 numbers.0) ∙ ap (λ w. numeral (value_of t.0.0) ∷ w ∷ []) (numeral-value_of t.0.1 numbers.1))
     ∙ ap tone_words parts.1
 
-noise_sound : (words : List Word) (v : SaidTone) → then_of (numbered hisses) (only_of words) ≡ Some v → codes "noise" ∷ words ≡ tone_words v
+noise_sound : (words : List Word) (v : SaidTone) → then_of (from_number noise_tone) (only_of words) ≡ Some v → codes "noise" ∷ words ≡ tone_words v
 noise_sound words v h =
-    let t = then_some (numbered hisses) (only_of words) v h in
-    let parts = cond_some (is_number t.0) (hisses (value_of t.0)) v t.2 in
+    let t = then_some (from_number noise_tone) (only_of words) v h in
+    let parts = cond_some (is_number t.0) (noise_tone (value_of t.0)) v t.2 in
     ap (λ ws. codes "noise" ∷ ws) (only_some words t.0 t.1 ∙ ap (λ w. w ∷ []) (numeral-value_of t.0 parts.0)) ∙ ap tone_words parts.1
 
 silent_sound : (words : List Word) (v : SaidTone) → when_empty silent words ≡ Some v → codes "none" ∷ words ≡ tone_words v
@@ -205,7 +205,7 @@ voice_sound (kind ∷ words) v h =
     (λ t x. ap (λ w. w ∷ words) (same_word kind _ t) ∙ silent_sound words v x)
     (λ _ g. chosen (bytes_eq kind (codes "ramp")) (then_of ramp_of (pair_of words)) _ (Some v) g
     (λ t x. ap (λ w. w ∷ words) (same_word kind _ t) ∙ ramp_sound words v x)
-    (λ _ g. chosen (bytes_eq kind (codes "noise")) (then_of (numbered hisses) (only_of words)) None (Some v) g
+    (λ _ g. chosen (bytes_eq kind (codes "noise")) (then_of (from_number noise_tone) (only_of words)) None (Some v) g
     (λ t x. ap (λ w. w ∷ words) (same_word kind _ t) ∙ noise_sound words v x)
     (λ _ x. cc)))
 
@@ -218,16 +218,16 @@ signal_sound (word ∷ words) signal h =
     ap (λ w. w ∷ words) (numeral-value_of word number) ∙ ap (λ ws. numeral (value_of word) ∷ ws) (voice_sound words m.0 m.1) ∙ ap (λ (s : ℤ × SaidTone). numeral s.0 ∷ tone_words s.1) m.2)
     (λ _ x. cc)
 
-tracks_sound : (words : List Word) (p : Phrase) → tracks_of words ≡ Some p → Allows 116 words p
+tracks_sound : (words : List Word) (p : Phrase) → track_line_of words ≡ Some p → Allows 116 words p
 unfolding Allows
 tracks_sound words p h =
-    let m = map_some (λ (signal : ℤ × SaidTone). tracks signal.0 signal.1) (signal_of words) p h in
+    let m = map_some (λ (signal : ℤ × SaidTone). track_line signal.0 signal.1) (signal_of words) p h in
     subst (λ q. IsRow ((116 ∷ []) ∷ words) q) m.2 (ap (λ ws. (116 ∷ []) ∷ ws) (signal_sound words m.0 m.1))
 
-jacks_sound : (words : List Word) (p : Phrase) → jacks_of words ≡ Some p → Allows 106 words p
+jacks_sound : (words : List Word) (p : Phrase) → jack_line_of words ≡ Some p → Allows 106 words p
 unfolding Allows
 jacks_sound words p h =
-    let m = map_some (λ (signal : ℤ × SaidTone). jacks signal.0 signal.1) (signal_of words) p h in
+    let m = map_some (λ (signal : ℤ × SaidTone). jack_line signal.0 signal.1) (signal_of words) p h in
     subst (λ q. IsRow ((106 ∷ []) ∷ words) q) m.2 (ap (λ ws. (106 ∷ []) ∷ ws) (signal_sound words m.0 m.1))
 
 kind_by : Bool → Bool → Bool → Option MarkKind
@@ -257,11 +257,11 @@ all_marks (word ∷ words) h =
     let parts = and_parts (is_mark word) _ h in
     ap (λ w. w ∷ words) (mark_sound word parts.0) ∙ ap (λ ws. mark_word (mark_of word) ∷ ws) (all_marks words parts.1)
 
-runs_sound : (words : List Word) (p : Phrase) → runs_of words ≡ Some p → Allows 109 words p
+runs_sound : (words : List Word) (p : Phrase) → microframes_line_of words ≡ Some p → Allows 109 words p
 unfolding Allows
 runs_sound [] p h = cc
 runs_sound (word ∷ words) p h =
-    let parts = cond_some (is_number word && list_all is_mark words) (runs (value_of word) (map mark_of words)) p h in
+    let parts = cond_some (is_number word && list_all is_mark words) (microframes_line (value_of word) (map mark_of words)) p h in
     let spelt = and_parts (is_number word) _ parts.0 in
     subst (λ q. IsRow ((109 ∷ []) ∷ word ∷ words) q) parts.1 (ap (λ w. (109 ∷ []) ∷ w ∷ words) (numeral-value_of word spelt.0) ∙ ap (λ ws. (109 ∷ []) ∷ numeral (value_of word) ∷ ws) (all_marks words spelt.1))
 
@@ -278,18 +278,18 @@ at_letter letter number words p t row = subst (λ l. IsRow ((l ∷ []) ∷ words
 pub row_sound : (letter : ℕ) (words : List Word) (p : Phrase) → row_of letter words ≡ Some (Some p) → IsRow ((letter ∷ []) ∷ words) p
 unfolding Allows
 row_sound letter words p h =
-    row_step (eqb letter 100) (feeds_of words) _ p h (λ t r. at_letter letter 100 words p t (feeds_sound words p r)) (λ h.
-    row_step (eqb letter 103) (when_empty goes words) _ p h (λ t r. at_letter letter 103 words p t (alone_sound 103 words goes p refl r)) (λ h.
-    row_step (eqb letter 99) (controls_of words) _ p h (λ t r. at_letter letter 99 words p t (controls_sound words p r)) (λ h.
+    row_step (eqb letter 100) (bytes_line_of words) _ p h (λ t r. at_letter letter 100 words p t (feeds_sound words p r)) (λ h.
+    row_step (eqb letter 103) (when_empty go_line words) _ p h (λ t r. at_letter letter 103 words p t (alone_sound 103 words go_line p refl r)) (λ h.
+    row_step (eqb letter 99) (control_line_of words) _ p h (λ t r. at_letter letter 99 words p t (controls_sound words p r)) (λ h.
     row_step (eqb letter 104) (element_of words) _ p h (λ t r. at_letter letter 104 words p t (element_sound words p r)) (λ h.
-    row_step (eqb letter 98) (breaks_of words) _ p h (λ t r. at_letter letter 98 words p t (breaks_sound words p r)) (λ h.
-    row_step (eqb letter 97) (appends_of words) _ p h (λ t r. at_letter letter 97 words p t (appends_sound words p r)) (λ h.
-    row_step (eqb letter 116) (tracks_of words) _ p h (λ t r. at_letter letter 116 words p t (tracks_sound words p r)) (λ h.
-    row_step (eqb letter 106) (jacks_of words) _ p h (λ t r. at_letter letter 106 words p t (jacks_sound words p r)) (λ h.
-    row_step (eqb letter 107) (deviates_of words) _ p h (λ t r. at_letter letter 107 words p t (deviates_sound words p r)) (λ h.
-    row_step (eqb letter 109) (runs_of words) _ p h (λ t r. at_letter letter 109 words p t (runs_sound words p r)) (λ h.
-    row_step (eqb letter 118) (details_of words) _ p h (λ t r. at_letter letter 118 words p t (details_sound words p r)) (λ h.
-    row_step (eqb letter 113) (when_empty reports words) None p h (λ t r. at_letter letter 113 words p t (alone_sound 113 words reports p refl r)) (λ h. cc))))))))))))
+    row_step (eqb letter 98) (break_line_of words) _ p h (λ t r. at_letter letter 98 words p t (breaks_sound words p r)) (λ h.
+    row_step (eqb letter 97) (append_line_of words) _ p h (λ t r. at_letter letter 97 words p t (appends_sound words p r)) (λ h.
+    row_step (eqb letter 116) (track_line_of words) _ p h (λ t r. at_letter letter 116 words p t (tracks_sound words p r)) (λ h.
+    row_step (eqb letter 106) (jack_line_of words) _ p h (λ t r. at_letter letter 106 words p t (jacks_sound words p r)) (λ h.
+    row_step (eqb letter 107) (deviate_line_of words) _ p h (λ t r. at_letter letter 107 words p t (deviates_sound words p r)) (λ h.
+    row_step (eqb letter 109) (microframes_line_of words) _ p h (λ t r. at_letter letter 109 words p t (runs_sound words p r)) (λ h.
+    row_step (eqb letter 118) (detail_line_of words) _ p h (λ t r. at_letter letter 118 words p t (details_sound words p r)) (λ h.
+    row_step (eqb letter 113) (when_empty report_line words) None p h (λ t r. at_letter letter 113 words p t (alone_sound 113 words report_line p refl r)) (λ h. cc))))))))))))
 
 -- ---- and each row of the table is read
 
@@ -314,13 +314,13 @@ kind_read In = refl
 kind_read Feedback = refl
 
 loss_with : MarkKind → ℤ → SaidMark
-loss_with kind z = record { letter = kind; place = z }
+loss_with kind z = record { kind = kind; interface = z }
 
 mark_read : (loss : SaidMark) → (is_mark (mark_word loss) ≡ true) × (mark_of (mark_word loss) ≡ loss)
 unfolding loss_with
 mark_read loss = (
-  and_from _ _ (ap is_some (kind_read loss.letter)) (is_number-numeral loss.place),
-  ap (λ o. loss_with (unwrap_or o Out) (value_of (numeral loss.place))) (kind_read loss.letter) ∙ ap (loss_with loss.letter) (value_of-numeral loss.place),
+  and_from _ _ (ap is_some (kind_read loss.kind)) (is_number-numeral loss.interface),
+  ap (λ o. loss_with (unwrap_or o Out) (value_of (numeral loss.interface))) (kind_read loss.kind) ∙ ap (loss_with loss.kind) (value_of-numeral loss.interface),
 )
 
 marks_read : (losses : List SaidMark) → list_all is_mark (map mark_word losses) ≡ true
@@ -337,52 +337,52 @@ name_read (c ∷ name) h = refl
 
 voice_read : (v : SaidTone) → tone_read (tone_words v) ≡ Some v
 voice_read silent = refl
-voice_read (ramps start step) = simp (is_number-numeral, value_of-numeral)
-voice_read (hisses seed) = simp (is_number-numeral, value_of-numeral)
+voice_read (ramp_tone start step) = simp (is_number-numeral, value_of-numeral)
+voice_read (noise_tone seed) = simp (is_number-numeral, value_of-numeral)
 
 signal_read : (z : ℤ) (v : SaidTone) → signal_of (numeral z ∷ tone_words v) ≡ Some (z, v)
 signal_read z v = simp (is_number-numeral, value_of-numeral, voice_read)
 
-appends_read : (z : ℤ) (samples : List ℤ) → samples ≢ [] → appends_of (numeral z ∷ map numeral samples) ≡ Some (appends z samples)
+appends_read : (z : ℤ) (samples : List ℤ) → samples ≢ [] → append_line_of (numeral z ∷ map numeral samples) ≡ Some (append_line z samples)
 appends_read z [] h = absurd (h refl)
 appends_read z (sample ∷ samples) h =
     cond-true _ _ _ (and_from _ _ (is_number-numeral z) (numbers_read (sample ∷ samples)))
-    ∙ ap (λ v. Some (appends v (map value_of (map numeral (sample ∷ samples))))) (value_of-numeral z) ∙ ap (λ vs. Some (appends z vs)) (values_read (sample ∷ samples))
+    ∙ ap (λ v. Some (append_line v (map value_of (map numeral (sample ∷ samples))))) (value_of-numeral z) ∙ ap (λ vs. Some (append_line z vs)) (values_read (sample ∷ samples))
 
-runs_read : (z : ℤ) (losses : List SaidMark) → runs_of (numeral z ∷ map mark_word losses) ≡ Some (runs z losses)
+runs_read : (z : ℤ) (losses : List SaidMark) → microframes_line_of (numeral z ∷ map mark_word losses) ≡ Some (microframes_line z losses)
 runs_read z losses = simp (is_number-numeral, value_of-numeral, marks_read, losses_read)
 
 setup_read : (head : Word) (setup : List ℕ) → hex_of head ≡ Some setup → length setup ≡ 8 → setup_of head ≡ Some setup
 setup_read head setup h eight = ap (then_of (λ bytes. cond (eqb (length bytes) 8) (Some bytes) None)) h ∙ cond-true _ _ _ (eq-eqb _ 8 eight)
 
-controls_alone : (head : Word) (setup sent : List ℕ) → setup_of head ≡ Some setup → sent ≡ [] → controls_of (head ∷ []) ≡ Some (controls setup sent)
-controls_alone head setup sent h none = ap (then_of (λ setup. Some (controls setup []))) h ∙ ap (λ bytes. Some (controls setup bytes)) (sym none)
+controls_alone : (head : Word) (setup sent : List ℕ) → setup_of head ≡ Some setup → sent ≡ [] → control_line_of (head ∷ []) ≡ Some (control_line setup sent)
+controls_alone head setup sent h none = ap (then_of (λ setup. Some (control_line setup []))) h ∙ ap (λ bytes. Some (control_line setup bytes)) (sym none)
 
-controls_sending : (head digits : Word) (setup sent : List ℕ) → setup_of head ≡ Some setup → hex_of digits ≡ Some sent → controls_of (head ∷ digits ∷ []) ≡ Some (controls setup sent)
-controls_sending head digits setup sent h bytes = ap (then_of (λ setup. option_map (controls setup) (hex_of digits))) h ∙ ap (option_map (controls setup)) bytes
+controls_sending : (head digits : Word) (setup sent : List ℕ) → setup_of head ≡ Some setup → hex_of digits ≡ Some sent → control_line_of (head ∷ digits ∷ []) ≡ Some (control_line setup sent)
+controls_sending head digits setup sent h bytes = ap (then_of (λ setup. option_map (control_line setup) (hex_of digits))) h ∙ ap (option_map (control_line setup)) bytes
 
 pub row_complete : (words : List Word) (p : Phrase) → IsRow words p → IsRead words p
-row_complete words idle h = absurd h
-row_complete words (feeds bytes) h = record { letter = 100; following = h.0 ∷ []; words-is = h.1; row-is = ap (λ o. Some (option_map feeds o)) h.2 }
-row_complete words goes h = record { letter = 103; following = []; words-is = h; row-is = refl }
-row_complete words (controls setup sent) h =
+row_complete words nothing_line h = absurd h
+row_complete words (bytes_line bytes) h = record { letter = 100; following = h.0 ∷ []; words-is = h.1; row-is = ap (λ o. Some (option_map bytes_line o)) h.2 }
+row_complete words go_line h = record { letter = 103; following = []; words-is = h; row-is = refl }
+row_complete words (control_line setup sent) h =
     let head = setup_read h.0 setup h.1 h.2 in
     elim h.3 [
       | inl alone ↦ record { letter = 99; following = h.0 ∷ []; words-is = alone.0; row-is = ap (λ o. Some o) (controls_alone h.0 setup sent head alone.1) }
       | inr sending ↦ record { letter = 99; following = h.0 ∷ sending.0 ∷ []; words-is = sending.1; row-is = ap (λ o. Some o) (controls_sending h.0 sending.0 setup sent head sending.2) }
     ]
-row_complete words (gets name) h = record { letter = 104; following = codes "get" ∷ name ∷ []; words-is = h.0; row-is = ap (λ o. Some (option_map gets o)) (name_read name h.1) }
-row_complete words (sets name value) h = record { letter = 104; following = codes "set" ∷ name ∷ numeral value ∷ []; words-is = h.0; row-is = simp (is_number-numeral, value_of-numeral) (ap (λ o. Some (option_map (λ word. sets word value) o)) (name_read name h.1)) }
-row_complete words (shows name) h = record { letter = 104; following = codes "show" ∷ name ∷ []; words-is = h.0; row-is = ap (λ o. Some (option_map shows o)) (name_read name h.1) }
-row_complete words (breaks true) h = record { letter = 98; following = codes "after" ∷ []; words-is = h; row-is = refl }
-row_complete words (breaks false) h = record { letter = 98; following = codes "before" ∷ []; words-is = h; row-is = refl }
-row_complete words (appends z samples) h = record { letter = 97; following = numeral z ∷ map numeral samples; words-is = h.0; row-is = ap (λ o. Some o) (appends_read z samples h.1) }
-row_complete words (tracks z v) h = record { letter = 116; following = numeral z ∷ tone_words v; words-is = h; row-is = ap (λ o. Some (option_map (λ (signal : ℤ × SaidTone). tracks signal.0 signal.1) o)) (signal_read z v) }
-row_complete words (jacks z v) h = record { letter = 106; following = numeral z ∷ tone_words v; words-is = h; row-is = ap (λ o. Some (option_map (λ (signal : ℤ × SaidTone). jacks signal.0 signal.1) o)) (signal_read z v) }
-row_complete words (deviates y z) h = record { letter = 107; following = numeral y ∷ numeral z ∷ []; words-is = h; row-is = simp (is_number-numeral, value_of-numeral) }
-row_complete words (runs z losses) h = record { letter = 109; following = numeral z ∷ map mark_word losses; words-is = h; row-is = ap (λ o. Some o) (runs_read z losses) }
-row_complete words (details z) h = record { letter = 118; following = numeral z ∷ []; words-is = h; row-is = simp (is_number-numeral, value_of-numeral) }
-row_complete words reports h = record { letter = 113; following = []; words-is = h; row-is = refl }
+row_complete words (get_line name) h = record { letter = 104; following = codes "get" ∷ name ∷ []; words-is = h.0; row-is = ap (λ o. Some (option_map get_line o)) (name_read name h.1) }
+row_complete words (set_line name value) h = record { letter = 104; following = codes "set" ∷ name ∷ numeral value ∷ []; words-is = h.0; row-is = simp (is_number-numeral, value_of-numeral) (ap (λ o. Some (option_map (λ word. set_line word value) o)) (name_read name h.1)) }
+row_complete words (show_line name) h = record { letter = 104; following = codes "show" ∷ name ∷ []; words-is = h.0; row-is = ap (λ o. Some (option_map show_line o)) (name_read name h.1) }
+row_complete words (break_line true) h = record { letter = 98; following = codes "after" ∷ []; words-is = h; row-is = refl }
+row_complete words (break_line false) h = record { letter = 98; following = codes "before" ∷ []; words-is = h; row-is = refl }
+row_complete words (append_line z samples) h = record { letter = 97; following = numeral z ∷ map numeral samples; words-is = h.0; row-is = ap (λ o. Some o) (appends_read z samples h.1) }
+row_complete words (track_line z v) h = record { letter = 116; following = numeral z ∷ tone_words v; words-is = h; row-is = ap (λ o. Some (option_map (λ (signal : ℤ × SaidTone). track_line signal.0 signal.1) o)) (signal_read z v) }
+row_complete words (jack_line z v) h = record { letter = 106; following = numeral z ∷ tone_words v; words-is = h; row-is = ap (λ o. Some (option_map (λ (signal : ℤ × SaidTone). jack_line signal.0 signal.1) o)) (signal_read z v) }
+row_complete words (deviate_line y z) h = record { letter = 107; following = numeral y ∷ numeral z ∷ []; words-is = h; row-is = simp (is_number-numeral, value_of-numeral) }
+row_complete words (microframes_line z losses) h = record { letter = 109; following = numeral z ∷ map mark_word losses; words-is = h; row-is = ap (λ o. Some o) (runs_read z losses) }
+row_complete words (detail_line z) h = record { letter = 118; following = numeral z ∷ []; words-is = h; row-is = simp (is_number-numeral, value_of-numeral) }
+row_complete words report_line h = record { letter = 113; following = []; words-is = h; row-is = refl }
 
 -- ---- letters
 

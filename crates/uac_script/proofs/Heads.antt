@@ -6,7 +6,7 @@ use Rattle.std.proofs.lemmas.Bool.{lt-ltb, le-ltb, ltb-false, cases_lt}
 use Rattle.std.proofs.lemmas.Option.{cond_some}
 use Rattle.std.proofs.lemmas.List.{take-take, length-take, length-take-le, take_all, take-append-le, drop-append-le, take_min, take_at}
 use Rattle.std.proofs.lemmas.List.Sums.{prefix_len-le-length}
-use Rattle.uac_script.specs.ScriptLines.{Head, head_of, IsTold, line, long, past, unended, most_of_line}
+use Rattle.uac_script.specs.ScriptLines.{Head, head_of, IsDecided, line, long, past, unended, most_of_line}
 use Rattle.uac_script.specs.Looking.{line_end}
 use Rattle.uac_script.proofs.WordsLemmas.{none_then_false}
 
@@ -14,15 +14,15 @@ use Rattle.uac_script.proofs.WordsLemmas.{none_then_false}
 pub line_end_within : (bytes : List ℕ) → line_end bytes ≤ length bytes
 line_end_within bytes = prefix_len-le-length (λ b. not (b == 10)) bytes
 
-behind_at : (t : Bool) (rest n more : ℕ) → suc n ≤ cond t (1 + rest) 0 → (n ≤ rest → rest ≡ n + more) → cond t (1 + rest) 0 ≡ suc n + more
-behind_at true rest n more few h = let e : rest ≡ n + more = h (omega arith) in omega arith
-behind_at false rest n more few h = absurd (omega arith)
+after_at : (t : Bool) (rest n more : ℕ) → suc n ≤ cond t (1 + rest) 0 → (n ≤ rest → rest ≡ n + more) → cond t (1 + rest) 0 ≡ suc n + more
+after_at true rest n more few h = let e : rest ≡ n + more = h (omega arith) in omega arith
+after_at false rest n more few h = absurd (omega arith)
 
 -- the end, looked for after bytes that have no newline
-pub line_end_behind : (bytes : List ℕ) (n : ℕ) → n ≤ line_end bytes → line_end bytes ≡ n + line_end (drop n bytes)
-line_end_behind bytes zero few = sym (zero-add (line_end bytes))
-line_end_behind [] (suc n) few = absurd (omega arith)
-line_end_behind (b ∷ bytes) (suc n) few = behind_at (not (b == 10)) (line_end bytes) n (line_end (drop n bytes)) few (line_end_behind bytes n)
+pub line_end_following : (bytes : List ℕ) (n : ℕ) → n ≤ line_end bytes → line_end bytes ≡ n + line_end (drop n bytes)
+line_end_following bytes zero few = sym (zero-add (line_end bytes))
+line_end_following [] (suc n) few = absurd (omega arith)
+line_end_following (b ∷ bytes) (suc n) few = after_at (not (b == 10)) (line_end bytes) n (line_end (drop n bytes)) few (line_end_following bytes n)
 
 in_at : (t : Bool) (a b n : ℕ) → a ≡ min n b → cond t (1 + a) 0 ≡ min (suc n) (cond t (1 + b) 0)
 in_at true a b n e = omega arith
@@ -178,10 +178,10 @@ head_unended-all spare bytes text h = go (cases_of spare bytes)
         (cc, omega (arith, length-take spare bytes), within)
 
 -- what bytes tell stays told when more bytes come
-pub told_before : (spare : ℕ) (bytes more : List ℕ) → head_of spare (bytes ++ more) ≡ unended (bytes ++ more) → IsTold (head_of spare bytes) → ⊥
+pub told_before : (spare : ℕ) (bytes more : List ℕ) → head_of spare (bytes ++ more) ≡ unended (bytes ++ more) → IsDecided (head_of spare bytes) → ⊥
 told_before spare bytes more waits known = go (head_of spare bytes) refl known
   where
-    go : (head : Head) → head_of spare bytes ≡ head → IsTold head → ⊥
+    go : (head : Head) → head_of spare bytes ≡ head → IsDecided head → ⊥
     go (line text rest) e h = let still = head_line-more spare bytes more text rest e in absurd (cc)
     go long e h = let still = head_long-more spare bytes more e in absurd (cc)
     go past e h = let still = head_past-more spare bytes more e in absurd (cc)

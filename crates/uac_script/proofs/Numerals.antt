@@ -11,7 +11,7 @@ use Rattle.std.proofs.lemmas.Option.{cond_some}
 use Rattle.uac_script.proofs.ScriptNumeralsLemmas.{value_of_digit, digit_in}
 use Rattle.uac_script.specs.Words.{Word}
 use Rattle.uac_edges.specs.Numerals.{natural, numeral}
-use Rattle.uac_script.specs.ScriptNumerals.{is_natural, natural_of, number_of, is_number, value_of, negated}
+use Rattle.uac_script.specs.ScriptNumerals.{is_natural, natural_of, number_of, is_number, value_of, negative_of}
 
 -- ---- digits and their characters
 
@@ -159,9 +159,9 @@ natural_begins n word h =
 pub number_of-numeral : (z : ℤ) → number_of (numeral z) ≡ Some z
 unfolding number_of numeral
 number_of-numeral (pos n) = cond-false _ _ _ (natural_begins n (natural n) (natural_of-natural n)) ∙ ap (option_map pos) (natural_of-natural n)
-number_of-numeral (negsuc n) = ap negated (natural_of-natural (n + 1)) ∙ ap (λ m. negated (Some m)) (add-one n)
+number_of-numeral (negsuc n) = ap negative_of (natural_of-natural (n + 1)) ∙ ap (λ m. negative_of (Some m)) (add-one n)
 
-negated_some : (o : Option ℕ) (z : ℤ) → negated o ≡ Some z → (n : ℕ) × (o ≡ Some (suc n)) × (negsuc n ≡ z)
+negated_some : (o : Option ℕ) (z : ℤ) → negative_of o ≡ Some z → (n : ℕ) × (o ≡ Some (suc n)) × (negsuc n ≡ z)
 negated_some None z h = cc
 negated_some (Some zero) z h = cc
 negated_some (Some (suc n)) z h = (n, refl, cc)
@@ -174,7 +174,7 @@ begins : (word : Word) → get_or word 0 0 ≡ 45 → word ≡ 45 ∷ drop 1 wor
 begins [] h = absurd (omega arith)
 begins (c ∷ rest) h = ap (λ x. x ∷ rest) h
 
-by_sign : (b : Bool) (word : Word) (z : ℤ) → eqb (get_or word 0 0) 45 ≡ b → cond b (negated (natural_of (drop 1 word))) (option_map pos (natural_of word)) ≡ Some z → word ≡ numeral z
+by_sign : (b : Bool) (word : Word) (z : ℤ) → eqb (get_or word 0 0) 45 ≡ b → cond b (negative_of (natural_of (drop 1 word))) (option_map pos (natural_of word)) ≡ Some z → word ≡ numeral z
 unfolding numeral
 by_sign true word z e h =
     let parts = negated_some _ z h in

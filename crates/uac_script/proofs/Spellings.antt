@@ -13,7 +13,7 @@ use Rattle.uac_script.specs.declared.line.Mark.{Mark}
 use Rattle.uac_script.specs.declared.line.Line.{Line}
 use Rattle.uac_script.specs.declared.line.Line.TheVariants.{Nothing, Bytes, Go, Control, Get, Set, Show, Break, Append, Track, Jack, Deviate, Run, Detail, Report}
 use Rattle.uac_script.specs.Words.{Word, words_of, hex_of}
-use Rattle.uac_script.specs.Phrase.{SaidTone, silent, ramps, hisses, SaidMark, Phrase, idle, feeds, goes, controls, gets, sets, shows, breaks, appends, tracks, jacks, deviates, runs, details, reports}
+use Rattle.uac_script.specs.Phrase.{SaidTone, silent, ramp_tone, noise_tone, SaidMark, Phrase, nothing_line, bytes_line, go_line, control_line, get_line, set_line, show_line, break_line, append_line, track_line, jack_line, deviate_line, microframes_line, detail_line, report_line}
 use Rattle.uac_script.specs.Line.{Spells, phrase_of, said_tone_of, said_mark}
 use Rattle.uac_script.specs.LineReading.{row_of}
 use Rattle.uac_script.proofs.Grammar.{IsRead, row_complete}
@@ -87,28 +87,28 @@ size (negsuc n) = 0
 
 tone_back : SaidTone → Tone
 tone_back silent = Silent
-tone_back (ramps start step) = Ramp start step
-tone_back (hisses seed) = Noise (size seed)
+tone_back (ramp_tone start step) = Ramp start step
+tone_back (noise_tone seed) = Noise (size seed)
 
 mark_back : SaidMark → Mark
-mark_back loss = record { kind = loss.letter; interface = size loss.place }
+mark_back loss = record { kind = loss.kind; interface = size loss.interface }
 
 line_back : Phrase → Line
-line_back idle = Nothing
-line_back (feeds bytes) = Bytes (record { items = bytes })
-line_back goes = Go
-line_back (controls setup sent) = Control setup (record { items = sent })
-line_back (gets name) = Get (record { items = name })
-line_back (sets name value) = Set (record { items = name }) value
-line_back (shows name) = Show (record { items = name })
-line_back (breaks after) = Break after
-line_back (appends interface samples) = Append (size interface) (record { items = samples })
-line_back (tracks interface voice) = Track (size interface) (tone_back voice)
-line_back (jacks terminal voice) = Jack (size terminal) (tone_back voice)
-line_back (deviates domain ppm) = Deviate (size domain) ppm
-line_back (runs count losses) = Run (size count) (record { items = map mark_back losses })
-line_back (details level) = Detail (size level)
-line_back reports = Report
+line_back nothing_line = Nothing
+line_back (bytes_line bytes) = Bytes (record { items = bytes })
+line_back go_line = Go
+line_back (control_line setup sent) = Control setup (record { items = sent })
+line_back (get_line name) = Get (record { items = name })
+line_back (set_line name value) = Set (record { items = name }) value
+line_back (show_line name) = Show (record { items = name })
+line_back (break_line after) = Break after
+line_back (append_line interface samples) = Append (size interface) (record { items = samples })
+line_back (track_line interface voice) = Track (size interface) (tone_back voice)
+line_back (jack_line terminal voice) = Jack (size terminal) (tone_back voice)
+line_back (deviate_line domain ppm) = Deviate (size domain) ppm
+line_back (microframes_line count losses) = Run (size count) (record { items = map mark_back losses })
+line_back (detail_line level) = Detail (size level)
+line_back report_line = Report
 
 tone_same : (tone : Tone) → tone_back (said_tone_of tone) ≡ tone
 unfolding tone_back size

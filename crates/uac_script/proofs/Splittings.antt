@@ -3,7 +3,7 @@ use Rattle.std.proofs.Common.{◌≡◌, ℕ, ◌<◌, ◌≤◌, true, List, []
 use Rattle.std.proofs.lemmas.List.{append-nil, take_all, drop_all, nil_from_length}
 use Rattle.std.specs.Io.KnownBytes.{Consumes}
 use Rattle.uac_script.specs.declared.lines.Next.TheVariants as next
-use Rattle.uac_script.specs.ScriptLines.{Splitting, Splits, Goes, StopsAtLine, IsTold, head_of, unended}
+use Rattle.uac_script.specs.ScriptLines.{Splitting, Splits, Goes, StopsAtLine, IsDecided, head_of, unended}
 use Rattle.uac_script.specs.Taking.{Grows}
 use Rattle.uac_edges.proofs.Consuming.{Consumes-Consumes}
 use Rattle.uac_script.proofs.Heads.{told_before}
@@ -26,7 +26,7 @@ others_kept mid now others = (ap (λ (s : Splitting). s.number) others, ap (λ (
 
 -- Bytes that don't tell what stands first, after more that were taken, didn't tell it before.
 pub untold : (old mid : Splitting) (taken : List ℕ) → mid ≡ record old { unread = old.unread ++ taken } → head_of mid.spare mid.unread ≡ unended mid.unread
-    → IsTold (head_of old.spare old.unread) → ⊥
+    → IsDecided (head_of old.spare old.unread) → ⊥
 untold old mid taken same waits known =
     let spare-is : mid.spare ≡ old.spare = ap (λ (s : Splitting). s.spare) same in
     let mid-is : mid.unread ≡ old.unread ++ taken = ap (λ (s : Splitting). s.unread) same in

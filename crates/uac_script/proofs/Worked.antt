@@ -4,83 +4,83 @@ use Rattle.hex.proofs.OnLiterals.{hex_on_literals}
 use Rattle.uac_script.specs.declared.line.MarkKind.TheVariants.{Out, In, Feedback}
 use Rattle.uac_edges.specs.Numerals.{natural, numeral}
 use Rattle.uac_script.specs.ScriptNumerals.{is_natural, natural_of, number_of, is_number, value_of}
-use Rattle.uac_script.specs.Phrase.{silent, ramps, hisses, idle, feeds, goes, controls, gets, sets, shows, breaks, appends, tracks, jacks, deviates, runs, details, reports}
+use Rattle.uac_script.specs.Phrase.{silent, ramp_tone, noise_tone, nothing_line, bytes_line, go_line, control_line, get_line, set_line, show_line, break_line, append_line, track_line, jack_line, deviate_line, microframes_line, detail_line, report_line}
 use Rattle.uac_script.specs.Line.{Spells}
 use Rattle.uac_script.specs.LineReading.{answer}
 
 -- ---- a line of each row
 
-empty_line : Spells [] idle
+empty_line : Spells [] nothing_line
 empty_line = inl (refl, refl)
 
-remark : Spells (codes "# a remark") idle
+remark : Spells (codes "# a remark") nothing_line
 remark = inl (refl, refl)
 
-descriptor : Spells (codes "d 0902Af") (feeds (9 ∷ 2 ∷ 175 ∷ []))
+descriptor : Spells (codes "d 0902Af") (bytes_line (9 ∷ 2 ∷ 175 ∷ []))
 unfolding hex_on_literals
 descriptor = inr (codes "0902Af", refl, refl)
 
-go : Spells (codes "g") goes
+go : Spells (codes "g") go_line
 go = inr refl
 
-asking : Spells (codes "c a102010200030200") (controls (161 ∷ 2 ∷ 1 ∷ 2 ∷ 0 ∷ 3 ∷ 2 ∷ 0 ∷ []) [])
+asking : Spells (codes "c a102010200030200") (control_line (161 ∷ 2 ∷ 1 ∷ 2 ∷ 0 ∷ 3 ∷ 2 ∷ 0 ∷ []) [])
 unfolding hex_on_literals
 asking = inr (codes "a102010200030200", refl, refl, inl (refl, refl))
 
-sending : Spells (codes "c 2101010200030200 00F6") (controls (33 ∷ 1 ∷ 1 ∷ 2 ∷ 0 ∷ 3 ∷ 2 ∷ 0 ∷ []) (0 ∷ 246 ∷ []))
+sending : Spells (codes "c 2101010200030200 00F6") (control_line (33 ∷ 1 ∷ 1 ∷ 2 ∷ 0 ∷ 3 ∷ 2 ∷ 0 ∷ []) (0 ∷ 246 ∷ []))
 unfolding hex_on_literals
 sending = inr (codes "2101010200030200", refl, refl, inr (codes "00F6", refl, refl))
 
-getting : Spells (codes "h get volume.3.1") (gets (codes "volume.3.1"))
+getting : Spells (codes "h get volume.3.1") (get_line (codes "volume.3.1"))
 getting = inr (refl, λ e. cc)
 
-setting : Spells (codes "h set mute.3.0 -1") (sets (codes "mute.3.0") (negsuc 0))
+setting : Spells (codes "h set mute.3.0 -1") (set_line (codes "mute.3.0") (negsuc 0))
 unfolding numeral natural
 setting = inr (refl, λ e. cc)
 
-showing : Spells (codes "h show x") (shows (codes "x"))
+showing : Spells (codes "h show x") (show_line (codes "x"))
 showing = inr (refl, λ e. cc)
 
-breaking : Spells (codes "b after") (breaks true)
+breaking : Spells (codes "b after") (break_line true)
 breaking = inr refl
 
-breaking_before : Spells (codes "b before") (breaks false)
+breaking_before : Spells (codes "b before") (break_line false)
 breaking_before = inr refl
 
-appending : Spells (codes "a 1 256 -256 0") (appends (pos 1) (pos 256 ∷ negsuc 255 ∷ pos 0 ∷ []))
+appending : Spells (codes "a 1 256 -256 0") (append_line (pos 1) (pos 256 ∷ negsuc 255 ∷ pos 0 ∷ []))
 unfolding numeral natural
 appending = inr (refl, λ e. cc)
 
-track : Spells (codes "t 255 none") (tracks (pos 255) silent)
+track : Spells (codes "t 255 none") (track_line (pos 255) silent)
 unfolding numeral natural
 track = inr refl
 
-jack : Spells (codes "j 5 ramp 100 -7") (jacks (pos 5) (ramps (pos 100) (negsuc 6)))
+jack : Spells (codes "j 5 ramp 100 -7") (jack_line (pos 5) (ramp_tone (pos 100) (negsuc 6)))
 unfolding numeral natural
 jack = inr refl
 
-noise : Spells (codes "t 1 noise 1234") (tracks (pos 1) (hisses (pos 1234)))
+noise : Spells (codes "t 1 noise 1234") (track_line (pos 1) (noise_tone (pos 1234)))
 unfolding numeral natural
 noise = inr refl
 
-deviation : Spells (codes "k 1 -1000") (deviates (pos 1) (negsuc 999))
+deviation : Spells (codes "k 1 -1000") (deviate_line (pos 1) (negsuc 999))
 unfolding numeral natural
 deviation = inr refl
 
-running : Spells (codes "m 24 f1 o2 i3") (runs (pos 24) (record { letter = Feedback; place = pos 1 } ∷ record { letter = Out; place = pos 2 } ∷ record { letter = In; place = pos 3 } ∷ []))
+running : Spells (codes "m 24 f1 o2 i3") (microframes_line (pos 24) (record { kind = Feedback; interface = pos 1 } ∷ record { kind = Out; interface = pos 2 } ∷ record { kind = In; interface = pos 3 } ∷ []))
 unfolding numeral natural
 running = inr refl
 
 -- a number out of its range is spelt all the same
-out_of_range : Spells (codes "m 9999 o-1 i256") (runs (pos 9999) (record { letter = Out; place = negsuc 0 } ∷ record { letter = In; place = pos 256 } ∷ []))
+out_of_range : Spells (codes "m 9999 o-1 i256") (microframes_line (pos 9999) (record { kind = Out; interface = negsuc 0 } ∷ record { kind = In; interface = pos 256 } ∷ []))
 unfolding numeral natural
 out_of_range = inr refl
 
-detail : Spells (codes "v 2") (details (pos 2))
+detail : Spells (codes "v 2") (detail_line (pos 2))
 unfolding numeral natural
 detail = inr refl
 
-report : Spells (codes "q") reports
+report : Spells (codes "q") report_line
 report = inr refl
 
 -- ---- the first rule that is broken

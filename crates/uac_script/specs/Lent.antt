@@ -3,32 +3,33 @@ use Rattle.std.specs.Prelude.{◌≡◌, ◌≤◌, ℕ, true, length, map, pos,
 use Rattle.uac_script.specs.declared.lent.LentLine.{LentLine}
 use Rattle.uac_script.specs.declared.lent.LentLine.TheVariants.{Nothing, Bytes, Go, Control, Get, Set, Show, Break, Append, Track, Jack}
 use Rattle.uac_script.specs.declared.lent.LentLine.TheVariants.{Deviate, Run, Detail, Report}
-use Rattle.uac_script.specs.Phrase.{Phrase, idle, feeds, goes, controls, gets, sets, shows, breaks, appends, tracks, jacks, deviates, runs}
-use Rattle.uac_script.specs.Phrase.{details, reports, is_in_range}
+use Rattle.uac_script.specs.Phrase.{Phrase, nothing_line, bytes_line, go_line, control_line, get_line, set_line, show_line, break_line}
+use Rattle.uac_script.specs.Phrase.{append_line, track_line, jack_line, deviate_line, microframes_line}
+use Rattle.uac_script.specs.Phrase.{detail_line, report_line, is_in_range}
 use Rattle.uac_script.specs.Line.{said_tone_of, said_mark, HasNoEmptyPart}
 
 -- the line that a value stands for
 abbrev pub lent_phrase : LentLine → Phrase
-lent_phrase Nothing = idle
-lent_phrase (Bytes bytes) = feeds bytes.now
-lent_phrase Go = goes
-lent_phrase (Control setup sent) = controls setup sent.now
-lent_phrase (Get name) = gets name.now
-lent_phrase (Set name value) = sets name.now value
-lent_phrase (Show name) = shows name.now
-lent_phrase (Break after) = breaks after
-lent_phrase (Append interface samples) = appends (pos interface) samples.now
-lent_phrase (Track interface tone) = tracks (pos interface) (said_tone_of tone)
-lent_phrase (Jack terminal tone) = jacks (pos terminal) (said_tone_of tone)
-lent_phrase (Deviate domain ppm) = deviates (pos domain) ppm
-lent_phrase (Run count marks) = runs (pos count) (map said_mark marks.now)
-lent_phrase (Detail level) = details (pos level)
-lent_phrase Report = reports
+lent_phrase Nothing = nothing_line
+lent_phrase (Bytes bytes) = bytes_line bytes.now
+lent_phrase Go = go_line
+lent_phrase (Control setup sent) = control_line setup sent.now
+lent_phrase (Get name) = get_line name.now
+lent_phrase (Set name value) = set_line name.now value
+lent_phrase (Show name) = show_line name.now
+lent_phrase (Break after) = break_line after
+lent_phrase (Append interface samples) = append_line (pos interface) samples.now
+lent_phrase (Track interface tone) = track_line (pos interface) (said_tone_of tone)
+lent_phrase (Jack terminal tone) = jack_line (pos terminal) (said_tone_of tone)
+lent_phrase (Deviate domain ppm) = deviate_line (pos domain) ppm
+lent_phrase (Run count marks) = microframes_line (pos count) (map said_mark marks.now)
+lent_phrase (Detail level) = detail_line (pos level)
+lent_phrase Report = report_line
 
 -- a value's phrase in place of the value
-abbrev pub lent_said : Result LentLine ℕ → Result Phrase ℕ
-lent_said (Ok line) = Ok (lent_phrase line)
-lent_said (Err rule) = Err rule
+abbrev pub lent_phrase_result : Result LentLine ℕ → Result Phrase ℕ
+lent_phrase_result (Ok line) = Ok (lent_phrase line)
+lent_phrase_result (Err rule) = Err rule
 
 -- the long parts have room in a value of `Line`
 abbrev pub Fits : LentLine → Type 0

@@ -12,17 +12,18 @@ use Rattle.uac_script.specs.declared.line.Line.TheVariants.{Nothing, Bytes, Go, 
 use Rattle.uac_script.specs.declared.line.Line.TheVariants.{Deviate, Run, Detail, Report}
 use Rattle.uac_script.specs.Words.{Word, words_of, is_idle, hex_of}
 use Rattle.uac_edges.specs.Numerals.{numeral}
-use Rattle.uac_script.specs.Phrase.{SaidTone, silent, ramps, hisses, SaidMark}
-use Rattle.uac_script.specs.Phrase.{Phrase, idle, feeds, goes, controls, gets, sets, shows, breaks}
-use Rattle.uac_script.specs.Phrase.{appends, tracks, jacks, deviates, runs, details, reports, is_in_range}
+use Rattle.uac_script.specs.Phrase.{SaidTone, silent, ramp_tone, noise_tone, SaidMark}
+use Rattle.uac_script.specs.Phrase.{Phrase, nothing_line, bytes_line, go_line, control_line, get_line, set_line, show_line, break_line}
+use Rattle.uac_script.specs.Phrase.{append_line, track_line, jack_line, deviate_line, microframes_line, detail_line, report_line}
+use Rattle.uac_script.specs.Phrase.{is_in_range}
 
 -- ---- how a line is spelt
 
 -- the words of a tone, after the id that it is for
 abbrev pub tone_words : SaidTone → List Word
 tone_words silent = codes "none" ∷ []
-tone_words (ramps start step) = codes "ramp" ∷ numeral start ∷ numeral step ∷ []
-tone_words (hisses seed) = codes "noise" ∷ numeral seed ∷ []
+tone_words (ramp_tone start step) = codes "ramp" ∷ numeral start ∷ numeral step ∷ []
+tone_words (noise_tone seed) = codes "noise" ∷ numeral seed ∷ []
 
 abbrev pub letter_of : MarkKind → ℕ
 letter_of Out = 111
@@ -31,31 +32,31 @@ letter_of Feedback = 102
 
 -- a mark: `o`, `i` or `f` and the interface's number, in one word
 abbrev pub mark_word : SaidMark → Word
-mark_word loss = letter_of loss.letter ∷ numeral loss.place
+mark_word mark = letter_of mark.kind ∷ numeral mark.interface
 
 -- the words make the line: each case is a row of the table of lines
 abbrev pub IsRow : List Word → Phrase → Type 0
-IsRow words idle = ⊥
-IsRow words (feeds bytes) = (digits : Word) × (words ≡ codes "d" ∷ digits ∷ []) × (hex_of digits ≡ Some bytes)
-IsRow words goes = words ≡ codes "g" ∷ []
-IsRow words (controls setup sent) = (head : Word) × (hex_of head ≡ Some setup) × (length setup ≡ 8)
+IsRow words nothing_line = ⊥
+IsRow words (bytes_line bytes) = (digits : Word) × (words ≡ codes "d" ∷ digits ∷ []) × (hex_of digits ≡ Some bytes)
+IsRow words go_line = words ≡ codes "g" ∷ []
+IsRow words (control_line setup sent) = (head : Word) × (hex_of head ≡ Some setup) × (length setup ≡ 8)
     × (((words ≡ codes "c" ∷ head ∷ []) × (sent ≡ []))
     ⊎ ((digits : Word) × (words ≡ codes "c" ∷ head ∷ digits ∷ []) × (hex_of digits ≡ Some sent)))
-IsRow words (gets name) = (words ≡ codes "h" ∷ codes "get" ∷ name ∷ []) × (name ≢ [])
-IsRow words (sets name value) = (words ≡ codes "h" ∷ codes "set" ∷ name ∷ numeral value ∷ []) × (name ≢ [])
-IsRow words (shows name) = (words ≡ codes "h" ∷ codes "show" ∷ name ∷ []) × (name ≢ [])
-IsRow words (breaks after) = words ≡ codes "b" ∷ (if after then codes "after" else codes "before") ∷ []
-IsRow words (appends interface samples) = (words ≡ codes "a" ∷ numeral interface ∷ map numeral samples) × (samples ≢ [])
-IsRow words (tracks interface tone) = words ≡ codes "t" ∷ numeral interface ∷ tone_words tone
-IsRow words (jacks terminal tone) = words ≡ codes "j" ∷ numeral terminal ∷ tone_words tone
-IsRow words (deviates domain ppm) = words ≡ codes "k" ∷ numeral domain ∷ numeral ppm ∷ []
-IsRow words (runs count marks) = words ≡ codes "m" ∷ numeral count ∷ map mark_word marks
-IsRow words (details level) = words ≡ codes "v" ∷ numeral level ∷ []
-IsRow words reports = words ≡ codes "q" ∷ []
+IsRow words (get_line name) = (words ≡ codes "h" ∷ codes "get" ∷ name ∷ []) × (name ≢ [])
+IsRow words (set_line name value) = (words ≡ codes "h" ∷ codes "set" ∷ name ∷ numeral value ∷ []) × (name ≢ [])
+IsRow words (show_line name) = (words ≡ codes "h" ∷ codes "show" ∷ name ∷ []) × (name ≢ [])
+IsRow words (break_line after) = words ≡ codes "b" ∷ (if after then codes "after" else codes "before") ∷ []
+IsRow words (append_line interface samples) = (words ≡ codes "a" ∷ numeral interface ∷ map numeral samples) × (samples ≢ [])
+IsRow words (track_line interface tone) = words ≡ codes "t" ∷ numeral interface ∷ tone_words tone
+IsRow words (jack_line terminal tone) = words ≡ codes "j" ∷ numeral terminal ∷ tone_words tone
+IsRow words (deviate_line domain ppm) = words ≡ codes "k" ∷ numeral domain ∷ numeral ppm ∷ []
+IsRow words (microframes_line count marks) = words ≡ codes "m" ∷ numeral count ∷ map mark_word marks
+IsRow words (detail_line level) = words ≡ codes "v" ∷ numeral level ∷ []
+IsRow words report_line = words ≡ codes "q" ∷ []
 
 -- the text spells the line: it does nothing and the line is the idle one, or its words make the line
 abbrev pub Spells : List ℕ → Phrase → Type 0
-Spells text phrase = ((is_idle text ≡ true) × (phrase ≡ idle)) ⊎ IsRow (words_of text) phrase
+Spells text phrase = ((is_idle text ≡ true) × (phrase ≡ nothing_line)) ⊎ IsRow (words_of text) phrase
 
 -- the first words of the table of lines, each of one letter
 abbrev pub letters : List ℕ
@@ -75,37 +76,37 @@ begins_known (word ∷ words) = is_letter word
 
 abbrev pub said_tone_of : Tone → SaidTone
 said_tone_of Silent = silent
-said_tone_of (Ramp start step) = ramps start step
-said_tone_of (Noise seed) = hisses (pos seed)
+said_tone_of (Ramp start step) = ramp_tone start step
+said_tone_of (Noise seed) = noise_tone (pos seed)
 
 abbrev pub said_mark : Mark → SaidMark
-said_mark mark = record { letter = mark.kind; place = pos mark.interface }
+said_mark mark = record { kind = mark.kind; interface = pos mark.interface }
 
 -- the line that a value stands for; two values that stand for one line are the same
 abbrev pub phrase_of : Line → Phrase
-phrase_of Nothing = idle
-phrase_of (Bytes bytes) = feeds bytes.items
-phrase_of Go = goes
-phrase_of (Control setup sent) = controls setup sent.items
-phrase_of (Get name) = gets name.items
-phrase_of (Set name value) = sets name.items value
-phrase_of (Show name) = shows name.items
-phrase_of (Break after) = breaks after
-phrase_of (Append interface samples) = appends (pos interface) samples.items
-phrase_of (Track interface tone) = tracks (pos interface) (said_tone_of tone)
-phrase_of (Jack terminal tone) = jacks (pos terminal) (said_tone_of tone)
-phrase_of (Deviate domain ppm) = deviates (pos domain) ppm
-phrase_of (Run count marks) = runs (pos count) (map said_mark marks.items)
-phrase_of (Detail level) = details (pos level)
-phrase_of Report = reports
+phrase_of Nothing = nothing_line
+phrase_of (Bytes bytes) = bytes_line bytes.items
+phrase_of Go = go_line
+phrase_of (Control setup sent) = control_line setup sent.items
+phrase_of (Get name) = get_line name.items
+phrase_of (Set name value) = set_line name.items value
+phrase_of (Show name) = show_line name.items
+phrase_of (Break after) = break_line after
+phrase_of (Append interface samples) = append_line (pos interface) samples.items
+phrase_of (Track interface tone) = track_line (pos interface) (said_tone_of tone)
+phrase_of (Jack terminal tone) = jack_line (pos terminal) (said_tone_of tone)
+phrase_of (Deviate domain ppm) = deviate_line (pos domain) ppm
+phrase_of (Run count marks) = microframes_line (pos count) (map said_mark marks.items)
+phrase_of (Detail level) = detail_line (pos level)
+phrase_of Report = report_line
 
 -- what a line has besides the ranges of its numbers: bytes of `d`, names and samples that aren't empty
 abbrev pub HasNoEmptyPart : Phrase → Type 0
-HasNoEmptyPart (feeds bytes) = bytes ≢ []
-HasNoEmptyPart (gets name) = name ≢ []
-HasNoEmptyPart (sets name value) = name ≢ []
-HasNoEmptyPart (shows name) = name ≢ []
-HasNoEmptyPart (appends interface samples) = samples ≢ []
+HasNoEmptyPart (bytes_line bytes) = bytes ≢ []
+HasNoEmptyPart (get_line name) = name ≢ []
+HasNoEmptyPart (set_line name value) = name ≢ []
+HasNoEmptyPart (show_line name) = name ≢ []
+HasNoEmptyPart (append_line interface samples) = samples ≢ []
 HasNoEmptyPart _ = Unit {0}
 
 -- a line that `Line::read` gives: each number in its range, no part empty

@@ -11,9 +11,10 @@ use Rattle.uac_script.specs.declared.line.MarkKind.TheVariants.{Out, In, Feedbac
 use Rattle.uac_script.specs.declared.line.Line.{Line}
 use Rattle.uac_script.specs.Words.{Word, words_of, is_idle, hex_of}
 use Rattle.uac_script.specs.ScriptNumerals.{is_number, value_of}
-use Rattle.uac_script.specs.Phrase.{SaidTone, silent, ramps, hisses, SaidMark}
-use Rattle.uac_script.specs.Phrase.{Phrase, idle, feeds, goes, controls, gets, sets, shows, breaks}
-use Rattle.uac_script.specs.Phrase.{appends, tracks, jacks, deviates, runs, details, reports, is_id, is_signed, is_tone_in_range}
+use Rattle.uac_script.specs.Phrase.{SaidTone, silent, ramp_tone, noise_tone, SaidMark}
+use Rattle.uac_script.specs.Phrase.{Phrase, nothing_line, bytes_line, go_line, control_line, get_line, set_line, show_line, break_line}
+use Rattle.uac_script.specs.Phrase.{append_line, track_line, jack_line, deviate_line, microframes_line, detail_line, report_line, is_id}
+use Rattle.uac_script.specs.Phrase.{is_signed, is_tone_in_range}
 use Rattle.uac_script.specs.Phrase.{is_in_range}
 use Rattle.uac_script.specs.Line.{phrase_of, said_tone_of}
 
@@ -43,11 +44,11 @@ abbrev pub name_in : Word → Option Word
 name_in [] = None
 name_in (c ∷ name) = Some (c ∷ name)
 
-abbrev pub numbered : {A : Type 0} → (ℤ → A) → Word → Option A
-numbered f word = if is_number word then Some (f (value_of word)) else None
+abbrev pub from_number : {A : Type 0} → (ℤ → A) → Word → Option A
+from_number f word = if is_number word then Some (f (value_of word)) else None
 
-abbrev pub feeds_of : List Word → Option Phrase
-feeds_of words = then_of (λ word. option_map feeds (hex_of word)) (only_of words)
+abbrev pub bytes_line_of : List Word → Option Phrase
+bytes_line_of words = then_of (λ word. option_map bytes_line (hex_of word)) (only_of words)
 
 abbrev pub setup_of : Word → Option (List ℕ)
 setup_of word = then_of (λ bytes. if length bytes == 8 then Some bytes else None) (hex_of word)
@@ -57,46 +58,46 @@ abbrev pub sent_of : List Word → Option (List ℕ)
 sent_of [] = Some []
 sent_of (word ∷ words) = then_of hex_of (only_of (word ∷ words))
 
-abbrev pub controls_of : List Word → Option Phrase
-controls_of [] = None
-controls_of (word ∷ words) = then_of (λ setup. option_map (controls setup) (sent_of words)) (setup_of word)
+abbrev pub control_line_of : List Word → Option Phrase
+control_line_of [] = None
+control_line_of (word ∷ words) = then_of (λ setup. option_map (control_line setup) (sent_of words)) (setup_of word)
 
-abbrev pub sets_of : Word × Word → Option Phrase
-sets_of (name, numeral) = if is_number numeral then option_map (λ word. sets word (value_of numeral)) (name_in name) else None
+abbrev pub set_line_of : Word × Word → Option Phrase
+set_line_of (name, numeral) = if is_number numeral then option_map (λ word. set_line word (value_of numeral)) (name_in name) else None
 
 abbrev pub element_of : List Word → Option Phrase
 element_of [] = None
 element_of (verb ∷ words) =
-    if bytes_eq verb (codes "get") then option_map gets (then_of name_in (only_of words))
-    else if bytes_eq verb (codes "set") then then_of sets_of (pair_of words)
-    else if bytes_eq verb (codes "show") then option_map shows (then_of name_in (only_of words))
+    if bytes_eq verb (codes "get") then option_map get_line (then_of name_in (only_of words))
+    else if bytes_eq verb (codes "set") then then_of set_line_of (pair_of words)
+    else if bytes_eq verb (codes "show") then option_map show_line (then_of name_in (only_of words))
     else None
 
 abbrev pub break_at : Word → Option Phrase
 break_at word =
-    if bytes_eq word (codes "before") then Some (breaks false)
-    else if bytes_eq word (codes "after") then Some (breaks true)
+    if bytes_eq word (codes "before") then Some (break_line false)
+    else if bytes_eq word (codes "after") then Some (break_line true)
     else None
 
-abbrev pub breaks_of : List Word → Option Phrase
-breaks_of words = then_of break_at (only_of words)
+abbrev pub break_line_of : List Word → Option Phrase
+break_line_of words = then_of break_at (only_of words)
 
-abbrev pub appends_of : List Word → Option Phrase
-appends_of [] = None
-appends_of (word ∷ []) = None
-appends_of (word ∷ sample ∷ samples) =
-    if is_number word && list_all is_number (sample ∷ samples) then Some (appends (value_of word) (map value_of (sample ∷ samples)))
+abbrev pub append_line_of : List Word → Option Phrase
+append_line_of [] = None
+append_line_of (word ∷ []) = None
+append_line_of (word ∷ sample ∷ samples) =
+    if is_number word && list_all is_number (sample ∷ samples) then Some (append_line (value_of word) (map value_of (sample ∷ samples)))
     else None
 
 abbrev pub ramp_of : Word × Word → Option SaidTone
-ramp_of (start, step) = if is_number start && is_number step then Some (ramps (value_of start) (value_of step)) else None
+ramp_of (start, step) = if is_number start && is_number step then Some (ramp_tone (value_of start) (value_of step)) else None
 
 abbrev pub tone_read : List Word → Option SaidTone
 tone_read [] = None
 tone_read (kind ∷ words) =
     if bytes_eq kind (codes "none") then when_empty silent words
     else if bytes_eq kind (codes "ramp") then then_of ramp_of (pair_of words)
-    else if bytes_eq kind (codes "noise") then then_of (numbered hisses) (only_of words)
+    else if bytes_eq kind (codes "noise") then then_of (from_number noise_tone) (only_of words)
     else None
 
 -- an id and its tone
@@ -104,17 +105,17 @@ abbrev pub signal_of : List Word → Option (ℤ × SaidTone)
 signal_of [] = None
 signal_of (word ∷ words) = if is_number word then option_map (λ tone. (value_of word, tone)) (tone_read words) else None
 
-abbrev pub tracks_of : List Word → Option Phrase
-tracks_of words = option_map (λ signal. tracks signal.0 signal.1) (signal_of words)
+abbrev pub track_line_of : List Word → Option Phrase
+track_line_of words = option_map (λ signal. track_line signal.0 signal.1) (signal_of words)
 
-abbrev pub jacks_of : List Word → Option Phrase
-jacks_of words = option_map (λ signal. jacks signal.0 signal.1) (signal_of words)
+abbrev pub jack_line_of : List Word → Option Phrase
+jack_line_of words = option_map (λ signal. jack_line signal.0 signal.1) (signal_of words)
 
 abbrev pub deviation_of : Word × Word → Option Phrase
-deviation_of (domain, ppm) = if is_number domain && is_number ppm then Some (deviates (value_of domain) (value_of ppm)) else None
+deviation_of (domain, ppm) = if is_number domain && is_number ppm then Some (deviate_line (value_of domain) (value_of ppm)) else None
 
-abbrev pub deviates_of : List Word → Option Phrase
-deviates_of words = then_of deviation_of (pair_of words)
+abbrev pub deviate_line_of : List Word → Option Phrase
+deviate_line_of words = then_of deviation_of (pair_of words)
 
 abbrev pub kind_of : ℕ → Option MarkKind
 kind_of letter = if letter == 111 then Some Out else if letter == 105 then Some In else if letter == 102 then Some Feedback else None
@@ -125,72 +126,73 @@ is_mark [] = false
 is_mark (letter ∷ word) = is_some (kind_of letter) && is_number word
 
 abbrev pub mark_of : Word → SaidMark
-mark_of [] = record { letter = Out; place = pos 0 }
-mark_of (letter ∷ word) = record { letter = unwrap_or (kind_of letter) Out; place = value_of word }
+mark_of [] = record { kind = Out; interface = pos 0 }
+mark_of (letter ∷ word) = record { kind = unwrap_or (kind_of letter) Out; interface = value_of word }
 
-abbrev pub runs_of : List Word → Option Phrase
-runs_of [] = None
-runs_of (word ∷ words) = if is_number word && list_all is_mark words then Some (runs (value_of word) (map mark_of words)) else None
+abbrev pub microframes_line_of : List Word → Option Phrase
+microframes_line_of [] = None
+microframes_line_of (word ∷ words) = if is_number word
+    && list_all is_mark words then Some (microframes_line (value_of word) (map mark_of words)) else None
 
-abbrev pub details_of : List Word → Option Phrase
-details_of words = then_of (numbered details) (only_of words)
+abbrev pub detail_line_of : List Word → Option Phrase
+detail_line_of words = then_of (from_number detail_line) (only_of words)
 
 -- the row of this letter, read from the words after it; no row has another letter
 abbrev pub row_of : ℕ → List Word → Option (Option Phrase)
 row_of letter words =
-    if letter == 100 then Some (feeds_of words)
-    else if letter == 103 then Some (when_empty goes words)
-    else if letter == 99 then Some (controls_of words)
+    if letter == 100 then Some (bytes_line_of words)
+    else if letter == 103 then Some (when_empty go_line words)
+    else if letter == 99 then Some (control_line_of words)
     else if letter == 104 then Some (element_of words)
-    else if letter == 98 then Some (breaks_of words)
-    else if letter == 97 then Some (appends_of words)
-    else if letter == 116 then Some (tracks_of words)
-    else if letter == 106 then Some (jacks_of words)
-    else if letter == 107 then Some (deviates_of words)
-    else if letter == 109 then Some (runs_of words)
-    else if letter == 118 then Some (details_of words)
-    else if letter == 113 then Some (when_empty reports words)
+    else if letter == 98 then Some (break_line_of words)
+    else if letter == 97 then Some (append_line_of words)
+    else if letter == 116 then Some (track_line_of words)
+    else if letter == 106 then Some (jack_line_of words)
+    else if letter == 107 then Some (deviate_line_of words)
+    else if letter == 109 then Some (microframes_line_of words)
+    else if letter == 118 then Some (detail_line_of words)
+    else if letter == 113 then Some (when_empty report_line words)
     else None
 
 -- what is spelt is misspelt, out of range, or itself
-abbrev pub judged_by : {A : Type 0} → (A → Bool) → Option A → Result A ℕ
-judged_by is_right None = Err 3
-judged_by is_right (Some x) = if is_right x then Ok x else Err 4
+abbrev pub verdict_by : {A : Type 0} → (A → Bool) → Option A → Result A ℕ
+verdict_by is_right None = Err 3
+verdict_by is_right (Some x) = if is_right x then Ok x else Err 4
 
-abbrev pub judged : Option Phrase → Result Phrase ℕ
-judged row = judged_by is_in_range row
+abbrev pub verdict_of : Option Phrase → Result Phrase ℕ
+verdict_of row = verdict_by is_in_range row
 
-abbrev pub judged_tone : Option SaidTone → Result SaidTone ℕ
-judged_tone tone = judged_by is_tone_in_range tone
+abbrev pub tone_verdict : Option SaidTone → Result SaidTone ℕ
+tone_verdict tone = verdict_by is_tone_in_range tone
 
-abbrev pub judged_signal : Option (ℤ × SaidTone) → Result (ℤ × SaidTone) ℕ
-judged_signal signal = judged_by (λ s. is_id s.0 && is_tone_in_range s.1) signal
+abbrev pub signal_verdict : Option (ℤ × SaidTone) → Result (ℤ × SaidTone) ℕ
+signal_verdict signal = verdict_by (λ s. is_id s.0 && is_tone_in_range s.1) signal
 
-abbrev pub judged_row : Option (Option Phrase) → Result Phrase ℕ
-judged_row None = Err 2
-judged_row (Some row) = judged row
+abbrev pub row_verdict : Option (Option Phrase) → Result Phrase ℕ
+row_verdict None = Err 2
+row_verdict (Some row) = verdict_of row
 
 -- what the words of a line answer: the first one is a letter
 abbrev pub answer_of : List Word → Result Phrase ℕ
 answer_of [] = Err 2
-answer_of (word ∷ words) = if length word == 1 then judged_row (row_of (slice_index word 0) words) else Err 2
+answer_of (word ∷ words) = if length word == 1 then row_verdict (row_of (slice_index word 0) words) else Err 2
 
 -- what a text is answered: the line that it says, or the first of rules S2 to S4 that it breaks
 unfoldable pub answer : List ℕ → Result Phrase ℕ
-answer text = if is_idle text then Ok idle else answer_of (words_of text)
+answer text = if is_idle text then Ok nothing_line else answer_of (words_of text)
 
 -- a value's phrase in place of the value
-abbrev pub said : Result Line ℕ → Result Phrase ℕ
-said (Ok line) = Ok (phrase_of line)
-said (Err rule) = Err rule
+abbrev pub phrase_result : Result Line ℕ → Result Phrase ℕ
+phrase_result (Ok line) = Ok (phrase_of line)
+phrase_result (Err rule) = Err rule
 
-abbrev pub said_tone : Result Tone ℕ → Result SaidTone ℕ
-said_tone (Ok tone) = Ok (said_tone_of tone)
-said_tone (Err rule) = Err rule
+abbrev pub tone_result : Result Tone ℕ → Result SaidTone ℕ
+tone_result (Ok tone) = Ok (said_tone_of tone)
+tone_result (Err rule) = Err rule
 
-abbrev pub said_signal : Result (ℕ × Tone) ℕ → Result (ℤ × SaidTone) ℕ
-said_signal (Ok signal) = Ok (pos signal.0, said_tone_of signal.1)
-said_signal (Err rule) = Err rule
+abbrev pub signal_result : Result (ℕ × Tone) ℕ → Result (ℤ × SaidTone) ℕ
+signal_result (Ok signal) = Ok (pos signal.0, said_tone_of signal.1)
+signal_result (Err rule) = Err rule
 
 -- the samples of these words: each in range, or nothing
 abbrev pub samples_of : List Word → Option (List ℤ)

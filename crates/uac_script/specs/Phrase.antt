@@ -7,31 +7,31 @@ use Rattle.uac_script.specs.declared.line.MarkKind.{MarkKind}
 -- a tone, with its numbers as they are spelt
 pub data SaidTone : Type 0 where
   silent : SaidTone
-  ramps : ℤ → ℤ → SaidTone
-  hisses : ℤ → SaidTone
+  ramp_tone : ℤ → ℤ → SaidTone
+  noise_tone : ℤ → SaidTone
 
 -- one packet or report to lose in each microframe: of which kind, and of which interface
 pub record SaidMark : Type 0 where
-  pub letter : MarkKind
-  pub place : ℤ
+  pub kind : MarkKind
+  pub interface : ℤ
 
 -- a line, with its numbers as they are spelt, in the order of the table of lines
 pub data Phrase : Type 0 where
-  idle : Phrase
-  feeds : List ℕ → Phrase
-  goes : Phrase
-  controls : List ℕ → List ℕ → Phrase
-  gets : Word → Phrase
-  sets : Word → ℤ → Phrase
-  shows : Word → Phrase
-  breaks : Bool → Phrase
-  appends : ℤ → List ℤ → Phrase
-  tracks : ℤ → SaidTone → Phrase
-  jacks : ℤ → SaidTone → Phrase
-  deviates : ℤ → ℤ → Phrase
-  runs : ℤ → List SaidMark → Phrase
-  details : ℤ → Phrase
-  reports : Phrase
+  nothing_line : Phrase
+  bytes_line : List ℕ → Phrase
+  go_line : Phrase
+  control_line : List ℕ → List ℕ → Phrase
+  get_line : Word → Phrase
+  set_line : Word → ℤ → Phrase
+  show_line : Word → Phrase
+  break_line : Bool → Phrase
+  append_line : ℤ → List ℤ → Phrase
+  track_line : ℤ → SaidTone → Phrase
+  jack_line : ℤ → SaidTone → Phrase
+  deviate_line : ℤ → ℤ → Phrase
+  microframes_line : ℤ → List SaidMark → Phrase
+  detail_line : ℤ → Phrase
+  report_line : Phrase
 
 -- the number lies between these two, or is one of them
 abbrev pub is_within : ℤ → ℤ → ℤ → Bool
@@ -47,27 +47,27 @@ is_signed z = is_within (negsuc 2147483647) (pos 2147483647) z
 
 abbrev pub is_tone_in_range : SaidTone → Bool
 is_tone_in_range silent = true
-is_tone_in_range (ramps start step) = is_signed start && is_signed step
-is_tone_in_range (hisses seed) = is_within (pos 0) (pos 4294967295) seed
+is_tone_in_range (ramp_tone start step) = is_signed start && is_signed step
+is_tone_in_range (noise_tone seed) = is_within (pos 0) (pos 4294967295) seed
 
 -- each interface of the marks is an id, and there are at most 24 of them
 abbrev pub are_marks_in_range : List SaidMark → Bool
-are_marks_in_range marks = list_all (λ mark. is_id mark.place) marks && nat_le (length marks) 24
+are_marks_in_range marks = list_all (λ mark. is_id mark.interface) marks && nat_le (length marks) 24
 
 -- each number of the line lies in its range, and there are at most 24 marks
 abbrev pub is_in_range : Phrase → Bool
-is_in_range idle = true
-is_in_range (feeds bytes) = true
-is_in_range goes = true
-is_in_range (controls setup sent) = true
-is_in_range (gets name) = true
-is_in_range (sets name value) = is_signed value
-is_in_range (shows name) = true
-is_in_range (breaks after) = true
-is_in_range (appends interface samples) = is_id interface && list_all is_signed samples
-is_in_range (tracks interface tone) = is_id interface && is_tone_in_range tone
-is_in_range (jacks terminal tone) = is_id terminal && is_tone_in_range tone
-is_in_range (deviates domain ppm) = is_id domain && is_within (negsuc 99999) (pos 100000) ppm
-is_in_range (runs count marks) = is_within (pos 1) (pos 8000) count && are_marks_in_range marks
-is_in_range (details level) = is_within (pos 0) (pos 2) level
-is_in_range reports = true
+is_in_range nothing_line = true
+is_in_range (bytes_line bytes) = true
+is_in_range go_line = true
+is_in_range (control_line setup sent) = true
+is_in_range (get_line name) = true
+is_in_range (set_line name value) = is_signed value
+is_in_range (show_line name) = true
+is_in_range (break_line after) = true
+is_in_range (append_line interface samples) = is_id interface && list_all is_signed samples
+is_in_range (track_line interface tone) = is_id interface && is_tone_in_range tone
+is_in_range (jack_line terminal tone) = is_id terminal && is_tone_in_range tone
+is_in_range (deviate_line domain ppm) = is_id domain && is_within (negsuc 99999) (pos 100000) ppm
+is_in_range (microframes_line count marks) = is_within (pos 1) (pos 8000) count && are_marks_in_range marks
+is_in_range (detail_line level) = is_within (pos 0) (pos 2) level
+is_in_range report_line = true

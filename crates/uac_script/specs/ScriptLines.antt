@@ -38,11 +38,11 @@ head_of most bytes =
     else unended text
 
 -- no byte more is needed to tell what stands first
-abbrev pub IsTold : Head → Type 0
-IsTold (line text rest) = Unit {0}
-IsTold long = Unit {0}
-IsTold past = Unit {0}
-IsTold (unended text) = ⊥
+abbrev pub IsDecided : Head → Type 0
+IsDecided (line text rest) = Unit {0}
+IsDecided long = Unit {0}
+IsDecided past = Unit {0}
+IsDecided (unended text) = ⊥
 
 -- a reader of lines: the last line, its number from 1, the bytes that were taken and aren't in a line yet, how many
 -- bytes may still go into lines, what stopped it, and whether the last line stood at the end of the source with no newline after it

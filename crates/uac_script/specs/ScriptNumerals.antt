@@ -17,13 +17,13 @@ unfoldable pub natural_of : Word → Option ℕ
 natural_of word = if is_natural word then Some (digits_value 10 word) else None
 
 -- a number below zero, from its size; there is no `-0`
-abbrev pub negated : Option ℕ → Option ℤ
-negated None = None
-negated (Some zero) = None
-negated (Some (suc n)) = Some (negsuc n)
+abbrev pub negative_of : Option ℕ → Option ℤ
+negative_of None = None
+negative_of (Some zero) = None
+negative_of (Some (suc n)) = Some (negsuc n)
 
 unfoldable pub number_of : Word → Option ℤ
-number_of word = if slice_index word 0 == 45 then negated (natural_of (drop 1 word)) else option_map pos (natural_of word)
+number_of word = if slice_index word 0 == 45 then negative_of (natural_of (drop 1 word)) else option_map pos (natural_of word)
 
 unfoldable pub is_number : Word → Bool
 is_number word = is_some (number_of word)
@@ -37,6 +37,6 @@ value_of word = unwrap_or (number_of word) (pos 0)
 abbrev pub far : ℕ
 far = 10 ^ 12
 
-abbrev pub clamped : ℤ → ℤ
-clamped (pos n) = pos (min n far)
-clamped (negsuc n) = neg_ℤ (pos (min (n + 1) far))
+abbrev pub within_far : ℤ → ℤ
+within_far (pos n) = pos (min n far)
+within_far (negsuc n) = neg_ℤ (pos (min (n + 1) far))

@@ -80,7 +80,7 @@ pub enum Line {
 
 impl Line {
     ghost use Rattle.std.specs.Prelude.{◌≡◌, ◌≤◌, length, IfOk, IfErr};
-    ghost use Rattle.uac_script.specs.LineReading.{said, answer};
+    ghost use Rattle.uac_script.specs.LineReading.{phrase_result, answer};
     ghost use Rattle.uac_script.specs.Line.{Says, IsLineInRange};
 
     /// The line that a text of at most 4,096 bytes spells.
@@ -92,10 +92,10 @@ impl Line {
     pub fn read(text: &[u8]) -> Result<Line, u8>
         requires { length text.now ≤ 4096 }
         // By the table of spellings alone; `laws::each_line_says_one_thing` tells that a text says one thing.
-        ensures says { Says text.now (said result) }
+        ensures says { Says text.now (phrase_result result) }
 
         // What the text says as one function of it, for definitions that compute it.
-        ensures answered { said result ≡ answer text.now }
+        ensures answered { phrase_result result ≡ answer text.now }
 
         ensures keeps { IfOk result IsLineInRange }
         ensures no_other { IfErr result (λ rule. (2 ≤ rule) × (rule ≤ 4)) }

@@ -2,7 +2,7 @@
 ghost use Rattle.std.specs.Prelude.{◌≡◌, ◌≢◌, ◌+◌, ◌-◌, ◌≤◌, ◌<◌, true, false, [], None, Some, Ok, Err, IfOk, OnErr, length, take, drop};
 ghost use Rattle.std.specs.Io.KnownBytes.{Keeps};
 ghost use Rattle.uac_edges.specs.Faults.{HasCause};
-ghost use Rattle.uac_script.specs.ScriptLines.{Splits, Goes, Stops, IsTold, head_of, most_of_input, most_of_line, piece_size};
+ghost use Rattle.uac_script.specs.ScriptLines.{Splits, Goes, Stops, IsDecided, head_of, most_of_input, most_of_line, piece_size};
 ghost use Rattle.uac_script.specs.Looking.{Shows, line_end};
 ghost use Rattle.uac_script.specs.Taking.{Grows};
 
@@ -97,7 +97,7 @@ impl Lines {
             → (result ≡ Ok Next.End) × (self.new ≡ self.old) × (source.new ≡ source.old) }
         ensures again { (why : LineStop) → self.old.stop ≡ Some why
             → (result ≡ Err why) × (self.new ≡ self.old) × (source.new ≡ source.old) }
-        ensures told { self.old.stop ≡ None → self.old.ended ≡ false → IsTold (head_of self.old.spare self.old.unread)
+        ensures told { self.old.stop ≡ None → self.old.ended ≡ false → IsDecided (head_of self.old.spare self.old.unread)
             → source.new ≡ source.old }
         ensures faultless { result ≢ Err LineStop.Failed → S.faults source.new ≡ S.faults source.old }
         ensures never_falls { S.faults source.old ≤ S.faults source.new }

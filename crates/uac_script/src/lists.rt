@@ -4,10 +4,10 @@ ghost use Rattle.std.specs.Option.{option_copied};
 ghost use Rattle.std.specs.List.{list_all};
 ghost use Rattle.uac_script.specs.Words.{words_left, bytes_left};
 ghost use Rattle.uac_script.specs.ScriptNumerals.{is_number};
-ghost use Rattle.uac_script.specs.LineReading.{judged, appends_of, runs_of, samples_of, kind_of, is_mark, mark_of};
+ghost use Rattle.uac_script.specs.LineReading.{verdict_of, append_line_of, microframes_line_of, samples_of, kind_of, is_mark, mark_of};
 ghost use Rattle.uac_script.specs.Phrase.{is_id, are_marks_in_range};
 ghost use Rattle.uac_script.specs.Line.{said_mark};
-ghost use Rattle.uac_script.specs.Lent.{lent_said, Fits};
+ghost use Rattle.uac_script.specs.Lent.{lent_phrase_result, Fits};
 
 use crate::lent::LentLine;
 use crate::line::{Mark, MarkKind};
@@ -48,7 +48,7 @@ pub fn append<'a>(
     room: &'a mut ArrayVec<i32, 2048>,
 ) -> Result<LentLine<'a>, u8>
     requires { bytes_left words.rest ≤ 4096 }
-    ensures says { lent_said result ≡ judged (appends_of (words_left words.entry.rest)) }
+    ensures says { lent_phrase_result result ≡ verdict_of (append_line_of (words_left words.entry.rest)) }
     ensures fits { IfOk result Fits }
 {
     let Some(interface) = words.take() else {
@@ -132,7 +132,7 @@ fn marks<'a>(mut words: Words<'_>, marks: &'a mut ArrayVec<Mark, 24>) -> Option<
 
 /// Microframes, and what is lost in each of them.
 pub fn run<'a>(mut words: Words<'_>, room: &'a mut ArrayVec<Mark, 24>) -> Result<LentLine<'a>, u8>
-    ensures says { lent_said result ≡ judged (runs_of (words_left words.entry.rest)) }
+    ensures says { lent_phrase_result result ≡ verdict_of (microframes_line_of (words_left words.entry.rest)) }
     ensures fits { IfOk result Fits }
 {
     let Some(count) = words.take() else {

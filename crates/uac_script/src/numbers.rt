@@ -3,7 +3,7 @@ ghost use Rattle.std.specs.Prelude.{◌≡◌, ◌+◌, ◌*◌, ◌<◌, ◌≤
 ghost use Rattle.std.specs.Option.{option_map};
 ghost use Rattle.std.specs.List.{list_all};
 ghost use Rattle.std.specs.Char.{is_ascii_digit};
-ghost use Rattle.uac_script.specs.ScriptNumerals.{is_natural, natural_of, number_of, is_number, value_of, far, clamped};
+ghost use Rattle.uac_script.specs.ScriptNumerals.{is_natural, natural_of, number_of, is_number, value_of, far, within_far};
 ghost use Rattle.uac_script.specs.Phrase.{is_within, is_id, is_signed};
 
 /// Above the greatest number of every range: what a longer numeral spells is held here.
@@ -45,7 +45,7 @@ fn natural(word: &[u8]) -> Option<u64>
 /// The number that a word spells, held at `FAR` on either side of 0; none where it is no numeral.
 #[tactic(auto, unfolding(crate::specs::ScriptNumerals::number_of))]
 fn number(word: &[u8]) -> Option<i64>
-    ensures { result ≡ option_map clamped (number_of word.now) }
+    ensures { result ≡ option_map within_far (number_of word.now) }
 {
     if word.is_empty() || word[0] != b'-' {
         return Some(natural(word)? as i64);
@@ -68,7 +68,7 @@ pub fn is_number(word: &[u8]) -> bool
 // The number that a numeral spells, held at `FAR` on either side of 0.
 #[tactic(auto, unfolding(crate::specs::ScriptNumerals::value_of))]
 fn value(word: &[u8]) -> i64
-    ensures { result ≡ clamped (value_of word.now) }
+    ensures { result ≡ within_far (value_of word.now) }
 {
     number(word).unwrap_or(0)
 }

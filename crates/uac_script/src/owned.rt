@@ -19,7 +19,7 @@ fn array_with<T: Copy + Default, const N: usize>(items: &[T]) -> ArrayVec<T, N>
 }
 
 /// A lent line with its long parts copied into it.
-pub fn owned(line: LentLine<'_>) -> Line
+pub fn owned_line(line: LentLine<'_>) -> Line
     requires { Fits line }
     ensures { phrase_of result ≡ lent_phrase line.entry }
 {

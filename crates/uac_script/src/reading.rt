@@ -1,13 +1,13 @@
 // A whole line: its first word names the row.
 ghost use Rattle.std.specs.Prelude.{◌≡◌, ◌≤◌, ◌==◌, length, Ok, Err, IfOk};
 ghost use Rattle.uac_script.specs.Words.{words_left, bytes_left, is_idle};
-ghost use Rattle.uac_script.specs.LineReading.{said, judged_row, row_of, answer};
-ghost use Rattle.uac_script.specs.Lent.{lent_said, Fits};
+ghost use Rattle.uac_script.specs.LineReading.{phrase_result, row_verdict, row_of, answer};
+ghost use Rattle.uac_script.specs.Lent.{lent_phrase_result, Fits};
 
 use crate::lent::{LentLine, LineRoom};
 use crate::line::Line;
 use crate::lists::{append, run};
-use crate::owned::owned;
+use crate::owned::owned_line;
 use crate::rows::{alone, break_at, control, detail, deviate, element, feed, jack, track};
 use crate::words::Words;
 
@@ -27,7 +27,7 @@ pub fn is_idle(text: &[u8]) -> bool
 // The row of a letter, from the words after it.
 fn row<'a>(letter: u8, words: Words<'a>, room: &'a mut LineRoom) -> Result<LentLine<'a>, u8>
     requires { bytes_left words.rest ≤ 4096 }
-    ensures says { lent_said result ≡ judged_row (row_of letter (words_left words.entry.rest)) }
+    ensures says { lent_phrase_result result ≡ row_verdict (row_of letter (words_left words.entry.rest)) }
     ensures fits { IfOk result Fits }
 {
     match letter {
@@ -51,7 +51,7 @@ fn row<'a>(letter: u8, words: Words<'a>, room: &'a mut LineRoom) -> Result<LentL
 #[tactic(auto, unfolding(crate::specs::LineReading::answer))]
 pub fn read_into<'a>(text: &'a [u8], room: &'a mut LineRoom) -> Result<LentLine<'a>, u8>
     requires { length text.now ≤ 4096 }
-    ensures says { lent_said result ≡ answer text.now }
+    ensures says { lent_phrase_result result ≡ answer text.now }
     ensures fits { IfOk result Fits }
 {
     if is_idle(text) {
@@ -70,11 +70,11 @@ pub fn read_into<'a>(text: &'a [u8], room: &'a mut LineRoom) -> Result<LentLine<
 /// The line that a text spells, or the first of rules S2 to S4 that it breaks.
 pub fn read(text: &[u8]) -> Result<Line, u8>
     requires { length text.now ≤ 4096 }
-    ensures { said result ≡ answer text.now }
+    ensures { phrase_result result ≡ answer text.now }
 {
     let mut room = LineRoom::new();
     match read_into(text, &mut room) {
-        Ok(line) => Ok(owned(line)),
+        Ok(line) => Ok(owned_line(line)),
         Err(rule) => Err(rule),
     }
 }

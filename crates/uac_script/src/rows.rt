@@ -3,11 +3,14 @@ ghost use Rattle.std.specs.Prelude.{◌≡◌, ◌≤◌, ◌==◌, length, Opti
 ghost use Rattle.std.specs.Option.{option_copied};
 ghost use Rattle.uac_script.specs.Words.{words_left, bytes_left};
 ghost use Rattle.uac_script.specs.ScriptNumerals.{is_number};
-ghost use Rattle.uac_script.specs.LineReading.{said_tone, said_signal, judged, judged_tone, judged_signal, name_in, only_of, then_of};
-ghost use Rattle.uac_script.specs.LineReading.{when_empty, feeds_of, controls_of, element_of, breaks_of, tone_read, signal_of, tracks_of};
-ghost use Rattle.uac_script.specs.LineReading.{jacks_of, deviates_of, details_of, sets_of, pair_of, sent_of, ramp_of, numbered};
-ghost use Rattle.uac_script.specs.Phrase.{silent, hisses, is_in_range};
-ghost use Rattle.uac_script.specs.Lent.{lent_phrase, lent_said, Fits};
+ghost use Rattle.uac_script.specs.LineReading.{tone_result, signal_result, verdict_of, tone_verdict, signal_verdict, name_in, only_of};
+ghost use Rattle.uac_script.specs.LineReading.{then_of};
+ghost use Rattle.uac_script.specs.LineReading.{when_empty, bytes_line_of, control_line_of, element_of, break_line_of, tone_read, signal_of};
+ghost use Rattle.uac_script.specs.LineReading.{track_line_of};
+ghost use Rattle.uac_script.specs.LineReading.{jack_line_of, deviate_line_of, detail_line_of, set_line_of, pair_of, sent_of, ramp_of};
+ghost use Rattle.uac_script.specs.LineReading.{from_number};
+ghost use Rattle.uac_script.specs.Phrase.{silent, noise_tone, is_in_range};
+ghost use Rattle.uac_script.specs.Lent.{lent_phrase, lent_phrase_result, Fits};
 
 use crate::hex_bytes::{bytes, setup};
 use crate::lent::LentLine;
@@ -25,7 +28,7 @@ pub const OUT_OF_RANGE: u8 = 4;
 pub fn alone<'a>(line: LentLine<'a>, words: Words<'_>) -> Result<LentLine<'a>, u8>
     requires range { IsTrue (is_in_range (lent_phrase line)) }
     requires room { Fits line }
-    ensures says { lent_said result ≡ (judged (when_empty (lent_phrase line.entry) (words_left words.entry.rest))) }
+    ensures says { lent_phrase_result result ≡ (verdict_of (when_empty (lent_phrase line.entry) (words_left words.entry.rest))) }
     ensures fits { IfOk result Fits }
 {
     if words.is_empty() {
@@ -38,7 +41,7 @@ pub fn alone<'a>(line: LentLine<'a>, words: Words<'_>) -> Result<LentLine<'a>, u
 /// The next bytes of the descriptor.
 pub fn feed<'a>(words: Words<'_>, room: &'a mut [u8; 2048]) -> Result<LentLine<'a>, u8>
     requires { bytes_left words.rest ≤ 4097 }
-    ensures says { lent_said result ≡ judged (feeds_of (words_left words.entry.rest)) }
+    ensures says { lent_phrase_result result ≡ verdict_of (bytes_line_of (words_left words.entry.rest)) }
     ensures fits { IfOk result Fits }
 {
     let Some(digits) = words.only() else {
@@ -51,7 +54,7 @@ pub fn feed<'a>(words: Words<'_>, room: &'a mut [u8; 2048]) -> Result<LentLine<'
 }
 
 // The bytes that a control transfer sends.
-fn sent<'a>(words: Words<'_>, room: &'a mut [u8; 2048]) -> Option<&'a [u8]>
+fn bytes_sent<'a>(words: Words<'_>, room: &'a mut [u8; 2048]) -> Option<&'a [u8]>
     requires { bytes_left words.rest ≤ 4097 }
     ensures sent { option_copied result ≡ sent_of (words_left words.entry.rest) }
     ensures fits { IfSome result (λ sent. length sent.now ≤ 2048) }
@@ -66,7 +69,7 @@ fn sent<'a>(words: Words<'_>, room: &'a mut [u8; 2048]) -> Option<&'a [u8]>
 /// A control transfer.
 pub fn control<'a>(mut words: Words<'_>, room: &'a mut [u8; 2048]) -> Result<LentLine<'a>, u8>
     requires { bytes_left words.rest ≤ 4097 }
-    ensures says { lent_said result ≡ judged (controls_of (words_left words.entry.rest)) }
+    ensures says { lent_phrase_result result ≡ verdict_of (control_line_of (words_left words.entry.rest)) }
     ensures fits { IfOk result Fits }
 {
     let Some(head) = words.take() else {
@@ -75,7 +78,7 @@ pub fn control<'a>(mut words: Words<'_>, room: &'a mut [u8; 2048]) -> Result<Len
     let Some(setup) = setup(head) else {
         return Err(MISSPELT);
     };
-    match sent(words, room) {
+    match bytes_sent(words, room) {
         Some(sent) => Ok(LentLine::Control { setup, sent }),
         None => Err(MISSPELT),
     }
@@ -105,7 +108,7 @@ fn last_name(words: Words<'_>) -> Option<&[u8]>
 // Sets an element, by its name and the value.
 fn set(words: Words<'_>) -> Result<LentLine<'_>, u8>
     requires { bytes_left words.rest ≤ 4097 }
-    ensures says { lent_said result ≡ judged (then_of sets_of (pair_of (words_left words.entry.rest))) }
+    ensures says { lent_phrase_result result ≡ verdict_of (then_of set_line_of (pair_of (words_left words.entry.rest))) }
     ensures fits { IfOk result Fits }
 {
     let Some((word, numeral)) = words.pair() else {
@@ -126,7 +129,7 @@ fn set(words: Words<'_>) -> Result<LentLine<'_>, u8>
 /// Reads, sets or shows an element.
 pub fn element(mut words: Words<'_>) -> Result<LentLine<'_>, u8>
     requires { bytes_left words.rest ≤ 4097 }
-    ensures says { lent_said result ≡ judged (element_of (words_left words.entry.rest)) }
+    ensures says { lent_phrase_result result ≡ verdict_of (element_of (words_left words.entry.rest)) }
     ensures fits { IfOk result Fits }
 {
     let Some(verb) = words.take() else {
@@ -148,7 +151,7 @@ pub fn element(mut words: Words<'_>) -> Result<LentLine<'_>, u8>
 
 /// The next transfer breaks.
 pub fn break_at<'a>(words: Words<'_>) -> Result<LentLine<'a>, u8>
-    ensures says { lent_said result ≡ judged (breaks_of (words_left words.entry.rest)) }
+    ensures says { lent_phrase_result result ≡ verdict_of (break_line_of (words_left words.entry.rest)) }
     ensures fits { IfOk result Fits }
 {
     let Some(word) = words.only() else {
@@ -165,7 +168,7 @@ pub fn break_at<'a>(words: Words<'_>) -> Result<LentLine<'a>, u8>
 
 // The tone of a track or a jack.
 fn tone(mut words: Words<'_>) -> Result<Tone, u8>
-    ensures { said_tone result ≡ judged_tone (tone_read (words_left words.entry.rest)) }
+    ensures { tone_result result ≡ tone_verdict (tone_read (words_left words.entry.rest)) }
 {
     let Some(kind) = words.take() else {
         return Err(MISSPELT);
@@ -183,7 +186,7 @@ fn tone(mut words: Words<'_>) -> Result<Tone, u8>
 
 // A tone of zeros has no numbers.
 fn silence(words: Words<'_>) -> Result<Tone, u8>
-    ensures { said_tone result ≡ judged_tone (when_empty silent (words_left words.entry.rest)) }
+    ensures { tone_result result ≡ tone_verdict (when_empty silent (words_left words.entry.rest)) }
 {
     if words.is_empty() {
         Ok(Tone::Silent)
@@ -194,7 +197,7 @@ fn silence(words: Words<'_>) -> Result<Tone, u8>
 
 // A straight line has its start and its step.
 fn ramp(words: Words<'_>) -> Result<Tone, u8>
-    ensures { said_tone result ≡ judged_tone (then_of ramp_of (pair_of (words_left words.entry.rest))) }
+    ensures { tone_result result ≡ tone_verdict (then_of ramp_of (pair_of (words_left words.entry.rest))) }
 {
     let Some((start, step)) = words.pair() else {
         return Err(MISSPELT);
@@ -213,7 +216,7 @@ fn ramp(words: Words<'_>) -> Result<Tone, u8>
 
 // Noise has its seed.
 fn noise(words: Words<'_>) -> Result<Tone, u8>
-    ensures { said_tone result ≡ judged_tone (then_of (numbered hisses) (only_of (words_left words.entry.rest))) }
+    ensures { tone_result result ≡ tone_verdict (then_of (from_number noise_tone) (only_of (words_left words.entry.rest))) }
 {
     let Some(seed) = words.only() else {
         return Err(MISSPELT);
@@ -229,7 +232,7 @@ fn noise(words: Words<'_>) -> Result<Tone, u8>
 
 // An id and its tone.
 fn signal(mut words: Words<'_>) -> Result<(u8, Tone), u8>
-    ensures { said_signal result ≡ judged_signal (signal_of (words_left words.entry.rest)) }
+    ensures { signal_result result ≡ signal_verdict (signal_of (words_left words.entry.rest)) }
 {
     let Some(word) = words.take() else {
         return Err(MISSPELT);
@@ -246,7 +249,7 @@ fn signal(mut words: Words<'_>) -> Result<(u8, Tone), u8>
 
 /// The tone of a track.
 pub fn track<'a>(words: Words<'_>) -> Result<LentLine<'a>, u8>
-    ensures says { lent_said result ≡ judged (tracks_of (words_left words.entry.rest)) }
+    ensures says { lent_phrase_result result ≡ verdict_of (track_line_of (words_left words.entry.rest)) }
     ensures fits { IfOk result Fits }
 {
     match signal(words) {
@@ -257,7 +260,7 @@ pub fn track<'a>(words: Words<'_>) -> Result<LentLine<'a>, u8>
 
 /// The tone of an input jack.
 pub fn jack<'a>(words: Words<'_>) -> Result<LentLine<'a>, u8>
-    ensures says { lent_said result ≡ judged (jacks_of (words_left words.entry.rest)) }
+    ensures says { lent_phrase_result result ≡ verdict_of (jack_line_of (words_left words.entry.rest)) }
     ensures fits { IfOk result Fits }
 {
     match signal(words) {
@@ -268,7 +271,7 @@ pub fn jack<'a>(words: Words<'_>) -> Result<LentLine<'a>, u8>
 
 /// The deviation of a domain.
 pub fn deviate<'a>(words: Words<'_>) -> Result<LentLine<'a>, u8>
-    ensures says { lent_said result ≡ judged (deviates_of (words_left words.entry.rest)) }
+    ensures says { lent_phrase_result result ≡ verdict_of (deviate_line_of (words_left words.entry.rest)) }
     ensures fits { IfOk result Fits }
 {
     let Some((domain, ppm)) = words.pair() else {
@@ -291,7 +294,7 @@ pub fn deviate<'a>(words: Words<'_>) -> Result<LentLine<'a>, u8>
 
 /// How much is printed.
 pub fn detail<'a>(words: Words<'_>) -> Result<LentLine<'a>, u8>
-    ensures says { lent_said result ≡ judged (details_of (words_left words.entry.rest)) }
+    ensures says { lent_phrase_result result ≡ verdict_of (detail_line_of (words_left words.entry.rest)) }
     ensures fits { IfOk result Fits }
 {
     let Some(level) = words.only() else {

@@ -8,7 +8,7 @@ use Rattle.uac_script.specs.Phrase.{Phrase}
 use Rattle.uac_script.specs.LineReading.{answer}
 use Rattle.uac_script.proofs.Answered.{answer_says, says_only}
 use Rattle.uac_script.proofs.Sayings.{each_says_once}
-use Rattle.uac_bus.specs.BusWorld.{World, start}
+use Rattle.uac_bus.specs.BusWorld.{BusWorld, start}
 use Rattle.uac_bus.specs.After.{said_step}
 use Rattle.uac_describe.specs.Outcome.{End, at_end, read_failed, stopped}
 use Rattle.uac_scripts.specs.ScriptTranscript.{Ending, IsTranscript, Sayings, after_step, ending_at, rest_by, head_by, lines_by, transcript_by}
@@ -20,7 +20,7 @@ pub all_say : (texts : List (List ℕ)) → AllZip Says texts (map answer texts)
 all_say texts = (each_says_once texts (map answer texts)).1 refl
 
 module _ (says : Sayings) (same : (text : List ℕ) → says text ≡ answer text) where
-  rest_same : (rest : List ℕ) (end : End) (number : ℕ) (w : World) → rest_by says rest end number w ≡ rest_done rest end number w
+  rest_same : (rest : List ℕ) (end : End) (number : ℕ) (w : BusWorld) → rest_by says rest end number w ≡ rest_done rest end number w
   rest_same [] at_end number w = refl
   rest_same (b ∷ rest) at_end number w = ap (λ (s : Result Phrase ℕ). after_step (said_step s w) number w (λ next. ending_at (number + 1) next)) (same (b ∷ rest))
   rest_same [] read_failed number w = refl
@@ -28,8 +28,8 @@ module _ (says : Sayings) (same : (text : List ℕ) → says text ≡ answer tex
   rest_same [] stopped number w = refl
   rest_same (b ∷ rest) stopped number w = refl
 
-  head_same : (h : Head) (end : End) (number : ℕ) (w : World) (go go' : List ℕ → List ℕ → World → Ending)
-      → ((text rest : List ℕ) (next : World) → go text rest next ≡ go' text rest next) → head_by says h end number w go ≡ by_head h end number w go'
+  head_same : (h : Head) (end : End) (number : ℕ) (w : BusWorld) (go go' : List ℕ → List ℕ → BusWorld → Ending)
+      → ((text rest : List ℕ) (next : BusWorld) → go text rest next ≡ go' text rest next) → head_by says h end number w go ≡ by_head h end number w go'
   head_same (line text rest) end number w go go' on =
       ap (λ (s : Result Phrase ℕ). after_step (said_step s w) number w (go text rest)) (same text)
       ∙ after_step_same (said_step (answer text) w) number w (go text rest) (go' text rest) (on text rest)
@@ -37,7 +37,7 @@ module _ (says : Sayings) (same : (text : List ℕ) → says text ≡ answer tex
   head_same past end number w go go' on = refl
   head_same (unended text) end number w go go' on = rest_same text end number w
 
-  lines_same : (n spare : ℕ) (bytes : List ℕ) (end : End) (number : ℕ) (w : World) → lines_by says n spare bytes end number w ≡ goes_within n spare bytes end number w
+  lines_same : (n spare : ℕ) (bytes : List ℕ) (end : End) (number : ℕ) (w : BusWorld) → lines_by says n spare bytes end number w ≡ goes_within n spare bytes end number w
   unfolding lines_by
   lines_same zero spare bytes end number w = refl
   lines_same (suc n) spare bytes end number w =

@@ -6,7 +6,7 @@ use Rattle.uac_script.specs.ScriptLines.{Head, line, long, past, unended, head_o
 use Rattle.uac_script.specs.LineReading.{answer}
 use Rattle.uac_script.proofs.Heads.{head_line-more, head_long-more, head_past-more}
 use Rattle.uac_transcript.specs.Printing.{text_of}
-use Rattle.uac_bus.specs.BusWorld.{World, Step, done, refused, start}
+use Rattle.uac_bus.specs.BusWorld.{BusWorld, Step, done, refused, start}
 use Rattle.uac_bus.specs.After.{said_step}
 use Rattle.uac_describe.specs.declared.status.Status.TheVariants as statuses
 use Rattle.uac_describe.specs.Outcome.{End, at_end, read_failed, stopped}
@@ -22,13 +22,13 @@ use Rattle.uac_scripts.proofs.Going.{goes_at, line_size, waits_for_more}
 abbrev IsTold : Ending → (List ℕ → End → Ending) → Type 0
 IsTold short longer = (short.outcome.status ≡ statuses.WriteFault) ⊎ ((more : List ℕ) (end : End) → longer more end ≡ short)
 
-told_behind : (text : List ℕ) (short : Ending) (longer : List ℕ → End → Ending) → IsTold short longer → IsTold (with_text_first text short) (λ more end. with_text_first text (longer more end))
-told_behind text short longer (inl waits) = inl waits
-told_behind text short longer (inr same) = inr (λ more end. ap (with_text_first text) (same more end))
+told_after : (text : List ℕ) (short : Ending) (longer : List ℕ → End → Ending) → IsTold short longer → IsTold (with_text_first text short) (λ more end. with_text_first text (longer more end))
+told_after text short longer (inl waits) = inl waits
+told_after text short longer (inr same) = inr (λ more end. ap (with_text_first text) (same more end))
 
-told_step : (s : Step) (number : ℕ) (w : World) (go : World → Ending) (longer : List ℕ → End → World → Ending)
-    → ((next : World) → IsTold (go next) (λ more end. longer more end next)) → IsTold (after_step s number w go) (λ more end. after_step s number w (longer more end))
-told_step (done next lines) number w go longer told = told_behind (text_of lines) (go next) (λ more end. longer more end next) (told next)
+told_step : (s : Step) (number : ℕ) (w : BusWorld) (go : BusWorld → Ending) (longer : List ℕ → End → BusWorld → Ending)
+    → ((next : BusWorld) → IsTold (go next) (λ more end. longer more end next)) → IsTold (after_step s number w go) (λ more end. after_step s number w (longer more end))
+told_step (done next lines) number w go longer told = told_after (text_of lines) (go next) (λ more end. longer more end next) (told next)
 told_step (refused fault) number w go longer told = inr (λ more end. refl)
 
 told_same : (short short' : Ending) (longer longer' : List ℕ → End → Ending) → short' ≡ short → ((more : List ℕ) (end : End) → longer' more end ≡ longer more end)
@@ -37,13 +37,13 @@ told_same short short' longer longer' same each (inl waits) = inl (ap (λ (e : E
 told_same short short' longer longer' same each (inr stays) = inr (λ more end. each more end ∙ stays more end ∙ sym same)
 
 -- by what stands first, where that is told of what stands after a line
-told_by : (h : Head) (spare : ℕ) (bytes : List ℕ) (number : ℕ) (w : World) → head_of spare bytes ≡ h
-    → ((text rest : List ℕ) → h ≡ line text rest → (next : World)
+told_by : (h : Head) (spare : ℕ) (bytes : List ℕ) (number : ℕ) (w : BusWorld) → head_of spare bytes ≡ h
+    → ((text rest : List ℕ) → h ≡ line text rest → (next : BusWorld)
     → IsTold (goes (spare - (length text + 1)) rest stopped (number + 1) next) (λ more end. goes (spare - (length text + 1)) (rest ++ more) end (number + 1) next))
     → IsTold (goes spare bytes stopped number w) (λ more end. goes spare (bytes ++ more) end number w)
 told_by (line text rest) spare bytes number w is on =
-    let go : World → Ending = λ next. goes (spare - (length text + 1)) rest stopped (number + 1) next in
-    let longer : List ℕ → End → World → Ending = λ more end next. goes (spare - (length text + 1)) (rest ++ more) end (number + 1) next in
+    let go : BusWorld → Ending = λ next. goes (spare - (length text + 1)) rest stopped (number + 1) next in
+    let longer : List ℕ → End → BusWorld → Ending = λ more end next. goes (spare - (length text + 1)) (rest ++ more) end (number + 1) next in
     told_same (after_step (said_step (answer text) w) number w go) (goes spare bytes stopped number w)
     (λ more end. after_step (said_step (answer text) w) number w (longer more end)) (λ more end. goes spare (bytes ++ more) end number w)
     (goes_at (line text rest) spare bytes stopped number w is)
@@ -56,7 +56,7 @@ told_by past spare bytes number w is on =
 told_by (unended text) spare bytes number w is on =
     inl (ap (λ (e : Ending). e.outcome.status) (goes_at (unended text) spare bytes stopped number w is ∙ waits_for_more text number w))
 
-goes_told : (n spare : ℕ) (bytes : List ℕ) (number : ℕ) (w : World) → length bytes < n
+goes_told : (n spare : ℕ) (bytes : List ℕ) (number : ℕ) (w : BusWorld) → length bytes < n
     → IsTold (goes spare bytes stopped number w) (λ more end. goes spare (bytes ++ more) end number w)
 goes_told zero spare bytes number w few = absurd (omega arith)
 goes_told (suc n) spare bytes number w few =

@@ -15,7 +15,7 @@ use Rattle.uac_transcript.specs.Transcript.{Said}
 use Rattle.uac_transcript.specs.Printing.{text_of}
 use Rattle.uac_transcript.proofs.PrintingLemmas.{text_of-append}
 use Rattle.uac_bus.specs.declared.fault.BusFault.{BusFault}
-use Rattle.uac_bus.specs.BusWorld.{World, Step, done, start}
+use Rattle.uac_bus.specs.BusWorld.{BusWorld, Step, done, start}
 use Rattle.uac_bus.specs.After.{After, after, if_refused, said_step, step_added, with_one_more}
 use Rattle.uac_bus.proofs.AfterLemmas.{after_one_more}
 use Rattle.uac_scripts.specs.Script.{IsLine, with_newlines}
@@ -80,7 +80,7 @@ rest_cut spare bytes h = go (cases_of spare bytes)
 
 -- The lines done so far, each with its newline, are the bytes but for what stands after them; the text and the world are what they
 -- come to, and none was refused.
-pub record HasDone (shown : List Reading) (taken text unread : List ℕ) (w : World) : Type 0 where
+pub record HasDone (shown : List Reading) (taken text unread : List ℕ) (w : BusWorld) : Type 0 where
   pub texts : List (List ℕ)
   pub lines : AllByRecursion IsLine texts
   pub cut : taken ≡ with_newlines texts ++ unread
@@ -93,7 +93,7 @@ unfolding after
 none_done shown = record { texts = []; lines = tt; cut = refl; printed = refl; reached = refl; accepted = refl }
 
 -- more bytes stand after them
-pub done_more : (shown : List Reading) (taken text unread : List ℕ) (w : World) (got : List ℕ) → HasDone shown taken text unread w → HasDone shown (taken ++ got) text (unread ++ got) w
+pub done_more : (shown : List Reading) (taken text unread : List ℕ) (w : BusWorld) (got : List ℕ) → HasDone shown taken text unread w → HasDone shown (taken ++ got) text (unread ++ got) w
 done_more shown taken text unread w got d = record {
   texts = d.texts;
   lines = d.lines;
@@ -112,11 +112,11 @@ with_one (text ∷ texts) told rest =
     ∙ sym (append_assoc (text ++ 10 ∷ []) (with_newlines texts) (told ++ 10 ∷ rest))
 
 -- one line more that is done, after lines that were
-done_behind : (said : Result Phrase ℕ) (a : After) (next : World) (more : List Said) → a.refusal ≡ None → said_step said a.world ≡ done next more → with_one_more said a ≡ step_added (done next more) a
-done_behind said a next more none is =
+done_following : (said : Result Phrase ℕ) (a : After) (next : BusWorld) (more : List Said) → a.refusal ≡ None → said_step said a.world ≡ done next more → with_one_more said a ≡ step_added (done next more) a
+done_following said a next more none is =
     ap (λ (o : Option BusFault). if_refused o a (step_added (said_step said a.world) a)) none ∙ ap (λ (s : Step). step_added s a) is
 
-pub one_more_done : (shown : List Reading) (taken text told rest : List ℕ) (w next : World) (more : List Said) → HasDone shown taken text (told ++ 10 ∷ rest) w → IsLine told
+pub one_more_done : (shown : List Reading) (taken text told rest : List ℕ) (w next : BusWorld) (more : List Said) → HasDone shown taken text (told ++ 10 ∷ rest) w → IsLine told
     → said_step (answer told) w ≡ done next more → HasDone shown taken (text ++ text_of more) rest next
 one_more_done shown taken text told rest w next more d is_told is =
     let a : After = after (map answer d.texts) (start shown) in
@@ -124,7 +124,7 @@ one_more_done shown taken text told rest w next more d is_told is =
     let same : now ≡ step_added (done next more) a =
     ap (λ (saids : List (Result Phrase ℕ)). after saids (start shown)) (map-append answer d.texts (told ∷ []))
     ∙ after_one_more (map answer d.texts) (answer told) (start shown)
-    ∙ done_behind (answer told) a next more d.accepted (ap (said_step (answer told)) (sym d.reached) ∙ is) in
+    ∙ done_following (answer told) a next more d.accepted (ap (said_step (answer told)) (sym d.reached) ∙ is) in
     record {
       texts = d.texts ++ told ∷ [];
       lines = All-push IsLine d.texts told d.lines is_told;

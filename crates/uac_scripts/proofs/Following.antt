@@ -17,14 +17,14 @@ use Rattle.uac_script.proofs.Heads.{head_line-more}
 use Rattle.uac_edges.proofs.WritingLemmas.{Appends-twice, Appends-none, AppendsFront-after, AppendsFront-longer}
 use Rattle.uac_bus.specs.declared.fault.BusFault.{BusFault}
 use Rattle.uac_bus.specs.declared.fault.BusFault.TheVariants as faults
-use Rattle.uac_bus.specs.BusWorld.{World, describing, running, Step, done, refused, start, finish_of, meters_in}
+use Rattle.uac_bus.specs.BusWorld.{BusWorld, describing, running, Step, done, refused, start, finish_of, meters_in}
 use Rattle.uac_bus.specs.After.{after, said_step}
 use Rattle.uac_transcript.specs.Transcript.{Said}
 use Rattle.uac_transcript.specs.Printing.{text_of}
 use Rattle.uac_bus.specs.declared.bus.BusStage.{BusStage}
 use Rattle.uac_bus.specs.declared.bus.BusStage.TheVariants as stages
-use Rattle.uac_bus.specs.BusKept.{BusFields, Stands, StandsFor, Reaches, IsCut, Prevents}
-use Rattle.uac_scripts.specs.declared.jobs.Job.TheVariants.{Run}
+use Rattle.uac_bus.specs.BusKept.{BusFields, BusStands, StageStands, Reaches, IsCut, Prevents}
+use Rattle.uac_scripts.specs.declared.jobs.SourceJob.TheVariants.{Run}
 use Rattle.uac_describe.specs.declared.status.Status.{Status}
 use Rattle.uac_describe.specs.declared.status.Status.TheVariants as statuses
 use Rattle.uac_describe.specs.Outcome.{End, at_end, read_failed, stopped, Outcome, no_memory, read_fault}
@@ -34,7 +34,7 @@ use Rattle.uac_scripts.specs.Running.{IsSilent, Leaves, stop_outcome}
 use Rattle.uac_scripts.specs.Script.{IsLine, IsWanted, EndsLine, wants}
 use Rattle.uac_scripts.specs.Lived.{IsLived}
 use Rattle.uac_scripts.proofs.LivedLemmas.{transcript_is_lived, wanted_is_lived}
-use Rattle.uac_scripts.specs.ScriptTranscript.{Ending, misread, too_long, last_line, ends, with_text_first, after_step, closed_by, ending_at, unfinished}
+use Rattle.uac_scripts.specs.ScriptTranscript.{Ending, misread, too_long, last_line, ends, with_text_first, after_step, closed_by, ending_at, no_more_text}
 use Rattle.uac_scripts.specs.Computed.{goes, transcript}
 use Rattle.uac_describe.proofs.Answering.{told_status}
 use Rattle.uac_scripts.proofs.Agreeing.{all_say, is_transcript}
@@ -43,7 +43,7 @@ use Rattle.uac_scripts.proofs.Going.{line_size, goes_at, head_nothing, rest_is_d
 
 -- What is to come, whatever bytes that may be: the text so far, and then what the lines from here on make of the world. After a
 -- last line that no newline ends the script is finished.
-abbrev pub ToCome : List Reading → List ℕ → List ℕ → Splitting → Option (List ℕ) → World → Bool → Type 0
+abbrev pub ToCome : List Reading → List ℕ → List ℕ → Splitting → Option (List ℕ) → BusWorld → Bool → Type 0
 ToCome shown taken text lines left w false =
     (more : List ℕ) (end : End) → transcript shown (taken ++ more) end ≡ with_text_first text (goes lines.spare (lines.unread ++ more) end (lines.number + 1) w)
 ToCome shown taken text lines left w true = IsAtEnd left × (transcript shown taken at_end ≡ with_text_first text (ending_at (lines.number + 1) w))
@@ -53,14 +53,14 @@ ToCome shown taken text lines left w true = IsAtEnd left × (transcript shown ta
 pub record IsFar (shown : List Reading) (left left' : Option (List ℕ)) (written written' : Option (List ℕ)) (bus : BusFields) (shown' : List Reading) (lines : Splitting) : Type 0 where
   pub taken : List ℕ
   pub text : List ℕ
-  pub world : World
+  pub world : BusWorld
   pub consumed : Consumes left left' taken
   pub prompt : StopsAtRefusal shown taken
   pub size : length taken + lines.spare ≡ most_of_input + length lines.unread
   pub going : lines.stop ≡ None
   pub to_come : ToCome shown taken text lines left' world lines.ended
   pub appended : Appends written written' text
-  pub stands : Stands bus shown' world
+  pub stands : BusStands bus shown' world
   pub cut : lines.ended ≡ false → HasDone shown taken text lines.unread world
 
 -- ---- the start
@@ -72,7 +72,7 @@ kept_here (Some xs) = refl
 abbrev no_lines : Splitting
 no_lines = record { text = []; number = 0; unread = []; spare = most_of_input; stop = None; ended = false }
 
-begins : (shown : List Reading) (left written : Option (List ℕ)) (bus : BusFields) → Stands bus shown (start shown)
+begins : (shown : List Reading) (left written : Option (List ℕ)) (bus : BusFields) → BusStands bus shown (start shown)
     → IsFar shown left left written written bus shown no_lines
 unfolding transcript
 begins shown left written bus stands = record {
@@ -80,7 +80,7 @@ begins shown left written bus stands = record {
   text = [];
   world = start shown;
   consumed = Consumes-none left;
-  prompt = record { front = []; piece = []; parts = refl; ending = ends unfinished (start shown); so_far = is_transcript shown [] stopped (ends unfinished (start shown)) (sym (goes_at (unended []) most_of_input [] stopped 1 (start shown) (head_nothing most_of_input))); going = refl; short = omega arith };
+  prompt = record { front = []; piece = []; parts = refl; ending = ends no_more_text (start shown); so_far = is_transcript shown [] stopped (ends no_more_text (start shown)) (sym (goes_at (unended []) most_of_input [] stopped 1 (start shown) (head_nothing most_of_input))); going = refl; short = omega arith };
   size = refl;
   going = refl;
   to_come = (λ more end. refl);
@@ -89,17 +89,17 @@ begins shown left written bus stands = record {
   cut = (λ _. none_done shown);
 }
 
-pub far_at_first : (shown : List Reading) (left written : Option (List ℕ)) (bus : BusFields) (lines : Splitting) → Stands bus shown (start shown)
+pub far_at_first : (shown : List Reading) (left written : Option (List ℕ)) (bus : BusFields) (lines : Splitting) → BusStands bus shown (start shown)
     → lines ≡ record { text = []; number = 0; unread = []; spare = most_of_input; stop = None; ended = false }
     → IsFar shown left left written written bus shown lines
 far_at_first shown left written bus lines stands is =
     subst (λ (l : Splitting). IsFar shown left left written written bus shown l) (sym is) (begins shown left written bus stands)
 
 -- what the meters show is the world's
-Stands-meters : (bus : BusFields) (shown : List Reading) (w : World) → Stands bus shown w → shown ≡ meters_in w
-Stands-meters bus shown w stands = shows bus.stage w stands.stage
+BusStands-meters : (bus : BusFields) (shown : List Reading) (w : BusWorld) → BusStands bus shown w → shown ≡ meters_in w
+BusStands-meters bus shown w stands = shows bus.stage w stands.stage
   where
-    shows : (stage : BusStage) (w : World) → StandsFor stage shown w → shown ≡ meters_in w
+    shows : (stage : BusStage) (w : BusWorld) → StageStands stage shown w → shown ≡ meters_in w
     shows (stages.Describing reader) (describing bytes meters) s = s.2
     shows (stages.Describing reader) (running r) s = absurd s
     shows (stages.Running p) (describing bytes meters) s = absurd s
@@ -108,7 +108,7 @@ Stands-meters bus shown w stands = shows bus.stage w stands.stage
 -- ---- taking
 
 -- More was taken for the next line. Before the last piece none stood whole after the lines that were done.
-stops_later : (shown : List Reading) (taken text unread : List ℕ) (spare number : ℕ) (w : World)
+stops_later : (shown : List Reading) (taken text unread : List ℕ) (spare number : ℕ) (w : BusWorld)
     → ((more : List ℕ) (end : End) → transcript shown (taken ++ more) end ≡ with_text_first text (goes spare (unread ++ more) end number w))
     → StopsAtRefusal shown taken → (got : List ℕ) → StopsAtLine spare unread got → StopsAtRefusal shown (taken ++ got)
 stops_later shown taken text unread spare number w law before [] s = subst (StopsAtRefusal shown) (sym (append-nil taken)) before
@@ -116,9 +116,9 @@ stops_later shown taken text unread spare number w law before (b ∷ got) s = re
   front = taken ++ s.front;
   piece = s.piece;
   parts = ap (λ (xs : List ℕ). taken ++ xs) s.parts ∙ sym (append_assoc taken s.front s.piece);
-  ending = with_text_first text (ends unfinished w);
+  ending = with_text_first text (ends no_more_text w);
   so_far =
-      is_transcript shown (taken ++ s.front) stopped (with_text_first text (ends unfinished w)) (sym (law s.front stopped
+      is_transcript shown (taken ++ s.front) stopped (with_text_first text (ends no_more_text w)) (sym (law s.front stopped
       ∙ ap (with_text_first text) (goes_at (unended (unread ++ s.front)) spare (unread ++ s.front) stopped number w (s.open_yet (λ e. cc))
       ∙ waits_for_more (unread ++ s.front) number w)));
   going = refl;
@@ -129,11 +129,11 @@ stops_later shown taken text unread spare number w law before (b ∷ got) s = re
 
 -- a line was handed out: the bytes taken up to it, why no more may be, and how the script goes on where the line is done; the bytes are
 -- the lines done before it, the line itself, and what stands after it
-pub record HasLine (shown : List Reading) (text : List ℕ) (w : World) (left left' : Option (List ℕ)) (before : ℕ) (lines : Splitting) (reads reads' : ℕ) : Type 0 where
+pub record HasLine (shown : List Reading) (text : List ℕ) (w : BusWorld) (left left' : Option (List ℕ)) (before : ℕ) (lines : Splitting) (reads reads' : ℕ) : Type 0 where
   pub number : lines.number ≡ before + 1
   pub taken : List ℕ
   pub end : End
-  pub go : World → Ending
+  pub go : BusWorld → Ending
   pub consumed : Consumes left left' taken
   pub ended : HasEnded end left' reads reads'
   pub prompt : StopsAtRefusal shown taken
@@ -145,10 +145,10 @@ pub record HasLine (shown : List Reading) (text : List ℕ) (w : World) (left le
   pub fits : IsLine lines.text
   pub whole : EndsLine rest
   pub newline : lines.ended ≡ false → rest ≡ 10 ∷ lines.unread
-  pub on : (next : World) (more : List Said) → said_step (answer lines.text) w ≡ done next more → ToCome shown taken (text ++ text_of more) lines left' next lines.ended
+  pub on : (next : BusWorld) (more : List Said) → said_step (answer lines.text) w ≡ done next more → ToCome shown taken (text ++ text_of more) lines left' next lines.ended
 
 -- the law of what is to come, past the line that stands in front
-past_line : (shown : List Reading) (taken text got told rest unread : List ℕ) (spare number : ℕ) (w : World)
+past_line : (shown : List Reading) (taken text got told rest unread : List ℕ) (spare number : ℕ) (w : BusWorld)
     → ((more : List ℕ) (end : End) → transcript shown (taken ++ more) end ≡ with_text_first text (goes spare (unread ++ more) end (number + 1) w))
     → head_of spare (unread ++ got) ≡ line told rest → (more : List ℕ) (end : End)
     → transcript shown ((taken ++ got) ++ more) end
@@ -160,14 +160,14 @@ past_line shown taken text got told rest unread spare number w law head more end
     ∙ ap (with_text_first text) (goes_at (line told (rest ++ more)) spare ((unread ++ got) ++ more) end (number + 1) w (head_line-more spare (unread ++ got) more told rest head))
 
 -- the same where the line was done
-past_done : (shown : List Reading) (taken text told : List ℕ) (number : ℕ) (w next : World) (more : List Said) (end : End) (go : World → Ending)
+past_done : (shown : List Reading) (taken text told : List ℕ) (number : ℕ) (w next : BusWorld) (more : List Said) (end : End) (go : BusWorld → Ending)
     → transcript shown taken end ≡ with_text_first text (after_step (said_step (answer told) w) number w go) → said_step (answer told) w ≡ done next more
     → transcript shown taken end ≡ with_text_first (text ++ text_of more) (go next)
 past_done shown taken text told number w next more end go law is =
     law ∙ ap (λ (s : Step). with_text_first text (after_step s number w go)) is ∙ with_text_first-with_text_first text (text_of more) (go next)
 
 -- a line with its newline
-has_front : (shown : List Reading) (taken text got told rest : List ℕ) (old new : Splitting) (w : World) (left left' : Option (List ℕ)) (reads reads' : ℕ)
+has_front : (shown : List Reading) (taken text got told rest : List ℕ) (old new : Splitting) (w : BusWorld) (left left' : Option (List ℕ)) (reads reads' : ℕ)
     → ((more : List ℕ) (end : End) → transcript shown (taken ++ more) end ≡ with_text_first text (goes old.spare (old.unread ++ more) end (old.number + 1) w))
     → length taken + old.spare ≡ most_of_input + length old.unread
     → Consumes left left' (taken ++ got) → StopsAtRefusal shown (taken ++ got) → HasDone shown taken text old.unread w → length told + 1 + length rest ≡ length (old.unread ++ got)
@@ -178,7 +178,7 @@ has_front shown taken text got told rest old new w left left' reads reads' law s
     let after = past_line shown taken text got told rest old.unread old.spare old.number w law head in
     let spare-is : old.spare - (length told + 1) ≡ new.spare = let s = g.spare in omega arith in
     let number-is : old.number + 1 ≡ new.number = sym g.number in
-    let go : World → Ending = λ next. goes (old.spare - (length told + 1)) (rest ++ []) stopped (old.number + 1 + 1) next in
+    let go : BusWorld → Ending = λ next. goes (old.spare - (length told + 1)) (rest ++ []) stopped (old.number + 1 + 1) next in
     record {
       number = g.number;
       taken = taken ++ got;
@@ -201,7 +201,7 @@ has_front shown taken text got told rest old new w left left' reads reads' law s
       newline = (λ _. ap (λ (xs : List ℕ). 10 ∷ xs) (sym g.unread));
       on = (λ next more is. subst (λ (b : Bool). ToCome shown (taken ++ got) (text ++ text_of more) new left' next b) (sym g.ended)
           (λ with_text_first-it end. past_done shown ((taken ++ got) ++ with_text_first-it) text told (old.number + 1) w next more end
-          (λ (n : World). goes (old.spare - (length told + 1)) (rest ++ with_text_first-it) end (old.number + 1 + 1) n)
+          (λ (n : BusWorld). goes (old.spare - (length told + 1)) (rest ++ with_text_first-it) end (old.number + 1 + 1) n)
           (after with_text_first-it end) (ap (λ (t : List ℕ). said_step (answer t) w) (sym g.text) ∙ is)
           ∙ ap (λ (n : ℕ). with_text_first (text ++ text_of more) (goes n (rest ++ with_text_first-it) end (old.number + 1 + 1) next)) spare-is
           ∙ ap (λ (u : List ℕ). with_text_first (text ++ text_of more) (goes new.spare (u ++ with_text_first-it) end (old.number + 1 + 1) next)) (sym g.unread)
@@ -209,7 +209,7 @@ has_front shown taken text got told rest old new w left left' reads reads' law s
     }
 
 -- a last line that no newline ends
-has_rest : (shown : List Reading) (taken text got : List ℕ) (old new : Splitting) (w : World) (left left' : Option (List ℕ)) (reads reads' : ℕ)
+has_rest : (shown : List Reading) (taken text got : List ℕ) (old new : Splitting) (w : BusWorld) (left left' : Option (List ℕ)) (reads reads' : ℕ)
     → ((more : List ℕ) (end : End) → transcript shown (taken ++ more) end ≡ with_text_first text (goes old.spare (old.unread ++ more) end (old.number + 1) w))
     → length taken + old.spare ≡ most_of_input + length old.unread
     → Consumes left left' (taken ++ got) → StopsAtRefusal shown (taken ++ got) → HasDone shown taken text old.unread w → IsAtEnd left' → old.unread ++ got ≢ []
@@ -217,7 +217,7 @@ has_rest : (shown : List Reading) (taken text got : List ℕ) (old new : Splitti
     → HasLine shown text w left left' old.number new reads reads'
 has_rest shown taken text got old new w left left' reads reads' law size consumed prompt isdone over some head g still =
     let number-is : old.number + 1 ≡ new.number = sym g.number in
-    let go : World → Ending = λ next. ending_at (old.number + 1 + 1) next in
+    let go : BusWorld → Ending = λ next. ending_at (old.number + 1 + 1) next in
     let at : transcript shown (taken ++ got) at_end ≡ with_text_first text (after_step (said_step (answer (old.unread ++ got)) w) (old.number + 1) w go) =
     law got at_end
     ∙ ap (with_text_first text) (goes_at (unended (old.unread ++ got)) old.spare (old.unread ++ got) at_end (old.number + 1) w head ∙ rest_is_done (old.unread ++ got) (old.number + 1) w some) in
@@ -282,23 +282,23 @@ module _ (shown shown' : List Reading) (left mid left' : Option (List ℕ)) (wri
 -- ---- a line that was done
 
 record WasDone (s : Step) (bus : BusFields) (shown : List Reading) (written written' : Option (List ℕ)) : Type 0 where
-  pub next : World
+  pub next : BusWorld
   pub more : List Said
   pub is : s ≡ done next more
-  pub stands : Stands bus shown next
+  pub stands : BusStands bus shown next
   pub appended : Appends written written' (text_of more)
 
-done_parts : (s : Step) (bus : BusFields) (shown : List Reading) (written written' : Option (List ℕ)) → Reaches s (Stands bus shown) written written' → WasDone s bus shown written written'
+done_parts : (s : Step) (bus : BusFields) (shown : List Reading) (written written' : Option (List ℕ)) → Reaches s (BusStands bus shown) written written' → WasDone s bus shown written written'
 done_parts (done next more) bus shown written written' d = record { next = next; more = more; is = refl; stands = d.0; appended = d.1 }
 done_parts (refused fault) bus shown written written' d = absurd d
 
 pub far_on : (shown shown' shown'' : List Reading) (left mid left' : Option (List ℕ)) (written written' written'' : Option (List ℕ)) (bus bus' : BusFields) (old new : Splitting) (reads reads' : ℕ)
     → (far : IsFar shown left mid written written' bus shown' old) → HasLine shown far.text far.world left left' old.number new reads reads'
-    → (told : List ℕ) → told ≡ new.text → Reaches (said_step (answer told) far.world) (Stands bus' shown'') written' written''
+    → (told : List ℕ) → told ≡ new.text → Reaches (said_step (answer told) far.world) (BusStands bus' shown'') written' written''
     → IsFar shown left left' written written'' bus' shown'' new
 far_on shown shown' shown'' left mid left' written written' written'' bus bus' old new reads reads' far has told told-is isdone =
     let d = done_parts (said_step (answer new.text) far.world) bus' shown'' written' written''
-    (subst (λ (t : List ℕ). Reaches (said_step (answer t) far.world) (Stands bus' shown'') written' written'') told-is isdone) in
+    (subst (λ (t : List ℕ). Reaches (said_step (answer t) far.world) (BusStands bus' shown'') written' written'') told-is isdone) in
     record {
       taken = has.taken;
       text = far.text ++ text_of d.more;
@@ -324,7 +324,7 @@ closes_after o text old mid new before between after status front still (inr cut
     inr (cut.0, subst (λ (n : ℕ). Rose n after) still cut.1, AppendsFront-after old mid new text o.text front cut.2)
 
 -- memory may be wanted at the line after those that were done
-is_wanted : (shown : List Reading) (taken text told rest : List ℕ) (w : World) → HasDone shown taken text (told ++ rest) w → IsLine told → EndsLine rest → wants (answer told) w ≡ true
+is_wanted : (shown : List Reading) (taken text told rest : List ℕ) (w : BusWorld) → HasDone shown taken text (told ++ rest) w → IsLine told → EndsLine rest → wants (answer told) w ≡ true
     → IsWanted shown taken (with_text_first text (ends no_memory w))
 is_wanted shown taken text told rest w isdone is_line whole takes = record {
   texts = isdone.texts;
@@ -339,10 +339,10 @@ is_wanted shown taken text told rest w isdone is_line whole takes = record {
   done = isdone.accepted;
   said = answer told;
   says = answer_says told;
-  takes = subst (λ (v : World). wants (answer told) v ≡ true) isdone.reached takes;
+  takes = subst (λ (v : BusWorld). wants (answer told) v ≡ true) isdone.reached takes;
   is =
       ap (λ (t : List ℕ). with_text_first t (ends no_memory w)) isdone.printed
-      ∙ ap (λ (v : World). with_text_first (text_of (after (map answer isdone.texts) (start shown)).lines) (ends no_memory v)) isdone.reached;
+      ∙ ap (λ (v : BusWorld). with_text_first (text_of (after (map answer isdone.texts) (start shown)).lines) (ends no_memory v)) isdone.reached;
 }
 
 module _ (shown shown' : List Reading) (left left' : Option (List ℕ)) (reads reads' : ℕ) (written mid written' : Option (List ℕ)) (writes writes' writes'' : ℕ) (status : Status) where
@@ -365,7 +365,7 @@ module _ (shown shown' : List Reading) (left left' : Option (List ℕ)) (reads r
   }
 
   -- memory was wanted at a line, after others that were done
-  pub memory_run : (taken text told rest : List ℕ) (w : World) (end : End) → Consumes left left' taken → HasEnded end left' reads reads' → IsPrompt (Some Run) shown taken
+  pub memory_run : (taken text told rest : List ℕ) (w : BusWorld) (end : End) → Consumes left left' taken → HasEnded end left' reads reads' → IsPrompt (Some Run) shown taken
       → HasDone shown taken text (told ++ rest) w → IsLine told → EndsLine rest → wants (answer told) w ≡ true
       → Appends written mid text → writes' ≡ writes → Closes no_memory mid written' writes' writes'' status → shown' ≡ meters_in w
       → IsRun (Some Run) shown shown' left left' reads reads' written written' writes writes'' status
@@ -385,7 +385,7 @@ module _ (shown shown' : List Reading) (left left' : Option (List ℕ)) (reads r
 
 -- ---- a line that wasn't done
 
-cut_parts : (s : Step) (written written' : Option (List ℕ)) (text : List ℕ) (number : ℕ) (w : World) (go : World → Ending) → IsCut s written written'
+cut_parts : (s : Step) (written written' : Option (List ℕ)) (text : List ℕ) (number : ℕ) (w : BusWorld) (go : BusWorld → Ending) → IsCut s written written'
     → AppendsFront written written' (after_step s number w go).outcome.text
 cut_parts (done next more) written written' text number w go cut = AppendsFront-longer written written' (text_of more) (go next).outcome.text cut
 cut_parts (refused fault) written written' text number w go cut = absurd cut
@@ -394,8 +394,8 @@ cut_parts (refused fault) written written' text number w go cut = absurd cut
 ended_earlier : (end : End) (left : Option (List ℕ)) (first reads reads' : ℕ) → reads ≡ first → HasEnded end left reads reads' → HasEnded end left first reads'
 ended_earlier end left first reads reads' still h = subst (λ (n : ℕ). HasEnded end left n reads') still h
 
-module _ (shown shown' shown'' : List Reading) (left left' : Option (List ℕ)) (written mid mid' written' : Option (List ℕ)) (bus : BusFields) (new : Splitting) (text : List ℕ) (w : World)
-    (first reads reads' writes before after last counted : ℕ) (status : Status) (has : HasLine shown text w left left' counted new reads reads') (stands : Stands bus shown' w)
+module _ (shown shown' shown'' : List Reading) (left left' : Option (List ℕ)) (written mid mid' written' : Option (List ℕ)) (bus : BusFields) (new : Splitting) (text : List ℕ) (w : BusWorld)
+    (first reads reads' writes before after last counted : ℕ) (status : Status) (has : HasLine shown text w left left' counted new reads reads') (stands : BusStands bus shown' w)
     (front : Appends written mid text) (within : length new.unread ≤ new.spare + 1)
     (reads-early : reads ≡ first) (early : before ≡ writes) where
   ended : HasEnded has.end left' first reads'
@@ -411,7 +411,7 @@ module _ (shown shown' shown'' : List Reading) (left left' : Option (List ℕ)) 
       has.consumed ended prompt
       (has.law ∙ ap (λ (s : Step). with_text_first text (after_step s new.number w has.go)) is)
       (subst (λ (m : Option (List ℕ)). Appends written m text) (sym silent.kept) front) (silent.faultless ∙ early) closed
-      (λ _. silent.heard ∙ Stands-meters bus shown' w stands)
+      (λ _. silent.heard ∙ BusStands-meters bus shown' w stands)
 
   -- the line failed, and its last line was printed
   failed_by : (fault : BusFault) → Prevents fault (wants (answer new.text) w) (said_step (answer new.text) w) mid mid' × Leaves shown' shown'' mid mid' before after fault
@@ -423,7 +423,7 @@ module _ (shown shown' shown'' : List Reading) (left left' : Option (List ℕ)) 
   failed_by faults.NoMemory fails closed silence =
       memory_run shown shown'' left left' first reads' written mid' written' writes after last status has.taken text new.text has.rest w has.end has.consumed ended prompt
       has.cut has.fits has.whole fails.0 (subst (λ (m : Option (List ℕ)). Appends written m text) (sym fails.1.kept) front) (fails.1.faultless ∙ early) closed
-      (fails.1.heard ∙ Stands-meters bus shown' w stands)
+      (fails.1.heard ∙ BusStands-meters bus shown' w stands)
   failed_by faults.WriteFault fails closed silence =
       let quietly = silence refl in
       let cut = cut_parts (said_step (answer new.text) w) mid mid' text new.number w has.go fails.0 in
@@ -468,7 +468,7 @@ module _ (shown shown' : List Reading) (left mid left' : Option (List ℕ)) (wri
       (goes_on shown shown' left mid left' written written' bus old new reads reads' far open_yet splits.taken stopped
       ∙ ap (with_text_first far.text) (goes_at long old.spare (old.unread ++ splits.taken) stopped (old.number + 1) far.world splits.comes.0
       ∙ ap (λ (n : ℕ). ends (misread 1 n) far.world) (sym halt.number)))
-      far.appended first-writes closed (λ _. Stands-meters bus shown' far.world far.stands)
+      far.appended first-writes closed (λ _. BusStands-meters bus shown' far.world far.stands)
   stopped_by stops.TooLong open_yet splits calm closed =
       let halt = splits.comes.1 in
       ends_run shown shown' left left' first reads' written written' written'' writes before last status (far.taken ++ splits.taken) far.text stopped (ends too_long far.world)
@@ -476,7 +476,7 @@ module _ (shown shown' : List Reading) (left mid left' : Option (List ℕ)) (wri
       (stopped_prompt open_yet splits.taken splits.prompt halt.unread halt.spare)
       (goes_on shown shown' left mid left' written written' bus old new reads reads' far open_yet splits.taken stopped
       ∙ ap (with_text_first far.text) (goes_at past old.spare (old.unread ++ splits.taken) stopped (old.number + 1) far.world splits.comes.0))
-      far.appended first-writes closed (λ _. Stands-meters bus shown' far.world far.stands)
+      far.appended first-writes closed (λ _. BusStands-meters bus shown' far.world far.stands)
   stopped_by stops.Failed open_yet splits calm closed =
       let halt = splits.comes.2 in
       ends_run shown shown' left left' first reads' written written' written'' writes before last status (far.taken ++ splits.taken) far.text read_failed (ends read_fault far.world)
@@ -485,7 +485,7 @@ module _ (shown shown' : List Reading) (left mid left' : Option (List ℕ)) (wri
       (goes_on shown shown' left mid left' written written' bus old new reads reads' far open_yet splits.taken read_failed
       ∙ ap (with_text_first far.text) (goes_at (unended (old.unread ++ splits.taken)) old.spare (old.unread ++ splits.taken) read_failed (old.number + 1) far.world splits.comes.0
       ∙ rest_failed (old.unread ++ splits.taken) (old.number + 1) far.world))
-      far.appended first-writes closed (λ _. Stands-meters bus shown' far.world far.stands)
+      far.appended first-writes closed (λ _. BusStands-meters bus shown' far.world far.stands)
 
   pub stopped_run : (why : LineStop) (number : ℕ) → number ≡ new.number → old.ended ≡ false → Splits old new mid left' reads reads' (Err why)
       → (got : Result Next LineStop) → got ≡ Err why → (got ≢ Err stops.Failed → reads' ≡ reads) → Closes (stop_outcome why number) written' written'' before last status
@@ -493,7 +493,7 @@ module _ (shown shown' : List Reading) (left mid left' : Option (List ℕ)) (wri
   stopped_run why number number-is open_yet splits got got-is calm closed =
       stopped_by why open_yet splits (λ other. calm (λ e. other (cc (got-is, e)))) (subst (λ (n : ℕ). Closes (stop_outcome why n) written' written'' before last status) number-is closed)
 
-finished_meters : (number : ℕ) (w : World) → (ending_at number w).meters ≡ meters_in w
+finished_meters : (number : ℕ) (w : BusWorld) → (ending_at number w).meters ≡ meters_in w
 unfolding ending_at
 finished_meters number (describing bytes meters) = refl
 finished_meters number (running r) = refl
@@ -553,7 +553,7 @@ module _ (shown shown' : List Reading) (left mid left' : Option (List ℕ)) (wri
         ends_run shown shown' left left' first reads' written written' written'' writes before last status o.taken far.text at_end (ending_at (old.number + 1) far.world)
             o.consumed (o.over, still) o.prompt o.law far.appended first-writes
             (subst (λ (n : ℕ). Closes (ending_at (n + 1) far.world).outcome written' written'' before last status) number-is closed)
-            (λ _. Stands-meters bus shown' far.world far.stands ∙ sym (finished_meters (old.number + 1) far.world)),
+            (λ _. BusStands-meters bus shown' far.world far.stands ∙ sym (finished_meters (old.number + 1) far.world)),
         o.over,
       )
 
@@ -567,13 +567,13 @@ closes_last fault is number text old new before after status same told closed =
     (subst (λ (t : List ℕ). Closes (record { text = t; status = (last_line is number).status }) old new before after status) told closed)
 
 -- the script is at its end, and nothing is printed
-pub closes_finished : (number : ℕ) (w : World) (u : Unit {0}) (a : Option (List ℕ)) (f : ℕ) → finish_of w ≡ Ok u → Closes (ending_at number w).outcome a a f f statuses.Ok
+pub closes_finished : (number : ℕ) (w : BusWorld) (u : Unit {0}) (a : Option (List ℕ)) (f : ℕ) → finish_of w ≡ Ok u → Closes (ending_at number w).outcome a a f f statuses.Ok
 unfolding ending_at
 closes_finished number w u a f is =
     subst (λ (r : Result (Unit {0}) BusFault). Closes (closed_by r number w).outcome a a f f statuses.Ok) (sym is) (inl (refl, Appends-none a a (kept_here a), refl))
 
 -- the script may not end here
-pub closes_unfinished : (number : ℕ) (w : World) (fault : BusFault) (old new : Option (List ℕ)) (before after : ℕ) (status : Status) → finish_of w ≡ Err fault
+pub closes_unfinished : (number : ℕ) (w : BusWorld) (fault : BusFault) (old new : Option (List ℕ)) (before after : ℕ) (status : Status) → finish_of w ≡ Err fault
     → Closes (last_line fault number) old new before after status → Closes (ending_at number w).outcome old new before after status
 unfolding ending_at
 closes_unfinished number w fault old new before after status is closed =

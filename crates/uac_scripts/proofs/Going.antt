@@ -5,11 +5,11 @@ use Rattle.uac_script.specs.ScriptLines.{Head, line, long, past, unended, head_o
 use Rattle.uac_script.specs.Looking.{line_end}
 use Rattle.uac_script.specs.LineReading.{answer}
 use Rattle.uac_script.proofs.Heads.{Cases, is_long, is_line, is_past, is_unended, cases_of, line_end_within}
-use Rattle.uac_bus.specs.BusWorld.{World, Step, done, refused}
+use Rattle.uac_bus.specs.BusWorld.{BusWorld, Step, done, refused}
 use Rattle.uac_describe.specs.Outcome.{End, at_end, read_failed, read_fault, stopped}
 use Rattle.uac_transcript.specs.Printing.{text_of}
 use Rattle.uac_bus.specs.After.{said_step}
-use Rattle.uac_scripts.specs.ScriptTranscript.{Ending, ends, with_text_first, after_step, ending_at, unfinished, lines_by}
+use Rattle.uac_scripts.specs.ScriptTranscript.{Ending, ends, with_text_first, after_step, ending_at, no_more_text, lines_by}
 use Rattle.uac_scripts.specs.Computed.{rest_done, by_head, goes_within, goes}
 
 -- a line and its newline are some of the bytes, and the rest stands after them
@@ -31,19 +31,19 @@ line_size spare bytes text rest h = go (cases_of spare bytes)
 
 -- ---- more fuel
 
-pub after_step_same : (s : Step) (number : ℕ) (w : World) (go go' : World → Ending) → ((next : World) → go next ≡ go' next) → after_step s number w go ≡ after_step s number w go'
+pub after_step_same : (s : Step) (number : ℕ) (w : BusWorld) (go go' : BusWorld → Ending) → ((next : BusWorld) → go next ≡ go' next) → after_step s number w go ≡ after_step s number w go'
 after_step_same (done next lines) number w go go' same = ap (with_text_first (text_of lines)) (same next)
 after_step_same (refused fault) number w go go' same = refl
 
-by_head_same : (h : Head) (end : End) (number : ℕ) (w : World) (go go' : List ℕ → List ℕ → World → Ending)
-    → ((text rest : List ℕ) → h ≡ line text rest → (next : World) → go text rest next ≡ go' text rest next)
+by_head_same : (h : Head) (end : End) (number : ℕ) (w : BusWorld) (go go' : List ℕ → List ℕ → BusWorld → Ending)
+    → ((text rest : List ℕ) → h ≡ line text rest → (next : BusWorld) → go text rest next ≡ go' text rest next)
     → by_head h end number w go ≡ by_head h end number w go'
 by_head_same (line text rest) end number w go go' same = after_step_same (said_step (answer text) w) number w (go text rest) (go' text rest) (same text rest refl)
 by_head_same long end number w go go' same = refl
 by_head_same past end number w go go' same = refl
 by_head_same (unended text) end number w go go' same = refl
 
-goes_within_same : (m n spare : ℕ) (bytes : List ℕ) (end : End) (number : ℕ) (w : World) → length bytes < m → length bytes < n
+goes_within_same : (m n spare : ℕ) (bytes : List ℕ) (end : End) (number : ℕ) (w : BusWorld) → length bytes < m → length bytes < n
     → goes_within m spare bytes end number w ≡ goes_within n spare bytes end number w
 unfolding lines_by
 goes_within_same zero n spare bytes end number w p q = absurd (omega arith)
@@ -56,10 +56,10 @@ goes_within_same (suc m) (suc n) spare bytes end number w p q =
     goes_within_same m n (spare - (length text + 1)) rest end (number + 1) next (omega arith) (omega arith))
 
 -- what goes on after a line
-abbrev go_on : ℕ → End → ℕ → List ℕ → List ℕ → World → Ending
+abbrev go_on : ℕ → End → ℕ → List ℕ → List ℕ → BusWorld → Ending
 go_on spare end number text rest next = goes (spare - (length text + 1)) rest end (number + 1) next
 
-goes_by : (spare : ℕ) (bytes : List ℕ) (end : End) (number : ℕ) (w : World) → goes spare bytes end number w ≡ by_head (head_of spare bytes) end number w (go_on spare end number)
+goes_by : (spare : ℕ) (bytes : List ℕ) (end : End) (number : ℕ) (w : BusWorld) → goes spare bytes end number w ≡ by_head (head_of spare bytes) end number w (go_on spare end number)
 unfolding goes lines_by
 goes_by spare bytes end number w =
     ap (λ (n : ℕ). goes_within n spare bytes end number w) (add-one (length bytes))
@@ -71,7 +71,7 @@ goes_by spare bytes end number w =
 
 -- ---- what stands first
 
-pub goes_at : (h : Head) (spare : ℕ) (bytes : List ℕ) (end : End) (number : ℕ) (w : World) → head_of spare bytes ≡ h
+pub goes_at : (h : Head) (spare : ℕ) (bytes : List ℕ) (end : End) (number : ℕ) (w : BusWorld) → head_of spare bytes ≡ h
     → goes spare bytes end number w ≡ by_head h end number w (λ text rest next. goes (spare - (length text + 1)) rest end (number + 1) next)
 goes_at h spare bytes end number w is = goes_by spare bytes end number w ∙ ap (λ (x : Head). by_head x end number w (go_on spare end number)) is
 
@@ -86,16 +86,16 @@ head_nothing spare = go (cases_of spare [])
     go (is_line few some e) = absurd (omega (arith, length-take {A = ℕ} spare []))
 
 -- a rest that isn't empty is a line at the end
-pub rest_is_done : (rest : List ℕ) (number : ℕ) (w : World) → rest ≢ [] → rest_done rest at_end number w ≡ after_step (said_step (answer rest) w) number w (λ next. ending_at (number + 1) next)
+pub rest_is_done : (rest : List ℕ) (number : ℕ) (w : BusWorld) → rest ≢ [] → rest_done rest at_end number w ≡ after_step (said_step (answer rest) w) number w (λ next. ending_at (number + 1) next)
 rest_is_done [] number w some = absurd (some refl)
 rest_is_done (b ∷ rest) number w some = refl
 
-pub rest_failed : (rest : List ℕ) (number : ℕ) (w : World) → rest_done rest read_failed number w ≡ ends read_fault w
+pub rest_failed : (rest : List ℕ) (number : ℕ) (w : BusWorld) → rest_done rest read_failed number w ≡ ends read_fault w
 rest_failed [] number w = refl
 rest_failed (b ∷ rest) number w = refl
 
 -- bytes that no newline ends wait for more
-pub waits_for_more : (rest : List ℕ) (number : ℕ) (w : World) → rest_done rest stopped number w ≡ ends unfinished w
+pub waits_for_more : (rest : List ℕ) (number : ℕ) (w : BusWorld) → rest_done rest stopped number w ≡ ends no_more_text w
 waits_for_more [] number w = refl
 waits_for_more (b ∷ rest) number w = refl
 

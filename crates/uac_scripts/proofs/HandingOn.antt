@@ -7,13 +7,13 @@ use Rattle.uac_edges.specs.Faults.{Rose}
 use Rattle.uac_edges.proofs.WritingLemmas.{AppendsFront-whole}
 use Rattle.uac_units.specs.Hearing.{Reading}
 use Rattle.uac_script.specs.declared.lent.LentLine.{LentLine}
-use Rattle.uac_script.specs.Lent.{lent_phrase, lent_said}
+use Rattle.uac_script.specs.Lent.{lent_phrase, lent_phrase_result}
 use Rattle.uac_transcript.specs.Printing.{text_of}
 use Rattle.uac_bus.specs.declared.fault.BusFault.{BusFault}
 use Rattle.uac_bus.specs.declared.fault.BusFault.TheVariants as faults
-use Rattle.uac_bus.specs.BusWorld.{World, Step, done, refused, step}
+use Rattle.uac_bus.specs.BusWorld.{BusWorld, Step, done, refused, step}
 use Rattle.uac_bus.specs.After.{said_step}
-use Rattle.uac_bus.specs.BusKept.{Answers, BusFields, Stands, may_want}
+use Rattle.uac_bus.specs.BusKept.{Answers, BusFields, BusStands, may_want}
 use Rattle.uac_scripts.specs.Running.{Does, Leaves}
 use Rattle.uac_scripts.specs.Script.{wants}
 
@@ -29,13 +29,13 @@ does_handed_on (done next lines) memory bus shown shown' w m w' f g f' u (Err fa
     (AppendsFront-whole w w' (text_of lines) (Appends-kept w m w' (text_of lines) does.0.1 kept), subst (λ (n : ℕ). Rose n f') does.2 rose, tt)
 
 -- a line that was read was done, and then what it printed was to be handed on
-pub line_handed_on : (said : Result LentLine ℕ) (line : LentLine) (world : World) (bus : BusFields) (shown shown' : List Reading)
+pub line_handed_on : (said : Result LentLine ℕ) (line : LentLine) (world : BusWorld) (bus : BusFields) (shown shown' : List Reading)
     (w m w' : Option (List ℕ)) (f g f' : ℕ) (u : Unit {0}) (result : Result (Unit {0}) BusFault) → said ≡ Ok line
     → Answers (lent_phrase line) world bus shown' w m (Ok u) → g ≡ f → Keeps m w'
     → OnOk result (f' ≡ g) → IfErr result (λ fault. fault ≡ faults.WriteFault) → OnErr result (Rose g f')
-    → Does (said_step (lent_said said) world) (wants (lent_said said) world) bus shown shown' w w' f f' result
+    → Does (said_step (lent_phrase_result said) world) (wants (lent_phrase_result said) world) bus shown shown' w w' f f' result
 line_handed_on said line world bus shown shown' w m w' f g f' u result is answers same kept still only rose =
-    subst (λ (s : Result LentLine ℕ). Does (said_step (lent_said s) world) (wants (lent_said s) world) bus shown shown' w w' f f' result)
+    subst (λ (s : Result LentLine ℕ). Does (said_step (lent_phrase_result s) world) (wants (lent_phrase_result s) world) bus shown shown' w w' f f' result)
     (sym is)
     (does_handed_on (step (lent_phrase line) world) (may_want (lent_phrase line) world) bus shown shown' w m w' f g f' u result
     (answers, tt, same) kept still only rose)
@@ -58,14 +58,14 @@ line_left faults.WriteFault before shown shown' w w' f f' none unheard unwritten
 ]
 
 -- a line that was read failed
-pub line_failed : (said : Result LentLine ℕ) (line : LentLine) (world : World) (bus bus' : BusFields) (shown shown' : List Reading)
-    (w w' : Option (List ℕ)) (f f' : ℕ) (fault : BusFault) → said ≡ Ok line → Stands bus shown world
+pub line_failed : (said : Result LentLine ℕ) (line : LentLine) (world : BusWorld) (bus bus' : BusFields) (shown shown' : List Reading)
+    (w w' : Option (List ℕ)) (f f' : ℕ) (fault : BusFault) → said ≡ Ok line → BusStands bus shown world
     → Answers (lent_phrase line) world bus' shown' w w' (Err fault)
     → (fault ≢ faults.WriteFault → shown' ≡ shown) → (fault ≢ faults.WriteFault → (w' ≡ w) × (f' ≡ f))
     → (fault ≡ faults.WriteFault → (bus.fault ≡ Some faults.WriteFault) ⊎ Rose f f')
-    → Does (said_step (lent_said said) world) (wants (lent_said said) world) bus' shown shown' w w' f f' (Err fault)
+    → Does (said_step (lent_phrase_result said) world) (wants (lent_phrase_result said) world) bus' shown shown' w w' f f' (Err fault)
 line_failed said line world bus bus' shown shown' w w' f f' fault is stands answers unheard unwritten cause =
     subst
-    (λ (s : Result LentLine ℕ). Does (said_step (lent_said s) world) (wants (lent_said s) world) bus' shown shown' w w' f f' (Err fault))
+    (λ (s : Result LentLine ℕ). Does (said_step (lent_phrase_result s) world) (wants (lent_phrase_result s) world) bus' shown shown' w w' f f' (Err fault))
     (sym is)
     (answers, line_left fault bus.fault shown shown' w w' f f' stands.going unheard unwritten cause, tt)

@@ -10,7 +10,7 @@ use Rattle.uac_transcript.specs.Printing.{text_of}
 use Rattle.uac_transcript.specs.Transcript.{Said}
 use Rattle.uac_transcript.proofs.PrintingLemmas.{text_of-append}
 use Rattle.uac_bus.specs.declared.fault.BusFault.TheVariants as faults
-use Rattle.uac_bus.specs.BusWorld.{World, Step, describing, done, refused, running, start}
+use Rattle.uac_bus.specs.BusWorld.{BusWorld, Step, describing, done, refused, running, start}
 use Rattle.uac_bus.specs.After.{After, after, and_then, said_step}
 use Rattle.uac_promises.proofs.AllScripts.{all_scripts_keep_promises}
 use Rattle.uac_describe.specs.Outcome.{End, Outcome, at_end, no_memory, read_failed, stopped}
@@ -23,7 +23,7 @@ use Rattle.uac_scripts.proofs.Cutting.{front_cut, rest_cut}
 use Rattle.uac_scripts.proofs.Going.{with_text_first-with_text_first}
 
 -- lines that were done in a world, the first ones of these bytes
-pub record IsLivedFrom (w : World) (bytes : List ℕ) (ending : Ending) : Type 0 where
+pub record IsLivedFrom (w : BusWorld) (bytes : List ℕ) (ending : Ending) : Type 0 where
   pub texts : List (List ℕ)
   pub lines : AllByRecursion IsLine texts
   pub first : AreFirst texts bytes
@@ -33,7 +33,7 @@ pub record IsLivedFrom (w : World) (bytes : List ℕ) (ending : Ending) : Type 0
   pub printed : ending ≡ with_text_first (text_of (after (map answer texts) w).lines) (ends last (after (map answer texts) w).world)
 
 -- no line was done
-none_done : (w : World) (bytes : List ℕ) (last : Outcome) → IsLast last → IsLivedFrom w bytes (ends last w)
+none_done : (w : BusWorld) (bytes : List ℕ) (last : Outcome) → IsLast last → IsLivedFrom w bytes (ends last w)
 unfolding after
 none_done w bytes last is =
     record { texts = []; lines = tt; first = inl (bytes, refl); done = refl; last = last; is_last = is; printed = refl }
@@ -53,12 +53,12 @@ first_one text texts rest (inr (front, last, are, is)) =
     joined = append_assoc (text ++ 10 ∷ []) (with_newlines front) last ∙ append_assoc text (10 ∷ []) (with_newlines front ++ last)
 
 -- what lines come to whose first one is done
-after_first : (text : List ℕ) (texts : List (List ℕ)) (w next : World) (lines : List Said) → said_step (answer text) w ≡ done next lines
+after_first : (text : List ℕ) (texts : List (List ℕ)) (w next : BusWorld) (lines : List Said) → said_step (answer text) w ≡ done next lines
     → after (map answer (text ∷ texts)) w ≡ and_then (done next lines) w (after (map answer texts))
 unfolding after
 after_first text texts w next lines is = ap (λ (s : Step). and_then s w (after (map answer texts))) is
 
-one_first : (text rest : List ℕ) (w next : World) (lines : List Said) (ending : Ending) → IsLine text
+one_first : (text rest : List ℕ) (w next : BusWorld) (lines : List Said) (ending : Ending) → IsLine text
     → said_step (answer text) w ≡ done next lines → IsLivedFrom next rest ending
     → IsLivedFrom w (text ++ 10 ∷ rest) (with_text_first (text_of lines) ending)
 one_first text rest w next lines ending is_line step lived =
@@ -81,23 +81,23 @@ one_first text rest w next lines ending is_line step lived =
 
 -- ---- the script's end
 
-record HasFinished (number : ℕ) (w : World) : Type 0 where
+record HasFinished (number : ℕ) (w : BusWorld) : Type 0 where
   last : Outcome
   is_last : IsLast last
   is : ending_at number w ≡ ends last w
 
-finished_is : (number : ℕ) (w : World) → HasFinished number w
+finished_is : (number : ℕ) (w : BusWorld) → HasFinished number w
 unfolding ending_at
 finished_is number (describing bytes meters) = record { last = _; is_last = at_a_refusal (faults.Script 8) number; is = refl }
 finished_is number (running r) = record { last = _; is_last = at_the_end; is = refl }
 
-none_then_end : (number : ℕ) (w : World) (bytes : List ℕ) → IsLivedFrom w bytes (ending_at number w)
+none_then_end : (number : ℕ) (w : BusWorld) (bytes : List ℕ) → IsLivedFrom w bytes (ending_at number w)
 none_then_end number w bytes =
     let is = finished_is number w in
     subst (IsLivedFrom w bytes) (sym is.is) (none_done w bytes is.last is.is_last)
 
 -- the last line, which no newline ends
-last_done : (text : List ℕ) (number : ℕ) (w next : World) (lines : List Said) → IsLine text → said_step (answer text) w ≡ done next lines
+last_done : (text : List ℕ) (number : ℕ) (w next : BusWorld) (lines : List Said) → IsLine text → said_step (answer text) w ≡ done next lines
     → IsLivedFrom w text (with_text_first (text_of lines) (ending_at number next))
 unfolding after
 last_done text number w next lines is_line step =
@@ -116,12 +116,12 @@ last_done text number w next lines is_line step =
           ∙ sym (ap (λ (a : After). with_text_first (text_of a.lines) (ends is.last a.world)) all);
     }
 
-last_by : (s : Step) (text : List ℕ) (number : ℕ) (w : World) → IsLine text → said_step (answer text) w ≡ s
+last_by : (s : Step) (text : List ℕ) (number : ℕ) (w : BusWorld) → IsLine text → said_step (answer text) w ≡ s
     → IsLivedFrom w text (after_step s number w (λ next. ending_at (number + 1) next))
 last_by (done next lines) text number w is_line step = last_done text (number + 1) w next lines is_line step
 last_by (refused fault) text number w is_line step = none_done w text _ (at_a_refusal fault number)
 
-rest_lived : (rest : List ℕ) (end : End) (number : ℕ) (w : World) → IsLine rest → IsLivedFrom w rest (rest_done rest end number w)
+rest_lived : (rest : List ℕ) (end : End) (number : ℕ) (w : BusWorld) → IsLine rest → IsLivedFrom w rest (rest_done rest end number w)
 rest_lived [] at_end number w is_line = none_then_end number w []
 rest_lived (b ∷ rest) at_end number w is_line = last_by (said_step (answer (b ∷ rest)) w) (b ∷ rest) number w is_line refl
 rest_lived [] read_failed number w is_line = none_done w [] _ at_a_failed_read
@@ -131,18 +131,18 @@ rest_lived (b ∷ rest) stopped number w is_line = none_done w (b ∷ rest) _ at
 
 -- ---- all lines
 
-step_lived : (s : Step) (text rest : List ℕ) (number : ℕ) (w : World) (go : World → Ending) → IsLine text → said_step (answer text) w ≡ s
-    → ((next : World) → IsLivedFrom next rest (go next)) → IsLivedFrom w (text ++ 10 ∷ rest) (after_step s number w go)
+step_lived : (s : Step) (text rest : List ℕ) (number : ℕ) (w : BusWorld) (go : BusWorld → Ending) → IsLine text → said_step (answer text) w ≡ s
+    → ((next : BusWorld) → IsLivedFrom next rest (go next)) → IsLivedFrom w (text ++ 10 ∷ rest) (after_step s number w go)
 step_lived (done next lines) text rest number w go is_line step lived = one_first text rest w next lines (go next) is_line step (lived next)
 step_lived (refused fault) text rest number w go is_line step lived = none_done w _ _ (at_a_refusal fault number)
 
-goes_lived : (n spare : ℕ) (bytes : List ℕ) (end : End) (number : ℕ) (w : World) → IsLivedFrom w bytes (goes_within n spare bytes end number w)
+goes_lived : (n spare : ℕ) (bytes : List ℕ) (end : End) (number : ℕ) (w : BusWorld) → IsLivedFrom w bytes (goes_within n spare bytes end number w)
 unfolding lines_by
 goes_lived zero spare bytes end number w = none_done w bytes _ at_a_failed_write
 goes_lived (suc n) spare bytes end number w =
     by (λ text rest next. goes_lived n (spare - (length text + 1)) rest end (number + 1) next) (head_of spare bytes) refl
   where
-    by : ((text rest : List ℕ) (next : World)
+    by : ((text rest : List ℕ) (next : BusWorld)
         → IsLivedFrom next rest (goes_within n (spare - (length text + 1)) rest end (number + 1) next))
         → (h : Head) → head_of spare bytes ≡ h
         → IsLivedFrom w bytes (by_head h end number w (λ text rest next. goes_within n (spare - (length text + 1)) rest end (number + 1) next))

@@ -16,7 +16,7 @@ use Rattle.uac_script.proofs.Sayings.{each_says_once}
 use Rattle.uac_transcript.specs.Printing.{text_of}
 use Rattle.uac_transcript.proofs.PrintingLemmas.{text_of-append}
 use Rattle.uac_bus.specs.declared.fault.BusFault.{BusFault}
-use Rattle.uac_bus.specs.BusWorld.{World, Step, done, refused, start}
+use Rattle.uac_bus.specs.BusWorld.{BusWorld, Step, done, refused, start}
 use Rattle.uac_bus.specs.After.{After, after, and_then, said_step}
 use Rattle.uac_describe.specs.Outcome.{End}
 use Rattle.uac_scripts.specs.Script.{IsLine, go_unless_refused, come_to, with_newlines}
@@ -57,13 +57,13 @@ line_first spare text rest is fits =
 -- ---- lines in order
 
 -- what follows matters only where it is reached
-go_unless_refused_same : (o : Option BusFault) (number : ℕ) (w : World) (go go' : World → Ending) → ((v : World) → go v ≡ go' v) → go_unless_refused o number w go ≡ go_unless_refused o number w go'
+go_unless_refused_same : (o : Option BusFault) (number : ℕ) (w : BusWorld) (go go' : BusWorld → Ending) → ((v : BusWorld) → go v ≡ go' v) → go_unless_refused o number w go ≡ go_unless_refused o number w go'
 go_unless_refused_same None number w go go' same = same w
 go_unless_refused_same (Some fault) number w go go' same = refl
 
 -- a line, and then others
-come_to-step : (s : Step) (w : World) (number : ℕ) (others : World → After) (go : World → Ending) (on : World → Ending)
-    → ((next : World) → on next ≡ come_to (others next) (number + 1) go) → after_step s number w on ≡ come_to (and_then s w others) number go
+come_to-step : (s : Step) (w : BusWorld) (number : ℕ) (others : BusWorld → After) (go : BusWorld → Ending) (on : BusWorld → Ending)
+    → ((next : BusWorld) → on next ≡ come_to (others next) (number + 1) go) → after_step s number w on ≡ come_to (and_then s w others) number go
 come_to-step (done next lines) w number others go on same =
     let rest = others next in
     let count : number + 1 + rest.count ≡ number + (rest.count + 1) = omega arith in
@@ -75,10 +75,10 @@ come_to-step (refused fault) w number others go on same =
     let here : number ≡ number + 0 = omega arith in
     ap (λ (n : ℕ). ends (last_line fault n) w) here
 
-come_to-same : (a : After) (number : ℕ) (go go' : World → Ending) → ((v : World) → go v ≡ go' v) → come_to a number go ≡ come_to a number go'
+come_to-same : (a : After) (number : ℕ) (go go' : BusWorld → Ending) → ((v : BusWorld) → go v ≡ go' v) → come_to a number go ≡ come_to a number go'
 come_to-same a number go go' same = ap (with_text_first (text_of a.lines)) (go_unless_refused_same a.refusal (number + a.count) a.world go go' same)
 
-pub goes_lines : (texts : List (List ℕ)) (spare : ℕ) (rest : List ℕ) (end : End) (number : ℕ) (w : World) → AllByRecursion IsLine texts → length (with_newlines texts) ≤ spare
+pub goes_lines : (texts : List (List ℕ)) (spare : ℕ) (rest : List ℕ) (end : End) (number : ℕ) (w : BusWorld) → AllByRecursion IsLine texts → length (with_newlines texts) ≤ spare
     → goes spare (with_newlines texts ++ rest) end number w
     ≡ come_to (after (map answer texts) w) number (λ v. goes (spare - length (with_newlines texts)) rest end (length texts + number) v)
 unfolding after
@@ -94,8 +94,8 @@ goes_lines (text ∷ texts) spare rest end number w are fits =
     length-append (text ++ 10 ∷ []) (with_newlines texts) ∙ ap (λ (n : ℕ). n + length (with_newlines texts)) (length-append text (10 ∷ [])) in
     let left : spare - (length text + 1) - length (with_newlines texts) ≡ spare - length (with_newlines (text ∷ texts)) = omega (arith, size) in
     let last : length texts + (number + 1) ≡ length (text ∷ texts) + number = omega arith in
-    let go : World → Ending = λ v. goes (spare - length (with_newlines (text ∷ texts))) rest end (length (text ∷ texts) + number) v in
-    let on : World → Ending = λ next. goes (spare - (length text + 1)) with_text_first-it end (number + 1) next in
+    let go : BusWorld → Ending = λ v. goes (spare - length (with_newlines (text ∷ texts))) rest end (length (text ∷ texts) + number) v in
+    let on : BusWorld → Ending = λ next. goes (spare - (length text + 1)) with_text_first-it end (number + 1) next in
     ap (λ (bytes : List ℕ). goes spare bytes end number w) parts
     ∙ goes_at (line text with_text_first-it) spare (text ++ 10 ∷ with_text_first-it) end number w (line_first spare text with_text_first-it are.0 (omega (arith, size)))
     ∙ come_to-step (said_step (answer text) w) w number (after (map answer texts)) go on

@@ -3,22 +3,22 @@ use Rattle.std.specs.Prelude.{◌≡◌, ◌↔◌, ℕ, ◌+◌, List, length}
 use Rattle.uac_units.specs.Hearing.{Reading}
 use Rattle.uac_script.specs.ScriptLines.{Head, most_of_input}
 use Rattle.uac_script.specs.LineReading.{answer}
-use Rattle.uac_bus.specs.BusWorld.{World, start}
+use Rattle.uac_bus.specs.BusWorld.{BusWorld, start}
 use Rattle.uac_describe.specs.Outcome.{End}
 use Rattle.uac_scripts.specs.ScriptTranscript.{Ending, IsTranscript, rest_by, head_by, lines_by}
 
 -- what bytes come to by that reading: those after the last newline, those of which something stands first, and so many lines
-abbrev pub rest_done : List ℕ → End → ℕ → World → Ending
+abbrev pub rest_done : List ℕ → End → ℕ → BusWorld → Ending
 rest_done = rest_by answer
 
-abbrev pub by_head : Head → End → ℕ → World → (List ℕ → List ℕ → World → Ending) → Ending
+abbrev pub by_head : Head → End → ℕ → BusWorld → (List ℕ → List ℕ → BusWorld → Ending) → Ending
 by_head = head_by answer
 
-abbrev pub goes_within : ℕ → ℕ → List ℕ → End → ℕ → World → Ending
+abbrev pub goes_within : ℕ → ℕ → List ℕ → End → ℕ → BusWorld → Ending
 goes_within = lines_by answer
 
 -- the lines of these bytes, of which so many count, from the line with this number on
-unfoldable pub goes : ℕ → List ℕ → End → ℕ → World → Ending
+unfoldable pub goes : ℕ → List ℕ → End → ℕ → BusWorld → Ending
 goes spare bytes end number w = goes_within (length bytes + 1) spare bytes end number w
 
 -- the transcript of a script

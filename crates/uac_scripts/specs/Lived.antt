@@ -13,7 +13,7 @@ use Rattle.uac_promises.specs.Promises.{KeepsPromises}
 use Rattle.uac_describe.specs.declared.status.Status.TheVariants as statuses
 use Rattle.uac_describe.specs.Outcome.{Outcome, no_memory, read_fault}
 use Rattle.uac_scripts.specs.Script.{IsLine, with_newlines}
-use Rattle.uac_scripts.specs.ScriptTranscript.{Ending, with_text_first, ends, last_line, misread, too_long, unfinished}
+use Rattle.uac_scripts.specs.ScriptTranscript.{Ending, with_text_first, ends, last_line, misread, too_long, no_more_text}
 
 -- how a run ends after the lines that were done
 pub data IsLast : Outcome → Type 0 where
@@ -24,7 +24,7 @@ pub data IsLast : Outcome → Type 0 where
   at_a_long_line : (number : ℕ) → IsLast (misread 1 number)
   past_the_limit : IsLast too_long
   at_a_failed_read : IsLast read_fault
-  at_a_failed_write : IsLast unfinished
+  at_a_failed_write : IsLast no_more_text
   without_memory : IsLast no_memory
 
 -- the first lines of what was taken, each with its newline, but for the last line of all, which may end with the input

@@ -28,7 +28,8 @@ Leaves shown shown' written written' writes writes' _ = IsSilent shown shown' wr
 abbrev pub Does : Step → Bool → BusFields → List Reading → List Reading → Option (List ℕ) → Option (List ℕ) → ℕ → ℕ
     → Result (Unit {0}) BusFault → Type 0
 Does s memory bus shown shown' written written' writes writes' result =
-    kept.Does s memory (kept.Stands bus shown') written written' result × IfErr result (Leaves shown shown' written written' writes writes')
+    kept.Does s memory (kept.BusStands bus shown') written written' result
+    × IfErr result (Leaves shown shown' written written' writes writes')
     × OnOk result (writes' ≡ writes)
 
 -- the last line where there is no next line; the number is that of a line that is too long

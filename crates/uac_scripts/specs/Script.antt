@@ -8,7 +8,7 @@ use Rattle.uac_script.specs.Line.{Says}
 use Rattle.uac_units.specs.Hearing.{Reading}
 use Rattle.uac_transcript.specs.Printing.{text_of}
 use Rattle.uac_bus.specs.declared.fault.BusFault.{BusFault}
-use Rattle.uac_bus.specs.BusWorld.{World, start}
+use Rattle.uac_bus.specs.BusWorld.{BusWorld, start}
 use Rattle.uac_bus.specs.BusKept.{may_want}
 use Rattle.uac_bus.specs.After.{After, after}
 use Rattle.uac_describe.specs.Outcome.{no_memory}
@@ -24,12 +24,12 @@ abbrev pub with_newlines : List (List ℕ) → List ℕ
 with_newlines texts = flat_map (λ text. text ++ 10 ∷ []) texts
 
 -- after lines: the refusal of the next, which has this number; or what follows in the world that they leave
-abbrev pub go_unless_refused : Option BusFault → ℕ → World → (World → Ending) → Ending
+abbrev pub go_unless_refused : Option BusFault → ℕ → BusWorld → (BusWorld → Ending) → Ending
 go_unless_refused None number w go = go w
 go_unless_refused (Some fault) number w go = ends (last_line fault number) w
 
 -- what lines come to of which the first has this number: their text, and then what stands after them
-abbrev pub come_to : After → ℕ → (World → Ending) → Ending
+abbrev pub come_to : After → ℕ → (BusWorld → Ending) → Ending
 come_to a number go = with_text_first (text_of a.lines) (go_unless_refused a.refusal (number + a.count) a.world go)
 
 -- the bytes after a line: none, or its newline and what follows
@@ -37,7 +37,7 @@ abbrev pub EndsLine : List ℕ → Type 0
 EndsLine rest = (rest ≡ []) ⊎ ((more : List ℕ) × (rest ≡ 10 ∷ more))
 
 -- what a line says may want memory in a world
-abbrev pub wants : Result Phrase ℕ → World → Bool
+abbrev pub wants : Result Phrase ℕ → BusWorld → Bool
 wants (Ok phrase) w = may_want phrase w
 wants (Err rule) w = false
 

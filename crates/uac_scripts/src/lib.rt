@@ -10,5 +10,5 @@ mod lines;
 /// Running a script.
 mod running;
 
-pub use jobs::Job;
+pub use jobs::SourceJob;
 pub use running::run_script;

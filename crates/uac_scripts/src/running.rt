@@ -2,16 +2,16 @@
 ghost use Rattle.std.specs.Prelude.{◌≡◌, ◌≢◌, ◌≤◌, false, [], None, length, IfErr, IfOk, List, OnErr, OnOk};
 ghost use Rattle.std.specs.Io.KnownBytes.{IsAtEnd, Keeps};
 ghost use Rattle.uac_edges.specs.Faults.{Rose};
-ghost use Rattle.uac_script.specs.Lent.{lent_said, LentKeeps};
+ghost use Rattle.uac_script.specs.Lent.{lent_phrase_result, LentKeeps};
 ghost use Rattle.uac_script.specs.ScriptLines.{most_of_input};
 ghost use Rattle.uac_script.specs.LineReading.{answer};
 ghost use Rattle.uac_units.specs.Fitting.{IsFitted};
 ghost use Rattle.uac_units.specs.Hearing.{Reading};
 ghost use Rattle.uac_units.specs.Panel.{readings};
-ghost use Rattle.uac_bus.specs.BusWorld.{World, start};
+ghost use Rattle.uac_bus.specs.BusWorld.{BusWorld, start};
 ghost use Rattle.uac_bus.specs.After.{said_step};
-ghost use Rattle.uac_bus.specs.BusKept.{Stands};
-ghost use Rattle.uac_scripts.specs.declared.jobs.Job.TheVariants.{Run};
+ghost use Rattle.uac_bus.specs.BusKept.{BusStands};
+ghost use Rattle.uac_scripts.specs.declared.jobs.SourceJob.TheVariants.{Run};
 ghost use Rattle.uac_describe.specs.Closing.{IsFaultless, Closes};
 ghost use Rattle.uac_scripts.specs.ScriptRun.{IsRun};
 ghost use Rattle.uac_scripts.specs.Running.{Does, stop_outcome};
@@ -66,7 +66,7 @@ fn run_lines<S: Source, K: Sink>(
     meters: &mut Meters,
 ) -> Status
     requires rack { IsFitted (λ v x. (⟦<dyn Unit as Unit>⟧ v).kind_of x) rack.now }
-    requires fresh { Stands bus.old (readings (λ v x. (⟦<dyn Meter as Meter>⟧ v).reading_of x) meters.old)
+    requires fresh { BusStands bus.old (readings (λ v x. (⟦<dyn Meter as Meter>⟧ v).reading_of x) meters.old)
         (start (readings (λ v x. (⟦<dyn Meter as Meter>⟧ v).reading_of x) meters.old)) }
     requires unread { lines.old ≡ record { text = []; number = 0; unread = []; spare = most_of_input; stop = None; ended = false } }
     ensures run { IsRun (Some Run)
@@ -102,7 +102,7 @@ fn do_line<K: Sink>(
 ) -> Result<(), BusFault>
     requires rack { IsFitted (λ v x. (⟦<dyn Unit as Unit>⟧ v).kind_of x) rack.now }
     requires short { length text.now ≤ 4096 }
-    ensures does { (w : World) → Stands bus.old (readings (λ v x. (⟦<dyn Meter as Meter>⟧ v).reading_of x) meters.old) w
+    ensures does { (w : BusWorld) → BusStands bus.old (readings (λ v x. (⟦<dyn Meter as Meter>⟧ v).reading_of x) meters.old) w
         → Does (said_step (answer text.now) w) (wants (answer text.now) w) bus.new
         (readings (λ v x. (⟦<dyn Meter as Meter>⟧ v).reading_of x) meters.old)
         (readings (λ v x. (⟦<dyn Meter as Meter>⟧ v).reading_of x) meters.new)
@@ -126,8 +126,8 @@ fn do_said<K: Sink>(
 ) -> Result<(), BusFault>
     requires rack { IsFitted (λ v x. (⟦<dyn Unit as Unit>⟧ v).kind_of x) rack.now }
     requires keeps { IfOk said LentKeeps }
-    ensures does { (w : World) → Stands bus.old (readings (λ v x. (⟦<dyn Meter as Meter>⟧ v).reading_of x) meters.old) w
-        → Does (said_step (lent_said said.entry) w) (wants (lent_said said.entry) w) bus.new
+    ensures does { (w : BusWorld) → BusStands bus.old (readings (λ v x. (⟦<dyn Meter as Meter>⟧ v).reading_of x) meters.old) w
+        → Does (said_step (lent_phrase_result said.entry) w) (wants (lent_phrase_result said.entry) w) bus.new
         (readings (λ v x. (⟦<dyn Meter as Meter>⟧ v).reading_of x) meters.old)
         (readings (λ v x. (⟦<dyn Meter as Meter>⟧ v).reading_of x) meters.new)
         (K.written sink.old) (K.written sink.new) (K.faults sink.old) (K.faults sink.new) result }
@@ -205,10 +205,10 @@ fn stop_lines<K: Sink>(stop: LineStop, number: u64, sink: &mut K) -> Status
 
 /// The script's end, where the next line would have this number.
 fn finish<K: Sink>(bus: &Bus, number: u64, sink: &mut K) -> Status
-    ensures closed { (meters : List Reading) (w : World) → Stands bus.now meters w
+    ensures closed { (meters : List Reading) (w : BusWorld) → BusStands bus.now meters w
         → Closes (ending_at number w).outcome (K.written sink.old) (K.written sink.new) (K.faults sink.old) (K.faults sink.new) result }
     ensures never_read { result ≢ Status.ReadFault }
-    ensures cause { (meters : List Reading) (w : World) → Stands bus.now meters w → result ≡ Status.WriteFault
+    ensures cause { (meters : List Reading) (w : BusWorld) → BusStands bus.now meters w → result ≡ Status.WriteFault
         → Rose (K.faults sink.old) (K.faults sink.new) }
 {
     match bus.finish() {

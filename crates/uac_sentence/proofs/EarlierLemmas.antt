@@ -23,8 +23,8 @@ lead None (k ∷ ks) = None
 lead (Some s) (k ∷ ks) = lead (step s k) ks
 
 -- the stage after the first blocks of a descriptor
-abbrev pub stage_behind : List Letter → Option Stage
-stage_behind ks = lead (Some Start) ks
+abbrev pub stage_following : List Letter → Option Stage
+stage_following ks = lead (Some Start) ks
 
 pub lead_none : (ks : List Letter) → lead None ks ≡ None
 lead_none [] = refl
@@ -55,42 +55,42 @@ tells (Some t) s k =
     ∷ is_same letter.ControlInterface k
     ∷ (is_headless s && is_same letter.Header k || is_listing s && is_listed k) ∷ []
 
-told_behind : (s : Stage) (k : Letter) → told (step s k) ≡ tells (step s k) s k
-told_behind Start letter.Device = refl
-told_behind Start k = refl
-told_behind Due letter.Device = refl
-told_behind Due k = refl
-told_behind Opening letter.Device = refl
-told_behind Opening k = refl
-told_behind Before letter.Device = refl
-told_behind Before k = refl
-told_behind Announced letter.Device = refl
-told_behind Announced k = refl
-told_behind Headless letter.Device = refl
-told_behind Headless k = refl
-told_behind Listing letter.Device = refl
-told_behind Listing k = refl
-told_behind Quiet letter.Device = refl
-told_behind Quiet k = refl
-told_behind Setting letter.Device = refl
-told_behind Setting k = refl
-told_behind Formats letter.Device = refl
-told_behind Formats k = refl
-told_behind Formatted letter.Device = refl
-told_behind Formatted k = refl
-told_behind FirstEndpoint letter.Device = refl
-told_behind FirstEndpoint k = refl
-told_behind FirstDone letter.Device = refl
-told_behind FirstDone k = refl
-told_behind SecondEndpoint letter.Device = refl
-told_behind SecondEndpoint k = refl
-told_behind Closing letter.Device = refl
-told_behind Closing k = refl
-told_behind ForeignAfter letter.Device = refl
-told_behind ForeignAfter k = refl
+told_following : (s : Stage) (k : Letter) → told (step s k) ≡ tells (step s k) s k
+told_following Start letter.Device = refl
+told_following Start k = refl
+told_following Due letter.Device = refl
+told_following Due k = refl
+told_following Opening letter.Device = refl
+told_following Opening k = refl
+told_following Before letter.Device = refl
+told_following Before k = refl
+told_following Announced letter.Device = refl
+told_following Announced k = refl
+told_following Headless letter.Device = refl
+told_following Headless k = refl
+told_following Listing letter.Device = refl
+told_following Listing k = refl
+told_following Quiet letter.Device = refl
+told_following Quiet k = refl
+told_following Setting letter.Device = refl
+told_following Setting k = refl
+told_following Formats letter.Device = refl
+told_following Formats k = refl
+told_following Formatted letter.Device = refl
+told_following Formatted k = refl
+told_following FirstEndpoint letter.Device = refl
+told_following FirstEndpoint k = refl
+told_following FirstDone letter.Device = refl
+told_following FirstDone k = refl
+told_following SecondEndpoint letter.Device = refl
+told_following SecondEndpoint k = refl
+told_following Closing letter.Device = refl
+told_following Closing k = refl
+told_following ForeignAfter letter.Device = refl
+told_following ForeignAfter k = refl
 
 told_at : (n : ℕ) (s t : Stage) (k : Letter) → step s k ≡ Some t → get_or (told (Some t)) n false ≡ get_or (tells (Some t) s k) n false
-told_at n s t k e = ap (λ bits. get_or bits n false) (subst (λ o. told o ≡ tells o s k) e (told_behind s k))
+told_at n s t k e = ap (λ bits. get_or bits n false) (subst (λ o. told o ≡ tells o s k) e (told_following s k))
 
 -- the first step of a lead
 pub first_step : (o : Option Stage) (ks : List Letter) (t : Stage) → lead o ks ≡ Some t → (u : Stage) × (o ≡ Some u)
@@ -116,9 +116,9 @@ module _ (p : Stage → Bool) (j : Letter) (is_latest : (s t : Stage) (k : Lette
       let (u, is) = first_step (step s k) (next ∷ ks) t e in
       latest_along u t next ks (subst (λ o. lead o (next ∷ ks) ≡ Some t) is e)
 
-  latest_behind : p Start ≡ false → (t : Stage) (ks : List Letter) → stage_behind ks ≡ Some t → p t ≡ latest_is j ks
-  latest_behind none t [] e = (let same : Start ≡ t = cc in ap p (sym same) ∙ none)
-  latest_behind none t (k ∷ ks) e = latest_along Start t k ks e
+  latest_following : p Start ≡ false → (t : Stage) (ks : List Letter) → stage_following ks ≡ Some t → p t ≡ latest_is j ks
+  latest_following none t [] e = (let same : Start ≡ t = cc in ap p (sym same) ∙ none)
+  latest_following none t (k ∷ ks) e = latest_along Start t k ks e
 
 -- the list of entities
 arrange : (x c l hk e a : Bool) → (x || c && l || (hk || e) && a) ≡ (c && l || x || hk && a || e && a)
@@ -173,11 +173,11 @@ not_not : (b : Bool) → not (not b) ≡ b
 not_not true = refl
 not_not false = refl
 
-ends_behind_control : (s : Stage) → may_end s ≡ (is_past_control s && not (is_headless s))
-ends_behind_control Start = refl
-ends_behind_control s = refl
+ends_after_control : (s : Stage) → may_end s ≡ (is_past_control s && not (is_headless s))
+ends_after_control Start = refl
+ends_after_control s = refl
 
-module _ (ks : List Letter) (s : Stage) (e : stage_behind ks ≡ Some s) where
+module _ (ks : List Letter) (s : Stage) (e : stage_following ks ≡ Some s) where
   association_came : not (is_before_association s) ≡ has letter.AudioAssociation ks
   association_came = has_along (λ t. not (is_before_association t)) letter.AudioAssociation (told_at 0) Start s ks e ∙ or_none (has letter.AudioAssociation ks)
 
@@ -188,10 +188,10 @@ module _ (ks : List Letter) (s : Stage) (e : stage_behind ks ≡ Some s) where
   configuration_came = has_along (λ t. not (is_due t)) letter.Configuration (told_at 2) Start s ks e ∙ or_none (has letter.Configuration ks)
 
   association_is_latest : is_announced s ≡ latest_is letter.AudioAssociation ks
-  association_is_latest = latest_behind is_announced letter.AudioAssociation (told_at 3) refl s ks e
+  association_is_latest = latest_following is_announced letter.AudioAssociation (told_at 3) refl s ks e
 
   control_is_latest : is_headless s ≡ latest_is letter.ControlInterface ks
-  control_is_latest = latest_behind is_headless letter.ControlInterface (told_at 4) refl s ks e
+  control_is_latest = latest_following is_headless letter.ControlInterface (told_at 4) refl s ks e
 
   list_is_open : is_listing s ≡ is_in_list ks
   list_is_open = listed_along Start s ks e ∙ or_none (is_in_list ks || false) ∙ or_none (is_in_list ks)
@@ -221,13 +221,13 @@ module _ (ks : List Letter) (s : Stage) (e : stage_behind ks ≡ Some s) where
   end_is = (
     sym (not_not (is_due s)) ∙ ap not configuration_came,
     control_is_latest,
-    ends_behind_control s ∙ ap (λ b. b && not (is_headless s)) control_came ∙ ap (λ b. has letter.ControlInterface ks && not b) control_is_latest,
+    ends_after_control s ∙ ap (λ b. b && not (is_headless s)) control_came ∙ ap (λ b. has letter.ControlInterface ks && not b) control_is_latest,
   )
 
   -- with no audio association before it the input may not end
   pub no_association_no_end : has letter.AudioAssociation ks ≡ false → may_end s ≡ false
   no_association_no_end none =
-      ends_behind_control s
+      ends_after_control s
       ∙ and_left (is_past_control s) (not (is_headless s)) (and_left (not (is_before_association s)) (not (is_announced s)) (association_came ∙ none))
 
 -- ---- the state
@@ -241,6 +241,6 @@ stage_along s place (b ∷ blocks) (here, unbroken) =
     ap (λ o. lead o (map letter_of blocks)) (e ∙ sym (ap (λ o. Some (stage_after o s.stage)) e))
     ∙ stage_along (state_after s place b) (place + bytes_in b) blocks unbroken
 
-pub read_stage : (blocks : List block.Block) (s : State) (place : ℕ) → HasRead blocks s place → stage_behind (map letter_of blocks) ≡ Some s.stage
+pub read_stage : (blocks : List block.Block) (s : State) (place : ℕ) → HasRead blocks s place → stage_following (map letter_of blocks) ≡ Some s.stage
 unfolding start
 read_stage blocks s place read = stage_along start 0 blocks read.unbroken ∙ ap (λ u. Some u.stage) (sym read.state_is)

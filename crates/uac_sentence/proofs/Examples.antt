@@ -198,9 +198,9 @@ unfolding verdict
 list_ends_early = refl
 
 -- the format has another type, and no endpoint may follow that
-endpoint_behind_other : verdict (bytes_of (edit 15 1 48 headset)) ≡ fault 6 191
+endpoint_after_other : verdict (bytes_of (edit 15 1 48 headset)) ≡ fault 6 191
 unfolding verdict
-endpoint_behind_other = refl
+endpoint_after_other = refl
 
 -- a mixer of two pins, with two bytes of bits and with one
 abbrev mixer_of_two_bytes : List ℕ
@@ -283,9 +283,9 @@ unfolding verdict
 unknown_subtype = refl
 
 -- such a block after the list
-unknown_behind_list : verdict (bytes_of (insert (insert headset 12 (3 ∷ 36 ∷ 8 ∷ [])) 12 other)) ≡ fault 6 154
+unknown_after_list : verdict (bytes_of (insert (insert headset 12 (3 ∷ 36 ∷ 8 ∷ [])) 12 other)) ≡ fault 6 154
 unfolding verdict
-unknown_behind_list = refl
+unknown_after_list = refl
 
 -- a streaming interface before the audio association
 early_stream : verdict (bytes_of (insert headset 2 idle_out)) ≡ fault 7 27

@@ -5,7 +5,7 @@ use Rattle.std.specs.List.{AllByRecursion}
 use Rattle.std.proofs.lemmas.Bool.{and_left, lt-leb, cases_Bool, ltb-true}
 use Rattle.uac_sentence.specs.Cutting.{IsPiece, begins_whole, chop}
 use Rattle.uac_sentence.specs.Fault.{GrammarFault, Rules, at_place, rest_rule, faults_over, faults_from, IsShown}
-use Rattle.uac_sentence.proofs.CuttingLaw.{chop_is_cut, chop_piece, chop_rest}
+use Rattle.uac_sentence.proofs.CuttingLemmas.{chop_is_cut, chop_piece, chop_rest}
 
 -- a fault at a place stands there, and has its rule
 pub at_place_is : (fault : GrammarFault) (place : ℕ) (o : Option ℕ) → at_place place o ≡ Some fault → (o ≡ Some fault.rule) × (fault.at ≡ place)

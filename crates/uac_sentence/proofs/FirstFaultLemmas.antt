@@ -24,7 +24,7 @@ use Rattle.uac_sentence.specs.Sentence.{EachIn, SpellsItself, spellings, size}
 use Rattle.uac_sentence.specs.Progress.{state_following, HasRead}
 use Rattle.uac_sentence.specs.Earlier.{is_same, has, latest_is, is_named, is_second, is_unknown_in_list, stands_without_association}
 use Rattle.uac_sentence.specs.FirstFault.{context_following, context_of, NextBlock, IsAtConfiguration, HasNoLength, MissesTotal, IsMisplaced, LacksPart, Breaks, g1, g2, g3, g4, g5, g6, g7, g8, g9, IsFault, IsFirstFault}
-use Rattle.uac_sentence.proofs.CuttingLaw.{chop_is_cut}
+use Rattle.uac_sentence.proofs.CuttingLemmas.{chop_is_cut}
 use Rattle.uac_sentence.proofs.FaultLaw.{at_place_is, option_or_some, faults_from_piece}
 use Rattle.uac_sentence.proofs.Parts.{bytes_in}
 use Rattle.uac_sentence.proofs.ValuesLaw.{right_values, no_wrong_value}
@@ -32,7 +32,7 @@ use Rattle.uac_sentence.proofs.TotalLaw.{size-cons}
 use Rattle.uac_sentence.proofs.SentenceLaw.{bytes_left, bytes_right, piece_of, at_place_none}
 use Rattle.uac_sentence.proofs.ProgressLaw.{nothing_read, block_read, spellings-push, fault_unread, fault_broken, fault_short, fault_lone, fault_partial, fault_at_end}
 use Rattle.uac_sentence.proofs.ReachLaw.{start_step, due_step}
-use Rattle.uac_sentence.proofs.EarlierLemmas.{lead, stage_behind, first_step, read_stage, lacks_is, lists_is, again_is, end_is, no_association_no_end}
+use Rattle.uac_sentence.proofs.EarlierLemmas.{lead, stage_following, first_step, read_stage, lacks_is, lists_is, again_is, end_is, no_association_no_end}
 use Rattle.uac_sentence.proofs.FirstFaultOrderLemmas.{taken_may_begin, may_begin_taken}
 use Rattle.uac_sentence.proofs.FirstFaultTotalLemmas.{past_total, total_past, past_list, list_past, short_total, total_short, short_list, list_short}
 
@@ -108,18 +108,18 @@ end_ascends s place = (omega arith, (omega arith, (omega arith, (omega arith, tt
 
 -- ---- the configuration's own place
 
-due_letters : (ks : List Letter) (s : Stage) → stage_behind ks ≡ Some s → has letter.Configuration ks ≡ false
+due_letters : (ks : List Letter) (s : Stage) → stage_following ks ≡ Some s → has letter.Configuration ks ≡ false
     → (ks ≡ []) ⊎ (ks ≡ letter.Device ∷ [])
 due_letters [] s e none = inl refl
 due_letters (k ∷ ks) s e none =
     let (here, there) = or_parts (is_same letter.Configuration k) (has letter.Configuration ks) none in
     let (u, is) = first_step (step Start k) ks s e in
     let (device, next) = start_step k (ap is_none is) (λ same. false≢true (sym here ∙ ap (is_same letter.Configuration) same)) in
-    inr (ap (λ j. j ∷ ks) device ∙ ap (λ js. letter.Device ∷ js) (nothing_behind ks (sym (ap (λ o. lead o ks) next) ∙ e) there))
+    inr (ap (λ j. j ∷ ks) device ∙ ap (λ js. letter.Device ∷ js) (nothing_following ks (sym (ap (λ o. lead o ks) next) ∙ e) there))
   where
-    nothing_behind : (ks : List Letter) → lead (Some Due) ks ≡ Some s → has letter.Configuration ks ≡ false → ks ≡ []
-    nothing_behind [] e none = refl
-    nothing_behind (j ∷ js) e none =
+    nothing_following : (ks : List Letter) → lead (Some Due) ks ≡ Some s → has letter.Configuration ks ≡ false → ks ≡ []
+    nothing_following [] e none = refl
+    nothing_following (j ∷ js) e none =
         let (here, there) = or_parts (is_same letter.Configuration j) (has letter.Configuration js) none in
         let (u, is) = first_step (step Due j) js s e in
         absurd (false≢true (sym here ∙ ap (is_same letter.Configuration) (due_step j (ap is_none is))))
@@ -146,7 +146,7 @@ module _ (blocks : List block.Block) (s : State) (place : ℕ) (read : HasRead b
   unfolding start
   context_now = ap (λ (u : State). u.context) read.state_is ∙ context_along start 0 blocks
 
-  stage_now : stage_behind (map letter_of blocks) ≡ Some s.stage
+  stage_now : stage_following (map letter_of blocks) ≡ Some s.stage
   stage_now = read_stage blocks s place read
 
   named_is : (k : Letter) → (lacks_association s.stage k || lists_unknown s.stage k || comes_again s.stage k) ≡ is_named (map letter_of blocks) k

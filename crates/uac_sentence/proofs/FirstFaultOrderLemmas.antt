@@ -96,30 +96,30 @@ record IsFollowing (s : State) (earlier : List interface.Interface) : Type 0 whe
   latest : s.latest ≡ latest_of earlier
 
 -- the interfaces after blocks, the latest first
-abbrev earlier_behind : List interface.Interface → List block.Block → List interface.Interface
-earlier_behind earlier [] = earlier
-earlier_behind earlier (variant.Interface i ∷ blocks) = earlier_behind (i ∷ earlier) blocks
-earlier_behind earlier (_ ∷ blocks) = earlier_behind earlier blocks
+abbrev earlier_following : List interface.Interface → List block.Block → List interface.Interface
+earlier_following earlier [] = earlier
+earlier_following earlier (variant.Interface i ∷ blocks) = earlier_following (i ∷ earlier) blocks
+earlier_following earlier (_ ∷ blocks) = earlier_following earlier blocks
 
-behind_along : (s : State) (place : ℕ) (blocks : List block.Block) (earlier : List interface.Interface) → HasSmallNumbers blocks
-    → IsFollowing s earlier → IsFollowing (state_following s place blocks) (earlier_behind earlier blocks)
+after_along : (s : State) (place : ℕ) (blocks : List block.Block) (earlier : List interface.Interface) → HasSmallNumbers blocks
+    → IsFollowing s earlier → IsFollowing (state_following s place blocks) (earlier_following earlier blocks)
 unfolding state_after latest_of
-behind_along s place [] earlier small is = is
-behind_along s place (variant.Interface i ∷ blocks) earlier (small, rest) is =
-    behind_along (state_after s place (variant.Interface i)) (place + bytes_in (variant.Interface i)) blocks (i ∷ earlier) rest
+after_along s place [] earlier small is = is
+after_along s place (variant.Interface i ∷ blocks) earlier (small, rest) is =
+    after_along (state_after s place (variant.Interface i)) (place + bytes_in (variant.Interface i)) blocks (i ∷ earlier) rest
     (record { used = flags_after s.used i earlier small is.used; latest = refl })
-behind_along s place (b ∷ blocks) earlier small is =
-    behind_along (state_after s place b) (place + bytes_in b) blocks earlier small (record { used = is.used; latest = is.latest })
+after_along s place (b ∷ blocks) earlier small is =
+    after_along (state_after s place b) (place + bytes_in b) blocks earlier small (record { used = is.used; latest = is.latest })
 
 -- what is in turn, in two parts
-in_turn_behind : (earlier : List interface.Interface) (xs ys : List block.Block) → InTurn earlier (filter_map interface_of (xs ++ ys))
-    → InTurn (earlier_behind earlier xs) (filter_map interface_of ys)
-in_turn_behind earlier [] ys h = h
-in_turn_behind earlier (variant.Interface i ∷ xs) ys (turn, h) = in_turn_behind (i ∷ earlier) xs ys h
-in_turn_behind earlier (x ∷ xs) ys h = in_turn_behind earlier xs ys h
+in_turn_following : (earlier : List interface.Interface) (xs ys : List block.Block) → InTurn earlier (filter_map interface_of (xs ++ ys))
+    → InTurn (earlier_following earlier xs) (filter_map interface_of ys)
+in_turn_following earlier [] ys h = h
+in_turn_following earlier (variant.Interface i ∷ xs) ys (turn, h) = in_turn_following (i ∷ earlier) xs ys h
+in_turn_following earlier (x ∷ xs) ys h = in_turn_following earlier xs ys h
 
 in_turn_both : (earlier : List interface.Interface) (xs ys : List block.Block) → InTurn earlier (filter_map interface_of xs)
-    → InTurn (earlier_behind earlier xs) (filter_map interface_of ys) → InTurn earlier (filter_map interface_of (xs ++ ys))
+    → InTurn (earlier_following earlier xs) (filter_map interface_of ys) → InTurn earlier (filter_map interface_of (xs ++ ys))
 in_turn_both earlier [] ys h g = g
 in_turn_both earlier (variant.Interface i ∷ xs) ys (turn, h) g = (turn, in_turn_both (i ∷ earlier) xs ys h g)
 in_turn_both earlier (x ∷ xs) ys h g = in_turn_both earlier xs ys h g
@@ -135,7 +135,7 @@ turn_first earlier (variant.Interface i) blocks (turn, h) = turn
 turn_first earlier b blocks h = tt
 
 first_turn : (earlier : List interface.Interface) (b : block.Block) (blocks : List block.Block) → IsInTurn earlier b
-    → InTurn (earlier_behind earlier (b ∷ [])) (filter_map interface_of blocks) → InTurn earlier (filter_map interface_of (b ∷ blocks))
+    → InTurn (earlier_following earlier (b ∷ [])) (filter_map interface_of blocks) → InTurn earlier (filter_map interface_of (b ∷ blocks))
 first_turn earlier (variant.Interface i) blocks turn h = (turn, h)
 first_turn earlier b blocks turn h = h
 
@@ -168,11 +168,11 @@ module _ (blocks : List block.Block) (s : State) (place : ℕ) (b : block.Block)
   numbers : HasSmallNumbers blocks × HasSmallNumbers (b ∷ [])
   numbers = small_front blocks b (small_numbers (blocks ++ b ∷ []) are)
 
-  is_behind : IsFollowing s (earlier_behind [] blocks)
+  is_following : IsFollowing s (earlier_following [] blocks)
   unfolding start latest_of
-  is_behind =
-      subst (λ u. IsFollowing u (earlier_behind [] blocks)) (sym read.state_is)
-      (behind_along start 0 blocks [] numbers.0 (record { used = at_start; latest = refl }))
+  is_following =
+      subst (λ u. IsFollowing u (earlier_following [] blocks)) (sym read.state_is)
+      (after_along start 0 blocks [] numbers.0 (record { used = at_start; latest = refl }))
 
   lead_more : lead (Some Start) (map letter_of (blocks ++ b ∷ [])) ≡ step s.stage (letter_of b)
   lead_more =
@@ -184,27 +184,27 @@ module _ (blocks : List block.Block) (s : State) (place : ℕ) (b : block.Block)
   taken_may_begin h =
       let (order, turn) = or_parts (is_none (step s.stage (letter_of b))) (not (is_in_turn s.used s.latest b)) h in
       let (t, e) = step_there (step s.stage (letter_of b)) order in
-      let this : IsInTurn (earlier_behind [] blocks) b =
-      turn_is s.used (earlier_behind [] blocks) b numbers.1 is_behind.used
-      (subst (λ l. is_in_turn s.used l b ≡ true) is_behind.latest (not-false (is_in_turn s.used s.latest b) turn)) in
+      let this : IsInTurn (earlier_following [] blocks) b =
+      turn_is s.used (earlier_following [] blocks) b numbers.1 is_following.used
+      (subst (λ l. is_in_turn s.used l b ≡ true) is_following.latest (not-false (is_in_turn s.used s.latest b) turn)) in
       record {
         more = ending t;
         order = goes_allows letter_of Start ((blocks ++ b ∷ []) ++ ending t) (goes_on letter_of Start t (blocks ++ b ∷ []) (ending t) (lead_more ∙ e) (ending_goes t));
         in_turn =
             subst (λ xs. InTurn [] (filter_map interface_of xs)) (sym (append_assoc blocks (b ∷ []) (ending t)))
             (in_turn_both [] blocks (b ∷ ending t) (in_turn blocks numbers.0 (turns_along start 0 blocks read.unbroken))
-            (first_turn (earlier_behind [] blocks) b (ending t) this (ending_in_turn (earlier_behind (earlier_behind [] blocks) (b ∷ [])) t)));
+            (first_turn (earlier_following [] blocks) b (ending t) this (ending_in_turn (earlier_following (earlier_following [] blocks) (b ∷ [])) t)));
       }
 
   pub may_begin_taken : MayBegin (blocks ++ b ∷ []) → is_refused s b ≡ false
   unfolding is_refused
   may_begin_taken begins =
       let (t, led) = goes_from letter_of Start (blocks ++ b ∷ []) begins.more (allows_goes letter_of Start ((blocks ++ b ∷ []) ++ begins.more) begins.order) in
-      let turn : IsInTurn (earlier_behind [] blocks) b =
-      turn_first (earlier_behind [] blocks) b begins.more
-      (in_turn_behind [] blocks (b ∷ begins.more)
+      let turn : IsInTurn (earlier_following [] blocks) b =
+      turn_first (earlier_following [] blocks) b begins.more
+      (in_turn_following [] blocks (b ∷ begins.more)
       (subst (λ xs. InTurn [] (filter_map interface_of xs)) (append_assoc blocks (b ∷ []) begins.more) begins.in_turn)) in
       or_from (is_none (step s.stage (letter_of b))) (not (is_in_turn s.used s.latest b))
       (ap is_none (sym lead_more ∙ led))
       (not_from_true (is_in_turn s.used s.latest b)
-      (subst (λ l. is_in_turn s.used l b ≡ true) (sym is_behind.latest) (is_turn s.used (earlier_behind [] blocks) b numbers.1 is_behind.used turn)))
+      (subst (λ l. is_in_turn s.used l b ≡ true) (sym is_following.latest) (is_turn s.used (earlier_following [] blocks) b numbers.1 is_following.used turn)))

@@ -154,8 +154,8 @@ module _ (test : Option ℕ → ℕ → Bool) (IsSo : ℕ → ℕ → Type 0)
 none_before : (n : ℕ) → ends_before None n ≡ false
 none_before n = refl
 
-none_behind : (n : ℕ) → ends_after None n ≡ false
-none_behind n = refl
+none_ends_after : (n : ℕ) → ends_after None n ≡ false
+none_ends_after n = refl
 
 past_to : (place n total : ℕ) → ends_before (Some (place + total)) (place + n) ≡ true → IsPast n total
 past_to place n total h = (let e : place + total < place + n = ltb-true (place + total) (place + n) h in omega (arith, e))
@@ -181,16 +181,16 @@ module _ (blocks : List block.Block) (s : State) (place : ℕ) (read : HasRead b
   list_now = ap (λ (u : State). u.listing) read.state_is ∙ listing_of_state start 0 blocks
 
   pub short_total : ends_after s.end place ≡ true → ConfigurationTotal IsShort blocks
-  short_total h = total_so ends_after IsShort none_behind short_to short_from blocks s.end place end_now read.place_is h
+  short_total h = total_so ends_after IsShort none_ends_after short_to short_from blocks s.end place end_now read.place_is h
 
   pub total_short : ConfigurationTotal IsShort blocks → ends_after s.end place ≡ true
-  total_short h = so_total ends_after IsShort none_behind short_to short_from blocks s.end place end_now read.place_is h
+  total_short h = so_total ends_after IsShort none_ends_after short_to short_from blocks s.end place end_now read.place_is h
 
   pub short_list : ends_after (list_end s.listing) place ≡ true → HeaderTotal IsShort blocks
-  short_list h = list_so ends_after IsShort none_behind short_to short_from blocks s.listing place list_now read.place_is h
+  short_list h = list_so ends_after IsShort none_ends_after short_to short_from blocks s.listing place list_now read.place_is h
 
   pub list_short : HeaderTotal IsShort blocks → ends_after (list_end s.listing) place ≡ true
-  list_short h = so_list ends_after IsShort none_behind short_to short_from blocks s.listing place list_now read.place_is h
+  list_short h = so_list ends_after IsShort none_ends_after short_to short_from blocks s.listing place list_now read.place_is h
 
   module _ (b : block.Block) where
     size_next : place + bytes_in b ≡ size (blocks ++ b ∷ [])

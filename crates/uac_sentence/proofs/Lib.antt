@@ -1,7 +1,7 @@
 -- The laws of the grammar.
-pub mod Derivative
+pub mod ProductionLemmas
 pub mod OrderLaw
-pub mod CuttingLaw
+pub mod CuttingLemmas
 pub mod FaultLaw
 pub mod Examples
 pub mod Parts

@@ -14,7 +14,7 @@ use Rattle.uac_sentence.specs.declared.letters.Letter.TheVariants as letter
 use Rattle.uac_sentence.specs.declared.stages.Stage.{Stage}
 use Rattle.uac_sentence.specs.declared.stages.Stage.TheVariants.{Start, Due, Opening, Before, Announced, Headless, Listing, Quiet, Setting, Formats, Formatted, FirstEndpoint, FirstDone, SecondEndpoint, Closing, ForeignAfter}
 use Rattle.uac_descriptor.specs.Classes.{is_audio_association, is_control_interface, is_streaming_interface}
-use Rattle.uac_sentence.specs.Letter.{letter_of, whole_letter, interface_letter, interface_context, context_after, is_device, has_unknown_subtype, has_place, type_of, is_listed}
+use Rattle.uac_sentence.specs.Letter.{letter_of, whole_letter, interface_letter, interface_context, context_after, is_device, has_unknown_subtype, is_ordered_type, type_of, is_listed}
 use Rattle.uac_sentence.specs.Steps.{step}
 use Rattle.uac_sentence.specs.Sentence.{EachIn, SpellsItself, size, is_entity, HasListTotal}
 use Rattle.uac_sentence.proofs.OrderLaw.{Goes}
@@ -124,7 +124,7 @@ unfolding whole_letter interface_letter interface_context
 context_of_letter place (variant.Interface i) = interface_contexts place (is_control_interface i) (is_streaming_interface i)
 context_of_letter place (variant.Association a) = association_context place (is_audio_association a)
 context_of_letter place (variant.Foreign bytes) =
-    sym (whole_context place (is_device bytes) (has_unknown_subtype bytes) (has_place (type_of bytes)))
+    sym (whole_context place (is_device bytes) (has_unknown_subtype bytes) (is_ordered_type (type_of bytes)))
 context_of_letter place b = refl
 
 -- in a foreign part the context is that of a foreign interface

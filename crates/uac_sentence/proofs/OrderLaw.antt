@@ -7,7 +7,7 @@ use Rattle.uac_sentence.specs.declared.letters.Letter.{Letter}
 use Rattle.uac_sentence.specs.declared.letters.Letter.TheVariants.{Device, Configuration, AudioAssociation, Endpoint, Header, Entity, General, TypeOne, Extra, ClassEndpoint}
 use Rattle.uac_sentence.specs.declared.stages.Stage.{Stage}
 use Rattle.uac_sentence.specs.declared.stages.Stage.TheVariants.{Start, Due, Opening, Before, Announced, Headless, Listing, Quiet, Setting, Formats, Formatted, FirstEndpoint, FirstDone, SecondEndpoint, Closing, ForeignAfter}
-use Rattle.uac_sentence.proofs.Derivative.{following, nullable, behind_allows, allows_behind, allows_empty, nullable_from}
+use Rattle.uac_sentence.proofs.ProductionLemmas.{following, nullable, after_allows, allows_following, allows_empty, nullable_from}
 
 -- the other parts, after the control interface's
 abbrev parts : Production Letter
@@ -44,39 +44,39 @@ left_at None = nothing
 left_at (Some s) = left s
 
 -- the table says what the productions leave after each letter
-pub left_behind : (s : Stage) (k : Letter) → following k (left s) ≡ left_at (step s k)
-left_behind Start Device = refl
-left_behind Start k = refl
-left_behind Due Device = refl
-left_behind Due k = refl
-left_behind Opening Device = refl
-left_behind Opening k = refl
-left_behind Before Device = refl
-left_behind Before k = refl
-left_behind Announced Device = refl
-left_behind Announced k = refl
-left_behind Headless Device = refl
-left_behind Headless k = refl
-left_behind Listing Device = refl
-left_behind Listing k = refl
-left_behind Quiet Device = refl
-left_behind Quiet k = refl
-left_behind Setting Device = refl
-left_behind Setting k = refl
-left_behind Formats Device = refl
-left_behind Formats k = refl
-left_behind Formatted Device = refl
-left_behind Formatted k = refl
-left_behind FirstEndpoint Device = refl
-left_behind FirstEndpoint k = refl
-left_behind FirstDone Device = refl
-left_behind FirstDone k = refl
-left_behind SecondEndpoint Device = refl
-left_behind SecondEndpoint k = refl
-left_behind Closing Device = refl
-left_behind Closing k = refl
-left_behind ForeignAfter Device = refl
-left_behind ForeignAfter k = refl
+pub left_following : (s : Stage) (k : Letter) → following k (left s) ≡ left_at (step s k)
+left_following Start Device = refl
+left_following Start k = refl
+left_following Due Device = refl
+left_following Due k = refl
+left_following Opening Device = refl
+left_following Opening k = refl
+left_following Before Device = refl
+left_following Before k = refl
+left_following Announced Device = refl
+left_following Announced k = refl
+left_following Headless Device = refl
+left_following Headless k = refl
+left_following Listing Device = refl
+left_following Listing k = refl
+left_following Quiet Device = refl
+left_following Quiet k = refl
+left_following Setting Device = refl
+left_following Setting k = refl
+left_following Formats Device = refl
+left_following Formats k = refl
+left_following Formatted Device = refl
+left_following Formatted k = refl
+left_following FirstEndpoint Device = refl
+left_following FirstEndpoint k = refl
+left_following FirstDone Device = refl
+left_following FirstDone k = refl
+left_following SecondEndpoint Device = refl
+left_following SecondEndpoint k = refl
+left_following Closing Device = refl
+left_following Closing k = refl
+left_following ForeignAfter Device = refl
+left_following ForeignAfter k = refl
 
 -- the input may end where the productions may
 pub may_end_lem : (s : Stage) → nullable (left s) ≡ may_end s
@@ -91,7 +91,7 @@ Goes f s (x ∷ xs) = (t : Stage) × (step s (f x) ≡ Some t) × Goes f t xs
 pub goes_allows : {A : Type 0} (f : A → Letter) (s : Stage) (xs : List A) → Goes f s xs → Allows f (left s) xs
 goes_allows f s [] h = allows_empty f (left s) (may_end_lem s ∙ h)
 goes_allows f s (x ∷ xs) (t, e, h) =
-    allows_behind f (left s) x xs (subst (λ r. Allows f r xs) (sym (left_behind s (f x) ∙ ap left_at e)) (goes_allows f t xs h))
+    allows_following f (left s) x xs (subst (λ r. Allows f r xs) (sym (left_following s (f x) ∙ ap left_at e)) (goes_allows f t xs h))
 
 -- where the productions leave something, the table leads on
 leads_on : {A : Type 0} (f : A → Letter) (o : Option Stage) (xs : List A) → Allows f (left_at o) xs → (t : Stage) × (o ≡ Some t) × Allows f (left t) xs
@@ -101,5 +101,5 @@ leads_on f (Some t) xs h = (t, refl, h)
 pub allows_goes : {A : Type 0} (f : A → Letter) (s : Stage) (xs : List A) → Allows f (left s) xs → Goes f s xs
 allows_goes f s [] h = sym (may_end_lem s) ∙ nullable_from f (left s) h
 allows_goes f s (x ∷ xs) h =
-    let (t, e, p) = leads_on f (step s (f x)) xs (subst (λ r. Allows f r xs) (left_behind s (f x)) (behind_allows f (left s) x xs h)) in
+    let (t, e, p) = leads_on f (step s (f x)) xs (subst (λ r. Allows f r xs) (left_following s (f x)) (after_allows f (left s) x xs h)) in
     (t, e, allows_goes f t xs p)

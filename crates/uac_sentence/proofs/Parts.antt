@@ -222,10 +222,10 @@ step_there None e = absurd (true≢false e)
 step_there (Some t) e = (t, refl)
 
 -- the state after a block has each part's own next value
-parts_behind : (s : State) (place : ℕ) (b : block.Block) (blocks : List block.Block)
+parts_following : (s : State) (place : ℕ) (b : block.Block) (blocks : List block.Block)
     → Passes s place b → Parts (state_after s place b) (place + bytes_in b) blocks → Parts s place (b ∷ blocks)
 unfolding state_after
-parts_behind s place b blocks p parts =
+parts_following s place b blocks p parts =
     let (t, e) = step_there (step s.stage (letter_of b)) p.allowed in
     record {
       values = (p.value, parts.values);
@@ -239,7 +239,7 @@ pub clear_parts : (s : State) (place : ℕ) (blocks : List block.Block) → Clea
 clear_parts s place [] e =
     let h = end_ends s place e in record { values = tt; end = h.end; list = h.list; goes = h.may; turn = tt }
 clear_parts s place (b ∷ blocks) (e, clear) =
-    parts_behind s place b blocks (broken_passes s place b e) (clear_parts (state_after s place b) (place + bytes_in b) blocks clear)
+    parts_following s place b blocks (broken_passes s place b e) (clear_parts (state_after s place b) (place + bytes_in b) blocks clear)
 
 parts_ahead : (s : State) (place : ℕ) (b : block.Block) (blocks : List block.Block)
     → Parts s place (b ∷ blocks) → Passes s place b × Parts (state_after s place b) (place + bytes_in b) blocks

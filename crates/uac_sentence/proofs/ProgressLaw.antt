@@ -22,11 +22,11 @@ use Rattle.uac_sentence.proofs.SentenceLaw.{piece_of, sentence_of}
 -- ---- blocks that break no rule
 
 -- what comes after them is judged in the state that they leave
-behind_blocks : (s : State) (place : ℕ) (blocks : List block.Block) (rest : List ℕ) → EachIn SpellsItself s.context blocks → BreakNone s place blocks
+after_blocks : (s : State) (place : ℕ) (blocks : List block.Block) (rest : List ℕ) → EachIn SpellsItself s.context blocks → BreakNone s place blocks
     → faults_from grammar s place (spellings blocks ++ rest) ≡ faults_from grammar (state_following s place blocks) (place + size blocks) rest
 unfolding grammar state_after
-behind_blocks s place [] rest stand unbroken = ap (λ n. faults_from grammar s n rest) (sym (add-zero place))
-behind_blocks s place (b ∷ blocks) rest (stands, stand) (here, unbroken) =
+after_blocks s place [] rest stand unbroken = ap (λ n. faults_from grammar s n rest) (sym (add-zero place))
+after_blocks s place (b ∷ blocks) rest (stands, stand) (here, unbroken) =
     let read : block_of s.context (spelling b) ≡ Some b = block_of-Spells s.context b (spelling b) stands in
     let next : State = state_after s place b in
     let at : ℕ = place + bytes_in b in
@@ -35,16 +35,16 @@ behind_blocks s place (b ∷ blocks) rest (stands, stand) (here, unbroken) =
     ∙ faults_from_piece grammar s place (spelling b) tail (piece_of s.context b stands)
     ∙ ap (λ o. option_or (at_place place (rule_read s place (length (spelling b)) o)) (faults_from grammar (state_read s place o) at tail)) read
     ∙ ap (λ r. option_or (at_place place r) (faults_from grammar next at tail)) here
-    ∙ behind_blocks next at blocks rest stand unbroken
+    ∙ after_blocks next at blocks rest stand unbroken
     ∙ ap (λ n. faults_from grammar (state_following next at blocks) n rest) (add_assoc place (bytes_in b) (size blocks) ∙ ap (λ n. place + n) (sym (size-cons b blocks)))
 
 -- with no rule broken at the end, none is broken at all
-clear_behind : (s : State) (place : ℕ) (blocks : List block.Block) → BreakNone s place blocks
+clear_following : (s : State) (place : ℕ) (blocks : List block.Block) → BreakNone s place blocks
     → rule_at_end (state_following s place blocks) (place + size blocks) ≡ None → Clear s place blocks
-clear_behind s place [] unbroken e = subst (λ n. rule_at_end s n ≡ None) (add-zero place) e
-clear_behind s place (b ∷ blocks) (here, unbroken) e = (
+clear_following s place [] unbroken e = subst (λ n. rule_at_end s n ≡ None) (add-zero place) e
+clear_following s place (b ∷ blocks) (here, unbroken) e = (
   here,
-  clear_behind (state_after s place b) (place + bytes_in b) blocks unbroken
+  clear_following (state_after s place b) (place + bytes_in b) blocks unbroken
       (subst (λ n. rule_at_end (state_following (state_after s place b) (place + bytes_in b) blocks) n ≡ None)
       (ap (λ n. place + n) (size-cons b blocks) ∙ sym (add_assoc place (bytes_in b) (size blocks))) e),
 )
@@ -67,11 +67,11 @@ unbroken_more s place (a ∷ blocks) b (here, unbroken) e = (
       (ap (λ n. place + n) (size-cons a blocks) ∙ sym (add_assoc place (bytes_in a) (size blocks))) e),
 )
 
-behind_more : (s : State) (place : ℕ) (blocks : List block.Block) (b : block.Block)
+more_following : (s : State) (place : ℕ) (blocks : List block.Block) (b : block.Block)
     → state_following s place (blocks ++ b ∷ []) ≡ state_after (state_following s place blocks) (place + size blocks) b
-behind_more s place [] b = ap (λ n. state_after s n b) (sym (add-zero place))
-behind_more s place (a ∷ blocks) b =
-    behind_more (state_after s place a) (place + bytes_in a) blocks b
+more_following s place [] b = ap (λ n. state_after s n b) (sym (add-zero place))
+more_following s place (a ∷ blocks) b =
+    more_following (state_after s place a) (place + bytes_in a) blocks b
     ∙ ap (λ n. state_after (state_following (state_after s place a) (place + bytes_in a) blocks) n b)
     (add_assoc place (bytes_in a) (size blocks) ∙ ap (λ n. place + n) (sym (size-cons a blocks)))
 
@@ -101,7 +101,7 @@ block_read blocks s place piece b h are read e =
       record {
         stand = stand_more start 0 blocks b h.stand stands;
         unbroken = unbroken_more start 0 blocks b h.unbroken here;
-        state_is = ap (λ t. state_after t place b) h.state_is ∙ ap (λ n. state_after (state_following start 0 blocks) n b) at ∙ sym (behind_more start 0 blocks b);
+        state_is = ap (λ t. state_after t place b) h.state_is ∙ ap (λ n. state_after (state_following start 0 blocks) n b) at ∙ sym (more_following start 0 blocks b);
         place_is =
             ap (λ n. n + length piece) h.place_is ∙ ap (λ y. size blocks + length y) spells.spelt
             ∙ sym (length-append (spellings blocks) (spelling b)) ∙ sym (ap length (spellings-push blocks b));
@@ -114,7 +114,7 @@ pub read_faults : (blocks : List block.Block) (s : State) (place : ℕ) → HasR
     → (rest : List ℕ) → first_fault (spellings blocks ++ rest) ≡ faults_from grammar s place rest
 unfolding first_fault start
 read_faults blocks s place h rest =
-    behind_blocks start 0 blocks rest h.stand h.unbroken
+    after_blocks start 0 blocks rest h.stand h.unbroken
     ∙ ap (λ t. faults_from grammar t (0 + size blocks) rest) (sym h.state_is)
     ∙ ap (λ n. faults_from grammar s n rest) (let e : 0 + size blocks ≡ place = omega (arith, h.place_is) in e)
 
@@ -123,7 +123,7 @@ pub read_sentence : (blocks : List block.Block) (s : State) (place : ℕ) → Ha
     → rule_at_end s place ≡ None → IsSentence (spellings blocks) blocks
 read_sentence blocks s place h are e =
     sentence_of blocks are h.stand
-    (clear_behind start 0 blocks h.unbroken
+    (clear_following start 0 blocks h.unbroken
     (subst (λ n. rule_at_end (state_following start 0 blocks) n ≡ None) (let at : place ≡ 0 + size blocks = omega (arith, h.place_is) in at)
     (subst (λ t. rule_at_end t place ≡ None) h.state_is e)))
 

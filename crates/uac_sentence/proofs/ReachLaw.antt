@@ -12,7 +12,7 @@ use Rattle.uac_sentence.specs.declared.stages.Stage.TheVariants.{Start, Due}
 use Rattle.uac_sentence.specs.declared.states.State.{State}
 use Rattle.uac_sentence.specs.declared.states.TheConstants.{FURTHEST}
 use Rattle.uac_descriptor.specs.Classes.{is_audio_association, is_control_interface, is_streaming_interface}
-use Rattle.uac_sentence.specs.Letter.{letter_of, whole_letter, interface_letter, is_device, has_unknown_subtype, has_place, type_of}
+use Rattle.uac_sentence.specs.Letter.{letter_of, whole_letter, interface_letter, is_device, has_unknown_subtype, is_ordered_type, type_of}
 use Rattle.uac_sentence.specs.Steps.{step}
 use Rattle.uac_sentence.specs.Grammar.{start, state_after, stage_after, end_after, ends_before}
 use Rattle.uac_sentence.specs.Sentence.{spellings, size}
@@ -44,11 +44,11 @@ not_configuration (variant.Interface i) none e =
       ]
     ]
 not_configuration (variant.Foreign bytes) none e =
-    elim (cases_cond (is_device bytes) letter.Device (cond (has_unknown_subtype bytes) letter.UnknownSubtype (cond (has_place (type_of bytes)) letter.Stray letter.Other)) letter.Configuration (sym e)) [
+    elim (cases_cond (is_device bytes) letter.Device (cond (has_unknown_subtype bytes) letter.UnknownSubtype (cond (is_ordered_type (type_of bytes)) letter.Stray letter.Other)) letter.Configuration (sym e)) [
       | inl h ↦ cc
-      | inr h ↦ elim (cases_cond (has_unknown_subtype bytes) letter.UnknownSubtype (cond (has_place (type_of bytes)) letter.Stray letter.Other) letter.Configuration h) [
+      | inr h ↦ elim (cases_cond (has_unknown_subtype bytes) letter.UnknownSubtype (cond (is_ordered_type (type_of bytes)) letter.Stray letter.Other) letter.Configuration h) [
         | inl h' ↦ cc
-        | inr h' ↦ elim (cases_cond (has_place (type_of bytes)) letter.Stray letter.Other letter.Configuration h') [
+        | inr h' ↦ elim (cases_cond (is_ordered_type (type_of bytes)) letter.Stray letter.Other letter.Configuration h') [
           | inl h'' ↦ cc
           | inr h'' ↦ cc
         ]
@@ -62,8 +62,8 @@ unfolding whole_letter interface_letter is_device spelling
 device_size (variant.Foreign bytes) e =
     elim (cases_Bool (is_device bytes)) [
       | inl h ↦ (let (kind, many) = and_parts (eqb (type_of bytes) 1) (eqb (length bytes) 18) h in eqb-true (length bytes) 18 many)
-      | inr h ↦ absurd (no_device (has_unknown_subtype bytes) (has_place (type_of bytes))
-          (sym (cond-false (is_device bytes) letter.Device (cond (has_unknown_subtype bytes) letter.UnknownSubtype (cond (has_place (type_of bytes)) letter.Stray letter.Other)) h) ∙ e))
+      | inr h ↦ absurd (no_device (has_unknown_subtype bytes) (is_ordered_type (type_of bytes))
+          (sym (cond-false (is_device bytes) letter.Device (cond (has_unknown_subtype bytes) letter.UnknownSubtype (cond (is_ordered_type (type_of bytes)) letter.Stray letter.Other)) h) ∙ e))
     ]
   where
     no_device : (u p : Bool) → cond u letter.UnknownSubtype (cond p letter.Stray letter.Other) ≡ letter.Device → ⊥
@@ -124,15 +124,15 @@ reach_more None s place (variant.Configuration c) fits allowed are h =
     (ltb-false (place + c.total) (place + bytes_in b) fits, omega arith)
 reach_more None s place b fits allowed are h = other_reaches s place b refl allowed h
 
-reach_behind : (s : State) (place : ℕ) (blocks : List block.Block) → AreBytes (spellings blocks) → BreakNone s place blocks → Reaches s.end s.stage place
+reach_following : (s : State) (place : ℕ) (blocks : List block.Block) → AreBytes (spellings blocks) → BreakNone s place blocks → Reaches s.end s.stage place
     → Reaches (state_following s place blocks).end (state_following s place blocks).stage (place + size blocks)
 unfolding state_after
-reach_behind s place [] are unbroken h = subst (Reaches s.end s.stage) (sym (add-zero place)) h
-reach_behind s place (b ∷ blocks) are (here, unbroken) h =
+reach_following s place [] are unbroken h = subst (Reaches s.end s.stage) (sym (add-zero place)) h
+reach_following s place (b ∷ blocks) are (here, unbroken) h =
     let p = broken_passes s place b here in
     subst (Reaches (state_following (state_after s place b) (place + bytes_in b) blocks).end (state_following (state_after s place b) (place + bytes_in b) blocks).stage)
     (add_assoc place (bytes_in b) (size blocks) ∙ ap (λ n. place + n) (sym (size-cons b blocks)))
-    (reach_behind (state_after s place b) (place + bytes_in b) blocks (bytes_right (spelling b) (spellings blocks) are) unbroken
+    (reach_following (state_after s place b) (place + bytes_in b) blocks (bytes_right (spelling b) (spellings blocks) are) unbroken
     (reach_more s.end s.stage place b p.end p.allowed (bytes_left (spelling b) (spellings blocks) are) h))
 
 reach_bound : (end : Option ℕ) (s : Stage) (place : ℕ) → Reaches end s place → place ≤ FURTHEST
@@ -144,5 +144,5 @@ reach_bound (Some end) s place (low, high) = omega arith
 pub read_reach : (blocks : List block.Block) (s : State) (place : ℕ) → HasRead blocks s place → AreBytes (spellings blocks) → place ≤ FURTHEST
 unfolding start
 read_reach blocks s place h are =
-    let far = reach_bound (state_following start 0 blocks).end (state_following start 0 blocks).stage (0 + size blocks) (reach_behind start 0 blocks are h.unbroken (inl (refl, refl))) in
+    let far = reach_bound (state_following start 0 blocks).end (state_following start 0 blocks).stage (0 + size blocks) (reach_following start 0 blocks are h.unbroken (inl (refl, refl))) in
     omega (arith, h.place_is, far)

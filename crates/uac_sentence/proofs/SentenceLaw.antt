@@ -20,7 +20,7 @@ use Rattle.uac_sentence.specs.Letter.{letter_of, context_after}
 use Rattle.uac_sentence.specs.Grammar.{grammar, start, state_after, state_read, rule_read, rule_broken, rule_at_end, first_fault}
 use Rattle.uac_sentence.specs.Values.{HasValues}
 use Rattle.uac_sentence.specs.Sentence.{EachIn, SpellsItself, spellings, IsSentence}
-use Rattle.uac_sentence.proofs.CuttingLaw.{chop_is_cut}
+use Rattle.uac_sentence.proofs.CuttingLemmas.{chop_is_cut}
 use Rattle.uac_sentence.proofs.FaultLaw.{faults_from_piece, faults_from_rest}
 use Rattle.uac_sentence.proofs.OrderLaw.{goes_allows, allows_goes}
 use Rattle.uac_sentence.proofs.Parts.{bytes_in, Clear, HasNoWrongValue, clear_parts, parts_clear}

@@ -16,7 +16,7 @@ use Rattle.uac_sentence.specs.declared.letters.Letter.TheVariants as letter
 use Rattle.uac_sentence.specs.declared.stages.Stage.{Stage}
 use Rattle.uac_sentence.specs.declared.stages.Stage.TheVariants.{Start, Due, Opening, Before, Announced}
 use Rattle.uac_sentence.specs.Grammar.{is_control, is_audio_interface, is_in_turn, used_after, latest_after}
-use Rattle.uac_sentence.specs.Letter.{letter_of, whole_letter, interface_letter, is_device, has_unknown_subtype, has_place, type_of}
+use Rattle.uac_sentence.specs.Letter.{letter_of, whole_letter, interface_letter, is_device, has_unknown_subtype, is_ordered_type, type_of}
 use Rattle.uac_sentence.specs.Sentence.{HasSmallNumbers, IsSentence}
 use Rattle.uac_sentence.specs.declared.states.Latest.{Latest}
 use Rattle.uac_sentence.specs.Steps.{step, may_end}
@@ -81,7 +81,7 @@ no_audio (variant.Interface i) none = cc
 no_audio (variant.Association a) none = if_not (is_audio_association a) letter.AudioAssociation letter.ForeignAssociation refl refl
 no_audio (variant.Foreign bytes) none =
     if_not (is_device bytes) letter.Device _ refl
-    (if_not (has_unknown_subtype bytes) letter.UnknownSubtype _ refl (if_not (has_place (type_of bytes)) letter.Stray letter.Other refl refl))
+    (if_not (has_unknown_subtype bytes) letter.UnknownSubtype _ refl (if_not (is_ordered_type (type_of bytes)) letter.Stray letter.Other refl refl))
 no_audio b none = refl
 
 other_control : (k : Letter) → is_audio_interface k ≡ false → is_control k ≡ false
@@ -187,9 +187,9 @@ begins_later (variant.Interface i) bs e rest =
 begins_later b bs e rest = rest
 
 -- what is no interface of the function leaves the control interface to come
-begins_behind : (b : block.Block) (bs : List block.Block) → is_control (letter_of b) ≡ false → BeginsWithControl (interfaces_in (b ∷ bs))
+begins_following : (b : block.Block) (bs : List block.Block) → is_control (letter_of b) ≡ false → BeginsWithControl (interfaces_in (b ∷ bs))
     → BeginsWithControl (interfaces_in bs)
-begins_behind (variant.Interface i) bs e h =
+begins_following (variant.Interface i) bs e h =
     elim h [
       | inl control ↦ absurd (true≢false (sym (controls (is_control_interface i) (is_streaming_interface i) control)
           ∙ subst (λ k. is_control k ≡ false) (letter_is i) e))
@@ -199,7 +199,7 @@ begins_behind (variant.Interface i) bs e h =
     controls : (c r : Bool) → c ≡ true → is_control (letter_by c r) ≡ true
     controls true r e = refl
     controls false r e = cc
-begins_behind b bs e h = h
+begins_following b bs e h = h
 
 -- a streaming interface that comes first is no control interface
 begins_not : (b : block.Block) (bs : List block.Block) → is_control (letter_of b) ≡ false → is_audio_interface (letter_of b) ≡ true
@@ -225,7 +225,7 @@ control_on xs i b below is e rest =
 pub control_back : (xs : List block.Block) (i : ℕ) (b : block.Block) → i < length xs → b ≡ get_or xs i b → is_control (letter_of b) ≡ false
     → BeginsWithControl (interfaces_in (drop i xs)) → BeginsWithControl (interfaces_in (drop (i + 1) xs))
 control_back xs i b below is e h =
-    begins_behind b (drop (i + 1) xs) e (subst (λ bs. BeginsWithControl (interfaces_in bs)) (rest_at xs i b below is) h)
+    begins_following b (drop (i + 1) xs) e (subst (λ bs. BeginsWithControl (interfaces_in bs)) (rest_at xs i b below is) h)
 
 pub control_stops : (xs : List block.Block) (i : ℕ) (b : block.Block) → i < length xs → b ≡ get_or xs i b → is_control (letter_of b) ≡ false
     → is_audio_interface (letter_of b) ≡ true → BeginsWithControl (interfaces_in (drop i xs)) → false ≡ true

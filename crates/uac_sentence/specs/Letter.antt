@@ -31,8 +31,8 @@ abbrev pub is_class_type : ℕ → Bool
 is_class_type kind = kind == CS_INTERFACE || kind == CS_ENDPOINT
 
 -- a type that has its place in the order: every other may stand where the standard allows further descriptors
-abbrev pub has_place : ℕ → Bool
-has_place kind =
+abbrev pub is_ordered_type : ℕ → Bool
+is_ordered_type kind =
     kind == DEVICE || kind == CONFIGURATION || kind == INTERFACE || kind == ENDPOINT || kind == INTERFACE_ASSOCIATION || is_class_type kind
 
 -- a device descriptor
@@ -48,7 +48,7 @@ unfoldable pub whole_letter : List ℕ → Letter
 whole_letter bytes =
     if is_device bytes then Device
     else if has_unknown_subtype bytes then UnknownSubtype
-    else if has_place (type_of bytes) then Stray else Other
+    else if is_ordered_type (type_of bytes) then Stray else Other
 
 -- the letter of an interface
 unfoldable pub interface_letter : interface.Interface → Letter

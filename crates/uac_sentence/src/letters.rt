@@ -6,7 +6,7 @@ ghost use Rattle.uac_sentence.specs.Letter.{
   interface_letter,
   is_device,
   has_unknown_subtype,
-  has_place,
+  is_ordered_type,
   is_known_subtype,
   is_class_type,
 };
@@ -111,7 +111,7 @@ fn whole_letter(bytes: &[u8]) -> Letter
         Letter::Device
     } else if is_class_type(kind) && bytes.len() >= 3 && !is_known_subtype(bytes[2]) {
         Letter::UnknownSubtype
-    } else if has_place(kind) {
+    } else if is_ordered_type(kind) {
         Letter::Stray
     } else {
         Letter::Other
@@ -134,8 +134,8 @@ fn is_known_subtype(subtype: u8) -> bool
 }
 
 /// A type that has its place in the order.
-fn has_place(kind: u8) -> bool
-    ensures { result ≡ has_place kind }
+fn is_ordered_type(kind: u8) -> bool
+    ensures { result ≡ is_ordered_type kind }
 {
     kind == DEVICE
         || kind == CONFIGURATION

@@ -7,7 +7,7 @@ use Rattle.std.specs.Int.{int_min, int_max}
 use Rattle.uac_clock.specs.declared.values.Nominal.{Nominal}
 use Rattle.uac_clock.specs.Nominal.{HasRoom}
 use Rattle.uac_rate.specs.Reports.{report_of}
-use Rattle.uac_rate.specs.Levels.{Point, stored, owed, Interval, Reported, IsCounted, Anchor, anchor_of, aged}
+use Rattle.uac_rate.specs.Levels.{Point, level_and_remainder, target_and_remainder, Interval, TakesReport, IsCounted, Anchor, anchor_of, anchor_after_interval}
 use Rattle.uac_rate.proofs.LevelsLemmas.{IsHeldReport, report_held}
 use Rattle.uac_settle.specs.Settling.{pull_of, left_of, Gap, error_of}
 
@@ -50,14 +50,14 @@ one_side A B v f e m L T h c pull drift (inr asks) young below slight least = fr
 
 -- the law
 pub gap_home : (values : Nominal) (anchor : Anchor) (p : Point) → HasRoom values → Gap values anchor p
-    → (stored p.level p.host ≤ owed p.target p.clock
-    + left_of (pull_of values) anchor.age (stored anchor.level anchor.host - owed p.target anchor.clock))
-    × (owed p.target p.clock ≤ stored p.level p.host
-    + left_of (pull_of values) anchor.age (owed p.target anchor.clock - stored anchor.level anchor.host))
+    → (level_and_remainder p.level p.host ≤ target_and_remainder p.target p.clock
+    + left_of (pull_of values) anchor.age (level_and_remainder anchor.level anchor.host - target_and_remainder p.target anchor.clock))
+    × (target_and_remainder p.target p.clock ≤ level_and_remainder p.level p.host
+    + left_of (pull_of values) anchor.age (target_and_remainder p.target anchor.clock - level_and_remainder anchor.level anchor.host))
 gap_home values anchor p room gap = (
-  one_side (stored p.level p.host) (owed p.target p.clock) p.value values.f values.e anchor.age anchor.level p.target anchor.host anchor.clock
+  one_side (level_and_remainder p.level p.host) (target_and_remainder p.target p.clock) p.value values.f values.e anchor.age anchor.level p.target anchor.host anchor.clock
       (pull_of values) (omega (arith, gap.drift)) (above held.above) gap.young gap.host slight least,
-  one_side (owed p.target p.clock) (stored p.level p.host) values.f p.value values.e anchor.age p.target anchor.level anchor.clock anchor.host
+  one_side (target_and_remainder p.target p.clock) (level_and_remainder p.level p.host) values.f p.value values.e anchor.age p.target anchor.level anchor.clock anchor.host
       (pull_of values) (omega (arith, gap.drift)) (below held.below) gap.young gap.clock slight least,
 ) where
   held : IsHeldReport values p.target anchor.level (report_of values p.target anchor.level)
@@ -96,15 +96,15 @@ gap_over_integers values anchor p room gap =
     let home = gap_home values anchor p room gap in
     let first = error_is anchor.level p.target anchor.host anchor.clock in
     let last = error_is p.level p.target p.host p.clock in
-    let all = over (stored p.level p.host) (owed p.target p.clock) (stored anchor.level anchor.host) (owed p.target anchor.clock)
+    let all = over (level_and_remainder p.level p.host) (target_and_remainder p.target p.clock) (level_and_remainder anchor.level anchor.host) (target_and_remainder p.target anchor.clock)
     (anchor.age * pull_of values) home.0 home.1 in
     subst (λ (x : ℤ). (int_min (negsuc 262143) (x +ℤ pos (anchor.age * pull_of values)) ≤ℤ error_of p.level p.target p.host p.clock)
     × (error_of p.level p.target p.host p.clock ≤ℤ int_max (pos 262144) (x -ℤ pos (anchor.age * pull_of values)))) (sym first)
-    (subst (λ (y : ℤ). (int_min (negsuc 262143) ((pos (stored anchor.level anchor.host) -ℤ pos (owed p.target anchor.clock)) +ℤ pos (anchor.age * pull_of values)) ≤ℤ y)
-    × (y ≤ℤ int_max (pos 262144) ((pos (stored anchor.level anchor.host) -ℤ pos (owed p.target anchor.clock)) -ℤ pos (anchor.age * pull_of values)))) (sym last) all)
+    (subst (λ (y : ℤ). (int_min (negsuc 262143) ((pos (level_and_remainder anchor.level anchor.host) -ℤ pos (target_and_remainder p.target anchor.clock)) +ℤ pos (anchor.age * pull_of values)) ≤ℤ y)
+    × (y ≤ℤ int_max (pos 262144) ((pos (level_and_remainder anchor.level anchor.host) -ℤ pos (target_and_remainder p.target anchor.clock)) -ℤ pos (anchor.age * pull_of values)))) (sym last) all)
 
 -- a gap begins
-pub gap_begins : (values : Nominal) (period : ℕ) (p q : Point) → Reported values period false p q → IsCounted period p → Gap values (anchor_of q) q
+pub gap_begins : (values : Nominal) (period : ℕ) (p q : Point) → TakesReport values period false p q → IsCounted period p → Gap values (anchor_of q) q
 gap_begins values period p q r counted = record {
   host = omega (arith, counted.host, r.host_is);
   clock = omega (arith, counted.clock, r.clock_is);
@@ -115,10 +115,10 @@ gap_begins values period p q r counted = record {
 
 -- and goes on
 pub gap_interval : (values : Nominal) (service period : ℕ) (anchor : Anchor) (p q : Point) → Interval values service period false p q
-    → anchor.age + service ≤ 32 → Gap values anchor p → Gap values (aged service anchor) q
+    → anchor.age + service ≤ 32 → Gap values anchor p → Gap values (anchor_after_interval service anchor) q
 gap_interval values service period anchor p q i young gap =
     let same : (anchor.age + service) * q.value ≡ (anchor.age + service) * p.value = ap (λ (n : ℕ). (anchor.age + service) * n) i.value_is in
-    let moved : stored q.level q.host + owed p.target p.clock + i.steps ≡ stored p.level p.host + owed q.target q.clock + service * p.value = omega arith in
+    let moved : level_and_remainder q.level q.host + target_and_remainder p.target p.clock + i.steps ≡ level_and_remainder p.level p.host + target_and_remainder q.target q.clock + service * p.value = omega arith in
     record {
       host = gap.host;
       clock = gap.clock;
@@ -127,7 +127,7 @@ gap_interval values service period anchor p q i young gap =
       drift = (omega (arith, gap.drift, i.slight, i.target_is), omega (arith, gap.drift, i.slight, i.target_is));
     }
 
-pub gap_lost_report : (values : Nominal) (period : ℕ) (anchor : Anchor) (p q : Point) → Reported values period true p q → Gap values anchor p → Gap values anchor q
+pub gap_lost_report : (values : Nominal) (period : ℕ) (anchor : Anchor) (p q : Point) → TakesReport values period true p q → Gap values anchor p → Gap values anchor q
 gap_lost_report values period anchor p q r gap =
     let product : anchor.age * q.value ≡ anchor.age * p.value = ap (λ (n : ℕ). anchor.age * n) r.value_is in
     record {

@@ -5,9 +5,9 @@ use Rattle.std.proofs.lemmas.Grind.{div_ceil_times}
 use Rattle.std.specs.Int.{div_ceil}
 use Rattle.uac_clock.specs.declared.values.Nominal.{Nominal}
 use Rattle.uac_clock.specs.Nominal.{HasRoom}
-use Rattle.uac_rate.specs.Levels.{HasBand, AreIntervals, Point, Within, stored, owed, since, Interval, Reported, IsRobust, Anchor, anchor_of, aged}
+use Rattle.uac_rate.specs.Levels.{HasBand, AreIntervals, Point, Within, level_and_remainder, target_and_remainder, since, Interval, TakesReport, IsRobust, Anchor, anchor_of, anchor_after_interval}
 use Rattle.uac_rate.proofs.LevelsLemmas.{interval_robust, report_robust, robust_near, not_long}
-use Rattle.uac_settle.specs.Settling.{pull_of, four_frames, farthest, settle_of, Gap, left_of, Served, Ends, Turn, Turns, KeepsPackets, SettlesWithin}
+use Rattle.uac_settle.specs.Settling.{pull_of, four_frames, farthest, settle_of, Gap, left_of, Served, Ends, Turn, Turns, LosesNoPacket, SettlesWithin}
 use Rattle.uac_settle.proofs.Gaps.{gap_home, gap_begins, gap_interval, gap_lost_report}
 
 -- a report came: so many microframes passed from the first one that came to the last one, the anchor, whose error is what they left
@@ -15,8 +15,8 @@ record Came (values : Nominal) (period microframes : ℕ) (p : Point) : Type 0 w
   passed : ℕ
   anchor : Anchor
   gap : Gap values anchor p
-  above : stored anchor.level anchor.host ≤ owed p.target anchor.clock + left_of (pull_of values) passed farthest
-  below : owed p.target anchor.clock ≤ stored anchor.level anchor.host + left_of (pull_of values) passed farthest
+  above : level_and_remainder anchor.level anchor.host ≤ target_and_remainder p.target anchor.clock + left_of (pull_of values) passed farthest
+  below : target_and_remainder p.target anchor.clock ≤ level_and_remainder anchor.level anchor.host + left_of (pull_of values) passed farthest
   age : anchor.age ≤ since period p
   time : microframes ≤ 32 + passed + anchor.age
 
@@ -27,7 +27,7 @@ Progress values period microframes p = (microframes ≤ since period p) ⊎ Came
 later : (values : Nominal) (service period : ℕ) (p q : Point) → Interval values service period false p q → since period q ≡ since period p + service
 later values service period p q i = let same : q.lost * period ≡ p.lost * period = ap (λ (n : ℕ). n * period) i.lost_is in omega arith
 
-no_sooner : (values : Nominal) (period : ℕ) (p q : Point) → Reported values period true p q → since period q ≡ since period p
+no_sooner : (values : Nominal) (period : ℕ) (p q : Point) → TakesReport values period true p q → since period q ≡ since period p
 no_sooner values period p q r =
     let more : q.lost * period ≡ suc p.lost * period = ap (λ (n : ℕ). n * period) r.lost_is in omega arith
 
@@ -45,7 +45,7 @@ interval_goes values service period microframes p q intervals i robust (inr came
     let short = not_long period q intervals.reports robust.counted in
     inr (record {
       passed = came.passed;
-      anchor = aged service came.anchor;
+      anchor = anchor_after_interval service came.anchor;
       gap = gap_interval values service period came.anchor p q i (omega (arith, came.age)) came.gap;
       above = omega (arith, came.above, i.target_is);
       below = omega (arith, came.below, i.target_is);
@@ -54,7 +54,7 @@ interval_goes values service period microframes p q intervals i robust (inr came
     })
 
 report_goes : (values : Nominal) (service period microframes : ℕ) (report_lost : Bool) (p q : Point) → HasRoom values → AreIntervals service period
-    → Reported values period report_lost p q → IsRobust values 65 service period p → Progress values period microframes p
+    → TakesReport values period report_lost p q → IsRobust values 65 service period p → Progress values period microframes p
     → Progress values period microframes q
 report_goes values service period microframes false p q room intervals r robust (inl none) =
     let short = not_long period p intervals.reports robust.counted in
@@ -70,9 +70,9 @@ report_goes values service period microframes false p q room intervals r robust 
     })
 report_goes values service period microframes false p q room intervals r robust (inr came) =
     let home = gap_home values came.anchor p room came.gap in
-    let high = both_gaps (stored p.level p.host) (owed p.target p.clock) (stored came.anchor.level came.anchor.host) (owed p.target came.anchor.clock)
+    let high = both_gaps (level_and_remainder p.level p.host) (target_and_remainder p.target p.clock) (level_and_remainder came.anchor.level came.anchor.host) (target_and_remainder p.target came.anchor.clock)
     came.passed came.anchor.age (pull_of values) farthest home.0 came.above in
-    let low = both_gaps (owed p.target p.clock) (stored p.level p.host) (owed p.target came.anchor.clock) (stored came.anchor.level came.anchor.host)
+    let low = both_gaps (target_and_remainder p.target p.clock) (level_and_remainder p.level p.host) (target_and_remainder p.target came.anchor.clock) (level_and_remainder came.anchor.level came.anchor.host)
     came.passed came.anchor.age (pull_of values) farthest home.1 came.below in
     inr (record {
       passed = came.passed + came.anchor.age;
@@ -126,7 +126,7 @@ turn_goes values service period microframes served p q room facts intervals turn
       robust = interval_robust values 65 service period false p turn.following facts interval goes.robust
 
 turns_go : (values : Nominal) (service period microframes : ℕ) (all : List Served) (p q : Point) → HasRoom values → HasBand values 65
-    → AreIntervals service period → Turns values service period all p q → KeepsPackets all → Goes values service period microframes p
+    → AreIntervals service period → Turns values service period all p q → LosesNoPacket all → Goes values service period microframes p
     → Goes values service period (microframes + length all * service) q
 turns_go values service period microframes [] p q room facts intervals same kept goes =
     subst (λ (n : ℕ). Goes values service period n q) (omega arith) (subst (Goes values service period microframes) same goes)

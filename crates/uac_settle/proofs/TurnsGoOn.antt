@@ -38,8 +38,8 @@ came_enough false level sent ticks h = omega arith
 came_enough true level sent ticks h = omega arith
 
 -- the point after the packet and the ticks of an interval
-abbrev behind_of : ℕ → Served → Point → Point
-behind_of service served p =
+abbrev after_of : ℕ → Served → Point → Point
+after_of service served p =
     let ticks = (p.clock + sum served.steps) / 65536 in
     record p {
       level = p.level + came_of served.packet_lost ((p.host + service * p.value) / 65536) ticks - ticks;
@@ -58,7 +58,7 @@ record Passes (values : Nominal) (service period : ℕ) (served : Served) (p q :
 
 interval_is_there : (values : Nominal) (service period : ℕ) (served : Served) (p : Point) → HasRoom values → AreIntervals service period
     → IsRobust values 65 service period p → IsIntervalEnd service period p → IsServed values service served
-    → Passes values service period served p (behind_of service served p)
+    → Passes values service period served p (after_of service served p)
 interval_is_there values service period served p room intervals robust at_end given = record {
   interval = record {
     steps = sum served.steps;
@@ -108,15 +108,15 @@ next_of : (values : Nominal) (service period : ℕ) (served : Served) (p : Point
     → IsRobust values 65 service period p → IsIntervalEnd service period p → IsServed values service served
     → (p.waited + service ≡ period → served.report_lost ≡ true → p.lost < 3) → Next values service period served p
 next_of values service period served p room intervals robust at_end given few = from (cases_lt (p.waited + service) period) where
-  passes : Passes values service period served p (behind_of service served p)
+  passes : Passes values service period served p (after_of service served p)
   passes = interval_is_there values service period served p room intervals robust at_end given
 
   from : (p.waited + service < period) ⊎ (period ≤ p.waited + service) → Next values service period served p
   from (inl before) = record {
-    point = behind_of service served p;
+    point = after_of service served p;
     turn = record {
       is_served = given;
-      following = behind_of service served p;
+      following = after_of service served p;
       interval = passes.interval;
       steps_are = passes.steps_are;
       ends = inl (before, refl);
@@ -125,10 +125,10 @@ next_of values service period served p room intervals robust at_end given few = 
   from (inr late) =
       let due : p.waited + service ≡ period = omega (arith, passes.interval.in_time) in
       record {
-        point = reported_of values served.report_lost (behind_of service served p);
+        point = reported_of values served.report_lost (after_of service served p);
         turn = record {
           is_served = given;
-          following = behind_of service served p;
+          following = after_of service served p;
           interval = passes.interval;
           steps_are = passes.steps_are;
           ends = inr (record {

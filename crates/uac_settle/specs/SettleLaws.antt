@@ -3,7 +3,8 @@ use Rattle.std.specs.Prelude.{◌≡◌, ℕ, ◌+◌, ◌-◌, ◌*◌, ◌%◌
 use Rattle.std.specs.Int.{int_min, int_max}
 use Rattle.uac_clock.specs.declared.values.Nominal.{Nominal}
 use Rattle.uac_clock.specs.Nominal.{HasRoom}
-use Rattle.uac_rate.specs.Levels.{HasBand, AreIntervals, Point, stored, owed, Interval, Reported, IsCounted, Anchor, anchor_of, aged}
+use Rattle.uac_rate.specs.Levels.{HasBand, AreIntervals, Point, level_and_remainder, target_and_remainder, Interval, TakesReport, IsCounted}
+use Rattle.uac_rate.specs.Levels.{Anchor, anchor_of, anchor_after_interval}
 use Rattle.uac_settle.specs.Settling.{pull_of, settle_of, Gap, left_of, error_of, Served, IsServed, IsIntervalEnd, Stretch, SettlesWithin}
 
 -- a gap takes its microframes' pull off an error above four frames, and an error of at most four frames stays so: too full, or too
@@ -11,10 +12,10 @@ use Rattle.uac_settle.specs.Settling.{pull_of, settle_of, Gap, left_of, error_of
 abbrev pub GapsGoHome : Type 0
 GapsGoHome =
     (values : Nominal) (anchor : Anchor) (p : Point) → HasRoom values → Gap values anchor p
-    → (stored p.level p.host ≤ owed p.target p.clock
-    + left_of (pull_of values) anchor.age (stored anchor.level anchor.host - owed p.target anchor.clock))
-    × (owed p.target p.clock ≤ stored p.level p.host
-    + left_of (pull_of values) anchor.age (owed p.target anchor.clock - stored anchor.level anchor.host))
+    → (level_and_remainder p.level p.host ≤ target_and_remainder p.target p.clock
+    + left_of (pull_of values) anchor.age (level_and_remainder anchor.level anchor.host - target_and_remainder p.target anchor.clock))
+    × (target_and_remainder p.target p.clock ≤ level_and_remainder p.level p.host
+    + left_of (pull_of values) anchor.age (target_and_remainder p.target anchor.clock - level_and_remainder anchor.level anchor.host))
 
 -- gaps over the integers, by the error at the anchor and at the point
 abbrev pub GapsOverIntegers : Type 0
@@ -28,18 +29,18 @@ GapsOverIntegers =
 -- a gap begins at a report that came
 abbrev pub GapsBegin : Type 0
 GapsBegin =
-    (values : Nominal) (period : ℕ) (p q : Point) → Reported values period false p q → IsCounted period p → Gap values (anchor_of q) q
+    (values : Nominal) (period : ℕ) (p q : Point) → TakesReport values period false p q → IsCounted period p → Gap values (anchor_of q) q
 
 -- an interval whose packet came goes on with it, up to 32 microframes
 abbrev pub IntervalsGoOn : Type 0
 IntervalsGoOn =
     (values : Nominal) (service period : ℕ) (anchor : Anchor) (p q : Point) → Interval values service period false p q
-    → anchor.age + service ≤ 32 → Gap values anchor p → Gap values (aged service anchor) q
+    → anchor.age + service ≤ 32 → Gap values anchor p → Gap values (anchor_after_interval service anchor) q
 
 -- so does a report that was lost
 abbrev pub LostReportsGoOn : Type 0
 LostReportsGoOn =
-    (values : Nominal) (period : ℕ) (anchor : Anchor) (p q : Point) → Reported values period true p q → Gap values anchor p
+    (values : Nominal) (period : ℕ) (anchor : Anchor) (p q : Point) → TakesReport values period true p q → Gap values anchor p
     → Gap values anchor q
 
 -- gaps one after the other take every stretch home

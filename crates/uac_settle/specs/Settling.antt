@@ -8,7 +8,7 @@ use Rattle.std.specs.Option.{option_map}
 use Rattle.uac_clock.specs.declared.values.Nominal.{Nominal}
 use Rattle.uac_clock.specs.Nominal.{nominal_of}
 use Rattle.uac_rate.specs.Reports.{report_of}
-use Rattle.uac_rate.specs.Levels.{AreIntervals, Point, Within, Interval, Reported, IsRobust, Anchor, HasDrifted}
+use Rattle.uac_rate.specs.Levels.{AreIntervals, Point, Within, Interval, TakesReport, IsRobust, Anchor, HasDrifted}
 
 -- what a microframe takes home at least, whatever the clock deviates, where the last report saw the level off by four frames or more: such
 -- a report is the least packet, the greatest packet, or off the nominal value by four times 1,024
@@ -66,7 +66,7 @@ pub record IsIntervalEnd (service period : ℕ) (p : Point) : Type 0 where
 
 -- where a report falls due, it comes or is lost; nothing else happens at the end of an interval
 abbrev pub Ends : Nominal → ℕ → Bool → Point → Point → Type 0
-Ends values period report_lost p q = ((p.waited < period) × (q ≡ p)) ⊎ Reported values period report_lost p q
+Ends values period report_lost p q = ((p.waited < period) × (q ≡ p)) ⊎ TakesReport values period report_lost p q
 
 -- what an interval makes of a stream
 pub record Turn (values : Nominal) (service period : ℕ) (served : Served) (p q : Point) : Type 0 where
@@ -91,12 +91,12 @@ pub record Stretch (values : Nominal) (service period : ℕ) (all : List Served)
   pub turns : Turns values service period all start last
 
 -- none of its packets was lost
-abbrev pub KeepsPackets : List Served → Type 0
-KeepsPackets all = AllByRecursion (λ served. served.packet_lost ≡ false) all
+abbrev pub LosesNoPacket : List Served → Type 0
+LosesNoPacket all = AllByRecursion (λ served. served.packet_lost ≡ false) all
 
 -- whatever stretch it is that loses no packet: at the end of each interval that ends so many microframes or more after its start, the
 -- level is within four frames of its target
 abbrev pub SettlesWithin : Nominal → ℕ → Type 0
 SettlesWithin values microframes =
-    (service period : ℕ) (all : List Served) (start last : Point) → Stretch values service period all start last → KeepsPackets all
+    (service period : ℕ) (all : List Served) (start last : Point) → Stretch values service period all start last → LosesNoPacket all
     → microframes ≤ length all * service → Within 4 last.level last.target

@@ -18,18 +18,18 @@ use Rattle.uac_sentence.specs.declared.faults.GrammarFault.{GrammarFault}
 use Rattle.uac_sentence.proofs.SentenceLaw.{bytes_right, none_sentence, small_numbers}
 use Rattle.uac_sentence.proofs.WellFormedLaw.{sentence_is_well_formed}
 use Rattle.uac_entities.specs.Entities.{entities_of, entity_of}
-use Rattle.uac_entities.specs.EntitySettings.{alternate_at, alternate_of, alternates_of}
-use Rattle.uac_entities.specs.EntityStreams.{stream_at, stream_of}
-use Rattle.uac_entities.specs.declared.alternate.Alternate.{Alternate}
+use Rattle.uac_entities.specs.EntitySettings.{declared_setting_at, declared_setting_of, declared_settings}
+use Rattle.uac_entities.specs.EntityInterfaces.{streaming_interface_at, streaming_interface_of}
+use Rattle.uac_entities.specs.declared.settings.DeclaredSetting.{DeclaredSetting}
 use Rattle.uac_entities.specs.declared.entity.Entity.{Entity}
 use Rattle.uac_entities.specs.declared.stream.StreamInterface.{StreamInterface}
-use Rattle.uac_topology_rules.specs.Clusters.{clustered}
+use Rattle.uac_topology_rules.specs.Clusters.{with_own_clusters}
 use Rattle.uac_topology_rules.specs.declared.fault.TopologyFault.{TopologyFault}
 use Rattle.uac_topology.specs.Function.{FunctionFields}
 use Rattle.uac_topology.specs.Topology.{IsSoundFunction, first_broken}
 use Rattle.uac_topology.proofs.Clustered.{seen_alike}
 use Rattle.uac_grammar.specs.Stop.{shown_fault}
-use Rattle.uac_script.specs.Phrase.{Phrase, idle, feeds, goes, controls, gets, sets, shows, breaks, appends, tracks, jacks, deviates, runs, details, reports}
+use Rattle.uac_script.specs.Phrase.{Phrase, nothing_line, bytes_line, go_line, control_line, get_line, set_line, show_line, break_line, append_line, track_line, jack_line, deviate_line, microframes_line, detail_line, report_line}
 use Rattle.uac_script.specs.Line.{IsRow, Says}
 use Rattle.uac_script.specs.LineReading.{answer}
 use Rattle.uac_script.specs.Words.{Word, hex_of, is_idle, words_of}
@@ -55,10 +55,10 @@ hex_bytes (digit ∷ digits) bytes is = by (decode_of (digit ∷ digits)) refl i
     by (Ok found) from same = subst AreBytes (let e : found ≡ bytes = cc in e) (decode_of-ok (digit ∷ digits) found from).3
     by (Err e) from same = absurd (cc)
 
-pub feeds_bytes : (text bytes : List ℕ) → answer text ≡ Ok (feeds bytes) → AreBytes bytes
+pub feeds_bytes : (text bytes : List ℕ) → answer text ≡ Ok (bytes_line bytes) → AreBytes bytes
 feeds_bytes text bytes is = by (subst (Says text) is (answer_says text)).0
   where
-    by : ((is_idle text ≡ true) × (feeds bytes ≡ idle)) ⊎ IsRow (words_of text) (feeds bytes) → AreBytes bytes
+    by : ((is_idle text ≡ true) × (bytes_line bytes ≡ nothing_line)) ⊎ IsRow (words_of text) (bytes_line bytes) → AreBytes bytes
     by (inl (still, same)) = absurd (cc)
     by (inr (digits, words, read)) = hex_bytes digits bytes read
 
@@ -69,25 +69,25 @@ appended_bytes (x ∷ xs) ys front back (suc i) = appended_bytes xs ys (λ k. fr
 
 -- ---- the numbers of interfaces
 
-module _ (es : List Entity) (whole : List Alternate) where
+module _ (es : List Entity) (whole : List DeclaredSetting) where
   abbrev IsSmall : StreamInterface → Type 0
   IsSmall s = s.number < 256
 
   streams_from : List block.Block → List StreamInterface
-  streams_from blocks = filter_map (stream_at es whole) (alternates_of blocks)
+  streams_from blocks = filter_map (streaming_interface_at es whole) (declared_settings blocks)
 
   small_streams : (blocks : List block.Block) → HasSmallNumbers blocks → All IsSmall (streams_from blocks)
-  unfolding alternates_of alternate_at stream_at stream_of streams_from
+  unfolding declared_settings declared_setting_at streaming_interface_at streaming_interface_of streams_from
   small_streams [] small = All-nil IsSmall
   small_streams (row.Interface i ∷ blocks) (here, rest) = by (is_streaming_interface i) (small_streams blocks rest)
     where
       by_setting : (t : Bool) → All IsSmall (streams_from blocks)
-          → All IsSmall (cons_option (if t then Some (stream_of es whole i.number) else None) (streams_from blocks))
-      by_setting true each = All-cons IsSmall (stream_of es whole i.number) (streams_from blocks) here each
+          → All IsSmall (cons_option (if t then Some (streaming_interface_of es whole i.number) else None) (streams_from blocks))
+      by_setting true each = All-cons IsSmall (streaming_interface_of es whole i.number) (streams_from blocks) here each
       by_setting false each = each
 
       by : (t : Bool) → All IsSmall (streams_from blocks)
-          → All IsSmall (filter_map (stream_at es whole) (cons_option (cond t (Some (alternate_of i blocks)) None) (alternates_of blocks)))
+          → All IsSmall (filter_map (streaming_interface_at es whole) (cons_option (cond t (Some (declared_setting_of i blocks)) None) (declared_settings blocks)))
       by true each = by_setting (i.setting == 0) each
       by false each = each
   small_streams (b ∷ blocks) small = small_streams blocks small
@@ -127,7 +127,7 @@ small_entities (b ∷ blocks) are = small_entities blocks (bytes_right (spelling
 abbrev AreSmall : List ℕ → Type 0
 AreSmall ids = All (λ n. n < 256) ids
 
-small_ids : (blocks : List block.Block) → AreBytes (spellings blocks) → AreSmall (map (λ e. e.id) (clustered (entities_of blocks)))
+small_ids : (blocks : List block.Block) → AreBytes (spellings blocks) → AreSmall (map (λ e. e.id) (with_own_clusters (entities_of blocks)))
 small_ids blocks are =
     subst AreSmall (sym (seen_alike (entities_of blocks) 0 (λ e. e.id) (λ e c. refl)))
     (All-map (λ n. n < 256) (λ e. e.id) (entities_of blocks) (small_entities blocks are))
@@ -153,9 +153,9 @@ described bytes are whole sound =
         record { entities = refl; domains = refl; streams = refl; control_interface = refl; total = refl },
         subst AreWellFormed (sym same) (sentence_is_well_formed bytes blocks sentence.1),
       );
-      small = small_streams (entities_of read) (alternates_of read) read
+      small = small_streams (entities_of read) (declared_settings read) read
           (subst HasSmallNumbers (sym same) (small_numbers blocks (subst AreBytes sentence.1.spelt are)));
-      ids = subst (λ (bs : List block.Block). AreSmall (map (λ e. e.id) (clustered (entities_of bs)))) (sym same)
+      ids = subst (λ (bs : List block.Block). AreSmall (map (λ e. e.id) (with_own_clusters (entities_of bs)))) (sym same)
           (small_ids blocks (subst AreBytes sentence.1.spelt are));
     }
 
@@ -163,19 +163,19 @@ described bytes are whole sound =
 
 -- what holds of the steps of a descriptor's lines: of bytes that stay bytes, of a device that starts, and of a refusal
 module _ (P : Phrase → Step → Type 0) (fails : (phrase : Phrase) (fault : BusFault) → P phrase (refused fault))
-    (bytes : List ℕ) (meters : List Reading) (rests : AreBytes bytes → P idle (silently (describing bytes meters)))
-    (grows : (more now : List ℕ) → AreBytes now → P (feeds more) (silently (describing now meters)))
+    (bytes : List ℕ) (meters : List Reading) (rests : AreBytes bytes → P nothing_line (silently (describing bytes meters)))
+    (grows : (more now : List ℕ) → AreBytes now → P (bytes_line more) (silently (describing now meters)))
     (starts : (function : FunctionFields) → IsDescribed function
-    → P goes (done (running (at_start bytes function meters)) (ready_line function ∷ []))) where
-  fed_is : (more now : List ℕ) → AreBytes now → P (feeds more) (step_feed now meters)
+    → P go_line (done (running (at_start bytes function meters)) (ready_line function ∷ []))) where
+  fed_is : (more now : List ℕ) → AreBytes now → P (bytes_line more) (step_feed now meters)
   unfolding step_feed
   fed_is more now are = by (shown_fault now)
     where
-      by : (o : Option GrammarFault) → P (feeds more) (if_no_fault o (silently (describing now meters)))
+      by : (o : Option GrammarFault) → P (bytes_line more) (if_no_fault o (silently (describing now meters)))
       by None = grows more now are
-      by (Some fault) = fails (feeds more) _
+      by (Some fault) = fails (bytes_line more) _
 
-  gone_is : AreBytes bytes → P goes (step_go bytes meters)
+  gone_is : AreBytes bytes → P go_line (step_go bytes meters)
   unfolding step_go
   gone_is are = by (first_fault bytes) refl (first_broken (blocks_of bytes)) refl
     where
@@ -183,31 +183,31 @@ module _ (P : Phrase → Step → Type 0) (fails : (phrase : Phrase) (fault : Bu
       function = function_of (blocks_of bytes)
 
       by : (f : Option GrammarFault) → first_fault bytes ≡ f → (b : Option TopologyFault) → first_broken (blocks_of bytes) ≡ b
-          → P goes (if_no_fault f (if_sound b (done (running (at_start bytes function meters)) (ready_line function ∷ []))))
+          → P go_line (if_no_fault f (if_sound b (done (running (at_start bytes function meters)) (ready_line function ∷ []))))
       by None whole None sound = starts function (described bytes are whole sound)
-      by None whole (Some fault) broken = fails goes _
-      by (Some fault) at b is = fails goes _
+      by None whole (Some fault) broken = fails go_line _
+      by (Some fault) at b is = fails go_line _
 
-  pub describing_is : (phrase : Phrase) → AreBytes bytes → ((more : List ℕ) → phrase ≡ feeds more → AreBytes more)
+  pub describing_is : (phrase : Phrase) → AreBytes bytes → ((more : List ℕ) → phrase ≡ bytes_line more → AreBytes more)
       → P phrase (step_describing bytes meters phrase)
-  describing_is idle are feed = rests are
-  describing_is (feeds more) are feed = fed_is more (bytes ++ more) (appended_bytes bytes more are (feed more refl))
-  describing_is goes are feed = gone_is are
-  describing_is (controls setup sent) are feed = fails (controls setup sent) _
-  describing_is (gets name) are feed = fails (gets name) _
-  describing_is (sets name value) are feed = fails (sets name value) _
-  describing_is (shows name) are feed = fails (shows name) _
-  describing_is (breaks later) are feed = fails (breaks later) _
-  describing_is (appends number samples) are feed = fails (appends number samples) _
-  describing_is (tracks number voice) are feed = fails (tracks number voice) _
-  describing_is (jacks terminal voice) are feed = fails (jacks terminal voice) _
-  describing_is (deviates clock ppm) are feed = fails (deviates clock ppm) _
-  describing_is (runs count marks) are feed = fails (runs count marks) _
-  describing_is (details level) are feed = fails (details level) _
-  describing_is reports are feed = fails reports _
+  describing_is nothing_line are feed = rests are
+  describing_is (bytes_line more) are feed = fed_is more (bytes ++ more) (appended_bytes bytes more are (feed more refl))
+  describing_is go_line are feed = gone_is are
+  describing_is (control_line setup sent) are feed = fails (control_line setup sent) _
+  describing_is (get_line name) are feed = fails (get_line name) _
+  describing_is (set_line name value) are feed = fails (set_line name value) _
+  describing_is (show_line name) are feed = fails (show_line name) _
+  describing_is (break_line later) are feed = fails (break_line later) _
+  describing_is (append_line number samples) are feed = fails (append_line number samples) _
+  describing_is (track_line number voice) are feed = fails (track_line number voice) _
+  describing_is (jack_line terminal voice) are feed = fails (jack_line terminal voice) _
+  describing_is (deviate_line clock ppm) are feed = fails (deviate_line clock ppm) _
+  describing_is (microframes_line count marks) are feed = fails (microframes_line count marks) _
+  describing_is (detail_line level) are feed = fails (detail_line level) _
+  describing_is report_line are feed = fails report_line _
 
 pub describing_keeps : (bytes : List ℕ) (meters : List Reading) (phrase : Phrase) → AreBytes bytes
-    → ((more : List ℕ) → phrase ≡ feeds more → AreBytes more) → KeepsGood (step_describing bytes meters phrase)
+    → ((more : List ℕ) → phrase ≡ bytes_line more → AreBytes more) → KeepsGood (step_describing bytes meters phrase)
 describing_keeps bytes meters =
     describing_is (λ phrase s. KeepsGood s) (λ phrase fault. tt) bytes meters (λ are h. record { good = are; quiet = none_quiet })
     (λ more now are h. record { good = are; quiet = none_quiet }) (λ function is h. record {

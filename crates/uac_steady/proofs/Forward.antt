@@ -10,17 +10,17 @@ use Rattle.uac_device.specs.DeviceWorld.{Domain}
 use Rattle.uac_request.specs.Requests.{setup_of}
 use Rattle.uac_request.specs.declared.setup.Setup.{Setup}
 use Rattle.uac_mixer.specs.MixerElements.{fits_element}
-use Rattle.uac_script.specs.Phrase.{SaidMark, Phrase, idle, feeds, goes, controls, gets, sets, shows, breaks, appends, tracks, jacks, deviates, runs, details, reports}
-use Rattle.uac_transcript.specs.Transcript.{Said, Sight, Outcome, says_answer, says_view, says_meter, says_passed, says_renders, says_steady}
+use Rattle.uac_script.specs.Phrase.{SaidMark, Phrase, nothing_line, bytes_line, go_line, control_line, get_line, set_line, show_line, break_line, append_line, track_line, jack_line, deviate_line, microframes_line, detail_line, report_line}
+use Rattle.uac_transcript.specs.Transcript.{Said, Sight, TransferOutcome, says_answer, says_view, says_meter, says_passed, says_renders, says_steady}
 use Rattle.uac_transcript.specs.declared.report.StreamCounts.{StreamCounts}
 use Rattle.uac_running.specs.RunningWorld.{RunningWorld}
 use Rattle.uac_running.specs.RunningWorld as world
-use Rattle.uac_running.specs.Naming.{size_of}
+use Rattle.uac_running.specs.RunningNames.{size_of}
 use Rattle.uac_running.specs.Events.{microframe, microframes}
 use Rattle.uac_running.specs.RunningLines.{domain_line, report_lines, says_stream, stream_line}
 use Rattle.uac_running.specs.RunningTransfers.{element_named, read_element, set_element, show_element, transfer, after_transfer}
 use Rattle.uac_bus.specs.declared.fault.BusFault.{BusFault}
-use Rattle.uac_bus.specs.BusWorld.{Step, World, describing, done, refused, running, step_running, step_telling, tone_of}
+use Rattle.uac_bus.specs.BusWorld.{Step, BusWorld, describing, done, refused, running, step_running, step_telling, tone_of}
 use Rattle.uac_bands.specs.BandRun.{IsNearLevel, IsNoUnder, RunInBand}
 use Rattle.uac_bands.specs.BandTransfers.{IsSoundRun}
 use Rattle.uac_bands.proofs.Begun.{calls_keep_bands}
@@ -37,12 +37,12 @@ pub record AreQuiet (lines : List Said) : Type 0 where
   pub near : All IsNearLevel lines
 
 -- a descriptor's bytes are bytes; a running device is sound and in its bands
-abbrev pub IsGood : World → Type 0
+abbrev pub IsGood : BusWorld → Type 0
 IsGood (describing bytes meters) = AreBytes bytes
 IsGood (running r) = RunInBand r × IsSoundRun r
 
 -- so it is after a line where what was given is steady there
-pub record LeavesGood (next : World) (lines : List Said) : Type 0 where
+pub record LeavesGood (next : BusWorld) (lines : List Said) : Type 0 where
   pub good : IsGood next
   pub quiet : AreQuiet lines
 
@@ -79,7 +79,7 @@ mapped_quiet : {A : Type 0} → (f : A → Said) → ((x : A) → IsQuiet (f x))
 mapped_quiet f each [] = none_quiet
 mapped_quiet f each (x ∷ xs) = one_more (f x) (map f xs) (each x) (mapped_quiet f each xs)
 
-answer_quiet : (outcome : Outcome) → AreQuiet (says_answer outcome ∷ [])
+answer_quiet : (outcome : TransferOutcome) → AreQuiet (says_answer outcome ∷ [])
 answer_quiet outcome =
     one_more (says_answer outcome) [] (record { no_under = λ k same. cc; near = λ k level target same. absurd (cc) }) none_quiet
 
@@ -127,7 +127,7 @@ module _ (r : RunningWorld) (band : RunInBand r) (sound : IsSoundRun r) where
   silent : (next : RunningWorld) → RunInBand next → IsSoundRun next → LeavesGood (running next) []
   silent next banded sounds = record { good = (banded, sounds); quiet = none_quiet }
 
-  microframes_leave : (marks : List SaidMark) (count : ℕ) → is_steady (microframes marks count r).world.given ≡ true
+  microframes_leave : (marks : List SaidMark) (count : ℕ) → is_steady (microframes marks count r).world.history ≡ true
       → LeavesGood (running (microframes marks count r).world) (microframes marks count r).lines
   microframes_leave marks count steady =
       let stays = stay_steady marks count r band steady in
@@ -135,39 +135,39 @@ module _ (r : RunningWorld) (band : RunInBand r) (sound : IsSoundRun r) where
 
   pub running_keeps : (phrase : Phrase) → KeepsGood (step_running r phrase)
   unfolding transfer read_element set_element show_element
-  running_keeps idle = λ h. silent r band sound
-  running_keeps (feeds more) = tt
-  running_keeps goes = tt
-  running_keeps (controls setup sent) = λ h. transfer_leaves (setup_of setup) sent _ (answer_quiet _)
-  running_keeps (gets name) =
+  running_keeps nothing_line = λ h. silent r band sound
+  running_keeps (bytes_line more) = tt
+  running_keeps go_line = tt
+  running_keeps (control_line setup sent) = λ h. transfer_leaves (setup_of setup) sent _ (answer_quiet _)
+  running_keeps (get_line name) =
       on_element_is KeepsGood no_step (element_named r name) (reads r) (λ x h. transfer_leaves _ _ _ (view_quiet _))
-  running_keeps (sets name value) =
+  running_keeps (set_line name value) =
       on_element_is KeepsGood no_step (element_named r name) (set_to r value)
       (λ x. unless_is KeepsGood no_step (fits_element x.kind value) 7 (step_telling (set_element x value r))
       (λ h. transfer_leaves _ _ _ (view_quiet _)))
-  running_keeps (shows name) =
+  running_keeps (show_line name) =
       on_element_is KeepsGood no_step (element_named r name) (shown r)
       (λ x h. record { good = (band, sound); quiet = view_quiet _ })
-  running_keeps (breaks after) = λ h. silent _ ((calls_keep_bands r band).breaks after) ((calls_keep_sound r sound).breaks after)
-  running_keeps (appends number samples) =
+  running_keeps (break_line after) = λ h. silent _ ((calls_keep_bands r band).breaks after) ((calls_keep_sound r sound).breaks after)
+  running_keeps (append_line number samples) =
       unless_is KeepsGood no_step _ 6 (framed r number samples)
       (unless_is KeepsGood no_step _ 7 (appended r number samples) (λ h.
       silent _ ((calls_keep_bands r band).samples (size_of number) samples) ((calls_keep_sound r sound).samples (size_of number) samples)))
-  running_keeps (tracks number voice) =
+  running_keeps (track_line number voice) =
       unless_is KeepsGood no_step _ 6 (tracked r number voice) (λ h.
       silent _ ((calls_keep_bands r band).track (size_of number) (tone_of voice))
       ((calls_keep_sound r sound).track (size_of number) (tone_of voice)))
-  running_keeps (jacks terminal voice) =
+  running_keeps (jack_line terminal voice) =
       unless_is KeepsGood no_step _ 6 (toned r terminal voice) (λ h.
       silent _ ((calls_keep_bands r band).tone (size_of terminal) (tone_of voice))
       ((calls_keep_sound r sound).tone (size_of terminal) (tone_of voice)))
-  running_keeps (deviates clock ppm) =
+  running_keeps (deviate_line clock ppm) =
       unless_is KeepsGood no_step _ 6 (off r clock ppm) (λ h.
       let slight = ((calls_look_back r).deviation (size_of clock) ppm h).0 in
       silent _ ((calls_keep_bands r band).deviation (size_of clock) ppm slight)
       ((calls_keep_sound r sound).deviation (size_of clock) ppm slight))
-  running_keeps (runs count marks) =
+  running_keeps (microframes_line count marks) =
       unless_is KeepsGood no_step _ 6 (gone_on r count marks) (microframes_leave marks (size_of count))
-  running_keeps (details level) =
+  running_keeps (detail_line level) =
       λ h. silent _ ((calls_keep_bands r band).detail (size_of level)) ((calls_keep_sound r sound).detail (size_of level))
-  running_keeps reports = λ h. record { good = (band, sound); quiet = report_quiet r }
+  running_keeps report_line = λ h. record { good = (band, sound); quiet = report_quiet r }

@@ -4,14 +4,14 @@ use Rattle.uac_rate.specs.Steadiness.{is_steady}
 use Rattle.uac_request.specs.Requests.{setup_of}
 use Rattle.uac_mixer.specs.MixerElements.{fits_element}
 use Rattle.uac_mixer.specs.declared.element.Element.{Element}
-use Rattle.uac_script.specs.Phrase.{SaidMark, Phrase, SaidTone, idle, feeds, goes, controls, gets, sets, shows, breaks, appends, tracks, jacks, deviates, runs, details, reports}
+use Rattle.uac_script.specs.Phrase.{SaidMark, Phrase, SaidTone, nothing_line, bytes_line, go_line, control_line, get_line, set_line, show_line, break_line, append_line, track_line, jack_line, deviate_line, microframes_line, detail_line, report_line}
 use Rattle.uac_units.specs.Hearing.{Reading}
 use Rattle.uac_running.specs.RunningWorld.{RunningWorld, with_detail, with_deviation, with_samples_on, with_tone, with_track}
-use Rattle.uac_running.specs.Naming.{are_frames, size_of}
+use Rattle.uac_running.specs.RunningNames.{are_frames, size_of}
 use Rattle.uac_running.specs.Events.{microframe, microframes}
 use Rattle.uac_running.specs.RunningTransfers.{element_named, read_element, set_element, show_element, transfer, with_break}
 use Rattle.uac_bus.specs.declared.fault.BusFault.{BusFault}
-use Rattle.uac_bus.specs.BusWorld.{silently, tone_of, Step, World, describing, done, on_element, refused, running, step_running, step_telling, unless}
+use Rattle.uac_bus.specs.BusWorld.{silently, tone_of, Step, BusWorld, describing, done, on_element, refused, running, step_running, step_telling, unless}
 use Rattle.uac_bands.proofs.LookingBack.{calls_look_back, looks_back}
 use Rattle.uac_steady.specs.Scripts.{is_steady_in}
 
@@ -60,12 +60,12 @@ module _ (r : RunningWorld) where
 -- ---- looking back
 
 -- what is steady after a line was so before it
-abbrev pub WasSteady : World → Step → Type 0
+abbrev pub WasSteady : BusWorld → Step → Type 0
 WasSteady w (done next lines) = is_steady_in next ≡ true → is_steady_in w ≡ true
 WasSteady w (refused fault) = Unit {0}
 
-pub microframes_before : (marks : List SaidMark) (count : ℕ) (r : RunningWorld) → is_steady (microframes marks count r).world.given ≡ true
-    → is_steady r.given ≡ true
+pub microframes_before : (marks : List SaidMark) (count : ℕ) (r : RunningWorld) → is_steady (microframes marks count r).world.history ≡ true
+    → is_steady r.history ≡ true
 unfolding microframes
 microframes_before marks zero r h = h
 microframes_before marks (suc count) r h = looks_back marks r (microframes_before marks count (microframe marks r).world h)
@@ -79,28 +79,28 @@ module _ (r : RunningWorld) where
 
   pub running_looks_back : (phrase : Phrase) → Back (step_running r phrase)
   unfolding transfer read_element set_element show_element with_break with_samples_on with_track with_tone with_detail
-  running_looks_back idle = λ h. h
-  running_looks_back (feeds more) = tt
-  running_looks_back goes = tt
-  running_looks_back (controls setup sent) = (calls_look_back r).transfer (setup_of setup) sent
-  running_looks_back (gets name) =
+  running_looks_back nothing_line = λ h. h
+  running_looks_back (bytes_line more) = tt
+  running_looks_back go_line = tt
+  running_looks_back (control_line setup sent) = (calls_look_back r).transfer (setup_of setup) sent
+  running_looks_back (get_line name) =
       on_element_is Back no_step (element_named r name) (reads r) (λ x. (calls_look_back r).transfer _ _)
-  running_looks_back (sets name value) =
+  running_looks_back (set_line name value) =
       on_element_is Back no_step (element_named r name) (set_to r value)
       (λ x. unless_is Back no_step (fits_element x.kind value) 7 (step_telling (set_element x value r))
       ((calls_look_back r).transfer _ _))
-  running_looks_back (shows name) = on_element_is Back no_step (element_named r name) (shown r) (λ x h. h)
-  running_looks_back (breaks after) = λ h. h
-  running_looks_back (appends number samples) =
+  running_looks_back (show_line name) = on_element_is Back no_step (element_named r name) (shown r) (λ x h. h)
+  running_looks_back (break_line after) = λ h. h
+  running_looks_back (append_line number samples) =
       unless_is Back no_step _ 6 (framed r number samples)
       (unless_is Back no_step _ 7 (appended r number samples) (λ h. h))
-  running_looks_back (tracks number voice) = unless_is Back no_step _ 6 (tracked r number voice) (λ h. h)
-  running_looks_back (jacks terminal voice) = unless_is Back no_step _ 6 (toned r terminal voice) (λ h. h)
-  running_looks_back (deviates clock ppm) =
+  running_looks_back (track_line number voice) = unless_is Back no_step _ 6 (tracked r number voice) (λ h. h)
+  running_looks_back (jack_line terminal voice) = unless_is Back no_step _ 6 (toned r terminal voice) (λ h. h)
+  running_looks_back (deviate_line clock ppm) =
       unless_is Back no_step _ 6 (off r clock ppm) (λ h. ((calls_look_back r).deviation (size_of clock) ppm h).1)
-  running_looks_back (runs count marks) = unless_is Back no_step _ 6 (gone_on r count marks) (microframes_before marks _ r)
-  running_looks_back (details level) = λ h. h
-  running_looks_back reports = λ h. h
+  running_looks_back (microframes_line count marks) = unless_is Back no_step _ 6 (gone_on r count marks) (microframes_before marks _ r)
+  running_looks_back (detail_line level) = λ h. h
+  running_looks_back report_line = λ h. h
 
 pub describing_looks_back : (bytes : List ℕ) (meters : List Reading) (s : Step) → WasSteady (describing bytes meters) s
 describing_looks_back bytes meters (done next lines) = λ h. refl

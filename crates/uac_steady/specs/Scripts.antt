@@ -5,17 +5,17 @@ use Rattle.std.specs.List.{All}
 use Rattle.uac_units.specs.Hearing.{Reading}
 use Rattle.uac_rate.specs.Steadiness as steadiness
 use Rattle.uac_script.specs.LineReading.{answer}
-use Rattle.uac_bus.specs.BusWorld.{World, describing, running, start}
+use Rattle.uac_bus.specs.BusWorld.{BusWorld, describing, running, start}
 use Rattle.uac_bus.specs.After.{After, after}
 use Rattle.uac_bands.specs.BandRun.{IsNearLevel, IsNoUnder, RunInBand}
 
 -- what was given so far is steady; before the descriptor's end nothing was given
-abbrev pub is_steady_in : World → Bool
+abbrev pub is_steady_in : BusWorld → Bool
 is_steady_in (describing bytes meters) = true
-is_steady_in (running r) = steadiness.is_steady r.given
+is_steady_in (running r) = steadiness.is_steady r.history
 
 -- a running device is in its bands
-abbrev pub IsInBand : World → Type 0
+abbrev pub IsInBand : BusWorld → Type 0
 IsInBand (describing bytes meters) = Unit {0}
 IsInBand (running r) = RunInBand r
 

@@ -5,7 +5,7 @@ use Rattle.std.specs.List.{flat_map, All, AllByRecursion, IsDistinct}
 use Rattle.std.proofs.lemmas.Bool.{and_parts, eqb-true, eqb-false, ltb-true, ltb-false, le-leb, leb-true, leb-false}
 use Rattle.uac_clock.specs.Nominal.{is_listed}
 use Rattle.uac_gain.specs.Gain.{gain_of}
-use Rattle.uac_entities.specs.EntityStreams.{named}
+use Rattle.uac_entities.specs.EntityInterfaces.{entity_by_id}
 use Rattle.uac_entities.specs.declared.entity.EntityKind.{EntityKind}
 use Rattle.uac_entities.specs.declared.entity.EntityKind.TheVariants as kind
 use Rattle.uac_entities.specs.declared.entity.Entity.{Entity}
@@ -15,7 +15,7 @@ use Rattle.uac_store.specs.declared.keys.Key.{Key}
 use Rattle.uac_store.specs.Keyed.{value_of}
 use Rattle.uac_store.specs.ControlTable.{choices, is_one_to, selectors_of, start_by, takes_by}
 use Rattle.uac_store.specs.StoreControls.{start_of, start_at, count_of, pins_of, node_start, channel_within, controls_of, initial_controls, has_on, has_control, takes, takes_on, IsStoreOf}
-use Rattle.uac_store.proofs.Tabled.{at_each}
+use Rattle.uac_store.proofs.ControlTableLemmas.{at_each}
 use Rattle.uac_store.proofs.Keeping.{value_of-append, controls_miss_channel, controls_miss_entity, selectors_miss, selectors_have, entities_miss}
 
 -- what one entity gives a key
@@ -52,15 +52,15 @@ others_apart id [] h = tt
 others_apart id (x ∷ xs) h = (eqb-false id x.id h.0, others_apart id xs h.1)
 
 found_among : (all xs : List Entity) (k : Key) → IsDistinct nat_eq (map (λ e. e.id) xs)
-    → value_of (flat_map (controls_of all) xs) k ≡ option_and_then (start_on all k) (named xs k.entity)
-unfolding named value_of IsDistinct
+    → value_of (flat_map (controls_of all) xs) k ≡ option_and_then (start_on all k) (entity_by_id xs k.entity)
+unfolding entity_by_id value_of IsDistinct
 found_among all [] k h = refl
 found_among all (x ∷ xs) k h = value_of-append (controls_of all x) (flat_map (controls_of all) xs) k ∙ from (x.id == k.entity) refl (found_among all xs k h.1) where
   rest : Option ℤ
   rest = value_of (flat_map (controls_of all) xs) k
 
-  from : (b : Bool) → (x.id == k.entity) ≡ b → rest ≡ option_and_then (start_on all k) (named xs k.entity)
-      → option_or (value_of (controls_of all x) k) rest ≡ option_and_then (start_on all k) (if b then Some x else named xs k.entity)
+  from : (b : Bool) → (x.id == k.entity) ≡ b → rest ≡ option_and_then (start_on all k) (entity_by_id xs k.entity)
+      → option_or (value_of (controls_of all x) k) rest ≡ option_and_then (start_on all k) (if b then Some x else entity_by_id xs k.entity)
   from true here others =
       let i : k.entity ≡ x.id = sym (eqb-true x.id k.entity here) in
       let none : rest ≡ None = entities_miss all xs k (subst (λ id. AllByRecursion (λ (e : Entity). id ≡ e.id → ⊥) xs) (sym i) (others_apart x.id xs h.0)) in
@@ -84,11 +84,11 @@ found_where_there all k (Some e) = from (has_on all k e) where
   from false = refl
 
 -- what holds of each entity holds of the one with an id
-named_has : (P : Entity → Type 0) (all : List Entity) (id : ℕ) (e : Entity) → All P all → named all id ≡ Some e → P e
-unfolding named
+named_has : (P : Entity → Type 0) (all : List Entity) (id : ℕ) (e : Entity) → All P all → entity_by_id all id ≡ Some e → P e
+unfolding entity_by_id
 named_has P [] id e each is = cc
 named_has P (x ∷ xs) id e each is = from (x.id == id) is (λ h. named_has P xs id e (λ k d h. each (suc k) d (omega (arith, h))) h) where
-  from : (b : Bool) → (if b then Some x else named xs id) ≡ Some e → (named xs id ≡ Some e → P e) → P e
+  from : (b : Bool) → (if b then Some x else entity_by_id xs id) ≡ Some e → (entity_by_id xs id ≡ Some e → P e) → P e
   from true here rest = let i : x ≡ e = cc in subst P i (each 0 x (omega arith))
   from false other rest = rest other
 
@@ -146,10 +146,10 @@ start_taken k pins outputs sources attributes selector channel has pin there =
 pub initial_is_store : (all : List Entity) → IsDistinct nat_eq (map (λ e. e.id) all) → HavePins all → IsStoreOf all (initial_controls all)
 unfolding has_control takes start_at start_on has_on takes_on start_of
 initial_is_store all distinct have = record {
-  keys = λ k. ap is_some (initial_value all k distinct) ∙ found_where_there all k (named all k.entity);
-  values = λ k v is. from k v (named all k.entity) refl (sym (initial_value all k distinct) ∙ is);
+  keys = λ k. ap is_some (initial_value all k distinct) ∙ found_where_there all k (entity_by_id all k.entity);
+  values = λ k v is. from k v (entity_by_id all k.entity) refl (sym (initial_value all k distinct) ∙ is);
 } where
-  from : (k : Key) (v : ℤ) (o : Option Entity) → named all k.entity ≡ o → option_and_then (start_on all k) o ≡ Some v
+  from : (k : Key) (v : ℤ) (o : Option Entity) → entity_by_id all k.entity ≡ o → option_and_then (start_on all k) o ≡ Some v
       → option_map_or (takes_on k.selector v) o false ≡ true
   from k v None is starts = cc
   from k v (Some e) is starts = given (has_on all k e) refl starts where

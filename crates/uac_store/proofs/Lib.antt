@@ -6,5 +6,5 @@ pub mod Small
 pub mod Soundness
 pub mod Starting
 pub mod Steps
-pub mod Tabled
+pub mod ControlTableLemmas
 mod Worked

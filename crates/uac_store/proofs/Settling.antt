@@ -6,8 +6,8 @@ use Rattle.std.proofs.lemmas.Bool.{true≢false, cases_lt}
 use Rattle.std.proofs.lemmas.List.{get_or_past, length-map}
 use Rattle.std.proofs.lemmas.Option.{get_or_from_slice_get, slice_get-map, slice_get_within}
 use Rattle.uac_walk.specs.Walk.{links, has_walk}
-use Rattle.uac_walk.proofs.Walks.{none_at}
-use Rattle.uac_entities.specs.EntityStreams.{named}
+use Rattle.uac_walk.proofs.WalkLemmas.{none_at}
+use Rattle.uac_entities.specs.EntityInterfaces.{entity_by_id}
 use Rattle.uac_entities.specs.declared.entity.Entity.{Entity}
 use Rattle.uac_entities.specs.declared.entity.EntityKind.{EntityKind}
 use Rattle.uac_entities.specs.declared.entity.EntityKind.TheVariants as kind
@@ -17,11 +17,11 @@ use Rattle.uac_store.specs.declared.keys.Key.{Key}
 use Rattle.uac_store.specs.Rates.{value_at, source_on_pin, chosen_source, multiplier_rate, rate_by, rate_step, rate_within, rate_of, EndsWithin, IsClockTree}
 
 -- the links of the first entity with an id are those of its place
-links_at_place : (f : Entity → List ℕ) (xs : List Entity) (id : ℕ) (e : Entity) → named xs id ≡ Some e → slice_index_or (map f xs) (place_of xs id) [] ≡ f e
-unfolding named place_of
+links_at_place : (f : Entity → List ℕ) (xs : List Entity) (id : ℕ) (e : Entity) → entity_by_id xs id ≡ Some e → slice_index_or (map f xs) (place_of xs id) [] ≡ f e
+unfolding entity_by_id place_of
 links_at_place f [] id e is = cc
 links_at_place f (x ∷ xs) id e is = from (x.id == id) is (λ h. links_at_place f xs id e h) where
-  from : (b : Bool) → (if b then Some x else named xs id) ≡ Some e → (named xs id ≡ Some e → slice_index_or (map f xs) (place_of xs id) [] ≡ f e)
+  from : (b : Bool) → (if b then Some x else entity_by_id xs id) ≡ Some e → (entity_by_id xs id ≡ Some e → slice_index_or (map f xs) (place_of xs id) [] ≡ f e)
       → slice_index_or (f x ∷ map f xs) (if not b then 1 + place_of xs id else 0) [] ≡ f e
   from true here rest = let i : x ≡ e = cc in ap f i
   from false other rest =
@@ -33,7 +33,7 @@ pub none_passes : {X : Type 0} (p : X → Bool) (xs : List X) (i : ℕ) (s : X) 
 none_passes p xs i s none is = ap p (sym (get_or_from_slice_get xs i s s is)) ∙ none_at p xs i s (slice_get_within xs i s is) none
 
 -- from a source of a clock entity the walks are shorter
-sources_end : (all : List Entity) (id n : ℕ) (e : Entity) (i s : ℕ) → named all id ≡ Some e → is_clock e.kind ≡ true
+sources_end : (all : List Entity) (id n : ℕ) (e : Entity) (i s : ℕ) → entity_by_id all id ≡ Some e → is_clock e.kind ≡ true
     → EndsWithin (suc n) all id → slice_get e.sources i ≡ Some s → EndsWithin n all s
 unfolding has_walk clock_sources
 sources_end all id n e i s is clock ends at =
@@ -77,11 +77,11 @@ module _ (controls : List (Key × ℤ)) (f g : ℕ → Option ℕ) (e : Entity) 
   agree_at kind.Effect is = refl
 
 step_agrees : (all : List Entity) (controls : List (Key × ℤ)) (f g : ℕ → Option ℕ) (id : ℕ)
-    → ((e : Entity) (i s : ℕ) → named all id ≡ Some e → is_clock e.kind ≡ true → slice_get e.sources i ≡ Some s → f s ≡ g s)
+    → ((e : Entity) (i s : ℕ) → entity_by_id all id ≡ Some e → is_clock e.kind ≡ true → slice_get e.sources i ≡ Some s → f s ≡ g s)
     → rate_step all controls f id ≡ rate_step all controls g id
 unfolding rate_step
-step_agrees all controls f g id agree = from (named all id) refl where
-  from : (o : Option Entity) → named all id ≡ o → option_and_then (λ e. rate_by controls f e e.kind) o ≡ option_and_then (λ e. rate_by controls g e e.kind) o
+step_agrees all controls f g id agree = from (entity_by_id all id) refl where
+  from : (o : Option Entity) → entity_by_id all id ≡ o → option_and_then (λ e. rate_by controls f e e.kind) o ≡ option_and_then (λ e. rate_by controls g e e.kind) o
   from None is = refl
   from (Some e) is = agree_at controls f g e (λ i s. agree e i s is) e.kind refl
 
@@ -101,7 +101,7 @@ ends_at_once all m place past =
     ap (list_any (has_walk (clock_links all) m)) (get_or_past (clock_links all) place [] (omega (arith, past, length-map all (λ e. map (place_of all) (clock_sources e)))))
 
 pub follows : (all : List Entity) (controls : List (Key × ℤ)) (id : ℕ) → IsClockTree all → rate_of all controls id ≡ rate_step all controls (rate_of all controls) id
-unfolding rate_of rate_within rate_step named
+unfolding rate_of rate_within rate_step entity_by_id
 follows [] controls id tree = refl
 follows (x ∷ xs) controls id tree =
     sym (settles (x ∷ xs) controls id (length (x ∷ xs)) 1 (ends (cases_lt (place_of (x ∷ xs) id) (length (x ∷ xs)))))

@@ -3,14 +3,14 @@ use Rattle.std.proofs.Common.{◌≡◌, ℕ, ◌==◌, List, sum, slice_get, So
 use Rattle.std.specs.List.{position_or_len}
 use Rattle.std.proofs.lemmas.List.Folds.{find_at}
 use Rattle.std.proofs.lemmas.Option.{get_or_from_slice_get, slice_get_within}
-use Rattle.uac_entities.specs.EntityStreams.{named}
+use Rattle.uac_entities.specs.EntityInterfaces.{entity_by_id}
 use Rattle.uac_entities.specs.declared.entity.Entity.{Entity}
 use Rattle.uac_store.specs.ControlTable.{IsSmall}
 use Rattle.uac_store.specs.StoreControls.{pins_of, IsKeyed}
 
-pub small_named : (all : List Entity) (id : ℕ) (e : Entity) → IsKeyed all → named all id ≡ Some e
+pub small_named : (all : List Entity) (id : ℕ) (e : Entity) → IsKeyed all → entity_by_id all id ≡ Some e
     → IsSmall e.kind (sum (pins_of all e)) e.cluster.channels
-unfolding named
+unfolding entity_by_id
 small_named all id e keyed is =
     let place : ℕ = position_or_len (λ (x : Entity). x.id == id) all in
     let at : slice_get all place ≡ Some e = sym (find_at (λ (x : Entity). x.id == id) all) ∙ is in

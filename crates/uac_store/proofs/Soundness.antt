@@ -9,14 +9,14 @@ use Rattle.std.proofs.lemmas.Map.Keys.{IsDistinct-from_apart}
 use Rattle.std.proofs.lemmas.Option.{slice_get-get_or, slice_get_past}
 use Rattle.uac_walk.specs.Walk.{links, has_walk}
 use Rattle.uac_entities.specs.Entities.{entities_of, no_cluster}
-use Rattle.uac_entities.specs.EntityStreams.{channels_of, named}
+use Rattle.uac_entities.specs.EntityInterfaces.{channels_of, entity_by_id}
 use Rattle.uac_entities.specs.declared.entity.Cluster.{Cluster}
 use Rattle.uac_entities.specs.declared.entity.Entity.{Entity}
 use Rattle.uac_entities.specs.declared.entity.EntityKind.{EntityKind}
 use Rattle.uac_entities.specs.declared.entity.EntityKind.TheVariants as kind
 use Rattle.uac_topology_rules.specs.Table.{at, nothing, place_of}
 use Rattle.uac_topology_rules.specs.Links.{is_clock, signal_sources, clock_sources, signal_links, clock_links}
-use Rattle.uac_topology_rules.specs.Clusters.{takes_over, cluster_step, cluster_within, cluster_of, clustered, pins, inputs}
+use Rattle.uac_topology_rules.specs.Clusters.{takes_over, cluster_step, cluster_within, cluster_of, with_own_clusters, pins, inputs}
 use Rattle.uac_topology_rules.specs.Rules.{breaks_u2, breaks_u7, breaks_u14, too_large}
 use Rattle.uac_topology_rules.proofs.Sound.{signal_links-at}
 use Rattle.uac_topology.specs.Function.{FunctionFields}
@@ -24,7 +24,7 @@ use Rattle.uac_topology.specs.Topology.{IsSoundFunction}
 use Rattle.uac_store.specs.ControlTable.{IsSmall}
 use Rattle.uac_store.specs.StoreControls.{pins_of, IsKeyed}
 use Rattle.uac_store.specs.Rates.{IsClockTree}
-use Rattle.uac_topology.proofs.Clustered.{clustered-at, length-clustered, same_place, seen_alike}
+use Rattle.uac_topology.proofs.Clustered.{with_own_clusters-at, length-with_own_clusters, same_place, seen_alike}
 use Rattle.uac_topology.proofs.SoundRules.{KeepsRules, rules_hold}
 use Rattle.uac_store.proofs.Settling.{none_passes}
 
@@ -37,21 +37,21 @@ no_cluster_past (suc n) es p past =
 
 module _ (es : List Entity) where
   -- the channels of an entity are those of its place
-  same_channels : (id : ℕ) → channels_of (clustered es) id ≡ (cluster_of es (place_of es id)).channels
-  unfolding channels_of named place_of cluster_of
-  same_channels id = ap channels (find_at (λ (e : Entity). e.id == id) (clustered es) ∙ ap (slice_get (clustered es)) (same_place es id)) ∙ from (cases_lt (place_of es id) (length es)) where
+  same_channels : (id : ℕ) → channels_of (with_own_clusters es) id ≡ (cluster_of es (place_of es id)).channels
+  unfolding channels_of entity_by_id place_of cluster_of
+  same_channels id = ap channels (find_at (λ (e : Entity). e.id == id) (with_own_clusters es) ∙ ap (slice_get (with_own_clusters es)) (same_place es id)) ∙ from (cases_lt (place_of es id) (length es)) where
     channels : Option Entity → ℕ
     channels o = option_map_or (λ e. e.cluster.channels) o 0
 
-    from : (place_of es id < length es) ⊎ (length es ≤ place_of es id) → channels (slice_get (clustered es) (place_of es id)) ≡ (cluster_of es (place_of es id)).channels
+    from : (place_of es id < length es) ⊎ (length es ≤ place_of es id) → channels (slice_get (with_own_clusters es) (place_of es id)) ≡ (cluster_of es (place_of es id)).channels
     from (inl below) =
-        ap channels (slice_get-get_or (clustered es) (place_of es id) nothing (omega (arith, below, length-clustered es)))
-        ∙ ap (λ (e : Entity). e.cluster.channels) (clustered-at es (place_of es id) nothing below)
+        ap channels (slice_get-get_or (with_own_clusters es) (place_of es id) nothing (omega (arith, below, length-with_own_clusters es)))
+        ∙ ap (λ (e : Entity). e.cluster.channels) (with_own_clusters-at es (place_of es id) nothing below)
     from (inr past) =
-        ap channels (slice_get_past (clustered es) (place_of es id) (omega (arith, past, length-clustered es)))
+        ap channels (slice_get_past (with_own_clusters es) (place_of es id) (omega (arith, past, length-with_own_clusters es)))
         ∙ sym (ap (λ (c : Cluster). c.channels) (no_cluster_past (length es) es (place_of es id) past))
 
-  pub same_pins : (ids : List ℕ) → map (λ p. (cluster_of es p).channels) (map (place_of es) ids) ≡ map (channels_of (clustered es)) ids
+  pub same_pins : (ids : List ℕ) → map (λ p. (cluster_of es p).channels) (map (place_of es) ids) ≡ map (channels_of (with_own_clusters es)) ids
   same_pins [] = refl
   same_pins (id ∷ ids) = λ j. sym (same_channels id) j ∷ same_pins ids j
 
@@ -69,14 +69,14 @@ module _ (es : List Entity) where
 
     -- a mixer's inputs and nodes
     small_at : (k : ℕ) → k < length es → (kd : EntityKind) → (at es k).kind ≡ kd
-        → IsSmall kd (sum (map (channels_of (clustered es)) (at es k).sources)) (cluster_of es k).channels
+        → IsSmall kd (sum (map (channels_of (with_own_clusters es)) (at es k).sources)) (cluster_of es k).channels
     unfolding breaks_u14 pins signal_sources
     small_at k below kind.Mixer is =
         let limits = (or_parts _ _ (h.u14 k below)).0 in
         let sizes = or_parts _ _ (ap (λ kd. too_large kd (nat_lt 256 (inputs es k)) (nat_lt 256 (inputs es k * (cluster_of es k).channels))) (sym is) ∙ limits) in
         let sources : links (signal_links es) k ≡ map (place_of es) (at es k).sources =
         signal_links-at es k below ∙ ap (λ kd. map (place_of es) (if is_clock kd then [] else (at es k).sources)) is in
-        let total : inputs es k ≡ sum (map (channels_of (clustered es)) (at es k).sources) =
+        let total : inputs es k ≡ sum (map (channels_of (with_own_clusters es)) (at es k).sources) =
         ap (λ ls. sum (map (λ p. (cluster_of es p).channels) ls)) sources ∙ ap sum (same_pins (at es k).sources) in (
           subst (λ n. n ≤ 256) total (ltb-false 256 (inputs es k) sizes.0),
           subst (λ n. n * (cluster_of es k).channels ≤ 256) total (ltb-false 256 (inputs es k * (cluster_of es k).channels) sizes.1),
@@ -90,27 +90,27 @@ module _ (es : List Entity) where
     small_at k below kind.Feature is = tt
     small_at k below kind.Effect is = tt
 
-    keyed_entities : IsKeyed (clustered es)
+    keyed_entities : IsKeyed (with_own_clusters es)
     unfolding pins_of
     keyed_entities = record {
       apart = subst (IsDistinct nat_eq) (sym (seen_alike es 0 (λ e. e.id) (λ e c. refl))) ids_apart;
       small = λ k d within.
-          let below : k < length es = omega (arith, within, length-clustered es) in
-          subst (λ (e : Entity). IsSmall e.kind (sum (pins_of (clustered es) e)) e.cluster.channels) (sym (clustered-at es k d below))
+          let below : k < length es = omega (arith, within, length-with_own_clusters es) in
+          subst (λ (e : Entity). IsSmall e.kind (sum (pins_of (with_own_clusters es) e)) e.cluster.channels) (sym (with_own_clusters-at es k d below))
           (small_at k below (at es k).kind refl);
     }
 
-    same_links : clock_links (clustered es) ≡ clock_links es
+    same_links : clock_links (with_own_clusters es) ≡ clock_links es
     unfolding clock_sources
     same_links =
-        (λ j. map (λ e. map (λ id. same_place es id j) (clock_sources e)) (clustered es))
+        (λ j. map (λ e. map (λ id. same_place es id j) (clock_sources e)) (with_own_clusters es))
         ∙ seen_alike es [] (λ e. map (place_of es) (clock_sources e)) (λ e c. refl)
 
-    clocks_end : IsClockTree (clustered es)
+    clocks_end : IsClockTree (with_own_clusters es)
     unfolding breaks_u7
     clocks_end place within =
-        let below : place < length es = omega (arith, within, length-clustered es) in
-        (λ j. has_walk (same_links j) (length-clustered es j) place) ∙ h.u7 place below
+        let below : place < length es = omega (arith, within, length-with_own_clusters es) in
+        (λ j. has_walk (same_links j) (length-with_own_clusters es j) place) ∙ h.u7 place below
 
 pub keyed : (function : FunctionFields) → IsSoundFunction function → IsKeyed function.entities
 keyed function sound = subst IsKeyed (sym sound.2.entities) (keyed_entities (entities_of sound.0) (rules_hold sound.0 sound.1))

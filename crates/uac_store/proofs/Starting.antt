@@ -10,7 +10,7 @@ use Rattle.indexmap.proofs.CallerLemmas.{insert_entry-new}
 use Rattle.uac_store.specs.declared.keys.Key.{Key}
 use Rattle.uac_store.specs.Keyed.{key_of, same_key, value_of}
 use Rattle.uac_store.specs.ControlTable.{count_by, selectors_of, start_by}
-use Rattle.uac_entities.specs.EntityStreams.{channels_of}
+use Rattle.uac_entities.specs.EntityInterfaces.{channels_of}
 use Rattle.uac_store.specs.StoreControls.{pins_of, node_start, start_of, count_of, first_channels, channels_at, controls_of, initial_controls}
 use Rattle.uac_store.proofs.Keeping.{none_of_both, channels_miss_channel, selectors_miss, entities_miss}
 

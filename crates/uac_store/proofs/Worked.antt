@@ -1,7 +1,7 @@
 -- Worked values of the definitions, on the entities of a headset with a mixer, and on a tree of clocks.
 use Rattle.std.proofs.Common.{◌≡◌, ℕ, nat_le, is_some, ℤ, pos, negsuc, List, [], ◌∷◌, true, false, Option, Some, None, refl}
 use Rattle.uac_entities.specs.Entities as entity
-use Rattle.uac_entities.specs.EntityStreams.{channels_of, named}
+use Rattle.uac_entities.specs.EntityInterfaces.{channels_of, entity_by_id}
 use Rattle.uac_entities.specs.declared.entity.Cluster.{Cluster}
 use Rattle.uac_entities.specs.declared.entity.Entity.{Entity}
 use Rattle.uac_entities.specs.declared.entity.EntityKind.{EntityKind}
@@ -77,36 +77,36 @@ kept : initial_controls headset
     ∷ (key_of 8 1 3, closed) ∷ (key_of 8 1 4, pos 0) ∷ (key_of 8 1 5, closed)
     ∷ (key_of 8 1 6, pos 0) ∷ (key_of 8 1 7, closed) ∷ (key_of 8 1 8, closed)
     ∷ []
-unfolding headset initial_controls controls_of channels_at first_channels count_of start_of node_start pins_of channels_of named
+unfolding headset initial_controls controls_of channels_at first_channels count_of start_of node_start pins_of channels_of entity_by_id
 kept = refl
 
 -- there is a volume of the second channel, and none of a third; it takes a half decibel and 12 decibels, and no quarter
 second_volume : has_control headset (key_of 3 2 2) ≡ true
-unfolding headset has_control has_on count_of named
+unfolding headset has_control has_on count_of entity_by_id
 second_volume = refl
 
 third_volume : has_control headset (key_of 3 2 3) ≡ false
-unfolding headset has_control has_on count_of named
+unfolding headset has_control has_on count_of entity_by_id
 third_volume = refl
 
 one_down : takes headset (key_of 3 2 2) (negsuc 255) ≡ true
-unfolding headset takes takes_on named
+unfolding headset takes takes_on entity_by_id
 one_down = refl
 
 half_down : takes headset (key_of 3 2 2) (negsuc 127) ≡ true
-unfolding headset takes takes_on named
+unfolding headset takes takes_on entity_by_id
 half_down = refl
 
 quarter_down : takes headset (key_of 3 2 2) (negsuc 63) ≡ false
-unfolding headset takes takes_on named
+unfolding headset takes takes_on entity_by_id
 quarter_down = refl
 
 half_below_32 : takes headset (key_of 3 2 2) (negsuc 8319) ≡ false
-unfolding headset takes takes_on named
+unfolding headset takes takes_on entity_by_id
 half_below_32 = refl
 
 twelve_up : takes headset (key_of 3 2 2) (pos 3072) ≡ true
-unfolding headset takes takes_on named
+unfolding headset takes takes_on entity_by_id
 twelve_up = refl
 
 -- two sources, a selector over them, and a multiplier of what it chooses
@@ -124,33 +124,33 @@ held frequency pin numerator denominator =
     (key_of 1 1 0, pos 48000) ∷ (key_of 2 1 0, frequency) ∷ (key_of 3 1 0, pin) ∷ (key_of 4 1 0, numerator) ∷ (key_of 4 2 0, denominator) ∷ []
 
 first_pin : rate_of clocks (held (pos 44100) (pos 1) (pos 2) (pos 1)) 4 ≡ Some 96000
-unfolding clocks rate_of rate_within rate_step source_rate chosen_source multiplier_rate named value_of
+unfolding clocks rate_of rate_within rate_step source_rate chosen_source multiplier_rate entity_by_id value_of
 first_pin = refl
 
 second_pin : rate_of clocks (held (pos 44100) (pos 2) (pos 2) (pos 8)) 4 ≡ Some 11025
-unfolding clocks rate_of rate_within rate_step source_rate chosen_source multiplier_rate named value_of
+unfolding clocks rate_of rate_within rate_step source_rate chosen_source multiplier_rate entity_by_id value_of
 second_pin = refl
 
 -- 12000 is none of the twelve, and 44100 / 8 is no whole number
 not_listed : rate_of clocks (held (pos 44100) (pos 1) (pos 2) (pos 8)) 4 ≡ None
-unfolding clocks rate_of rate_within rate_step source_rate chosen_source multiplier_rate named value_of
+unfolding clocks rate_of rate_within rate_step source_rate chosen_source multiplier_rate entity_by_id value_of
 not_listed = refl
 
 not_whole : rate_of clocks (held (pos 44100) (pos 2) (pos 1) (pos 8)) 4 ≡ None
-unfolding clocks rate_of rate_within rate_step source_rate chosen_source multiplier_rate named value_of
+unfolding clocks rate_of rate_within rate_step source_rate chosen_source multiplier_rate entity_by_id value_of
 not_whole = refl
 
 -- a pin that is not there, a denominator of 0, and a frequency off the list
 no_pin : rate_of clocks (held (pos 44100) (pos 3) (pos 1) (pos 1)) 3 ≡ None
-unfolding clocks rate_of rate_within rate_step source_rate chosen_source named value_of
+unfolding clocks rate_of rate_within rate_step source_rate chosen_source entity_by_id value_of
 no_pin = refl
 
 no_denominator : rate_of clocks (held (pos 44100) (pos 1) (pos 1) (pos 0)) 4 ≡ None
-unfolding clocks rate_of rate_within rate_step source_rate chosen_source multiplier_rate named value_of
+unfolding clocks rate_of rate_within rate_step source_rate chosen_source multiplier_rate entity_by_id value_of
 no_denominator = refl
 
 off_the_list : rate_of clocks (held (pos 44000) (pos 2) (pos 1) (pos 1)) 2 ≡ None
-unfolding clocks rate_of rate_within rate_step source_rate named value_of
+unfolding clocks rate_of rate_within rate_step source_rate entity_by_id value_of
 off_the_list = refl
 
 -- the second volume's range; its mute has none, and neither has a third volume or what is no control
@@ -158,30 +158,30 @@ abbrev told : Option (List Range)
 told = Some (record { min = negsuc 24575; max = negsuc 8447; res = pos 256 } ∷ record { min = negsuc 8191; max = pos 3072; res = pos 128 } ∷ [])
 
 volume_range : ranges_of headset (key_of 3 2 2) ≡ told
-unfolding headset ranges_of has_on count_of named
+unfolding headset ranges_of has_on count_of entity_by_id
 volume_range = refl
 
 node_range : ranges_of headset (key_of 8 1 8) ≡ told
-unfolding headset ranges_of has_on count_of pins_of channels_of named
+unfolding headset ranges_of has_on count_of pins_of channels_of entity_by_id
 node_range = refl
 
 mute_range : ranges_of headset (key_of 3 1 2) ≡ None
-unfolding headset ranges_of has_on count_of named
+unfolding headset ranges_of has_on count_of entity_by_id
 mute_range = refl
 
 no_range : ranges_of headset (key_of 3 2 3) ≡ None
-unfolding headset ranges_of has_on count_of named
+unfolding headset ranges_of has_on count_of entity_by_id
 no_range = refl
 
 -- twice 96000 is a rate, and twice 192000 is none: the frequency is legal only where the multiplier doesn't follow it
 doubled : is_legal clocks (held (pos 48000) (pos 1) (pos 2) (pos 1)) (key_of 1 1 0) (pos 96000) ≡ true
-unfolding clocks is_legal takes takes_on are_clocked rate_of rate_within rate_step source_rate chosen_source multiplier_rate named value_of with_value
+unfolding clocks is_legal takes takes_on are_clocked rate_of rate_within rate_step source_rate chosen_source multiplier_rate entity_by_id value_of with_value
 doubled = refl
 
 too_fast : is_legal clocks (held (pos 48000) (pos 1) (pos 2) (pos 1)) (key_of 1 1 0) (pos 192000) ≡ false
-unfolding clocks is_legal takes takes_on are_clocked rate_of rate_within rate_step source_rate chosen_source multiplier_rate named value_of with_value
+unfolding clocks is_legal takes takes_on are_clocked rate_of rate_within rate_step source_rate chosen_source multiplier_rate entity_by_id value_of with_value
 too_fast = refl
 
 not_followed : is_legal clocks (held (pos 48000) (pos 2) (pos 2) (pos 1)) (key_of 1 1 0) (pos 192000) ≡ true
-unfolding clocks is_legal takes takes_on are_clocked rate_of rate_within rate_step source_rate chosen_source multiplier_rate named value_of with_value
+unfolding clocks is_legal takes takes_on are_clocked rate_of rate_within rate_step source_rate chosen_source multiplier_rate entity_by_id value_of with_value
 not_followed = refl

@@ -3,7 +3,7 @@ use Rattle.std.specs.Prelude.{◌≡◌, ℕ, ◌-◌, ◌*◌, ◌/◌, ◌%◌
 use Rattle.std.specs.Prelude.{slice_get, Option, Some, None}
 use Rattle.std.specs.Option.{option_and_then}
 use Rattle.uac_clock.specs.Nominal.{is_listed}
-use Rattle.uac_entities.specs.EntityStreams.{named}
+use Rattle.uac_entities.specs.EntityInterfaces.{entity_by_id}
 use Rattle.uac_entities.specs.declared.entity.Entity.{Entity}
 use Rattle.uac_entities.specs.declared.entity.EntityKind.{EntityKind}
 use Rattle.uac_entities.specs.declared.entity.EntityKind.TheVariants as kind
@@ -68,7 +68,7 @@ rate_by controls below e kind.Effect = None
 
 -- the rate that an entity gives, from its id
 unfoldable pub rate_step : List Entity → List (Key × ℤ) → (ℕ → Option ℕ) → ℕ → Option ℕ
-rate_step entities controls below id = option_and_then (λ e. rate_by controls below e e.kind) (named entities id)
+rate_step entities controls below id = option_and_then (λ e. rate_by controls below e e.kind) (entity_by_id entities id)
 
 -- the rate, along at most n entities
 unfoldable pub rate_within : ℕ → List Entity → List (Key × ℤ) → ℕ → Option ℕ

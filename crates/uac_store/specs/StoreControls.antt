@@ -3,7 +3,7 @@ use Rattle.std.specs.Prelude.{◌≡◌, ℕ, ◌-◌, ◌*◌, ◌/◌, ◌%◌
 use Rattle.std.specs.Prelude.{if◌then◌else◌, List, [], ◌∷◌, map, length, sum, Option, Some, None, is_some, nat_eq}
 use Rattle.std.specs.List.{flat_map, range_with_len, IsDistinct, All}
 use Rattle.std.specs.Option.{option_and_then, option_map_or}
-use Rattle.uac_entities.specs.EntityStreams.{channels_of, named}
+use Rattle.uac_entities.specs.EntityInterfaces.{channels_of, entity_by_id}
 use Rattle.uac_entities.specs.declared.entity.Entity.{Entity}
 use Rattle.uac_store.specs.declared.keys.Key.{Key}
 use Rattle.uac_store.specs.ControlTable.{count_by, IsSmall, selectors_of, start_by, takes_by}
@@ -60,12 +60,13 @@ has_on entities k e = nat_lt 0 k.selector && nat_le k.selector (selectors_of e.k
 
 -- there is a control of this key that keeps a value
 unfoldable pub has_control : List Entity → Key → Bool
-has_control entities k = option_map_or (has_on entities k) (named entities k.entity) false
+has_control entities k = option_map_or (has_on entities k) (entity_by_id entities k.entity) false
 
 -- what the control of this key has at the start, if there is one
 unfoldable pub start_at : List Entity → Key → Option ℤ
 start_at entities k =
-    option_and_then (λ e. if has_on entities k e then Some (start_of entities e k.selector k.channel) else None) (named entities k.entity)
+    option_and_then (λ e. if has_on entities k e then Some (start_of entities e k.selector k.channel) else None)
+    (entity_by_id entities k.entity)
 
 -- profile: the values that an entity's control takes
 unfoldable pub takes_on : ℕ → ℤ → Entity → Bool
@@ -73,7 +74,7 @@ takes_on selector v e = takes_by e.kind (length e.sources) e.attributes selector
 
 -- the control of this key takes the value
 unfoldable pub takes : List Entity → Key → ℤ → Bool
-takes entities k v = option_map_or (takes_on k.selector v) (named entities k.entity) false
+takes entities k v = option_map_or (takes_on k.selector v) (entity_by_id entities k.entity) false
 
 -- the controls are those of these entities, each with a value that it takes
 pub record IsStoreOf (entities : List Entity) (controls : List (Key × ℤ)) : Type 0 where

@@ -4,7 +4,7 @@ use Rattle.std.specs.Prelude.{◌&&◌, ◌||◌, not, Bool, false, if◌then◌
 use Rattle.std.specs.Prelude.{Option, Some, None, is_some}
 use Rattle.std.specs.List.{list_all}
 use Rattle.std.specs.Option.{option_and_then, option_map_or}
-use Rattle.uac_entities.specs.EntityStreams.{named}
+use Rattle.uac_entities.specs.EntityInterfaces.{entity_by_id}
 use Rattle.uac_entities.specs.declared.entity.Entity.{Entity}
 use Rattle.uac_topology_rules.specs.Links.{is_clock}
 use Rattle.uac_store.specs.declared.keys.Key.{Key}
@@ -21,7 +21,7 @@ use Rattle.uac_store.specs.Rates.{rate_of}
 unfoldable pub ranges_of : List Entity → Key → Option (List Range)
 ranges_of entities k =
     option_and_then (λ e. if has_on entities k e then ranges_by e.kind (length e.sources) e.attributes k.selector
-    else None) (named entities k.entity)
+    else None) (entity_by_id entities k.entity)
 
 -- ---- values that are legal
 
@@ -31,7 +31,7 @@ are_clocked entities controls = list_all (λ e. not (is_clock e.kind) || is_some
 
 -- the control of this key is a clock entity's
 abbrev pub is_of_a_clock : List Entity → Key → Bool
-is_of_a_clock entities k = option_map_or (λ e. is_clock e.kind) (named entities k.entity) false
+is_of_a_clock entities k = option_map_or (λ e. is_clock e.kind) (entity_by_id entities k.entity) false
 
 -- a value is legal where the control takes it, and a clock entity's only where each clock entity has a rate under it
 unfoldable pub is_legal : List Entity → List (Key × ℤ) → Key → ℤ → Bool

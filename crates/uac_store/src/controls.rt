@@ -140,7 +140,7 @@ fn controls_by(kind: EntityKind) -> &'static [(u8, Control)]
 }
 
 /// The control that a selector names, None where there is none.
-#[tactic(auto, using(crate::proofs::Tabled::one_or_two))]
+#[tactic(auto, using(crate::proofs::ControlTableLemmas::one_or_two))]
 pub fn control_of(kind: EntityKind, selector: u8) -> Option<Control>
     ensures value { result ≡ table.control_of kind selector }
     ensures some { IfSome result (λ control. 1 ≤ selector) }

@@ -75,7 +75,7 @@ fn add_channels(
 }
 
 // The value of an entity's control at the start, on one of its channels.
-#[tactic(auto, using(crate::proofs::Tabled::has_outputs))]
+#[tactic(auto, using(crate::proofs::ControlTableLemmas::has_outputs))]
 fn start_of(entity: &Entity, selector: u8, pins: &[u8], channel: usize) -> i32
     requires { channel < table.count_by entity.now.kind (sum pins.now * entity.now.cluster.channels) entity.now.cluster.channels }
     ensures { result ≡ table.start_by entity.now.kind selector (spec.node_start pins.now entity.now.cluster.channels channel) }

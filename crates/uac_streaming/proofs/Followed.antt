@@ -12,11 +12,11 @@ use Rattle.uac_device.specs.DeviceKept as devices
 use Rattle.uac_host.specs.HostWorld.{HostWorld, Pace}
 use Rattle.uac_host.specs.Calls.{IsStreamOf, at_interface, with_stream}
 use Rattle.uac_host.specs.HostKept as hosts
-use Rattle.uac_host.specs.declared.lanes.Lane.{Lane}
+use Rattle.uac_host.specs.declared.lanes.HostStream.{HostStream}
 use Rattle.uac_host.proofs.StandsAfterCalls.{elsewhere, here}
 use Rattle.uac_host.proofs.SettingStreams.{carried_by}
 use Rattle.uac_streaming.specs.StreamingWorld.{StreamingWorld, after_following, given_at, place_of}
-use Rattle.uac_streaming.specs.StreamingKept.{StreamingFields, Stands}
+use Rattle.uac_streaming.specs.StreamingKept.{StreamingFields, StreamingStands}
 
 eq_of : (m n : ℕ) → (m == n) ≡ true → m ≡ n
 eq_of m n e = grind arith
@@ -54,8 +54,8 @@ none_begun function interface (Some s) of none =
     let carried = carried_by function interface (stream_fields s) of in absurd (let f : None ≡ Some carried.0 = sym none ∙ carried.1 in cc)
 
 -- where there is no such interface, the host has nothing to stop
-pub no_lane : (lanes : List Lane) (w : HostWorld) (interface : ℕ) → hosts.Stands lanes w → interface_in w.function interface ≡ None
-    → hosts.Stands lanes (with_stream interface None w)
+pub no_lane : (lanes : List HostStream) (w : HostWorld) (interface : ℕ) → hosts.HostStands lanes w → interface_in w.function interface ≡ None
+    → hosts.HostStands lanes (with_stream interface None w)
 unfolding with_stream
 no_lane lanes w interface stands none = record {
   lanes = λ k.
@@ -77,8 +77,8 @@ no_lane lanes w interface stands none = record {
       ];
 }
 
-stopped : (p : StreamingFields) (d : devices.DeviceFields) (w : StreamingWorld) (interface : ℕ) → Stands p d w → hosts.Stands p.host (with_stream interface None w.host)
-    → Stands p d (after_following interface None w)
+stopped : (p : StreamingFields) (d : devices.DeviceFields) (w : StreamingWorld) (interface : ℕ) → StreamingStands p d w → hosts.HostStands p.host (with_stream interface None w.host)
+    → StreamingStands p d (after_following interface None w)
 unfolding after_following with_stream
 stopped p d w interface stands of_host = record {
   device = stands.device;
@@ -91,22 +91,22 @@ stopped p d w interface stands of_host = record {
   steady = stands.steady;
 }
 
-pub followed_nowhere : (p : StreamingFields) (d : devices.DeviceFields) (w : StreamingWorld) (function : FunctionFields) (interface : ℕ) (begun : Option Stream) → Stands p d w
+pub followed_nowhere : (p : StreamingFields) (d : devices.DeviceFields) (w : StreamingWorld) (function : FunctionFields) (interface : ℕ) (begun : Option Stream) → StreamingStands p d w
     → w.device.function ≡ function → IfSome begun (λ s. IsStreamOf function interface (stream_fields s))
-    → None ≡ option_map (λ (s : StreamInterface). s.number) (interface_in function interface) → Stands p d (after_following interface (option_map stream_fields begun) w)
+    → None ≡ option_map (λ (s : StreamInterface). s.number) (interface_in function interface) → StreamingStands p d (after_following interface (option_map stream_fields begun) w)
 followed_nowhere p d w function interface begun stands same of none =
     let nothing = none_found function interface none in
-    subst (λ (o : Option StreamFields). Stands p d (after_following interface o w)) (sym (none_begun function interface begun of nothing))
+    subst (λ (o : Option StreamFields). StreamingStands p d (after_following interface o w)) (sym (none_begun function interface begun of nothing))
     (stopped p d w interface stands
     (no_lane p.host w.host interface stands.host (ap (λ (f : FunctionFields). interface_in f interface) (stands.same ∙ same) ∙ nothing)))
 
 -- one that it has
 pub followed_so : (p : StreamingFields) (d : devices.DeviceFields) (w : StreamingWorld) (interface : ℕ) (begun : Option StreamFields) (b : Bool) → is_some begun ≡ b
-    → Stands p d (record w { host = with_stream interface begun w.host; given = if b then given_at (place_of w.device.function interface) steadiness.with_restart_given w.given else w.given })
-    → Stands p d (after_following interface begun w)
+    → StreamingStands p d (record w { host = with_stream interface begun w.host; history = if b then given_at (place_of w.device.function interface) steadiness.with_restart_given w.history else w.history })
+    → StreamingStands p d (after_following interface begun w)
 unfolding after_following
 followed_so p d w interface begun b is stands =
-    subst (λ (b : Bool). Stands p d (record w { host = with_stream interface begun w.host; given = if b then given_at (place_of w.device.function interface) steadiness.with_restart_given w.given else w.given }))
+    subst (λ (b : Bool). StreamingStands p d (record w { host = with_stream interface begun w.host; history = if b then given_at (place_of w.device.function interface) steadiness.with_restart_given w.history else w.history }))
     (sym is) stands
 
 pub seen_some : (begun : Option Stream) → is_some (option_map stream_fields begun) ≡ is_some begun

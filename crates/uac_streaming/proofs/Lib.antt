@@ -3,7 +3,7 @@ pub mod Founds
 pub mod Standing
 pub mod Followed
 pub mod Numbered
-pub mod SoFar
+pub mod TellingLemmas
 pub mod Lost
 pub mod PacketLines
 pub mod Turned

@@ -5,7 +5,7 @@ use Rattle.std.specs.Option.{option_map_or}
 use Rattle.std.proofs.lemmas.List.{length-map}
 use Rattle.std.specs.Io.KnownBytes.{Appends}
 use Rattle.uac_edges.specs.Writing.{Writes}
-use Rattle.uac_pcm.specs.Packets.{unpacked, whole_frames}
+use Rattle.uac_pcm.specs.Packets.{frames_of_bytes, whole_frames}
 use Rattle.uac_pcm.specs.Frames.{frame_of_bytes}
 use Rattle.uac_pcm.proofs.PacketsLemmas.{length-first_chunks}
 use Rattle.std.specs.Simd.{first_chunks}
@@ -14,7 +14,7 @@ use Rattle.uac_host.specs.Calls.{heard_in}
 use Rattle.uac_flow.specs.declared.arrival.Arrival.{Arrival}
 use Rattle.uac_flow.specs.declared.arrival.Arrival.TheVariants as arrivals
 use Rattle.uac_lanes.specs.InterfaceStreams.{bits_of}
-use Rattle.uac_transcript.specs.Transcript.{Said, says_out, says_over, spelled}
+use Rattle.uac_transcript.specs.Transcript.{Said, says_out, says_over, spelling_of}
 use Rattle.uac_transcript.specs.Printing.{Prints, text_of}
 use Rattle.uac_transcript.proofs.PrintingLemmas.{Prints-after, Prints-line}
 use Rattle.uac_streaming.specs.StreamingWorld.{arrived_as, out_lines, over_lines}
@@ -22,7 +22,7 @@ use Rattle.uac_streaming.specs.StreamingWorld.{arrived_as, out_lines, over_lines
 -- a packet that was over
 pub over_told : {T E : Type 0} (old mid new : Option (List ℕ)) (r : Result T E) (detail interface frames : ℕ) (arrival : Arrival) → arrival ≡ arrivals.Over
     → Appends old mid (text_of (if nat_le 2 detail then says_out interface frames (arrived_as arrival) ∷ [] else []))
-    → Writes mid new r (spelled (says_over interface)) → Prints old new r (out_lines detail interface frames arrival)
+    → Writes mid new r (spelling_of (says_over interface)) → Prints old new r (out_lines detail interface frames arrival)
 over_told old mid new r detail interface frames arrival is before over =
     Prints-after old mid new r (if nat_le 2 detail then says_out interface frames (arrived_as arrival) ∷ [] else []) (over_lines interface arrival) before
     (subst (λ (a : Arrival). Prints mid new r (over_lines interface a)) (sym is) (Prints-line mid new r (says_over interface) over))
@@ -38,7 +38,7 @@ pub heard_few : (w : HostWorld) (interface : ℕ) (bytes : List ℕ) (most : ℕ
 unfolding heard_in
 heard_few w interface bytes most few = of (w.paces interface)
   where
-    of : (o : Option Pace) → length (option_map_or (λ p. unpacked p.stream.channels p.stream.subslot p.stream.bits bytes) o []) ≤ most
+    of : (o : Option Pace) → length (option_map_or (λ p. frames_of_bytes p.stream.channels p.stream.subslot p.stream.bits bytes) o []) ≤ most
     of None = omega arith
     of (Some p) =
         let size : ℕ = p.stream.channels * p.stream.subslot in

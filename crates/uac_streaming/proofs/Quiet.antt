@@ -11,7 +11,7 @@ use Rattle.uac_script.specs.Phrase.{SaidMark}
 use Rattle.uac_transcript.specs.Transcript.{Said, says_level}
 use Rattle.uac_streaming.specs.Telling.{Telling, at_rest, in_turn, telling_after}
 use Rattle.uac_streaming.specs.StreamingWorld.{StreamingWorld, all_reported, all_settled, comes_in, fetched_lines, goes_out, in_packet_turn, in_packets, is_in_due, is_out_due, loses_in, loses_out, loses_report, numbers, out_packets, out_turn, packet_fetched, packet_sent, report_lines, report_made, report_turn, sent_lines, settled_lines, settled_turn}
-use Rattle.uac_streaming.specs.StreamingKept.{StreamingFields, Stands}
+use Rattle.uac_streaming.specs.StreamingKept.{StreamingFields, StreamingStands}
 
 -- none of its interfaces runs a stream
 abbrev pub IsQuiet : StreamingWorld → Type 0
@@ -68,7 +68,7 @@ quiet_reports detail marks w none = turn_rests (report_turn detail marks) (numbe
 -- nothing is said, and what is kept stands for the world after them, in which no interface runs a stream either
 pub record Quietly (p : StreamingFields) (d : devices.DeviceFields) (told : Telling StreamingWorld) : Type 0 where
   pub lines : told.lines ≡ []
-  pub stands : Stands p d told.world
+  pub stands : StreamingStands p d told.world
   pub quiet : IsQuiet told.world
 
 no_level : (detail interface : ℕ) (w : DeviceWorld) → NoneRuns w.outs w.ins → settled_lines detail interface w ≡ []
@@ -78,8 +78,8 @@ no_level detail interface w none =
     ap (λ (b : Bool). goes_out w.function interface && b) (none_due w interface none) ∙ and-false (goes_out w.function interface) in
     ap (λ (b : Bool). if nat_le 2 detail && b then says else []) due ∙ ap (λ (b : Bool). if b then says else []) (and-false (nat_le 2 detail))
 
-one_stands : (interface : ℕ) (p : StreamingFields) (d : devices.DeviceFields) (w : StreamingWorld) → IsQuiet w → Stands p d w
-    → Stands p d (record w { device = after_settling interface w.device })
+one_stands : (interface : ℕ) (p : StreamingFields) (d : devices.DeviceFields) (w : StreamingWorld) → IsQuiet w → StreamingStands p d w
+    → StreamingStands p d (record w { device = after_settling interface w.device })
 unfolding after_settling
 one_stands interface p d w none stands = record {
   device = quiet_settled d w.device interface none stands.device;
@@ -92,7 +92,7 @@ one_stands interface p d w none stands = record {
   steady = stands.steady;
 }
 
-one_settled : (detail interface : ℕ) (p : StreamingFields) (d : devices.DeviceFields) (w : StreamingWorld) → IsQuiet w → Stands p d w
+one_settled : (detail interface : ℕ) (p : StreamingFields) (d : devices.DeviceFields) (w : StreamingWorld) → IsQuiet w → StreamingStands p d w
     → Quietly p d (settled_turn detail interface w)
 unfolding settled_turn
 one_settled detail interface p d w none stands = record {
@@ -101,7 +101,7 @@ one_settled detail interface p d w none stands = record {
   quiet = none_settled w.device interface none;
 }
 
-turns_settled : (detail : ℕ) (ns : List ℕ) (p : StreamingFields) (d : devices.DeviceFields) (w : StreamingWorld) → IsQuiet w → Stands p d w
+turns_settled : (detail : ℕ) (ns : List ℕ) (p : StreamingFields) (d : devices.DeviceFields) (w : StreamingWorld) → IsQuiet w → StreamingStands p d w
     → Quietly p d (in_turn (settled_turn detail) ns w)
 unfolding in_turn
 turns_settled detail [] p d w none stands = record { lines = refl; stands = stands; quiet = none }
@@ -114,6 +114,6 @@ turns_settled detail (n ∷ ns) p d w none stands =
       quiet = rest.quiet;
     }
 
-pub quiet_ends : (detail : ℕ) (p : StreamingFields) (d : devices.DeviceFields) (w : StreamingWorld) → IsQuiet w → Stands p d w → Quietly p d (all_settled detail w)
+pub quiet_ends : (detail : ℕ) (p : StreamingFields) (d : devices.DeviceFields) (w : StreamingWorld) → IsQuiet w → StreamingStands p d w → Quietly p d (all_settled detail w)
 unfolding all_settled
 quiet_ends detail p d w none stands = turns_settled detail (numbers w.device.function) p d w none stands

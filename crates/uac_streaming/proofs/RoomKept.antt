@@ -13,7 +13,7 @@ use Rattle.uac_store.specs.declared.keys.Key.{Key}
 use Rattle.uac_rate.specs.Levels.{IsInterval}
 use Rattle.uac_alt.specs.AltStreams.{StreamFields, stream_of}
 use Rattle.uac_alt.proofs.Parts.{parts_of, ran_of}
-use Rattle.uac_request.specs.Requests.{after_request, held_by, rate_at, reply_of}
+use Rattle.uac_request.specs.Requests.{after_request, request_state, rate_at, reply_of}
 use Rattle.uac_request.specs.declared.setup.Setup.{Setup}
 use Rattle.uac_flow.specs.FlowStreams.{OutStream, started_out}
 use Rattle.uac_lanes.specs.InterfaceStreams.{out_from, replaced_at}
@@ -29,7 +29,7 @@ pub deviated_room : (clock : ℕ) (ppm : ℤ) (w : DeviceWorld) → IsInRange pp
     → HaveRoom (after_deviation clock ppm w)
 unfolding after_deviation
 deviated_room clock ppm w range room = record {
-  deviations = deviations_kept (λ d. record d { deviation = ppm }) (λ d _. range) (λ d. d.clock == clock) w.domains room.deviations;
+  deviations = deviations_kept (λ d. record d { deviation = ppm }) (λ d _. range) (λ d. d.id == clock) w.domains room.deviations;
   apart = room.apart;
   streams = room.streams;
 }
@@ -139,13 +139,13 @@ module _ (w : DeviceWorld) (room : HaveRoom w) where
 
   pub controlled_room : (p : Setup) (bytes : List ℕ) → HaveRoom (after_control p bytes w)
   unfolding after_control after_restart
-  controlled_room p bytes = by (sets_interface p && tells_done (reply_of w.function (held_by w.controls w.settings) p bytes))
+  controlled_room p bytes = by (sets_interface p && tells_done (reply_of w.function (request_state w.controls w.settings) p bytes))
     where
       begun : Option StreamFields
       begun = stream_in_setting w.function w.controls p.index p.value
 
       by : (b : Bool)
-          → (let after = after_request w.function (held_by w.controls w.settings) p bytes in
+          → (let after = after_request w.function (request_state w.controls w.settings) p bytes in
           let asked : DeviceWorld = record w { controls = after.controls; settings = after.settings } in
           HaveRoom (if b then after_restart p.index begun asked else asked))
       by true = record {

@@ -291,13 +291,13 @@ unfolding next_ticks step_in
 next_few w clock range = among w.domains range
   where
     among : (ds : List Domain) → All (λ d. IsInRange d.deviation) ds
-        → option_map_or (λ d. ticks_in (steps_with_next w d)) (find (λ d. d.clock == clock) ds) 0 ≤ 27
+        → option_map_or (λ d. ticks_in (steps_with_next w d)) (find (λ d. d.id == clock) ds) 0 ≤ 27
     among [] range = omega arith
-    among (d ∷ ds) range = by (d.clock == clock) (among ds (All-tail (λ d. IsInRange d.deviation) d ds range))
+    among (d ∷ ds) range = by (d.id == clock) (among ds (All-tail (λ d. IsInRange d.deviation) d ds range))
       where
-        by : (b : Bool) → option_map_or (λ d. ticks_in (steps_with_next w d)) (find (λ d. d.clock == clock) ds) 0 ≤ 27
-            → option_map_or (λ d. ticks_in (steps_with_next w d)) (cond b (Some d) (find (λ d. d.clock == clock) ds)) 0 ≤ 27
+        by : (b : Bool) → option_map_or (λ d. ticks_in (steps_with_next w d)) (find (λ d. d.id == clock) ds) 0 ≤ 27
+            → option_map_or (λ d. ticks_in (steps_with_next w d)) (cond b (Some d) (find (λ d. d.id == clock) ds)) 0 ≤ 27
         by true others =
             last_few d.steps (step_in w d)
-            (steps_most (rate_of w.function.entities w.controls d.clock) d.deviation (All-head (λ d. IsInRange d.deviation) d ds range))
+            (steps_most (rate_of w.function.entities w.controls d.id) d.deviation (All-head (λ d. IsInRange d.deviation) d ds range))
         by false others = others

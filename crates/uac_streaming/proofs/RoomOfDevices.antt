@@ -222,7 +222,7 @@ pub advanced_within : (about : FunctionFields → Type 0) (loses : ℕ → Bool)
     → AreWithin about loses (clock ∷ ahead) before 0 w → AreWithin about loses ahead clock (next_ticks clock w) (after_advance clock w)
 unfolding after_advance
 advanced_within about loses clock before ahead w once is = record {
-  deviations = deviations_kept (λ d. record d { steps = steps_with_next w d }) (λ d range. range) (λ d. d.clock == clock) w.domains is.deviations;
+  deviations = deviations_kept (λ d. record d { steps = steps_with_next w d }) (λ d range. range) (λ d. d.id == clock) w.domains is.deviations;
   apart = is.apart;
   function = is.function;
   streams =

@@ -21,8 +21,8 @@ use Rattle.uac_transcript.specs.Printing.{Prints, text_of}
 use Rattle.uac_transcript.proofs.PrintingLemmas.{Prints-after}
 use Rattle.uac_streaming.specs.Telling.{Telling, at_rest, in_turn, telling_after}
 use Rattle.uac_streaming.specs.StreamingWorld.{StreamingWorld, all_reported, all_settled, comes_in, fetched_lines, goes_out, in_lines, in_packet_turn, in_packets, inward_turn, is_in_due, is_out_due, loses_in, loses_out, loses_report, numbers, numbers_in, numbers_out, out_lines, out_packets, out_turn, outward_turn, packet_fetched, packet_sent, packet_to, report_lines, report_made, report_turn, sent_lines, settled_lines, settled_turn}
-use Rattle.uac_streaming.specs.StreamingKept.{StreamingFields, Stands, Tells}
-use Rattle.uac_streaming.proofs.SoFar.{Appends-nothing}
+use Rattle.uac_streaming.specs.StreamingKept.{StreamingFields, StreamingStands, StreamingTells}
+use Rattle.uac_streaming.proofs.TellingLemmas.{Appends-nothing}
 
 -- what holds in any case holds at Ok
 pub at_ok : {T E : Type 0} (P : Type 0) (r : Result T E) → P → OnOk r P
@@ -30,10 +30,10 @@ at_ok P (Ok x) p = p
 at_ok P (Err e) p = tt
 
 -- nothing happened, and nothing was printed
-pub rests : (told : Telling StreamingWorld) (p : StreamingFields) (d : devices.DeviceFields) (old : Option (List ℕ)) (w : StreamingWorld) → at_rest w ≡ told → Stands p d w
-    → Appends old old (text_of told.lines) × Stands p d told.world
+pub rests : (told : Telling StreamingWorld) (p : StreamingFields) (d : devices.DeviceFields) (old : Option (List ℕ)) (w : StreamingWorld) → at_rest w ≡ told → StreamingStands p d w
+    → Appends old old (text_of told.lines) × StreamingStands p d told.world
 rests told p d old w is stands =
-    subst (λ (t : Telling StreamingWorld). Appends old old (text_of t.lines) × Stands p d t.world) is (Appends-nothing old, stands)
+    subst (λ (t : Telling StreamingWorld). Appends old old (text_of t.lines) × StreamingStands p d t.world) is (Appends-nothing old, stands)
 
 -- ---- packets to the device
 
@@ -47,7 +47,7 @@ module _ (detail interface : ℕ) (marks : List SaidMark) (w : StreamingWorld) (
 
   pub out_told : {T E : Type 0} (q : StreamingFields) (e : devices.DeviceFields) (old new : Option (List ℕ)) (r : Result T E) (frames : ℕ) (arrival : Arrival) (lost : Bool)
       → due ≡ true → lost ≡ loses_out marks interface → frames ≡ size_of w.host interface → arrival ≡ arrival_in w.device interface (packet_to lost interface w)
-      → Stands q e (packet_sent lost interface w) → Prints old new r (out_lines detail interface frames arrival) → Tells (outward_turn detail marks interface w) q e old new r
+      → StreamingStands q e (packet_sent lost interface w) → Prints old new r (out_lines detail interface frames arrival) → StreamingTells (outward_turn detail marks interface w) q e old new r
   unfolding outward_turn
   out_told q e old new r frames arrival lost ran own frames_are arrives stands prints =
       let loses : Bool = loses_out marks interface in
@@ -56,9 +56,9 @@ module _ (detail interface : ℕ) (marks : List SaidMark) (w : StreamingWorld) (
       let lines : out_lines detail interface frames arrival ≡ sent_lines detail loses interface w =
       ap (λ (n : ℕ). out_lines detail interface n arrival) frames_are
       ∙ ap (out_lines detail interface (size_of w.host interface)) (arrives ∙ ap (λ (b : Bool). arrival_in w.device interface (packet_to b interface w)) own) in
-      subst (λ (told : Telling StreamingWorld). Tells told q e old new r) happens (
+      subst (λ (told : Telling StreamingWorld). StreamingTells told q e old new r) happens (
         subst (λ (ls : List Said). Prints old new r ls) lines prints,
-        at_ok (Stands q e (packet_sent loses interface w)) r (subst (λ (b : Bool). Stands q e (packet_sent b interface w)) own stands),
+        at_ok (StreamingStands q e (packet_sent loses interface w)) r (subst (λ (b : Bool). StreamingStands q e (packet_sent b interface w)) own stands),
       )
 
 -- ---- packets from the device
@@ -89,9 +89,9 @@ module _ (detail interface : ℕ) (marks : List SaidMark) (w : StreamingWorld) (
 
   pub in_told : {T E : Type 0} (q : StreamingFields) (e : devices.DeviceFields) (old new : Option (List ℕ)) (r : Result T E) (frames : ℕ) (lost : Bool)
       → due ≡ true → lost ≡ loses_in marks interface → frames ≡ frames_in w.device interface → q.fetched_packet ≡ packet_in w.device interface
-      → Stands q e (packet_fetched lost interface w)
-      → ((h : HostWorld) → hosts.Stands q.host h → Prints old new r (in_lines detail lost interface frames (heard_in h interface q.fetched_packet)))
-      → Tells (inward_turn detail marks interface w) q e old new r
+      → StreamingStands q e (packet_fetched lost interface w)
+      → ((h : HostWorld) → hosts.HostStands q.host h → Prints old new r (in_lines detail lost interface frames (heard_in h interface q.fetched_packet)))
+      → StreamingTells (inward_turn detail marks interface w) q e old new r
   unfolding inward_turn
   in_told q e old new r frames lost ran own frames_are packet stands prints =
       let loses : Bool = loses_in marks interface in
@@ -101,10 +101,10 @@ module _ (detail interface : ℕ) (marks : List SaidMark) (w : StreamingWorld) (
       ap (λ (b : Bool). in_lines detail b interface frames (heard_in w.host interface q.fetched_packet)) own
       ∙ ap (λ (n : ℕ). in_lines detail loses interface n (heard_in w.host interface q.fetched_packet)) frames_are
       ∙ ap (λ (bytes : List ℕ). in_lines detail loses interface (frames_in w.device interface) (heard_in w.host interface bytes)) packet in
-      let of_host = subst (hosts.Stands q.host) (host_still lost interface w) stands.host in
-      subst (λ (told : Telling StreamingWorld). Tells told q e old new r) happens (
+      let of_host = subst (hosts.HostStands q.host) (host_still lost interface w) stands.host in
+      subst (λ (told : Telling StreamingWorld). StreamingTells told q e old new r) happens (
         subst (λ (ls : List Said). Prints old new r ls) lines (prints w.host of_host),
-        at_ok (Stands q e (packet_fetched loses interface w)) r (subst (λ (b : Bool). Stands q e (packet_fetched b interface w)) own stands),
+        at_ok (StreamingStands q e (packet_fetched loses interface w)) r (subst (λ (b : Bool). StreamingStands q e (packet_fetched b interface w)) own stands),
       )
 
 -- ---- reports
@@ -118,23 +118,23 @@ module _ (detail interface : ℕ) (marks : List SaidMark) (w : StreamingWorld) (
       ap (λ (o : Option ℕ). option_map_or made o (at_rest w)) (sym none ∙ is)
 
   pub report_told : {T E : Type 0} (q : StreamingFields) (e : devices.DeviceFields) (old new : Option (List ℕ)) (r : Result T E) (value : ℕ) (lost : Bool)
-      → report ≡ Some value → lost ≡ loses_report marks interface → Stands q e (report_made lost value interface w)
-      → Prints old new r (if nat_le 2 detail then says_feedback interface value lost ∷ [] else []) → Tells (report_turn detail marks interface w) q e old new r
+      → report ≡ Some value → lost ≡ loses_report marks interface → StreamingStands q e (report_made lost value interface w)
+      → Prints old new r (if nat_le 2 detail then says_feedback interface value lost ∷ [] else []) → StreamingTells (report_turn detail marks interface w) q e old new r
   unfolding report_turn
   report_told q e old new r value lost some own stands prints =
       let loses : Bool = loses_report marks interface in
       let made : ℕ → Telling StreamingWorld = λ v. record { lines = report_lines detail loses v interface; world = report_made loses v interface w } in
       let happens : made value ≡ report_turn detail marks interface w = ap (λ (o : Option ℕ). option_map_or made o (at_rest w)) (sym some ∙ is) in
-      subst (λ (told : Telling StreamingWorld). Tells told q e old new r) happens (
+      subst (λ (told : Telling StreamingWorld). StreamingTells told q e old new r) happens (
         subst (λ (b : Bool). Prints old new r (report_lines detail b value interface)) own prints,
-        at_ok (Stands q e (report_made loses value interface w)) r (subst (λ (b : Bool). Stands q e (report_made b value interface w)) own stands),
+        at_ok (StreamingStands q e (report_made loses value interface w)) r (subst (λ (b : Bool). StreamingStands q e (report_made b value interface w)) own stands),
       )
 
 -- ---- the ends of microframes
 
 -- the device alone changes
-settled_stands : (p : StreamingFields) (d e : devices.DeviceFields) (w : StreamingWorld) (detail interface : ℕ) → Stands p d w → devices.Stands e (after_settling interface w.device)
-    → Stands p e (settled_turn detail interface w).world
+settled_stands : (p : StreamingFields) (d e : devices.DeviceFields) (w : StreamingWorld) (detail interface : ℕ) → StreamingStands p d w → devices.DeviceStands e (after_settling interface w.device)
+    → StreamingStands p e (settled_turn detail interface w).world
 unfolding settled_turn after_settling
 settled_stands p d e w detail interface stands after = record {
   device = after;
@@ -158,7 +158,7 @@ ZerosFitFrom order i w = (k : ℕ) → i ≤ k → k < length order → ZerosFit
 
 -- the same, and what is kept stands
 abbrev pub StandsBefore : StreamingFields → devices.DeviceFields → List ℕ → ℕ → StreamingWorld → Type 0
-StandsBefore p d order i w = Stands p d w × ZerosFitFrom order i w.device
+StandsBefore p d order i w = StreamingStands p d w × ZerosFitFrom order i w.device
 
 range_rises : (a n : ℕ) → IsStrictlyIncreasing (range_with_len a n)
 range_rises a n = λ k below.
@@ -179,7 +179,7 @@ above_differs m n less = grind arith
 
 -- the device is settled at one, and what comes still fits
 pub settled_one : (p : StreamingFields) (d e : devices.DeviceFields) (w : StreamingWorld) (detail interface i : ℕ) → interface ≡ get_or p.order i 0
-    → StandsBefore p d p.order i w → devices.Stands e (after_settling interface w.device) → StandsBefore p e p.order (i + 1) (settled_turn detail interface w).world
+    → StandsBefore p d p.order i w → devices.DeviceStands e (after_settling interface w.device) → StandsBefore p e p.order (i + 1) (settled_turn detail interface w).world
 unfolding settled_turn
 settled_one p d e w detail interface i is before after =
     let order = before.0.order in (
@@ -194,7 +194,7 @@ settled_one p d e w detail interface i is before after =
 
 module _ (p : StreamingFields) (d e : devices.DeviceFields) (detail interface i : ℕ) (mid new : Option (List ℕ)) (is : interface ≡ get_or p.order i 0) (below : i < length p.order) where
   -- the next one is settled
-  pub settled_next : ((v : DeviceWorld) → devices.Stands d v → ZerosFitIn v interface → Appends mid new (text_of (settled_lines detail interface v)) × devices.Stands e (after_settling interface v))
+  pub settled_next : ((v : DeviceWorld) → devices.DeviceStands d v → ZerosFitIn v interface → Appends mid new (text_of (settled_lines detail interface v)) × devices.DeviceStands e (after_settling interface v))
       → (w : StreamingWorld) → StandsBefore p d p.order i w
       → Appends mid new (text_of (settled_turn detail interface w).lines) × StandsBefore p e p.order (i + 1) (settled_turn detail interface w).world
   unfolding settled_turn
@@ -204,7 +204,7 @@ module _ (p : StreamingFields) (d e : devices.DeviceFields) (detail interface i 
       (t.0, settled_one p d e w detail interface i is before t.1)
 
   -- or its line fails
-  pub settled_failed : ((v : DeviceWorld) → devices.Stands d v → ZerosFitIn v interface → AppendsFront mid new (text_of (settled_lines detail interface v)) × devices.Stands e (after_settling interface v))
+  pub settled_failed : ((v : DeviceWorld) → devices.DeviceStands d v → ZerosFitIn v interface → AppendsFront mid new (text_of (settled_lines detail interface v)) × devices.DeviceStands e (after_settling interface v))
       → (w : StreamingWorld) → StandsBefore p d p.order i w → AppendsFront mid new (text_of (settled_turn detail interface w).lines)
   unfolding settled_turn
   settled_failed tells w before =

@@ -7,7 +7,7 @@ use Rattle.std.specs.List.{list_any, range_with_len}
 use Rattle.std.specs.Option.{option_map_or}
 use Rattle.uac_topology.specs.Function.{FunctionFields, interface_in}
 use Rattle.uac_alt.specs.AltStreams.{StreamFields}
-use Rattle.uac_rate.specs.Steadiness.{Given, nothing_given, with_report_given, with_restart_given}
+use Rattle.uac_rate.specs.Steadiness.{SteadyHistory, nothing_given, with_report_given, with_restart_given}
 use Rattle.uac_flow.specs.FlowStreams.{is_dry, is_full}
 use Rattle.uac_flow.specs.declared.arrival.Arrival.{Arrival}
 use Rattle.uac_flow.specs.declared.arrival.Arrival.TheVariants as arrivals
@@ -19,8 +19,8 @@ use Rattle.uac_host.specs.Calls.{after_packet, heard_in, packet_of, size_of, wit
 use Rattle.uac_script.specs.Phrase.{SaidMark}
 use Rattle.uac_script.specs.declared.line.MarkKind.{MarkKind}
 use Rattle.uac_script.specs.declared.line.MarkKind.TheVariants as mark_kinds
-use Rattle.uac_transcript.specs.declared.packets.Arrival as printed
-use Rattle.uac_transcript.specs.declared.packets.Arrival.TheVariants as arrived
+use Rattle.uac_transcript.specs.declared.packets.PrintedArrival as printed
+use Rattle.uac_transcript.specs.declared.packets.PrintedArrival.TheVariants as arrived
 use Rattle.uac_transcript.specs.declared.report.StreamCounts.{StreamCounts}
 use Rattle.uac_transcript.specs.Transcript.{Said, says_feedback, says_frame, says_in, says_level, says_out, says_over, says_under}
 use Rattle.uac_streaming.specs.Telling.{Telling, at_rest, in_turn}
@@ -32,7 +32,7 @@ pub record StreamingWorld : Type 0 where
   -- by interface, what its streams met
   pub met : ℕ → StreamCounts
   -- the deviations that were given, and by streaming interface, in block order, of each start the feedback reports
-  pub given : Given
+  pub history : SteadyHistory
 
 -- streams that met nothing
 abbrev pub nothing_met : StreamCounts
@@ -41,7 +41,7 @@ nothing_met = record { under = 0; over = 0; lost = 0; missed = 0 }
 -- just after the descriptor was accepted
 unfoldable pub streaming_start : FunctionFields → StreamingWorld
 streaming_start function =
-    record { device = fresh function; host = fresh_host function; met = λ interface. nothing_met; given = nothing_given }
+    record { device = fresh function; host = fresh_host function; met = λ interface. nothing_met; history = nothing_given }
 
 -- ---- interfaces
 
@@ -93,13 +93,13 @@ marks_report mark_kinds.Feedback = true
 
 -- the packet to the device of an interface is lost, that from it, or its report
 abbrev pub loses_out : List SaidMark → ℕ → Bool
-loses_out marks interface = list_any (λ l. marks_out l.letter && is_at l.place interface) marks
+loses_out marks interface = list_any (λ l. marks_out l.kind && is_at l.interface interface) marks
 
 abbrev pub loses_in : List SaidMark → ℕ → Bool
-loses_in marks interface = list_any (λ l. marks_in l.letter && is_at l.place interface) marks
+loses_in marks interface = list_any (λ l. marks_in l.kind && is_at l.interface interface) marks
 
 abbrev pub loses_report : List SaidMark → ℕ → Bool
-loses_report marks interface = list_any (λ l. marks_report l.letter && is_at l.place interface) marks
+loses_report marks interface = list_any (λ l. marks_report l.kind && is_at l.interface interface) marks
 
 -- ---- counts
 
@@ -135,7 +135,7 @@ after_arrival arrivals.Lost c = one_lost c
 after_arrival arrivals.Over c = one_over c
 
 -- how a packet arrived, as its line says it
-abbrev pub arrived_as : Arrival → printed.Arrival
+abbrev pub arrived_as : Arrival → printed.PrintedArrival
 arrived_as arrivals.Taken = arrived.Ok
 arrived_as arrivals.Lost = arrived.Lost
 arrived_as arrivals.Over = arrived.Over
@@ -250,22 +250,22 @@ in_packets detail marks w = in_turn (in_packet_turn detail marks) (numbers w.dev
 
 -- a tick of a domain finds the primed ring of an interface empty, or its ring full
 abbrev pub finds_empty : ℕ → DeviceWorld → ℕ → Bool
-finds_empty clock w interface = is_on w clock interface && option_map_or is_dry (w.outs interface) false
+finds_empty domain w interface = is_on w domain interface && option_map_or is_dry (w.outs interface) false
 
 abbrev pub finds_full : ℕ → DeviceWorld → ℕ → Bool
-finds_full clock w interface = is_on w clock interface && option_map_or is_full (w.ins interface) false
+finds_full domain w interface = is_on w domain interface && option_map_or is_full (w.ins interface) false
 
 -- what a tick of a domain finds, at any detail: first the rings found empty, in block order, and then those found full
 unfoldable pub found_lines : ℕ → DeviceWorld → List Said
-found_lines clock w =
-    map (λ s. says_under s.number) (filter (λ s. finds_empty clock w s.number) w.function.streams)
-    ++ map (λ s. says_over s.number) (filter (λ s. finds_full clock w s.number) w.function.streams)
+found_lines domain w =
+    map (λ s. says_under s.number) (filter (λ s. finds_empty domain w s.number) w.function.streams)
+    ++ map (λ s. says_over s.number) (filter (λ s. finds_full domain w s.number) w.function.streams)
 
 -- the counts of rings found empty or full, with those of a tick
 unfoldable pub found_counts : ℕ → DeviceWorld → (ℕ → StreamCounts) → ℕ → StreamCounts
-found_counts clock w met k =
-    let c = if finds_empty clock w k then one_under (met k) else met k in
-    if finds_full clock w k then one_over c else c
+found_counts domain w met k =
+    let c = if finds_empty domain w k then one_under (met k) else met k in
+    if finds_full domain w k then one_over c else c
 
 -- ---- the ends of microframes
 
@@ -288,7 +288,7 @@ all_settled detail w = in_turn (settled_turn detail) (numbers w.device.function)
 -- ---- feedback
 
 -- what happens to the reports of the interface at a place, where there is one
-abbrev pub given_at : Option ℕ → (ℕ → Given → Given) → Given → Given
+abbrev pub given_at : Option ℕ → (ℕ → SteadyHistory → SteadyHistory) → SteadyHistory → SteadyHistory
 given_at None event given = given
 given_at (Some place) event given = event place given
 
@@ -298,7 +298,7 @@ report_made lost value interface w =
     record w {
       host = if lost then w.host else with_report interface value w.host;
       met = counted_at interface (λ c. if lost then one_missed c else c) w.met;
-      given = given_at (place_of w.device.function interface) (λ place. with_report_given place lost) w.given;
+      history = given_at (place_of w.device.function interface) (λ place. with_report_given place lost) w.history;
     }
 
 -- from detail 2 on it is said
@@ -323,5 +323,5 @@ unfoldable pub after_following : ℕ → Option StreamFields → StreamingWorld 
 after_following interface begun w =
     record w {
       host = with_stream interface begun w.host;
-      given = if is_some begun then given_at (place_of w.device.function interface) with_restart_given w.given else w.given;
+      history = if is_some begun then given_at (place_of w.device.function interface) with_restart_given w.history else w.history;
     }

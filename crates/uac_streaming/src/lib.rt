@@ -5,7 +5,7 @@
 /// Counts of what streams met.
 mod counts;
 /// Losses that marks tell.
-mod losses;
+mod marks;
 /// Lines of packets, ticks and reports.
 mod printing;
 /// What the host streams with, and its events.

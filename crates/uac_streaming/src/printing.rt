@@ -18,7 +18,7 @@ use uac_flow::Arrival;
 use uac_host::Host;
 use uac_pcm::{Frame, Packet};
 use uac_transcript::{
-    Arrival as Printed, write_feedback, write_frame, write_in, write_out, write_over, write_under,
+    PrintedArrival, write_feedback, write_frame, write_in, write_out, write_over, write_under,
 };
 
 /// Prints a packet to the device: from detail 2 on how it arrived, and at any detail that it was over.
@@ -56,17 +56,17 @@ fn write_arrival<K: Sink>(
     if detail < 2 {
         return Ok(());
     }
-    write_out(sink, interface, frames, printed(arrival))
+    write_out(sink, interface, frames, printed_arrival(arrival))
 }
 
 /// How a packet arrived, as its line says it.
-fn printed(arrival: Arrival) -> Printed
+fn printed_arrival(arrival: Arrival) -> PrintedArrival
     ensures { result ≡ spec.arrived_as arrival }
 {
     match arrival {
-        Arrival::Taken => Printed::Ok,
-        Arrival::Lost => Printed::Lost,
-        Arrival::Over => Printed::Over,
+        Arrival::Taken => PrintedArrival::Ok,
+        Arrival::Lost => PrintedArrival::Lost,
+        Arrival::Over => PrintedArrival::Over,
     }
 }
 
@@ -88,7 +88,7 @@ pub(crate) fn write_fetched<K: Sink>(
     packet: &Packet,
     frame: &mut Frame,
 ) -> Result<(), Failed>
-    ensures printed { (w : HostWorld) → kept.Stands host.now w → Prints (K.written sink.old) (K.written sink.new) result
+    ensures printed { (w : HostWorld) → kept.HostStands host.now w → Prints (K.written sink.old) (K.written sink.new) result
         (spec.in_lines detail fetched.lost fetched.interface fetched.frames (heard_in w fetched.interface packet.now.items)) }
     ensures cause { HasCause (K.faults sink.old) (K.faults sink.new) result }
 {
@@ -119,7 +119,7 @@ fn write_heard<K: Sink>(
     packet: &Packet,
     frame: &mut Frame,
 ) -> Result<(), Failed>
-    ensures printed { (w : HostWorld) → kept.Stands host.now w → Prints (K.written sink.old) (K.written sink.new) result
+    ensures printed { (w : HostWorld) → kept.HostStands host.now w → Prints (K.written sink.old) (K.written sink.new) result
         (map (says_frame interface) (heard_in w interface packet.now.items)) }
     ensures cause { HasCause (K.faults sink.old) (K.faults sink.new) result }
 {

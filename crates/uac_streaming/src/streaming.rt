@@ -12,7 +12,7 @@ ghost use Rattle.uac_transcript.specs.declared.report.StreamCounts as counted;
 ghost use Rattle.uac_streaming.specs.StreamingWorld.{StreamingWorld, after_following, found_counts, packet_fetched, packet_sent, packet_to};
 ghost use Rattle.uac_streaming.specs.StreamingWorld.{report_made, streaming_start};
 ghost use Rattle.uac_streaming.specs.StreamingWorld as spec;
-ghost use Rattle.uac_streaming.specs.StreamingKept.{Stands};
+ghost use Rattle.uac_streaming.specs.StreamingKept.{StreamingStands};
 
 use crate::counts::{after_arrival, nothing_met, one_lost, one_missed, one_over, one_under};
 use crate::ways::{inward, outward};
@@ -75,8 +75,8 @@ pub(crate) struct Sent {
 impl Streaming {
     /// A host of a function, of which no stream runs, with all the memory that it will use but for its tracks.
     pub fn new(alloc: Global, function: &Function) -> Result<Streaming, NoMemory>
-        ensures { IfOk result (λ streaming. (d : devices.DeviceFields) → devices.Stands d (fresh function.now)
-            → Stands streaming d (streaming_start function.now)) }
+        ensures { IfOk result (λ streaming. (d : devices.DeviceFields) → devices.DeviceStands d (fresh function.now)
+            → StreamingStands streaming d (streaming_start function.now)) }
     {
         let host = Host::new(alloc, function)?;
         let order = in_order(alloc, function)?;
@@ -97,7 +97,7 @@ impl Streaming {
     }
 
     /// What the streams of the interface at a place met, in block order.
-    pub fn met(&self, place: usize) -> StreamCounts
+    pub fn stream_counts(&self, place: usize) -> StreamCounts
         requires { place < length self.now.met }
         ensures { slice_get self.now.met place ≡ Some result }
     {
@@ -106,15 +106,15 @@ impl Streaming {
 
     /// Whether all that was given is steady: no deviation passed a thousandth, and no stream lost four feedback reports in succession.
     pub fn is_steady(&self) -> bool
-        ensures { (d : devices.DeviceFields) (w : StreamingWorld) → Stands self.now d w → result ≡ is_steady w.given }
+        ensures { (d : devices.DeviceFields) (w : StreamingWorld) → StreamingStands self.now d w → result ≡ is_steady w.history }
     {
         self.steady.holds()
     }
 
     /// A clock is off by so many ppm from now on.
     pub fn deviate(&mut self, ppm: i32)
-        ensures { (d : devices.DeviceFields) (w : StreamingWorld) → Stands self.old d w
-            → Stands self.new d (record w { given = with_deviation_given ppm w.given }) }
+        ensures { (d : devices.DeviceFields) (w : StreamingWorld) → StreamingStands self.old d w
+            → StreamingStands self.new d (record w { history = with_deviation_given ppm w.history }) }
     {
         self.steady.deviate(ppm);
     }
@@ -122,9 +122,9 @@ impl Streaming {
     /// Frames wait after those that do on an interface: samples of full scale, channel after channel, in whole frames of its terminal.
     /// After `NoMemory` all is as it was.
     pub fn append(&mut self, interface: u8, samples: &[i32]) -> Result<(), NoMemory>
-        ensures stands { (d : devices.DeviceFields) (w : StreamingWorld) → Stands self.old d w
+        ensures stands { (d : devices.DeviceFields) (w : StreamingWorld) → StreamingStands self.old d w
             → AreWhole w.host.function interface samples.now
-            → OnOk result (Stands self.new d (record w { host = with_samples interface samples.now w.host })) }
+            → OnOk result (StreamingStands self.new d (record w { host = with_samples interface samples.now w.host })) }
         ensures unchanged { OnErr result (self.new ≡ self.old) }
     {
         self.host.append(interface, samples)
@@ -132,8 +132,8 @@ impl Streaming {
 
     /// A tone follows the frames that wait on an interface, from its first frame.
     pub fn track(&mut self, interface: u8, tone: Tone)
-        ensures { (d : devices.DeviceFields) (w : StreamingWorld) → Stands self.old d w
-            → Stands self.new d (record w { host = with_tone interface tone w.host }) }
+        ensures { (d : devices.DeviceFields) (w : StreamingWorld) → StreamingStands self.old d w
+            → StreamingStands self.new d (record w { host = with_tone interface tone w.host }) }
     {
         self.host.track(interface, tone);
     }
@@ -141,8 +141,8 @@ impl Streaming {
     /// The host's stream of an interface follows the device's: it starts anew, or stops where none is given.
     pub fn follow(&mut self, function: &Function, interface: u16, begun: Option<Stream>)
         requires { IfSome begun (λ s. IsStreamOf function.now interface (stream_fields s)) }
-        ensures { (d : devices.DeviceFields) (w : StreamingWorld) → Stands self.old d w → w.device.function ≡ function.now
-            → Stands self.new d (after_following interface (option_map stream_fields begun) w) }
+        ensures { (d : devices.DeviceFields) (w : StreamingWorld) → StreamingStands self.old d w → w.device.function ≡ function.now
+            → StreamingStands self.new d (after_following interface (option_map stream_fields begun) w) }
     {
         functions_are_sound(function);
         sound_functions_are_small();
@@ -157,8 +157,8 @@ impl Streaming {
         requires sound { IsSoundFunction function.now }
         requires few { length function.now.streams ≤ 8 }
         requires begun { IfSome begun (λ s. IsStreamOf function.now interface (stream_fields s)) }
-        ensures { (d : devices.DeviceFields) (w : StreamingWorld) → Stands self.old d w → w.device.function ≡ function.now
-            → Stands self.new d (after_following interface (option_map stream_fields begun) w) }
+        ensures { (d : devices.DeviceFields) (w : StreamingWorld) → StreamingStands self.old d w → w.device.function ≡ function.now
+            → StreamingStands self.new d (after_following interface (option_map stream_fields begun) w) }
     {
         self.host.set_stream(interface, begun);
         if begun.is_some() {
@@ -169,9 +169,9 @@ impl Streaming {
     /// The reports of an interface begin anew.
     fn start_reports(&mut self, function: &Function, interface: u8)
         requires { length function.now.streams ≤ 8 }
-        ensures { (d : devices.DeviceFields) (w : StreamingWorld) → Stands self.old d w → w.device.function ≡ function.now
-            → Stands self.new d (record w
-            { given = spec.given_at (spec.place_of w.device.function interface) with_restart_given w.given }) }
+        ensures { (d : devices.DeviceFields) (w : StreamingWorld) → StreamingStands self.old d w → w.device.function ≡ function.now
+            → StreamingStands self.new d (record w
+            { history = spec.given_at (spec.place_of w.device.function interface) with_restart_given w.history }) }
     {
         match function.stream_at(interface) {
             Some(place) => self.steady.restart(place as u8),
@@ -181,9 +181,10 @@ impl Streaming {
 
     /// The host sends a packet to the device, unless it is lost.
     pub(crate) fn send(&mut self, device: &mut Device, interface: u8, lost: bool) -> Sent
-        ensures stands { (w : StreamingWorld) → Stands self.old device.old w → Stands self.new device.new (packet_sent lost interface w) }
-        ensures frames { (w : StreamingWorld) → Stands self.old device.old w → result.frames ≡ size_of w.host interface }
-        ensures arrival { (w : StreamingWorld) → Stands self.old device.old w
+        ensures stands { (w : StreamingWorld) → StreamingStands self.old device.old w
+            → StreamingStands self.new device.new (packet_sent lost interface w) }
+        ensures frames { (w : StreamingWorld) → StreamingStands self.old device.old w → result.frames ≡ size_of w.host interface }
+        ensures arrival { (w : StreamingWorld) → StreamingStands self.old device.old w
             → result.arrival ≡ arrival_in w.device interface (packet_to lost interface w) }
         ensures function { device.new.function ≡ device.old.function }
         ensures order { self.new.outs ≡ self.old.outs }
@@ -196,10 +197,11 @@ impl Streaming {
 
     /// The device sends a packet, which is kept, unless it is lost. Answers the number of its frames.
     pub(crate) fn fetch(&mut self, device: &mut Device, interface: u8, lost: bool) -> u32
-        ensures stands { (w : StreamingWorld) → Stands self.old device.old w
-            → Stands self.new device.new (packet_fetched lost interface w) }
-        ensures frames { (w : StreamingWorld) → Stands self.old device.old w → result ≡ frames_in w.device interface }
-        ensures packet { (w : StreamingWorld) → Stands self.old device.old w → self.new.fetched_packet ≡ packet_in w.device interface }
+        ensures stands { (w : StreamingWorld) → StreamingStands self.old device.old w
+            → StreamingStands self.new device.new (packet_fetched lost interface w) }
+        ensures frames { (w : StreamingWorld) → StreamingStands self.old device.old w → result ≡ frames_in w.device interface }
+        ensures packet { (w : StreamingWorld) → StreamingStands self.old device.old w
+            → self.new.fetched_packet ≡ packet_in w.device interface }
         ensures function { device.new.function ≡ device.old.function }
         ensures order { self.new.ins ≡ self.old.ins }
     {
@@ -210,17 +212,17 @@ impl Streaming {
 
     /// A tick found these rings empty and full.
     pub fn find(&mut self, function: &Function, found: Ticked)
-        ensures { (d : devices.DeviceFields) (w : StreamingWorld) (before : DeviceWorld) (clock : ℕ) → Stands self.old d w
+        ensures { (d : devices.DeviceFields) (w : StreamingWorld) (before : DeviceWorld) (clock : ℕ) → StreamingStands self.old d w
             → w.device.function ≡ function.now → before.function ≡ function.now → found ≡ met_of clock before
-            → Stands self.new d (record w { met = found_counts clock before w.met }) }
+            → StreamingStands self.new d (record w { met = found_counts clock before w.met }) }
     {
         count_found(&mut self.met, found);
     }
 
     /// A report comes to the host, unless it is lost.
     pub(crate) fn report(&mut self, function: &Function, interface: u8, value: u32, lost: bool)
-        ensures stands { (d : devices.DeviceFields) (w : StreamingWorld) → Stands self.old d w → w.device.function ≡ function.now
-            → Stands self.new d (report_made lost value interface w) }
+        ensures stands { (d : devices.DeviceFields) (w : StreamingWorld) → StreamingStands self.old d w → w.device.function ≡ function.now
+            → StreamingStands self.new d (report_made lost value interface w) }
         ensures order { self.new.order ≡ self.old.order }
     {
         functions_are_sound(function);
@@ -232,8 +234,8 @@ impl Streaming {
 
     /// The host takes a report, unless it is lost.
     fn take_report(&mut self, interface: u8, value: u32, lost: bool)
-        ensures stands { (d : devices.DeviceFields) (w : StreamingWorld) → Stands self.old d w
-            → Stands self.new d (record w { host = if lost then w.host else with_report interface value w.host }) }
+        ensures stands { (d : devices.DeviceFields) (w : StreamingWorld) → StreamingStands self.old d w
+            → StreamingStands self.new d (record w { host = if lost then w.host else with_report interface value w.host }) }
         ensures order { self.new.order ≡ self.old.order }
     {
         if lost {
@@ -245,9 +247,9 @@ impl Streaming {
     /// One more report of an interface is known to be lost, or to have come.
     fn count_report(&mut self, function: &Function, interface: u8, lost: bool)
         requires { length function.now.streams ≤ 8 }
-        ensures stands { (d : devices.DeviceFields) (w : StreamingWorld) → Stands self.old d w → w.device.function ≡ function.now
-            → Stands self.new d (record w {
-              given = spec.given_at (spec.place_of w.device.function interface) (λ place. with_report_given place lost) w.given;
+        ensures stands { (d : devices.DeviceFields) (w : StreamingWorld) → StreamingStands self.old d w → w.device.function ≡ function.now
+            → StreamingStands self.new d (record w {
+              history = spec.given_at (spec.place_of w.device.function interface) (λ place. with_report_given place lost) w.history;
             }) }
         ensures order { self.new.order ≡ self.old.order }
     {
@@ -259,8 +261,8 @@ impl Streaming {
 
     /// A packet to the device arrived so on an interface: one that was taken changes no count.
     fn count_arrival(&mut self, function: &Function, interface: u8, arrival: Arrival)
-        ensures stands { (d : devices.DeviceFields) (w : StreamingWorld) → Stands self.old d w → w.device.function ≡ function.now
-            → Stands self.new d (record w { met = spec.counted_at interface (spec.after_arrival arrival) w.met }) }
+        ensures stands { (d : devices.DeviceFields) (w : StreamingWorld) → StreamingStands self.old d w → w.device.function ≡ function.now
+            → StreamingStands self.new d (record w { met = spec.counted_at interface (spec.after_arrival arrival) w.met }) }
         ensures others { self.new ≡ record self.old { met = self.new.met } }
     {
         match arrival {
@@ -273,8 +275,8 @@ impl Streaming {
 
     /// A packet from the device was lost on an interface, or wasn't: one that came changes no count.
     fn count_fetched(&mut self, function: &Function, interface: u8, lost: bool)
-        ensures stands { (d : devices.DeviceFields) (w : StreamingWorld) → Stands self.old d w → w.device.function ≡ function.now
-            → Stands self.new d (record w { met = spec.counted_at interface (λ c. if lost then spec.one_lost c else c) w.met }) }
+        ensures stands { (d : devices.DeviceFields) (w : StreamingWorld) → StreamingStands self.old d w → w.device.function ≡ function.now
+            → StreamingStands self.new d (record w { met = spec.counted_at interface (λ c. if lost then spec.one_lost c else c) w.met }) }
         ensures others { self.new ≡ record self.old { met = self.new.met } }
     {
         if !lost {
@@ -286,8 +288,8 @@ impl Streaming {
 
     /// A report of an interface was lost, or wasn't: one that came changes no count.
     fn count_missed(&mut self, function: &Function, interface: u8, lost: bool)
-        ensures stands { (d : devices.DeviceFields) (w : StreamingWorld) → Stands self.old d w → w.device.function ≡ function.now
-            → Stands self.new d (record w { met = spec.counted_at interface (λ c. if lost then spec.one_missed c else c) w.met }) }
+        ensures stands { (d : devices.DeviceFields) (w : StreamingWorld) → StreamingStands self.old d w → w.device.function ≡ function.now
+            → StreamingStands self.new d (record w { met = spec.counted_at interface (λ c. if lost then spec.one_missed c else c) w.met }) }
         ensures others { self.new ≡ record self.old { met = self.new.met } }
     {
         if !lost {
@@ -326,9 +328,9 @@ impl Streaming {
 
 /// A packet comes to the device, unless it is lost.
 fn arrive(device: &mut Device, interface: u8, packet: &Packet, lost: bool) -> Arrival
-    ensures stands { (w : DeviceWorld) → devices.Stands device.old w
-        → devices.Stands device.new (after_receiving interface (if lost then None else Some packet.now.items) w) }
-    ensures arrival { (w : DeviceWorld) → devices.Stands device.old w
+    ensures stands { (w : DeviceWorld) → devices.DeviceStands device.old w
+        → devices.DeviceStands device.new (after_receiving interface (if lost then None else Some packet.now.items) w) }
+    ensures arrival { (w : DeviceWorld) → devices.DeviceStands device.old w
         → result ≡ arrival_in w interface (if lost then None else Some packet.now.items) }
     ensures function { device.new.function ≡ device.old.function }
 {

@@ -8,9 +8,9 @@ ghost use Rattle.uac_transcript.specs.Printing.{Prints};
 ghost use Rattle.uac_streaming.specs.StreamingWorld.{StreamingWorld, all_reported, all_settled, found_lines, in_packets};
 ghost use Rattle.uac_streaming.specs.StreamingWorld.{inward_turn, out_packets, outward_turn, report_turn, settled_turn};
 ghost use Rattle.uac_streaming.specs.StreamingWorld as spec;
-ghost use Rattle.uac_streaming.specs.StreamingKept.{Stands, Tells};
+ghost use Rattle.uac_streaming.specs.StreamingKept.{StreamingStands, StreamingTells};
 
-use crate::losses::{loses_in, loses_out, loses_report};
+use crate::marks::{loses_in, loses_out, loses_report};
 use crate::printing::{Fetched, FoundRing, write_fetched, write_report, write_rings, write_sent};
 use crate::streaming::Streaming;
 use crate::ways::goes_out;
@@ -29,8 +29,9 @@ impl Streaming {
         marks: &[Mark],
         sink: &mut K,
     ) -> Result<(), Failed>
-        ensures tells { (w : StreamingWorld) → Stands self.old device.old w
-            → Tells (out_packets detail (map said_mark marks.now) w) self.new device.new (K.written sink.old) (K.written sink.new) result }
+        ensures tells { (w : StreamingWorld) → StreamingStands self.old device.old w
+            → StreamingTells (out_packets detail (map said_mark marks.now) w) self.new device.new (K.written sink.old) (K.written sink.new)
+            result }
         ensures function { device.new.function ≡ device.old.function }
         ensures cause { HasCause (K.faults sink.old) (K.faults sink.new) result }
     {
@@ -50,8 +51,8 @@ impl Streaming {
         marks: &[Mark],
         sink: &mut K,
     ) -> Result<(), Failed>
-        ensures tells { (w : StreamingWorld) → Stands self.old device.old w
-            → Tells (outward_turn detail (map said_mark marks.now) interface w) self.new device.new (K.written sink.old)
+        ensures tells { (w : StreamingWorld) → StreamingStands self.old device.old w
+            → StreamingTells (outward_turn detail (map said_mark marks.now) interface w) self.new device.new (K.written sink.old)
             (K.written sink.new) result }
         ensures order { self.new.outs ≡ self.old.outs }
         ensures function { device.new.function ≡ device.old.function }
@@ -72,8 +73,9 @@ impl Streaming {
         marks: &[Mark],
         sink: &mut K,
     ) -> Result<(), Failed>
-        ensures tells { (w : StreamingWorld) → Stands self.old device.old w
-            → Tells (in_packets detail (map said_mark marks.now) w) self.new device.new (K.written sink.old) (K.written sink.new) result }
+        ensures tells { (w : StreamingWorld) → StreamingStands self.old device.old w
+            → StreamingTells (in_packets detail (map said_mark marks.now) w) self.new device.new (K.written sink.old) (K.written sink.new)
+            result }
         ensures function { device.new.function ≡ device.old.function }
         ensures cause { HasCause (K.faults sink.old) (K.faults sink.new) result }
     {
@@ -93,8 +95,8 @@ impl Streaming {
         marks: &[Mark],
         sink: &mut K,
     ) -> Result<(), Failed>
-        ensures tells { (w : StreamingWorld) → Stands self.old device.old w
-            → Tells (inward_turn detail (map said_mark marks.now) interface w) self.new device.new (K.written sink.old)
+        ensures tells { (w : StreamingWorld) → StreamingStands self.old device.old w
+            → StreamingTells (inward_turn detail (map said_mark marks.now) interface w) self.new device.new (K.written sink.old)
             (K.written sink.new) result }
         ensures order { self.new.ins ≡ self.old.ins }
         ensures function { device.new.function ≡ device.old.function }
@@ -128,8 +130,8 @@ impl Streaming {
         detail: u8,
         sink: &mut K,
     ) -> Result<(), Failed>
-        ensures tells { (w : StreamingWorld) → Stands self.old device.old w → ((interface : ℕ) → ZerosFitIn w.device interface)
-            → Tells (all_settled detail w) self.new device.new (K.written sink.old) (K.written sink.new) result }
+        ensures tells { (w : StreamingWorld) → StreamingStands self.old device.old w → ((interface : ℕ) → ZerosFitIn w.device interface)
+            → StreamingTells (all_settled detail w) self.new device.new (K.written sink.old) (K.written sink.new) result }
         ensures function { device.new.function ≡ device.old.function }
         ensures cause { HasCause (K.faults sink.old) (K.faults sink.new) result }
     {
@@ -148,8 +150,9 @@ impl Streaming {
         marks: &[Mark],
         sink: &mut K,
     ) -> Result<(), Failed>
-        ensures tells { (w : StreamingWorld) → Stands self.old device.now w
-            → Tells (all_reported detail (map said_mark marks.now) w) self.new device.now (K.written sink.old) (K.written sink.new) result }
+        ensures tells { (w : StreamingWorld) → StreamingStands self.old device.now w
+            → StreamingTells (all_reported detail (map said_mark marks.now) w) self.new device.now (K.written sink.old) (K.written sink.new)
+            result }
         ensures cause { HasCause (K.faults sink.old) (K.faults sink.new) result }
     {
         for at in 0..self.order.len() {
@@ -168,8 +171,8 @@ impl Streaming {
         marks: &[Mark],
         sink: &mut K,
     ) -> Result<(), Failed>
-        ensures tells { (w : StreamingWorld) → Stands self.old device.now w
-            → Tells (report_turn detail (map said_mark marks.now) interface w) self.new device.now (K.written sink.old)
+        ensures tells { (w : StreamingWorld) → StreamingStands self.old device.now w
+            → StreamingTells (report_turn detail (map said_mark marks.now) interface w) self.new device.now (K.written sink.old)
             (K.written sink.new) result }
         ensures order { self.new.order ≡ self.old.order }
         ensures cause { HasCause (K.faults sink.old) (K.faults sink.new) result }
@@ -190,9 +193,9 @@ fn settle_one<K: Sink>(
     detail: u8,
     sink: &mut K,
 ) -> Result<(), Failed>
-    ensures tells { (w : DeviceWorld) → device_kept.Stands device.old w → ZerosFitIn w interface
+    ensures tells { (w : DeviceWorld) → device_kept.DeviceStands device.old w → ZerosFitIn w interface
         → Prints (K.written sink.old) (K.written sink.new) result (spec.settled_lines detail interface w)
-        × device_kept.Stands device.new (after_settling interface w) }
+        × device_kept.DeviceStands device.new (after_settling interface w) }
     ensures function { device.new.function ≡ device.old.function }
     ensures cause { HasCause (K.faults sink.old) (K.faults sink.new) result }
 {
@@ -211,7 +214,7 @@ fn settle_one<K: Sink>(
 
 /// Whether the level of a stream is said at the end of this microframe: from detail 2 on, that of one to the device that is due.
 fn says_level(device: &Device, interface: u8, detail: u8) -> bool
-    ensures { (w : DeviceWorld) → device_kept.Stands device.now w
+    ensures { (w : DeviceWorld) → device_kept.DeviceStands device.now w
         → result ≡ (nat_le 2 detail && (spec.goes_out w.function interface && is_due_in w interface)) }
 {
     if detail < 2 {
@@ -255,7 +258,7 @@ fn write_some<K: Sink>(
 
 /// Whether an interface runs a stream to the device that is due.
 fn is_out_due(device: &Device, interface: u8) -> bool
-    ensures { (w : DeviceWorld) → device_kept.Stands device.now w
+    ensures { (w : DeviceWorld) → device_kept.DeviceStands device.now w
         → result ≡ (spec.goes_out w.function interface && is_due_in w interface) }
 {
     goes_out(device.function(), interface) && device.due(interface)

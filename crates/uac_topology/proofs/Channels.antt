@@ -4,24 +4,24 @@ use Rattle.std.specs.List.{All, list_any}
 use Rattle.std.specs.Option.{option_map, option_map_or, is_none}
 use Rattle.std.proofs.lemmas.Bool.{or_parts, ltb-false, eqb-false}
 use Rattle.uac_walk.specs.Walk.{links, has_walk}
-use Rattle.uac_walk.proofs.Walks.{none_at}
+use Rattle.uac_walk.proofs.WalkLemmas.{none_at}
 use Rattle.uac_descriptor.specs.declared.context.Context.TheVariants as context
 use Rattle.uac_entities.specs.Entities.{entities_of, no_cluster}
 use Rattle.uac_entities.specs.declared.entity.Cluster.{Cluster}
 use Rattle.uac_entities.specs.declared.entity.Entity.{Entity}
 use Rattle.uac_entities.specs.declared.entity.EntityKind.{EntityKind}
 use Rattle.uac_entities.specs.declared.entity.EntityKind.TheVariants as kind
-use Rattle.uac_topology_rules.specs.Clusters.{cluster_of, cluster_step, clustered, takes_over}
+use Rattle.uac_topology_rules.specs.Clusters.{cluster_of, cluster_step, with_own_clusters, takes_over}
 use Rattle.uac_topology_rules.specs.Links.{is_clock, signal_links, signal_sources}
 use Rattle.uac_topology_rules.specs.Rules.{breaks_u3, breaks_u4, breaks_u6, breaks_u8, has_own_cluster, is_output, is_silent}
-use Rattle.uac_topology_rules.specs.Table.{at, found, kind_of, nothing, place_of, with_cluster}
+use Rattle.uac_topology_rules.specs.Table.{at, first_place_of, kind_of, nothing, place_of, with_cluster}
 use Rattle.uac_topology_rules.proofs.Along.{cluster_is}
 use Rattle.uac_topology_rules.proofs.Sound.{signal_links-at}
 use Rattle.uac_topology_rules.proofs.TableSteps.{found_is}
 use Rattle.uac_topology.specs.Function.{FunctionFields}
 use Rattle.uac_topology.specs.FunctionKept.{has_pins, HavePins, HaveChannels}
 use Rattle.uac_topology.specs.Topology.{IsSoundFunction}
-use Rattle.uac_topology.proofs.Clustered.{length-clustered, clustered-at}
+use Rattle.uac_topology.proofs.Clustered.{length-with_own_clusters, with_own_clusters-at}
 use Rattle.uac_topology.proofs.Pins.{entities_have}
 use Rattle.uac_topology.proofs.SoundRules.{KeepsRules, rules_hold}
 
@@ -64,12 +64,12 @@ module _ (es : List Entity) (h : KeepsRules es) (have : HavePins es) where
   unfolding breaks_u3 breaks_u4 kind_of
   source_there k i below inside =
       let s = get_or (signal_sources (at es k)) i 0 in
-      by s (found es s) refl
+      by s (first_place_of es s) refl
       (none_at (λ id. is_none (kind_of es id)) (signal_sources (at es k)) i 0 inside (h.u3 k below))
       (none_at (λ id. is_silent (kind_of es id)) (signal_sources (at es k)) i 0 inside (h.u4 k below))
     where
-      by : (s : ℕ) (o : Option ℕ) → found es s ≡ o → is_none (option_map (λ p. (at es p).kind) (found es s)) ≡ false
-          → is_silent (option_map (λ p. (at es p).kind) (found es s)) ≡ false
+      by : (s : ℕ) (o : Option ℕ) → first_place_of es s ≡ o → is_none (option_map (λ p. (at es p).kind) (first_place_of es s)) ≡ false
+          → is_silent (option_map (λ p. (at es p).kind) (first_place_of es s)) ≡ false
           → (place_of es s < length es) × (is_clock (at es (place_of es s)).kind ≡ false)
       by s None e some loud =
           let no : true ≡ false = ap (λ o. is_none (option_map (λ (p : ℕ). (at es p).kind) o)) (sym e) ∙ some in absurd (cc)
@@ -136,11 +136,11 @@ module _ (es : List Entity) (h : KeepsRules es) (have : HavePins es) where
           (first (at es k).sources (have k nothing below (taker (at es k).kind e)) here there shorter)
       by_takes false e shorter = own_channels k below signal e
 
-  clustered_channels : HaveChannels (clustered es)
+  clustered_channels : HaveChannels (with_own_clusters es)
   unfolding breaks_u6
   clustered_channels k d within =
-      let below : k < length es = omega (arith, within, length-clustered es) in
-      subst (λ (e : Entity). is_clock e.kind ≡ false → IsWidth e.cluster.channels) (sym (clustered-at es k d below))
+      let below : k < length es = omega (arith, within, length-with_own_clusters es) in
+      subst (λ (e : Entity). is_clock e.kind ≡ false → IsWidth e.cluster.channels) (sym (with_own_clusters-at es k d below))
       (λ signal. width_at (length es) k below (whole k below) signal)
     where
       whole : (k : ℕ) → k < length es → has_walk (signal_links es) (length es) k ≡ false

@@ -5,7 +5,7 @@ use Rattle.std.proofs.lemmas.List.{length-map, get_or-map, ext_get_or}
 use Rattle.std.proofs.lemmas.List.FromFn.{length-map-range_with_len, get_or-map-range_with_len}
 use Rattle.uac_entities.specs.declared.entity.Cluster.{Cluster}
 use Rattle.uac_entities.specs.declared.entity.Entity.{Entity}
-use Rattle.uac_topology_rules.specs.Clusters.{cluster_of, clustered}
+use Rattle.uac_topology_rules.specs.Clusters.{cluster_of, with_own_clusters}
 use Rattle.uac_topology_rules.specs.Table.{at, nothing, place_of, with_cluster}
 
 -- the first place of an id, by the ids alone
@@ -15,27 +15,27 @@ place_by_ids [] id = refl
 place_by_ids (x ∷ xs) id = ap (λ n. cond (not (x.id == id)) (1 + n) 0) (place_by_ids xs id)
 
 module _ (es : List Entity) where
-  pub length-clustered : length (clustered es) ≡ length es
-  unfolding clustered
-  length-clustered = length-map-range_with_len (λ k. with_cluster (at es k) (cluster_of es k)) 0 (length es)
+  pub length-with_own_clusters : length (with_own_clusters es) ≡ length es
+  unfolding with_own_clusters
+  length-with_own_clusters = length-map-range_with_len (λ k. with_cluster (at es k) (cluster_of es k)) 0 (length es)
 
-  pub clustered-at : (k : ℕ) (d : Entity) → k < length es → get_or (clustered es) k d ≡ with_cluster (at es k) (cluster_of es k)
-  unfolding clustered
-  clustered-at k d below = get_or-map-range_with_len (λ k. with_cluster (at es k) (cluster_of es k)) 0 (length es) k k d below (omega arith)
+  pub with_own_clusters-at : (k : ℕ) (d : Entity) → k < length es → get_or (with_own_clusters es) k d ≡ with_cluster (at es k) (cluster_of es k)
+  unfolding with_own_clusters
+  with_own_clusters-at k d below = get_or-map-range_with_len (λ k. with_cluster (at es k) (cluster_of es k)) 0 (length es) k k d below (omega arith)
 
   -- what doesn't look at clusters sees the same
-  pub seen_alike : {X : Type 0} (d : X) (g : Entity → X) → ((e : Entity) (c : Cluster) → g (with_cluster e c) ≡ g e) → map g (clustered es) ≡ map g es
+  pub seen_alike : {X : Type 0} (d : X) (g : Entity → X) → ((e : Entity) (c : Cluster) → g (with_cluster e c) ≡ g e) → map g (with_own_clusters es) ≡ map g es
   unfolding at
   seen_alike d g same =
-      ext_get_or d (map g (clustered es)) (map g es) (length-map (clustered es) g ∙ length-clustered ∙ sym (length-map es g))
+      ext_get_or d (map g (with_own_clusters es)) (map g es) (length-map (with_own_clusters es) g ∙ length-with_own_clusters ∙ sym (length-map es g))
       (λ i within.
-      let below : i < length es = omega (arith, within, length-map (clustered es) g, length-clustered) in
-      let below' : i < length (clustered es) = omega (arith, below, length-clustered) in
-      get_or-map g (clustered es) i nothing d below' ∙ ap g (clustered-at i nothing below) ∙ same (at es i) (cluster_of es i)
+      let below : i < length es = omega (arith, within, length-map (with_own_clusters es) g, length-with_own_clusters) in
+      let below' : i < length (with_own_clusters es) = omega (arith, below, length-with_own_clusters) in
+      get_or-map g (with_own_clusters es) i nothing d below' ∙ ap g (with_own_clusters-at i nothing below) ∙ same (at es i) (cluster_of es i)
       ∙ sym (get_or-map g es i nothing d below))
 
-  pub same_place : (id : ℕ) → place_of (clustered es) id ≡ place_of es id
+  pub same_place : (id : ℕ) → place_of (with_own_clusters es) id ≡ place_of es id
   same_place id =
-      place_by_ids (clustered es) id
+      place_by_ids (with_own_clusters es) id
       ∙ ap (position_or_len (λ i. i == id)) (seen_alike 0 (λ e. e.id) (λ e c. refl))
       ∙ sym (place_by_ids es id)

@@ -5,15 +5,15 @@ use Rattle.std.proofs.lemmas.Option.{none-some, same_Some}
 use Rattle.uac_descriptor.specs.declared.block.Block as block
 use Rattle.uac_walk.specs.Cycles.{HasCycle}
 use Rattle.uac_entities.specs.Entities.{entities_of}
-use Rattle.uac_entities.specs.EntitySettings.{alternates_of}
-use Rattle.uac_entities.specs.declared.alternate.Alternate.{Alternate}
+use Rattle.uac_entities.specs.EntitySettings.{declared_settings}
+use Rattle.uac_entities.specs.declared.settings.DeclaredSetting.{DeclaredSetting}
 use Rattle.uac_entities.specs.declared.entity.Entity.{Entity}
 use Rattle.uac_entities.specs.declared.stream.StreamInterface.{StreamInterface}
 use Rattle.uac_topology_rules.specs.declared.fault.TopologyFault.{TopologyFault}
 use Rattle.uac_topology_rules.specs.Links.{signal_links, clock_links}
 use Rattle.uac_topology_rules.specs.Offenders.{offender, interface_offender}
 use Rattle.uac_topology_rules.specs.Rules as rules
-use Rattle.uac_topology_rules.specs.RuleFaults.{of_entity, of_interface, least, broken_names, broken_walks, broken_shapes, broken_ends, broken}
+use Rattle.uac_topology_rules.specs.RuleFaults.{of_entity, of_interface, least, broken_names, broken_walks, broken_shapes, broken_ends, rule_fault}
 use Rattle.uac_topology_rules.specs.LinkCycles.{HasNoCycle, IsSignalFault, IsClockFault}
 use Rattle.uac_topology_rules.proofs.LinkCyclesLemmas.{cycles_are_named}
 use Rattle.uac_topology_rules.proofs.Sound.{or_none}
@@ -21,7 +21,7 @@ use Rattle.uac_walk.proofs.CyclesLemmas as walks
 use Rattle.uac_topology.specs.Topology.{first_broken, streams_in, SoundHasNoCycle, IsRefusedBy, RefusesCycles, CyclesAreRefused}
 
 pub sound_has_no_cycle : SoundHasNoCycle
-unfolding first_broken broken
+unfolding first_broken rule_fault
 sound_has_no_cycle blocks sound =
     let es = entities_of blocks in
     let names = or_none (broken_names es) _ sound in
@@ -70,7 +70,7 @@ shapes_within es =
     (or_within _ _ _ (entity_within _ 10 es rules.breaks_u10 (omega arith))
     (or_within _ _ _ (entity_within _ 11 es rules.breaks_u11 (omega arith)) (none_within _))))
 
-ends_within : (es : List Entity) (all : List Alternate) (ss : List StreamInterface) → Within (λ r. 7 < r) (broken_ends es all ss)
+ends_within : (es : List Entity) (all : List DeclaredSetting) (ss : List StreamInterface) → Within (λ r. 7 < r) (broken_ends es all ss)
 unfolding broken_ends
 ends_within es all ss =
     or_within _ _ _ (interface_within _ 12 ss (rules.breaks_u12 es) (omega arith))
@@ -89,17 +89,17 @@ walks_fault None (Some f) later few many fault e low high = (refl, e)
 module _ (blocks : List block.Block) where
   refused_by_walks : (fault : TopologyFault) → first_broken blocks ≡ Some fault → 6 ≤ fault.rule → fault.rule ≤ 7 →
       (broken_names (entities_of blocks) ≡ None) × (broken_walks (entities_of blocks) ≡ Some fault)
-  unfolding first_broken broken
+  unfolding first_broken rule_fault
   refused_by_walks fault e low high =
       let es = entities_of blocks in
       walks_fault (broken_names es) (broken_walks es) _ (names_within es)
-      (or_within _ _ _ (shapes_within es) (or_within _ _ _ (ends_within es (alternates_of blocks) (streams_in blocks)) (none_within _))) fault e low high
+      (or_within _ _ _ (shapes_within es) (or_within _ _ _ (ends_within es (declared_settings blocks) (streams_in blocks)) (none_within _))) fault e low high
 
   refused : (fault : TopologyFault) → broken_names (entities_of blocks) ≡ None → broken_walks (entities_of blocks) ≡ Some fault → first_broken blocks ≡ Some fault
-  unfolding first_broken broken
+  unfolding first_broken rule_fault
   refused fault names walks =
       let es = entities_of blocks in
-      let later = option_or (broken_shapes es) (option_or (broken_ends es (alternates_of blocks) (streams_in blocks)) None) in
+      let later = option_or (broken_shapes es) (option_or (broken_ends es (declared_settings blocks) (streams_in blocks)) None) in
       ap (λ (o : Option TopologyFault). option_or o (option_or (broken_walks es) later)) names
       ∙ ap (λ (o : Option TopologyFault). option_or o later) walks
 

@@ -5,11 +5,11 @@ use Rattle.std.specs.List.{position_or_len}
 use Rattle.std.proofs.lemmas.Bool.{ltb-false, ltb-true}
 use Rattle.std.proofs.lemmas.List.Folds.{find_at}
 use Rattle.std.proofs.lemmas.Option.{slice_get_past, slice_get-get_or}
-use Rattle.uac_entities.specs.EntityStreams.{named}
+use Rattle.uac_entities.specs.EntityInterfaces.{entity_by_id}
 use Rattle.uac_entities.specs.declared.entity.Entity.{Entity}
 
-named_is_found : (entities : List Entity) (id : ℕ) → option_and_then (slice_get entities) (position (λ e. e.id == id) entities) ≡ named entities id
-unfolding named
+named_is_found : (entities : List Entity) (id : ℕ) → option_and_then (slice_get entities) (position (λ e. e.id == id) entities) ≡ entity_by_id entities id
+unfolding entity_by_id
 named_is_found entities id = from (nat_lt place (length entities)) refl ∙ sym (find_at (λ (e : Entity). e.id == id) entities) where
   place : ℕ
   place = position_or_len (λ (e : Entity). e.id == id) entities
@@ -21,10 +21,10 @@ named_is_found entities id = from (nat_lt place (length entities)) refl ∙ sym 
       ap (λ (b : Bool). option_and_then (slice_get entities) (cond b (Some place) None)) past
       ∙ sym (slice_get_past entities place (ltb-false place (length entities) past))
 
-pub named_at : (entities : List Entity) (id place : ℕ) → position (λ e. e.id == id) entities ≡ Some place → slice_get entities place ≡ named entities id
+pub named_at : (entities : List Entity) (id place : ℕ) → position (λ e. e.id == id) entities ≡ Some place → slice_get entities place ≡ entity_by_id entities id
 named_at entities id place is = ap (option_and_then (slice_get entities)) (sym is) ∙ named_is_found entities id
 
-pub named_nowhere : (entities : List Entity) (id : ℕ) → position (λ e. e.id == id) entities ≡ None → None ≡ named entities id
+pub named_nowhere : (entities : List Entity) (id : ℕ) → position (λ e. e.id == id) entities ≡ None → None ≡ entity_by_id entities id
 named_nowhere entities id is = ap (option_and_then (slice_get entities)) (sym is) ∙ named_is_found entities id
 
 -- an element that is looked up, behind its reference

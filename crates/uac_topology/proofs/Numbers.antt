@@ -4,16 +4,16 @@ use Rattle.std.specs.Prelude.{unwrap_or}
 use Rattle.std.specs.List.{All, AllByRecursion, IsDistinct, filter_map, cons_option, range_with_len}
 use Rattle.std.proofs.lemmas.Bool.{cases_Bool, cases_eq, eqb-false, true≢false}
 use Rattle.std.proofs.lemmas.Map.Keys.{IsDistinct-cons}
-use Rattle.uac_walk.proofs.Times.{IsDistinct-from_times}
+use Rattle.uac_walk.proofs.CountLemmas.{IsDistinct-from_times}
 use Rattle.uac_descriptor.specs.Classes.{is_control_interface, is_streaming_interface}
 use Rattle.uac_descriptor.specs.BlockTurns.{is_of_function, Begins, Continues, InTurn, interface_of, interfaces_in, BeginsWithControl}
 use Rattle.uac_descriptor.specs.declared.standard.Interface.{Interface}
 use Rattle.uac_descriptor.specs.declared.block.Block as block
 use Rattle.uac_descriptor.specs.declared.block.Block.TheVariants as row
 use Rattle.uac_entities.specs.Entities.{entities_of}
-use Rattle.uac_entities.specs.EntitySettings.{alternate_of, alternate_at, alternates_of}
-use Rattle.uac_entities.specs.EntityStreams.{setting_of, settings_of, stream_of, stream_at, streams_of}
-use Rattle.uac_entities.specs.declared.alternate.Alternate.{Alternate}
+use Rattle.uac_entities.specs.EntitySettings.{declared_setting_of, declared_setting_at, declared_settings}
+use Rattle.uac_entities.specs.EntityInterfaces.{setting_of, settings_of, streaming_interface_of, streaming_interface_at, streaming_interfaces_of}
+use Rattle.uac_entities.specs.declared.settings.DeclaredSetting.{DeclaredSetting}
 use Rattle.uac_entities.specs.declared.entity.Entity.{Entity}
 use Rattle.uac_entities.specs.declared.stream.Setting.{Setting}
 use Rattle.uac_entities.specs.declared.stream.StreamInterface.{StreamInterface}
@@ -89,15 +89,15 @@ is_next n k i (j ∷ earlier) same (inr (s, number, next)) (inr (inl (s', number
 is_next n k i (j ∷ earlier) same (inr (s, number, next)) (inr (inr (used, latest))) = absurd (latest s (sym number ∙ same))
 
 numbered : (n k : ℕ) (blocks : List block.Block) (earlier : List Interface) → InTurn earlier (interfaces_in blocks) → At n k earlier
-    → Numbered k (settings_of (alternates_of blocks) n)
-unfolding alternates_of alternate_at setting_of
+    → Numbered k (settings_of (declared_settings blocks) n)
+unfolding declared_settings declared_setting_at setting_of
 numbered n k [] earlier turn at = tt
 numbered n k (row.Interface i ∷ blocks) earlier (here, rest) at =
     by (is_streaming_interface i) refl here (λ m. numbered n m blocks (i ∷ earlier) rest)
   where
     by_number : (t : Bool) → (i.number == n) ≡ t → is_streaming_interface i ≡ true → Begins earlier i ⊎ Continues earlier i
-        → ((m : ℕ) → At n m (i ∷ earlier) → Numbered m (settings_of (alternates_of blocks) n))
-        → Numbered k (cons_option (if t then Some (alternate_of i blocks).setting else None) (settings_of (alternates_of blocks) n))
+        → ((m : ℕ) → At n m (i ∷ earlier) → Numbered m (settings_of (declared_settings blocks) n))
+        → Numbered k (cons_option (if t then Some (declared_setting_of i blocks).setting else None) (settings_of (declared_settings blocks) n))
     by_number true e s turn go =
         let same = eqb-true i.number n e in
         let next = is_next n k i earlier same turn at in
@@ -105,8 +105,8 @@ numbered n k (row.Interface i ∷ blocks) earlier (here, rest) at =
     by_number false e s turn go = go k (moves n k i earlier (λ _. eqb-false i.number n e) at)
 
     by : (t : Bool) → is_streaming_interface i ≡ t → (IsTrue (is_streaming_interface i) → Begins earlier i ⊎ Continues earlier i)
-        → ((m : ℕ) → At n m (i ∷ earlier) → Numbered m (settings_of (alternates_of blocks) n))
-        → Numbered k (settings_of (cons_option (cond t (Some (alternate_of i blocks)) None) (alternates_of blocks)) n)
+        → ((m : ℕ) → At n m (i ∷ earlier) → Numbered m (settings_of (declared_settings blocks) n))
+        → Numbered k (settings_of (cons_option (cond t (Some (declared_setting_of i blocks)) None) (declared_settings blocks)) n)
     by true s turn go = by_number (i.number == n) refl s (turn s) go
     by false s turn go = go k (moves n k i earlier (λ yes. absurd (true≢false (sym yes ∙ s))) at)
 numbered n k (b ∷ blocks) earlier turn at = numbered n k blocks earlier turn at
@@ -132,9 +132,9 @@ apart : (i : Interface) (earlier : List Interface) → IsTrue (is_of_function i)
 apart i earlier of [] each = tt
 apart i earlier of (n ∷ ns) (here, rest) = (ne_eqb i.number n (λ same. here (inl (of, same))), apart i earlier of ns rest)
 
-module _ (es : List Entity) (whole : List Alternate) where
+module _ (es : List Entity) (whole : List DeclaredSetting) where
   streams_from : List block.Block → List StreamInterface
-  streams_from blocks = filter_map (stream_at es whole) (alternates_of blocks)
+  streams_from blocks = filter_map (streaming_interface_at es whole) (declared_settings blocks)
 
   first_setting : (i : Interface) (earlier : List Interface) → i.setting ≡ 0 → Begins earlier i ⊎ Continues earlier i → Begins earlier i
   first_setting i earlier none (inl begins) = begins
@@ -142,7 +142,7 @@ module _ (es : List Entity) (whole : List Alternate) where
   first_setting i (j ∷ earlier) none (inr (s, number, next)) = absurd (omega (arith, none, next))
 
   differ : (blocks : List block.Block) (earlier : List Interface) → InTurn earlier (interfaces_in blocks) → Differ earlier (numbers (streams_from blocks))
-  unfolding alternates_of alternate_at stream_at stream_of streams_from
+  unfolding declared_settings declared_setting_at streaming_interface_at streaming_interface_of streams_from
   differ [] earlier turn = record { distinct = IsDistinct-from_times [] (λ q. omega arith); new = tt }
   differ (row.Interface i ∷ blocks) earlier (here, rest) = by (is_streaming_interface i) refl here (differ blocks (i ∷ earlier) rest)
     where
@@ -151,7 +151,7 @@ module _ (es : List Entity) (whole : List Alternate) where
 
       by_setting : (t : Bool) → (i.setting == 0) ≡ t → is_streaming_interface i ≡ true → Begins earlier i ⊎ Continues earlier i
           → Differ (i ∷ earlier) (numbers (streams_from blocks))
-          → Differ earlier (numbers (cons_option (if t then Some (stream_of es whole i.number) else None) (streams_from blocks)))
+          → Differ earlier (numbers (cons_option (if t then Some (streaming_interface_of es whole i.number) else None) (streams_from blocks)))
       by_setting true e s turn d =
           let begins = first_setting i earlier (eqb-true i.setting 0 e) turn in
           record {
@@ -162,7 +162,7 @@ module _ (es : List Entity) (whole : List Alternate) where
 
       by : (t : Bool) → is_streaming_interface i ≡ t → (IsTrue (is_streaming_interface i) → Begins earlier i ⊎ Continues earlier i)
           → Differ (i ∷ earlier) (numbers (streams_from blocks))
-          → Differ earlier (numbers (filter_map (stream_at es whole) (cons_option (cond t (Some (alternate_of i blocks)) None) (alternates_of blocks))))
+          → Differ earlier (numbers (filter_map (streaming_interface_at es whole) (cons_option (cond t (Some (declared_setting_of i blocks)) None) (declared_settings blocks))))
       by true s turn d = by_setting (i.setting == 0) refl s (turn s) d
       by false s turn d = later d
   differ (b ∷ blocks) earlier turn = differ blocks earlier turn
@@ -170,7 +170,7 @@ module _ (es : List Entity) (whole : List Alternate) where
   -- and the control interface has another one
   control_differs : (blocks : List block.Block) (earlier : List Interface) → BeginsWithControl (interfaces_in blocks) → InTurn earlier (interfaces_in blocks)
       → AllByRecursion (λ n. nat_eq (first_given control_number blocks) n ≡ false) (numbers (streams_from blocks))
-  unfolding alternates_of alternate_at control_number streams_from
+  unfolding declared_settings declared_setting_at control_number streams_from
   control_differs [] earlier begins turn = absurd begins
   control_differs (row.Interface i ∷ blocks) earlier begins (here, rest) =
       by (is_control_interface i) refl (is_streaming_interface i) refl begins (control_differs blocks (i ∷ earlier))
@@ -180,7 +180,7 @@ module _ (es : List Entity) (whole : List Alternate) where
           → (BeginsWithControl (interfaces_in blocks) → InTurn (i ∷ earlier) (interfaces_in blocks)
           → AllByRecursion (λ n. nat_eq (first_given control_number blocks) n ≡ false) (numbers (streams_from blocks)))
           → AllByRecursion (λ n. nat_eq (unwrap_or (slice_get (cons_option (cond c (Some i.number) None) (filter_map control_number blocks)) 0) 0) n ≡ false)
-          (numbers (filter_map (stream_at es whole) (cons_option (cond t (Some (alternate_of i blocks)) None) (alternates_of blocks))))
+          (numbers (filter_map (streaming_interface_at es whole) (cons_option (cond t (Some (declared_setting_of i blocks)) None) (declared_settings blocks))))
       by c is true s begins go = absurd (wrong begins)
         where
           wrong : IsTrue (is_control_interface i) ⊎ IsTrue (not (is_streaming_interface i)) × BeginsWithControl (interfaces_in blocks) → ⊥
@@ -198,17 +198,17 @@ unfolding streams_from
 are_numbered function sound =
     let blocks = sound.0 in
     let es = entities_of blocks in
-    let all = alternates_of blocks in
-    let ss : function.streams ≡ streams_of es all = sound.2.streams in
+    let all = declared_settings blocks in
+    let ss : function.streams ≡ streaming_interfaces_of es all = sound.2.streams in
     record {
       different =
           subst (λ (xs : List StreamInterface). IsDistinct nat_eq (function.control_interface ∷ numbers xs)) (sym ss)
-          (subst (λ (n : ℕ). IsDistinct nat_eq (n ∷ numbers (streams_of es all))) (sym sound.2.control_interface)
+          (subst (λ (n : ℕ). IsDistinct nat_eq (n ∷ numbers (streaming_interfaces_of es all))) (sym sound.2.control_interface)
           (IsDistinct-cons nat_eq _ _ (control_differs es all blocks [] sound.3.control sound.3.in_turn) (differ es all blocks [] sound.3.in_turn).distinct));
       settings =
           subst (All (λ s. map (λ t. t.number) s.settings ≡ range_with_len 0 (length s.settings))) (sym ss)
           (λ k d below.
-          let s = get_or (streams_of es all) k d in
+          let s = get_or (streaming_interfaces_of es all) k d in
           subst (λ (ts : List Setting). map (λ t. t.number) ts ≡ range_with_len 0 (length ts)) (sym (each_has_its_settings es all k d below))
           (in_a_row 0 (settings_of all s.number) (numbered s.number 0 blocks [] sound.3.in_turn (inl (refl, tt)))));
     }

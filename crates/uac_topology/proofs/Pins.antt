@@ -22,12 +22,12 @@ use Rattle.uac_entities.specs.Entities.{
   effect,
 }
 use Rattle.uac_entities.specs.declared.entity.Entity.{Entity}
-use Rattle.uac_topology_rules.specs.Clusters.{cluster_of, clustered}
+use Rattle.uac_topology_rules.specs.Clusters.{cluster_of, with_own_clusters}
 use Rattle.uac_topology_rules.specs.Table.{at, nothing, with_cluster}
 use Rattle.uac_topology.specs.Function.{FunctionFields}
 use Rattle.uac_topology.specs.FunctionKept.{has_pins, HavePins}
 use Rattle.uac_topology.specs.Topology.{IsSoundFunction}
-use Rattle.uac_topology.proofs.Clustered.{length-clustered, clustered-at}
+use Rattle.uac_topology.proofs.Clustered.{length-with_own_clusters, with_own_clusters-at}
 
 abbrev HasPin : Entity → Type 0
 HasPin e = has_pins e.kind ≡ true → 1 ≤ length e.sources
@@ -61,11 +61,11 @@ entities_have place [] each = All-nil HasPin
 entities_have place (b ∷ blocks) (well, each) =
     among (entity_of b) (entities_of blocks) (λ e is. described place b e well is) (entities_have (context_after place b) blocks each)
 
-clustered_have : (es : List Entity) → HavePins es → HavePins (clustered es)
+clustered_have : (es : List Entity) → HavePins es → HavePins (with_own_clusters es)
 unfolding at
 clustered_have es have k d within =
-    let below : k < length es = omega (arith, within, length-clustered es) in
-    subst HasPin (sym (clustered-at es k d below)) (have k nothing below)
+    let below : k < length es = omega (arith, within, length-with_own_clusters es) in
+    subst HasPin (sym (with_own_clusters-at es k d below)) (have k nothing below)
 
 pub have_pins : (function : FunctionFields) → IsSoundFunction function → HavePins function.entities
 have_pins function sound =

@@ -4,7 +4,7 @@ use Rattle.std.specs.List.{All, filter_map, cons_option, list_any}
 use Rattle.std.specs.Option.{option_map_or}
 use Rattle.std.proofs.lemmas.Bool.{or_parts}
 use Rattle.std.proofs.lemmas.List.Elements.{All-nil, All-cons}
-use Rattle.uac_walk.proofs.Walks.{none_at}
+use Rattle.uac_walk.proofs.WalkLemmas.{none_at}
 use Rattle.uac_descriptor.specs.Contexts.{EachIn, context_after, interface_context}
 use Rattle.uac_descriptor.specs.Classes.{is_control_interface, is_streaming_interface}
 use Rattle.uac_descriptor.specs.BlockFields.{is_isochronous, IsFormat, IsHighSpeed}
@@ -17,9 +17,9 @@ use Rattle.uac_descriptor.specs.declared.streaming.TypeOne.{TypeOne}
 use Rattle.uac_descriptor.specs.declared.block.Block as block
 use Rattle.uac_descriptor.specs.declared.block.Block.TheVariants as row
 use Rattle.uac_entities.specs.Entities.{entities_of}
-use Rattle.uac_entities.specs.EntitySettings.{ends_setting, format_of, endpoint_of, own_blocks, own, alternate_of, alternate_at, alternates_of}
-use Rattle.uac_entities.specs.EntityStreams.{setting_of, settings_of, stream_of, stream_at, streams_of}
-use Rattle.uac_entities.specs.declared.alternate.Alternate.{Alternate}
+use Rattle.uac_entities.specs.EntitySettings.{ends_setting, format_of, endpoint_of, own_blocks, own, declared_setting_of, declared_setting_at, declared_settings}
+use Rattle.uac_entities.specs.EntityInterfaces.{setting_of, settings_of, streaming_interface_of, streaming_interface_at, streaming_interfaces_of}
+use Rattle.uac_entities.specs.declared.settings.DeclaredSetting.{DeclaredSetting}
 use Rattle.uac_entities.specs.declared.entity.Entity.{Entity}
 use Rattle.uac_entities.specs.declared.stream.Setting.{Setting}
 use Rattle.uac_entities.specs.declared.stream.StreamInterface.{StreamInterface}
@@ -115,7 +115,7 @@ unfolding interface_context
 context_is i e = streaming_context (is_control_interface i) (is_streaming_interface i) e (no_both i e)
 
 alternate_ready : (i : Interface) (following : List block.Block) → EachIn IsWellFormed context.StreamingInterface following
-    → IsReady (alternate_of i following).setting
+    → IsReady (declared_setting_of i following).setting
 alternate_ready i following each =
     record {
       format = λ f is. got IsFormat (own format_of following) 0 f (own_hold format_of IsFormat sized_of following each) is;
@@ -123,24 +123,24 @@ alternate_ready i following each =
       second = λ e is. got IsFast (own endpoint_of following) 1 e (own_hold endpoint_of IsFast fast_of following each) is;
     }
 
-at_ready : (place : Context) (b : block.Block) (following : List block.Block) (a : Alternate) → EachIn IsWellFormed (context_after place b) following
-    → alternate_at b following ≡ Some a → IsReady a.setting
-unfolding alternate_at
+at_ready : (place : Context) (b : block.Block) (following : List block.Block) (a : DeclaredSetting) → EachIn IsWellFormed (context_after place b) following
+    → declared_setting_at b following ≡ Some a → IsReady a.setting
+unfolding declared_setting_at
 at_ready place (row.Interface i) following a each is = by (is_streaming_interface i) refl is
   where
-    by : (t : Bool) → is_streaming_interface i ≡ t → cond t (Some (alternate_of i following)) None ≡ Some a → IsReady a.setting
+    by : (t : Bool) → is_streaming_interface i ≡ t → cond t (Some (declared_setting_of i following)) None ≡ Some a → IsReady a.setting
     by true e is =
-        let same : alternate_of i following ≡ a = cc in
-        subst (λ (x : Alternate). IsReady x.setting) same
+        let same : declared_setting_of i following ≡ a = cc in
+        subst (λ (x : DeclaredSetting). IsReady x.setting) same
         (alternate_ready i following (subst (λ (c : Context). EachIn IsWellFormed c following) (context_is i e) each))
     by false e is = absurd (cc)
 at_ready place b following a each is = absurd (cc)
 
-all_ready : (place : Context) (blocks : List block.Block) → EachIn IsWellFormed place blocks → All (λ a. IsReady a.setting) (alternates_of blocks)
-unfolding alternates_of
+all_ready : (place : Context) (blocks : List block.Block) → EachIn IsWellFormed place blocks → All (λ a. IsReady a.setting) (declared_settings blocks)
+unfolding declared_settings
 all_ready place [] each = All-nil _
 all_ready place (b ∷ blocks) (well, each) =
-    All-cons_option (λ a. IsReady a.setting) (alternate_at b blocks) (alternates_of blocks) (λ a is. at_ready place b blocks a each is)
+    All-cons_option (λ a. IsReady a.setting) (declared_setting_at b blocks) (declared_settings blocks) (λ a is. at_ready place b blocks a each is)
     (all_ready (context_after place b) blocks each)
 
 -- ---- the endpoints that carry data or feedback are isochronous
@@ -157,7 +157,7 @@ some_of : (P : Endpoint → Bool) (o : Option Endpoint) (e : Endpoint) → optio
 some_of P None e h is = absurd (cc)
 some_of P (Some x) e h is = let same : x ≡ e = cc in subst (λ (y : Endpoint). P y ≡ true) same (not_false (P x) h)
 
-right_setting : (out : Bool) (a : Alternate) → is_wrong out a ≡ false → IsReady a.setting → IsInRange a.setting
+right_setting : (out : Bool) (a : DeclaredSetting) → is_wrong out a ≡ false → IsReady a.setting → IsInRange a.setting
 unfolding is_wrong
 right_setting out a right ready =
     let ends = or_parts _ _ (or_parts _ _ (or_parts _ _ right).1).1 in
@@ -169,7 +169,7 @@ right_setting out a right ready =
 
 -- ---- a setting of a streaming interface
 
-setting_right : (out : Bool) (number : ℕ) (a : Alternate) (t : Setting) → (a.interface == number && is_wrong out a) ≡ false → IsReady a.setting
+setting_right : (out : Bool) (number : ℕ) (a : DeclaredSetting) (t : Setting) → (a.interface == number && is_wrong out a) ≡ false → IsReady a.setting
     → setting_of number a ≡ Some t → IsInRange t
 unfolding setting_of
 setting_right out number a t right ready is = by (a.interface == number) right is
@@ -178,7 +178,7 @@ setting_right out number a t right ready is = by (a.interface == number) right i
     by true right is = let same : a.setting ≡ t = cc in subst IsInRange same (right_setting out a right ready)
     by false right is = absurd (cc)
 
-settings_right : (out : Bool) (number : ℕ) (all : List Alternate) → All (λ a. IsReady a.setting) all
+settings_right : (out : Bool) (number : ℕ) (all : List DeclaredSetting) → All (λ a. IsReady a.setting) all
     → list_any (λ a. a.interface == number && is_wrong out a) all ≡ false → All IsInRange (settings_of all number)
 settings_right out number all ready right =
     All-filter_map (setting_of number) (λ a. ((a.interface == number && is_wrong out a) ≡ false) × IsReady a.setting) IsInRange
@@ -186,17 +186,17 @@ settings_right out number all ready right =
     (λ k d below. (none_at (λ a. a.interface == number && is_wrong out a) all k d below right, ready k d below))
 
 -- a streaming interface has the settings of its number
-its_settings : (es : List Entity) (all : List Alternate) (s : StreamInterface) (a : Alternate) → stream_at es all a ≡ Some s → s.settings ≡ settings_of all s.number
-unfolding stream_at stream_of
+its_settings : (es : List Entity) (all : List DeclaredSetting) (s : StreamInterface) (a : DeclaredSetting) → streaming_interface_at es all a ≡ Some s → s.settings ≡ settings_of all s.number
+unfolding streaming_interface_at streaming_interface_of
 its_settings es all s a is = by (a.setting.number == 0) is
   where
-    by : (b : Bool) → (if b then Some (stream_of es all a.interface) else None) ≡ Some s → s.settings ≡ settings_of all s.number
-    by true is = let same : stream_of es all a.interface ≡ s = cc in subst (λ (x : StreamInterface). x.settings ≡ settings_of all x.number) same refl
+    by : (b : Bool) → (if b then Some (streaming_interface_of es all a.interface) else None) ≡ Some s → s.settings ≡ settings_of all s.number
+    by true is = let same : streaming_interface_of es all a.interface ≡ s = cc in subst (λ (x : StreamInterface). x.settings ≡ settings_of all x.number) same refl
     by false is = absurd (cc)
 
-pub each_has_its_settings : (es : List Entity) (all : List Alternate) → All (λ s. s.settings ≡ settings_of all s.number) (streams_of es all)
+pub each_has_its_settings : (es : List Entity) (all : List DeclaredSetting) → All (λ s. s.settings ≡ settings_of all s.number) (streaming_interfaces_of es all)
 each_has_its_settings es all =
-    All-filter_map (stream_at es all) (λ a. Unit {0}) (λ s. s.settings ≡ settings_of all s.number) (λ a s _ is. its_settings es all s a is) all (λ k d below. tt)
+    All-filter_map (streaming_interface_at es all) (λ a. Unit {0}) (λ s. s.settings ≡ settings_of all s.number) (λ a s _ is. its_settings es all s a is) all (λ k d below. tt)
 
 got_at : {X : Type 0} (xs : List X) (k : ℕ) (d : X) → k < length xs → slice_get xs k ≡ Some (get_or xs k d)
 got_at [] k d below = absurd (omega arith)
@@ -204,9 +204,9 @@ got_at (x ∷ xs) zero d below = refl
 got_at (x ∷ xs) (suc k) d below = got_at xs k d (omega arith)
 
 streams_right : (blocks : List block.Block) → EachIn IsWellFormed context.DeviceFront blocks → IsSound blocks → AreInRange (streams_in blocks)
-unfolding breaks_u13 alternates_of at_stream
+unfolding breaks_u13 declared_settings at_stream
 streams_right blocks each sound k d below =
-    let all = alternates_of blocks in
+    let all = declared_settings blocks in
     let ss = streams_in blocks in
     let s = get_or ss k d in
     let right : list_any (λ a. a.interface == s.number && is_wrong s.out a) all ≡ false =

@@ -8,19 +8,19 @@ use Rattle.std.proofs.lemmas.List.Folds.{find_at}
 use Rattle.std.proofs.lemmas.Option.{slice_get-get_or}
 use Rattle.uac_descriptor.specs.declared.streaming.General.{General}
 use Rattle.uac_entities.specs.Entities.{entities_of}
-use Rattle.uac_entities.specs.EntityStreams.{link_of, links_of, named}
+use Rattle.uac_entities.specs.EntityInterfaces.{link_of, links_of, entity_by_id}
 use Rattle.uac_entities.specs.declared.entity.Entity.{Entity}
 use Rattle.uac_entities.specs.declared.stream.Setting.{Setting}
 use Rattle.uac_entities.specs.declared.stream.StreamInterface.{StreamInterface}
-use Rattle.uac_topology_rules.specs.Clusters.{cluster_of, clustered}
+use Rattle.uac_topology_rules.specs.Clusters.{cluster_of, with_own_clusters}
 use Rattle.uac_topology_rules.specs.RuleFaults.{of_interface}
 use Rattle.uac_topology_rules.specs.Rules.{at_stream, breaks_u12, is_usb, is_usb_terminal}
-use Rattle.uac_topology_rules.specs.Table.{at, found, nothing, place_of, with_cluster}
+use Rattle.uac_topology_rules.specs.Table.{at, first_place_of, nothing, place_of, with_cluster}
 use Rattle.uac_topology_rules.proofs.TableSteps.{found_is}
 use Rattle.uac_topology.specs.Function.{FunctionFields}
 use Rattle.uac_topology.specs.FunctionKept.{AreLinks}
 use Rattle.uac_topology.specs.Topology.{IsSoundFunction, streams_in}
-use Rattle.uac_topology.proofs.Clustered.{clustered-at, length-clustered, same_place}
+use Rattle.uac_topology.proofs.Clustered.{with_own_clusters-at, length-with_own_clusters, same_place}
 use Rattle.uac_topology.proofs.Ranges.{not_false}
 use Rattle.uac_topology.proofs.SoundRules.{links_within, no_interface}
 
@@ -45,22 +45,22 @@ right_at es ss none k d below =
 
 pub usb_there : (es : List Entity) (id : ℕ) → is_usb es id ≡ true → (place_of es id < length es) × (is_usb_terminal (at es (place_of es id)) ≡ true)
 unfolding is_usb
-usb_there es id usb = by (found es id) refl usb
+usb_there es id usb = by (first_place_of es id) refl usb
   where
-    by : (o : Option ℕ) → found es id ≡ o → option_map_or (λ place. is_usb_terminal (at es place)) o false ≡ true
+    by : (o : Option ℕ) → first_place_of es id ≡ o → option_map_or (λ place. is_usb_terminal (at es place)) o false ≡ true
         → (place_of es id < length es) × (is_usb_terminal (at es (place_of es id)) ≡ true)
     by None e usb = absurd (cc)
     by (Some p) e usb =
         let is = found_is es id p (sym e) in (omega (arith, is.0, is.1), ap (λ (q : ℕ). is_usb_terminal (at es q)) is.1 ∙ usb)
 
 named_clustered : (es : List Entity) (id : ℕ) → place_of es id < length es
-    → named (clustered es) id ≡ Some (with_cluster (at es (place_of es id)) (cluster_of es (place_of es id)))
-unfolding named place_of
+    → entity_by_id (with_own_clusters es) id ≡ Some (with_cluster (at es (place_of es id)) (cluster_of es (place_of es id)))
+unfolding entity_by_id place_of
 named_clustered es id below =
-    find_at (λ (e : Entity). e.id == id) (clustered es)
-    ∙ ap (slice_get (clustered es)) (same_place es id)
-    ∙ slice_get-get_or (clustered es) (place_of es id) nothing (omega (arith, below, length-clustered es))
-    ∙ ap (λ (e : Entity). Some e) (clustered-at es (place_of es id) nothing below)
+    find_at (λ (e : Entity). e.id == id) (with_own_clusters es)
+    ∙ ap (slice_get (with_own_clusters es)) (same_place es id)
+    ∙ slice_get-get_or (with_own_clusters es) (place_of es id) nothing (omega (arith, below, length-with_own_clusters es))
+    ∙ ap (λ (e : Entity). Some e) (with_own_clusters-at es (place_of es id) nothing below)
 
 -- ---- the settings of an interface
 
@@ -93,7 +93,7 @@ are_links function sound =
     let es = entities_of sound.0 in
     let ss = streams_in sound.0 in
     let right = right_at es ss (links_within sound.0 sound.1) in
-    let whole : AreLinks (record function { entities = clustered es; streams = ss }) =
+    let whole : AreLinks (record function { entities = with_own_clusters es; streams = ss }) =
     λ k d below j e under g there.
     let s = get_or ss k d in
     let own = each_own es s.terminal s.settings (right k d below).links j e under g there in

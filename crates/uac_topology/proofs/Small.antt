@@ -5,7 +5,7 @@ use Rattle.std.proofs.lemmas.List.{length_push, take_all, take_more}
 use Rattle.uac_entities.specs.Entities.{entities_of}
 use Rattle.uac_entities.specs.declared.entity.Entity.{Entity}
 use Rattle.uac_entities.specs.declared.stream.StreamInterface.{StreamInterface}
-use Rattle.uac_topology_rules.specs.Domains.{domains_of, each_once, names_new, noted}
+use Rattle.uac_topology_rules.specs.Domains.{domains_of, each_once, names_new, with_named_clock}
 use Rattle.uac_topology_rules.specs.RuleFaults.{of_interface}
 use Rattle.uac_topology_rules.specs.Rules.{breaks_u14, exceeds, names_ninth}
 use Rattle.uac_topology_rules.specs.Table.{at, nothing}
@@ -25,13 +25,13 @@ one_more false clocks clock few ninth = few
 
 -- the first n entities name at most eight clocks
 few_domains : (es : List Entity) (n : ℕ) → ((k : ℕ) → k < length es → names_ninth es k ≡ false) → n ≤ length es → length (domains_of (take n es)) ≤ 8
-unfolding domains_of each_once noted names_ninth at
+unfolding domains_of each_once with_named_clock names_ninth at
 few_domains es zero ninth within = let none : length (domains_of (take zero es)) ≡ 0 = refl in omega arith
 few_domains es (suc k) ninth within =
     let below : k < length es = omega arith in
     let next : k + 1 ≡ suc k = omega arith in
     let before = domains_of (take k es) in
-    let grown : domains_of (take (suc k) es) ≡ noted before (at es k) =
+    let grown : domains_of (take (suc k) es) ≡ with_named_clock before (at es k) =
     ap (λ (m : ℕ). domains_of (take m es)) (sym next) ∙ ap domains_of (take_more es k nothing below) ∙ domains_of-push (take k es) (at es k) in
     subst (λ (clocks : List ℕ). length clocks ≤ 8) (sym grown)
     (one_more (names_new before (at es k)) before (at es k).clock (few_domains es k ninth (omega arith)) (ninth k below))

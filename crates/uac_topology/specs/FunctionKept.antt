@@ -6,7 +6,7 @@ use Rattle.uac_descriptor.specs.BlockFields.{IsHighSpeed, IsFormat}
 use Rattle.uac_descriptor.specs.declared.standard.Endpoint.{Endpoint}
 use Rattle.uac_descriptor.specs.declared.streaming.General.{General}
 use Rattle.uac_descriptor.specs.declared.streaming.TypeOne.{TypeOne}
-use Rattle.uac_entities.specs.EntityStreams.{named}
+use Rattle.uac_entities.specs.EntityInterfaces.{entity_by_id}
 use Rattle.uac_entities.specs.declared.entity.Entity.{Entity}
 use Rattle.uac_entities.specs.declared.entity.EntityKind.{EntityKind}
 use Rattle.uac_entities.specs.declared.entity.EntityKind.TheVariants as kind
@@ -50,7 +50,7 @@ AreInRange streams = All (λ s. All IsInRange s.settings) streams
 pub record IsLink (entities : List Entity) (terminal link : ℕ) : Type 0 where
   pub own : link ≡ terminal
   pub entity : Entity
-  pub there : named entities terminal ≡ Some entity
+  pub there : entity_by_id entities terminal ≡ Some entity
   pub usb : is_usb_terminal entity ≡ true
 
 -- each setting that has a link has one to its interface's terminal

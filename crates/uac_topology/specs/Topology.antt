@@ -9,15 +9,15 @@ use Rattle.uac_descriptor.specs.Kinds.{configuration_of}
 use Rattle.uac_descriptor.specs.BlockTurns.{interface_of}
 use Rattle.uac_walk.specs.Cycles.{HasCycle}
 use Rattle.uac_entities.specs.Entities.{entities_of}
-use Rattle.uac_entities.specs.EntitySettings.{alternates_of}
-use Rattle.uac_entities.specs.EntityStreams.{streams_of}
+use Rattle.uac_entities.specs.EntitySettings.{declared_settings}
+use Rattle.uac_entities.specs.EntityInterfaces.{streaming_interfaces_of}
 use Rattle.uac_entities.specs.declared.stream.StreamInterface.{StreamInterface}
 use Rattle.uac_topology_rules.specs.declared.fault.TopologyFault.{TopologyFault}
 use Rattle.uac_topology_rules.specs.Links.{signal_links, clock_links}
 use Rattle.uac_topology_rules.specs.LinkCycles.{HasNoCycle}
-use Rattle.uac_topology_rules.specs.Clusters.{clustered}
+use Rattle.uac_topology_rules.specs.Clusters.{with_own_clusters}
 use Rattle.uac_topology_rules.specs.Domains.{domains_of}
-use Rattle.uac_topology_rules.specs.RuleFaults.{broken, broken_names}
+use Rattle.uac_topology_rules.specs.RuleFaults.{rule_fault, broken_names}
 use Rattle.uac_topology.specs.Function.{FunctionFields}
 use Rattle.uac_topology.specs.declared.soundness.CheckStop.{CheckStop}
 use Rattle.uac_topology.specs.declared.soundness.CheckStop.TheVariants as stop
@@ -36,11 +36,11 @@ first_given gives blocks = unwrap_or (slice_get (filter_map gives blocks) 0) 0
 
 -- the streaming interfaces of the blocks
 abbrev pub streams_in : List block.Block → List StreamInterface
-streams_in blocks = streams_of (entities_of blocks) (alternates_of blocks)
+streams_in blocks = streaming_interfaces_of (entities_of blocks) (declared_settings blocks)
 
 -- the least broken rule with its first offender in block order
 unfoldable pub first_broken : List block.Block → Option TopologyFault
-first_broken blocks = broken (entities_of blocks) (alternates_of blocks) (streams_in blocks)
+first_broken blocks = rule_fault (entities_of blocks) (declared_settings blocks) (streams_in blocks)
 
 -- no rule is broken
 abbrev pub IsSound : List block.Block → Type 0
@@ -48,7 +48,7 @@ IsSound blocks = first_broken blocks ≡ None
 
 -- the function is that of the blocks
 pub record IsFunctionOf (function : FunctionFields) (blocks : List block.Block) : Type 0 where
-  pub entities : function.entities ≡ clustered (entities_of blocks)
+  pub entities : function.entities ≡ with_own_clusters (entities_of blocks)
   pub domains : function.domains ≡ domains_of (entities_of blocks)
   pub streams : function.streams ≡ streams_in blocks
   pub control_interface : function.control_interface ≡ first_given control_number blocks
@@ -59,9 +59,9 @@ abbrev pub IsSoundFunction : FunctionFields → Type 0
 IsSoundFunction function = (blocks : List block.Block) × IsSound blocks × IsFunctionOf function blocks × AreWellFormed blocks
 
 -- a stop tells the fault, where it isn't want of memory
-abbrev pub Tells : CheckStop → Option TopologyFault → Type 0
-Tells (stop.Fault fault) first = first ≡ Some fault
-Tells stop.NoMemory first = Unit {0}
+abbrev pub IsStopAt : CheckStop → Option TopologyFault → Type 0
+IsStopAt (stop.Fault fault) first = first ≡ Some fault
+IsStopAt stop.NoMemory first = Unit {0}
 
 -- soundness leaves no cycle
 abbrev pub SoundHasNoCycle : Type 0

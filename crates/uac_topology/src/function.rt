@@ -1,7 +1,7 @@
 // A sound function.
 ghost use Rattle.std.specs.Prelude.{◌≡◌, ◌==◌, position};
 ghost use Rattle.std.specs.Option.{option_map};
-ghost use Rattle.uac_entities.specs.EntityStreams.{channels_of, named};
+ghost use Rattle.uac_entities.specs.EntityInterfaces.{channels_of, entity_by_id};
 ghost use Rattle.uac_topology.specs.Function.{FunctionFields, interface_in};
 ghost use Rattle.uac_topology_rules.specs.Table.{at, place_of};
 
@@ -52,7 +52,7 @@ impl Function {
     }
 
     /// The index of the entity with this id, None exactly where no entity has it.
-    #[tactic(auto, unfolding(uac_topology_rules::specs::Table::found))]
+    #[tactic(auto, unfolding(uac_topology_rules::specs::Table::first_place_of))]
     pub fn find(&self, id: u8) -> Option<usize>
         ensures { result ≡ position (λ e. e.id == id) self.now.entities }
     {
@@ -62,7 +62,7 @@ impl Function {
     /// The entity with this id, None exactly where no entity has it.
     #[tactic(auto, using(crate::proofs::EntitiesByPlace::named_at, crate::proofs::EntitiesByPlace::named_nowhere))]
     pub fn entity(&self, id: u8) -> Option<&Entity>
-        ensures { option_map (λ e. e.now) result ≡ named self.now.entities id }
+        ensures { option_map (λ e. e.now) result ≡ entity_by_id self.now.entities id }
     {
         match self.find(id) {
             Some(place) => self.entities().get(place),

@@ -1,14 +1,14 @@
 // The rules one after the other.
 ghost use Rattle.std.specs.Prelude.{IfOk, IfErr};
 ghost use Rattle.uac_descriptor.specs.WellFormed.{AreWellFormed};
-ghost use Rattle.uac_topology.specs.Topology.{first_broken, IsSound, IsFunctionOf, Tells};
+ghost use Rattle.uac_topology.specs.Topology.{first_broken, IsSound, IsFunctionOf, IsStopAt};
 ghost use Rattle.uac_topology.specs.Judged.{IsJudged};
 
 use crate::configuration::{control_interface_of, total_of};
 use crate::function::Function;
 use std::alloc::Global;
 use uac_descriptor::{Block, NoMemory};
-use uac_entities::{alternates_of, entities_of, streams_of};
+use uac_entities::{declared_settings, entities_of, streaming_interfaces_of};
 use uac_topology_rules::{
     EntityTable, Known, TopologyFault, domains_of, ends_fault, names_fault, shapes_fault, walk,
 };
@@ -33,7 +33,7 @@ enum Judged {
 pub fn check(alloc: Global, blocks: &[Block]) -> Result<Function, CheckStop>
     requires { AreWellFormed blocks.now }
     ensures sound { IfOk result (λ function. IsSound blocks.now × IsFunctionOf function blocks.now) }
-    ensures broken { IfErr result (λ stop. Tells stop (first_broken blocks.now)) }
+    ensures broken { IfErr result (λ stop. IsStopAt stop (first_broken blocks.now)) }
 {
     match judge(alloc, blocks) {
         Ok(Judged::Sound(function)) => Ok(function),
@@ -58,8 +58,8 @@ fn judge(alloc: Global, blocks: &[Block]) -> Result<Judged, NoMemory>
     if let Some(fault) = shapes_fault(&known) {
         return Ok(Judged::Broken(fault));
     }
-    let all = alternates_of(alloc, blocks)?;
-    let streams = streams_of(alloc, known.table().as_slice(), &all)?;
+    let all = declared_settings(alloc, blocks)?;
+    let streams = streaming_interfaces_of(alloc, known.table().as_slice(), &all)?;
     let domains = domains_of(alloc, known.table().as_slice())?;
     if let Some(fault) = ends_fault(&known, &domains, &all, &streams) {
         return Ok(Judged::Broken(fault));

@@ -7,9 +7,9 @@ use Rattle.std.proofs.lemmas.List.FromFn.{length-range_with_len, get_or-range_wi
 use Rattle.uac_entities.specs.Entities.{no_cluster}
 use Rattle.uac_entities.specs.declared.entity.Cluster.{Cluster}
 use Rattle.uac_entities.specs.declared.entity.Entity.{Entity}
-use Rattle.uac_topology_rules.specs.Table.{at, nothing, found, with_cluster, with_clusters, HasPut}
+use Rattle.uac_topology_rules.specs.Table.{at, nothing, first_place_of, with_cluster, with_clusters, HasPut}
 use Rattle.uac_topology_rules.specs.Places.{IsTable}
-use Rattle.uac_topology_rules.specs.Clusters.{cluster_of, clustered}
+use Rattle.uac_topology_rules.specs.Clusters.{cluster_of, with_own_clusters}
 use Rattle.uac_topology_rules.specs.Signals.{AreClusters}
 use Rattle.uac_topology_rules.proofs.KnownSteps.{map_same}
 
@@ -46,9 +46,9 @@ alike p d (x ∷ xs) (y ∷ ys) e same =
     ap (λ (t : Bool). cond (not t) (1 + position_or_len p xs) 0) (same 0 (omega arith))
     ∙ ap (λ (n : ℕ). cond (not (p y)) (1 + n) 0) (alike p d xs ys (omega arith) (λ k b. same (suc k) (omega arith)))
 
-pub found-with : (es : List Entity) (clusters : List Cluster) (id : ℕ) → found es id ≡ found (with_clusters es clusters) id
-unfolding found at
-found-with es clusters id =
+pub first_place_of-with : (es : List Entity) (clusters : List Cluster) (id : ℕ) → first_place_of es id ≡ first_place_of (with_clusters es clusters) id
+unfolding first_place_of at
+first_place_of-with es clusters id =
     let p : Entity → Bool = λ e. e.id == id in
     let size = length-with es clusters in
     let place : position_or_len p es ≡ position_or_len p (with_clusters es clusters) =
@@ -61,11 +61,11 @@ found-with es clusters id =
 
 pub table-with : {S : Type 0} (es : List Entity) (clusters : List Cluster) (places : HashMap ℕ ℕ S) (es' : List Entity) → es' ≡ with_clusters es clusters →
     IsTable es places → IsTable es' places
-table-with es clusters places es' e h id = h id ∙ found-with es clusters id ∙ ap (λ (xs : List Entity). found xs id) (sym e)
+table-with es clusters places es' e h id = h id ∙ first_place_of-with es clusters id ∙ ap (λ (xs : List Entity). first_place_of xs id) (sym e)
 
 -- the clusters found along the links are those that each entity puts out
-pub clustered_is : (es : List Entity) (clusters : List Cluster) → AreClusters es clusters → with_clusters es clusters ≡ clustered es
-unfolding with_clusters clustered
+pub clustered_is : (es : List Entity) (clusters : List Cluster) → AreClusters es clusters → with_clusters es clusters ≡ with_own_clusters es
+unfolding with_clusters with_own_clusters
 clustered_is es clusters h =
     map_same _ _ (range_with_len 0 (length es)) (λ i b.
     let in' : i < length es = omega (arith, length-range_with_len 0 (length es)) in

@@ -9,12 +9,12 @@ use Rattle.std.proofs.lemmas.Bool.Decides.{nat_tests}
 use Rattle.uac_topology_rules.specs.Table.{at, nothing}
 use Rattle.uac_topology_rules.specs.Links.{is_terminal}
 use Rattle.uac_topology_rules.specs.Rules.{names_ninth}
-use Rattle.uac_topology_rules.specs.Domains.{clock_named, each_once, names_new, noted, domains_of, IsDomains}
+use Rattle.uac_topology_rules.specs.Domains.{clock_named, each_once, names_new, with_named_clock, domains_of, IsDomains}
 use Rattle.uac_topology_rules.proofs.EachOnce.{each_once-push}
 
 -- one more entity
-pub domains_of-push : (es : List Entity) (e : Entity) → domains_of (es ++ e ∷ []) ≡ noted (domains_of es) e
-unfolding domains_of clock_named noted names_new
+pub domains_of-push : (es : List Entity) (e : Entity) → domains_of (es ++ e ∷ []) ≡ with_named_clock (domains_of es) e
+unfolding domains_of clock_named with_named_clock names_new
 domains_of-push es e =
     ap each_once (filter_map-append clock_named es (e ∷ [])) ∙ elim (cases_Bool (is_terminal e.kind)) [
       | inl names ↦
@@ -34,13 +34,13 @@ domains_none clocks counts e f =
     record { clocked = e; sized = ap (λ (xs : List ℕ). length xs) f; counted = λ k below. absurd (omega arith) }
 
 pub domains_more : (es : List Entity) (k : ℕ) (e : Entity) (clocks counts clocks' : List ℕ) → k < length es → e ≡ get_or es k e →
-    clocks' ≡ noted clocks e → IsDomains (take k es) clocks counts → IsDomains (take (k + 1) es) clocks' (counts ++ length clocks' ∷ [])
+    clocks' ≡ with_named_clock clocks e → IsDomains (take k es) clocks counts → IsDomains (take (k + 1) es) clocks' (counts ++ length clocks' ∷ [])
 domains_more es k e clocks counts clocks' below is new h =
     let short : length (take k es) ≡ k = length-take-le k es (omega arith) in
     let longer : length (take (k + 1) es) ≡ k + 1 = length-take-le (k + 1) es (omega arith) in
     let grown : take (k + 1) es ≡ take k es ++ e ∷ [] = take_more es k e below ∙ ap (λ (x : Entity). take k es ++ x ∷ []) (sym is) in
     let now : clocks' ≡ domains_of (take (k + 1) es) =
-    new ∙ ap (λ (cs : List ℕ). noted cs e) h.clocked ∙ sym (domains_of-push (take k es) e) ∙ ap domains_of (sym grown) in
+    new ∙ ap (λ (cs : List ℕ). with_named_clock cs e) h.clocked ∙ sym (domains_of-push (take k es) e) ∙ ap domains_of (sym grown) in
     let sized : length counts ≡ k = h.sized ∙ short in
     record {
       clocked = now;
@@ -61,9 +61,9 @@ domains_more es k e clocks counts clocks' below is new h =
     }
 
 -- one more entity raises the count past eight where it names a ninth clock
-past_eight : (cs : List ℕ) (e : Entity) (n m : ℕ) → n ≡ length cs → m ≡ length (noted cs e) →
+past_eight : (cs : List ℕ) (e : Entity) (n m : ℕ) → n ≡ length cs → m ≡ length (with_named_clock cs e) →
     (n == 8 && ltb 8 m) ≡ (names_new cs e && length cs == 8)
-unfolding noted
+unfolding with_named_clock
 past_eight cs e n m few more =
     elim (cases_Bool (names_new cs e)) [
       | inl new ↦
@@ -89,7 +89,7 @@ ninth_is es clocks counts (suc k) h below =
     let here : k + 1 ≡ suc k = omega arith in
     let before : slice_index counts k ≡ length (domains_of (take (suc k) es)) =
     h.counted k (omega arith) ∙ ap (λ (n : ℕ). length (domains_of (take n es))) here in
-    let with' : slice_index counts (suc k) ≡ length (noted (domains_of (take (suc k) es)) e) =
+    let with' : slice_index counts (suc k) ≡ length (with_named_clock (domains_of (take (suc k) es)) e) =
     h.counted (suc k) below
     ∙ ap (λ (xs : List Entity). length (domains_of xs)) (take_more es (suc k) nothing below)
     ∙ ap (λ (cs : List ℕ). length cs) (domains_of-push (take (suc k) es) e) in

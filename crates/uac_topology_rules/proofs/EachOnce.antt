@@ -16,7 +16,7 @@ any_other n x (m ∷ ns) apart =
       | inr differs ↦ rw differs (ap (λ (b : Bool). (m == x) || b) (any_other n x ns apart))
     ]
 
--- the number goes behind the others, if it is none of them
+-- the number goes after the others, if it is none of them
 pub each_once-push : (ns : List ℕ) (x : ℕ) →
     each_once (ns ++ x ∷ []) ≡ (if list_any (λ c. c == x) (each_once ns) then each_once ns else each_once ns ++ x ∷ [])
 unfolding each_once

@@ -4,12 +4,12 @@ use Rattle.uac_descriptor.specs.Classes.{is_streaming_interface}
 use Rattle.uac_descriptor.specs.declared.block.Block as block
 use Rattle.uac_descriptor.specs.declared.block.Block.TheVariants as row
 use Rattle.uac_entities.specs.Entities.{entity_of, entities_of}
-use Rattle.uac_entities.specs.EntitySettings.{alternates_of, alternate_at, own_blocks, ends_setting, general_of, format_of, endpoint_of}
-use Rattle.uac_entities.specs.EntityStreams.{streams_of, stream_at, stream_of, setting_of, link_of, named}
+use Rattle.uac_entities.specs.EntitySettings.{declared_settings, declared_setting_at, own_blocks, ends_setting, general_of, format_of, endpoint_of}
+use Rattle.uac_entities.specs.EntityInterfaces.{streaming_interfaces_of, streaming_interface_at, streaming_interface_of, setting_of, link_of, entity_by_id}
 use Rattle.uac_topology_rules.specs.declared.fault.TopologyFault.{TopologyFault}
 use lib.Count.{ones, ones_in}
 use Rattle.uac_walk.specs.Walk.{has_walk}
-use Rattle.uac_topology_rules.specs.Table.{at, found, place_of, kind_of}
+use Rattle.uac_topology_rules.specs.Table.{at, first_place_of, place_of, kind_of}
 use Rattle.uac_topology_rules.specs.Links.{signal_sources, clock_sources}
 use Rattle.uac_topology_rules.specs.Clusters.{cluster_step, cluster_within, cluster_of, pins, clocks_step, clocks_within, clocks_of}
 use Rattle.uac_topology_rules.specs.Domains.{names_new, clock_named, each_once, domains_of}
@@ -35,10 +35,10 @@ use Rattle.uac_topology_rules.specs.Rules.{
   exceeds,
   names_ninth,
 }
-use Rattle.uac_topology_rules.specs.RuleFaults.{of_entity, of_interface, broken_names, broken_walks, broken_shapes, broken_ends, broken}
+use Rattle.uac_topology_rules.specs.RuleFaults.{of_entity, of_interface, broken_names, broken_walks, broken_shapes, broken_ends, rule_fault}
 
 fault_of : List block.Block → Option TopologyFault
-fault_of blocks = broken (entities_of blocks) (alternates_of blocks) (streams_of (entities_of blocks) (alternates_of blocks))
+fault_of blocks = rule_fault (entities_of blocks) (declared_settings blocks) (streaming_interfaces_of (entities_of blocks) (declared_settings blocks))
 
 by_entity : ℕ → ℕ → Option TopologyFault
 by_entity rule id = Some (record { rule = rule; id = id; interface = false })
@@ -161,5 +161,5 @@ too_many_streams = between [] 2 ++ idle 9
 each_rule : map fault_of
     (zero_id ∷ repeated_id ∷ unknown_source ∷ silent_source ∷ unknown_clock ∷ signal_cycle ∷ clock_cycle ∷ wrong_cluster ∷ wrong_size ∷ unequal_pins ∷ other_clock ∷ wrong_link ∷ wrong_endpoints ∷ too_many_channels ∷ too_many_streams ∷ [])
     ≡ by_entity 1 0 ∷ by_entity 2 2 ∷ by_entity 3 3 ∷ by_entity 4 3 ∷ by_entity 5 2 ∷ by_entity 6 4 ∷ by_entity 7 6 ∷ by_entity 8 2 ∷ by_entity 9 3 ∷ by_entity 10 6 ∷ by_entity 11 4 ∷ by_interface 12 1 ∷ by_interface 13 1 ∷ by_entity 14 3 ∷ by_interface 14 1 ∷ []
-unfolding entity_of alternates_of alternate_at is_streaming_interface own_blocks ends_setting general_of format_of endpoint_of stream_at stream_of setting_of link_of named has_walk at found place_of kind_of signal_sources clock_sources cluster_step cluster_within cluster_of pins clocks_step clocks_within clocks_of names_new clock_named each_once domains_of first_place offender number_at interface_offender breaks_u1 breaks_u2 breaks_u3 breaks_u4 breaks_u5 breaks_u6 breaks_u7 breaks_u8 breaks_u9 breaks_u10 breaks_u11 breaks_u12 breaks_u13 names_ninth breaks_u14 at_stream is_usb is_wrong exceeds of_entity of_interface broken_names broken_walks broken_shapes broken_ends broken fault_of ones ones_in by_entity by_interface clock clock_selector multiplier input output feature selector setting general format endpoint between streaming idle zero_id repeated_id unknown_source silent_source unknown_clock signal_cycle clock_cycle wrong_cluster wrong_size unequal_pins other_clock wrong_link wrong_endpoints too_many_channels too_many_streams
+unfolding entity_of declared_settings declared_setting_at is_streaming_interface own_blocks ends_setting general_of format_of endpoint_of streaming_interface_at streaming_interface_of setting_of link_of entity_by_id has_walk at first_place_of place_of kind_of signal_sources clock_sources cluster_step cluster_within cluster_of pins clocks_step clocks_within clocks_of names_new clock_named each_once domains_of first_place offender number_at interface_offender breaks_u1 breaks_u2 breaks_u3 breaks_u4 breaks_u5 breaks_u6 breaks_u7 breaks_u8 breaks_u9 breaks_u10 breaks_u11 breaks_u12 breaks_u13 names_ninth breaks_u14 at_stream is_usb is_wrong exceeds of_entity of_interface broken_names broken_walks broken_shapes broken_ends rule_fault fault_of ones ones_in by_entity by_interface clock clock_selector multiplier input output feature selector setting general format endpoint between streaming idle zero_id repeated_id unknown_source silent_source unknown_clock signal_cycle clock_cycle wrong_cluster wrong_size unequal_pins other_clock wrong_link wrong_endpoints too_many_channels too_many_streams
 each_rule = refl

@@ -6,9 +6,9 @@ use Rattle.std.proofs.lemmas.Bool.{or_parts, true≢false}
 use Rattle.std.proofs.lemmas.List.{get_or-map, length-map}
 use Rattle.uac_walk.specs.Walk.{links}
 use Rattle.uac_walk.specs.Order.{IsClosed}
-use Rattle.uac_walk.proofs.Walks.{none_at}
+use Rattle.uac_walk.proofs.WalkLemmas.{none_at}
 use Rattle.uac_entities.specs.declared.entity.Entity.{Entity}
-use Rattle.uac_topology_rules.specs.Table.{found, place_of, at, nothing, kind_of}
+use Rattle.uac_topology_rules.specs.Table.{first_place_of, place_of, at, nothing, kind_of}
 use Rattle.uac_topology_rules.specs.Links.{signal_sources, clock_sources, signal_links, clock_links}
 use Rattle.uac_topology_rules.specs.Rules.{breaks_u3, breaks_u5, is_some_clock}
 use Rattle.uac_topology_rules.specs.RuleFaults.{of_entity, broken_names}
@@ -20,7 +20,7 @@ pub or_none : {X : Type 0} (a b : Option X) → option_or a b ≡ None → (a �
 or_none None b e = (refl, e)
 or_none (Some x) b e = absurd (cc)
 
--- nothing behind an answer changes it
+-- nothing after an answer changes it
 pub option_or-none : {X : Type 0} (o : Option X) → option_or o None ≡ o
 option_or-none None = refl
 option_or-none (Some x) = refl
@@ -46,9 +46,9 @@ has_names es e =
 -- an id that some kind has is that of an entity
 kind_below : (es : List Entity) (id : ℕ) → is_none (kind_of es id) ≡ false → place_of es id < length es
 unfolding kind_of
-kind_below es id e = by (found es id) refl
+kind_below es id e = by (first_place_of es id) refl
   where
-    by : (o : Option ℕ) → found es id ≡ o → place_of es id < length es
+    by : (o : Option ℕ) → first_place_of es id ≡ o → place_of es id < length es
     by None f = absurd (true≢false (subst (λ (o : Option ℕ). is_none (option_map (λ (p : ℕ). (at es p).kind) o) ≡ false) f e))
     by (Some k) f = let w = found_is es id k (sym f) in omega (arith, w.0, w.1)
 

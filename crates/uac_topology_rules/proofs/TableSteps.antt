@@ -7,7 +7,7 @@ use Rattle.std.specs.List.{list_any, position_or_len}
 use Rattle.std.proofs.lemmas.Bool.{cases_eq, cases_lt, cases_Bool, eq-eqb, ne_eqb, lt-ltb, le-ltb}
 use Rattle.std.proofs.lemmas.List.{take_more, length-take-le, get_or_read}
 use Rattle.uac_entities.specs.declared.entity.Entity.{Entity}
-use Rattle.uac_topology_rules.specs.Table.{found, place_of, at, nothing, kind_of}
+use Rattle.uac_topology_rules.specs.Table.{first_place_of, place_of, at, nothing, kind_of}
 use Rattle.uac_topology_rules.specs.Places.{IsTable}
 use Rattle.uac_topology_rules.proofs.Found.{position_is, position_none, position-push_found, position-push_new, position-push_none}
 
@@ -18,16 +18,16 @@ cases_option (Some k) = inr (k, refl)
 -- an id that is there already stays where it is
 pub table_same : {S : Type 0} (es : List Entity) (k : ℕ) (e : Entity) (places : HashMap ℕ ℕ S) → k < length es → e ≡ get_or es k e →
     true ≡ is_some (get nat_eq places e.id) → IsTable (take k es) places → IsTable (take (k + 1) es) places
-unfolding found
+unfolding first_place_of
 table_same es k e places below is some h id =
     let p : Entity → Bool = λ x. x.id == id in
     let grown : take (k + 1) es ≡ take k es ++ e ∷ [] = take_more es k e below ∙ ap (λ (x : Entity). take k es ++ x ∷ []) (sym is) in
-    subst (λ (xs : List Entity). get nat_eq places id ≡ found xs id) (sym grown)
-    (elim (cases_option (found (take k es) id)) [
+    subst (λ (xs : List Entity). get nat_eq places id ≡ first_place_of xs id) (sym grown)
+    (elim (cases_option (first_place_of (take k es) id)) [
       | inl none ↦
           elim (cases_eq e.id id) [
             | inl same ↦
-                absurd (true_none (get nat_eq places e.id) some (h e.id ∙ subst (λ (i : ℕ). found (take k es) i ≡ None) (sym same) none))
+                absurd (true_none (get nat_eq places e.id) some (h e.id ∙ subst (λ (i : ℕ). first_place_of (take k es) i ≡ None) (sym same) none))
             | inr other ↦ h id ∙ none ∙ sym (position-push_none p (take k es) e none (ne_eqb e.id id other))
           ]
       | inr there ↦ h id ∙ there.1 ∙ sym (position-push_found p (take k es) e there.0 there.1)
@@ -41,19 +41,19 @@ table_same es k e places below is some h id =
 pub table_more : {S : Type 0} (es : List Entity) (k : ℕ) (e : Entity) (places places' : HashMap ℕ ℕ S) → k < length es → e ≡ get_or es k e →
     false ≡ is_some (get nat_eq places e.id) → ((q : ℕ) → get nat_eq places' q ≡ cond (nat_eq e.id q) (Some k) (get nat_eq places q)) →
     IsTable (take k es) places → IsTable (take (k + 1) es) places'
-unfolding found
+unfolding first_place_of
 table_more es k e places places' below is none new h id =
     let p : Entity → Bool = λ x. x.id == id in
     let grown : take (k + 1) es ≡ take k es ++ e ∷ [] = take_more es k e below ∙ ap (λ (x : Entity). take k es ++ x ∷ []) (sym is) in
     let short : length (take k es) ≡ k = length-take-le k es (omega arith) in
-    subst (λ (xs : List Entity). get nat_eq places' id ≡ found xs id) (sym grown)
+    subst (λ (xs : List Entity). get nat_eq places' id ≡ first_place_of xs id) (sym grown)
     (elim (cases_eq e.id id) [
       | inl same ↦
-          (let gone : found (take k es) id ≡ None = sym (h id) ∙ ap (get nat_eq places) (sym same) ∙ false_none (get nat_eq places e.id) none in
+          (let gone : first_place_of (take k es) id ≡ None = sym (h id) ∙ ap (get nat_eq places) (sym same) ∙ false_none (get nat_eq places e.id) none in
           new id ∙ rw (eq-eqb e.id id same) (ap (λ (i : ℕ). Some i) (sym short)) ∙ sym (position-push_new p (take k es) e gone (eq-eqb e.id id same)))
       | inr other ↦
-          (let old : get nat_eq places' id ≡ found (take k es) id = new id ∙ rw (ne_eqb e.id id other) (h id) in
-          elim (cases_option (found (take k es) id)) [
+          (let old : get nat_eq places' id ≡ first_place_of (take k es) id = new id ∙ rw (ne_eqb e.id id other) (h id) in
+          elim (cases_option (first_place_of (take k es) id)) [
             | inl gone ↦ old ∙ gone ∙ sym (position-push_none p (take k es) e gone (ne_eqb e.id id other))
             | inr there ↦ old ∙ there.1 ∙ sym (position-push_found p (take k es) e there.0 there.1)
           ])
@@ -64,24 +64,24 @@ table_more es k e places places' below is none new h id =
     false_none (Some k) t = absurd (cc)
 
 -- where an id is found, and where it isn't
-pub found_is : (es : List Entity) (id k : ℕ) → Some k ≡ found es id → (k < length es) × (place_of es id ≡ k)
-unfolding found place_of
+pub found_is : (es : List Entity) (id k : ℕ) → Some k ≡ first_place_of es id → (k < length es) × (place_of es id ≡ k)
+unfolding first_place_of place_of
 found_is es id k e = position_is (λ (x : Entity). x.id == id) es k (sym e)
 
-pub found_none : (es : List Entity) (id : ℕ) → None ≡ found es id → place_of es id ≡ length es
-unfolding found place_of
+pub found_none : (es : List Entity) (id : ℕ) → None ≡ first_place_of es id → place_of es id ≡ length es
+unfolding first_place_of place_of
 found_none es id e = position_none (λ (x : Entity). x.id == id) es (sym e)
 
 pub at_read : (es : List Entity) (k : ℕ) (e : Entity) → k < length es → e ≡ get_or es k e → e ≡ at es k
 unfolding at
 at_read es k e below is = get_or_read es k e below is nothing
 
-pub kind_read : (es : List Entity) (id k : ℕ) (e : Entity) → Some k ≡ found es id → e ≡ get_or es k e → Some e.kind ≡ kind_of es id
+pub kind_read : (es : List Entity) (id k : ℕ) (e : Entity) → Some k ≡ first_place_of es id → e ≡ get_or es k e → Some e.kind ≡ kind_of es id
 unfolding kind_of
 kind_read es id k e f is =
     ap (λ (x : Entity). Some x.kind) (at_read es k e (found_is es id k f).0 is) ∙ ap (option_map (λ (p : ℕ). (at es p).kind)) f
 
-pub kind_none : (es : List Entity) (id : ℕ) → None ≡ found es id → None ≡ kind_of es id
+pub kind_none : (es : List Entity) (id : ℕ) → None ≡ first_place_of es id → None ≡ kind_of es id
 unfolding kind_of
 kind_none es id f = ap (option_map (λ (p : ℕ). (at es p).kind)) f
 

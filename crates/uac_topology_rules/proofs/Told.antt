@@ -12,7 +12,7 @@ use Rattle.uac_topology_rules.specs.declared.signals.Behind.TheVariants as clock
 use Rattle.uac_topology_rules.specs.Table.{at}
 use Rattle.uac_topology_rules.specs.Links.{signal_links}
 use Rattle.uac_topology_rules.specs.Clusters.{cluster_of, cluster_by, cluster_step, clocks_of, clocks_by, clocks_step}
-use Rattle.uac_topology_rules.specs.Behind.{differs, Tells}
+use Rattle.uac_topology_rules.specs.Behind.{differs, Summarizes}
 use Rattle.uac_topology_rules.specs.Signals.{IsWalkable, HasClusters, HasClocks, AreClusters, AreClocks}
 use Rattle.uac_topology_rules.proofs.Along.{cluster_same, cluster_is, clocks_are}
 use Rattle.uac_topology_rules.proofs.Found.{any_at}
@@ -84,18 +84,18 @@ module _ (es : List Entity) (graph : List (List ℕ)) (order : List ℕ) (w : Is
   -- what tells of the clocks behind the next entity
   pub clocks_more : (i : ℕ) (list : List Behind) (new : Behind) → i < length order → HasClocks es order i list →
       ((below : ℕ → List ℕ) → ((m : ℕ) → m < length (links graph (get_or order i 0)) →
-      Tells (get_or list (get_or (links graph (get_or order i 0)) m 0) clocks.Nothing) (below (get_or (links graph (get_or order i 0)) m 0)))
-      → Tells new (clocks_by (at es (get_or order i 0)) (links graph (get_or order i 0)) below)) →
+      Summarizes (get_or list (get_or (links graph (get_or order i 0)) m 0) clocks.Nothing) (below (get_or (links graph (get_or order i 0)) m 0)))
+      → Summarizes new (clocks_by (at es (get_or order i 0)) (links graph (get_or order i 0)) below)) →
       HasClocks es order (i + 1) (set list (get_or order i 0) new)
   unfolding clocks_step
   clocks_more i list new b h t =
       let k = get_or order i 0 in
       let in' : k < length list = omega (arith, order_below i b, h.sized) in
       let same : links graph k ≡ links (signal_links es) k = ap (λ (g : List (List ℕ)). links g k) w.linked in
-      let told : Tells new (clocks_by (at es k) (links graph k) (clocks_of es)) =
+      let told : Summarizes new (clocks_by (at es k) (links graph k) (clocks_of es)) =
       t (clocks_of es) (λ m s.
       let r = w.ordered.named_first i b m 0 s in
-      subst (λ (p : ℕ). Tells (get_or list p clocks.Nothing) (clocks_of es p)) r.2 (h.told r.0 r.1)) in
+      subst (λ (p : ℕ). Summarizes (get_or list p clocks.Nothing) (clocks_of es p)) r.2 (h.told r.0 r.1)) in
       let here : clocks_by (at es k) (links graph k) (clocks_of es) ≡ clocks_of es k =
       ap (λ (xs : List ℕ). clocks_by (at es k) xs (clocks_of es)) same ∙ sym (clocks_are es k (w.acyclic k (order_below i b))) in
       record {
@@ -115,5 +115,5 @@ module _ (es : List Entity) (graph : List (List ℕ)) (order : List ℕ) (w : Is
   clocks_all i list past h =
       record {
         sized = h.sized;
-        told = λ k b. let s = stands k b in subst (λ (p : ℕ). Tells (get_or list p clocks.Nothing) (clocks_of es p)) s.2 (h.told s.0 (omega (arith, s.1)));
+        told = λ k b. let s = stands k b in subst (λ (p : ℕ). Summarizes (get_or list p clocks.Nothing) (clocks_of es p)) s.2 (h.told s.0 (omega (arith, s.1)));
       }

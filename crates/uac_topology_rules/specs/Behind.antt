@@ -19,5 +19,5 @@ behind_both (clocks.One c) clocks.Several = clocks.Several
 behind_both clocks.Several b = clocks.Several
 
 -- a summary tells which clock differs from one of the list
-abbrev pub Tells : Behind → List ℕ → Type 0
-Tells b list = (clock : ℕ) → list_any (λ c. not (c == clock)) list ≡ differs b clock
+abbrev pub Summarizes : Behind → List ℕ → Type 0
+Summarizes b list = (clock : ℕ) → list_any (λ c. not (c == clock)) list ≡ differs b clock

@@ -10,7 +10,7 @@ use Rattle.uac_entities.specs.declared.entity.Cluster.{Cluster}
 use Rattle.uac_entities.specs.declared.entity.Entity.{Entity}
 use Rattle.uac_entities.specs.declared.entity.EntityKind.{EntityKind}
 use Rattle.uac_entities.specs.declared.entity.EntityKind.TheVariants as kind
-pub use Rattle.uac_entities.specs.EntityStreams.{is_input}
+pub use Rattle.uac_entities.specs.EntityInterfaces.{is_input}
 use Rattle.uac_topology_rules.specs.Table.{at, with_cluster}
 use Rattle.uac_topology_rules.specs.Links.{signal_links}
 
@@ -69,8 +69,9 @@ unfoldable pub clocks_of : List Entity → ℕ → List ℕ
 clocks_of entities place = clocks_within (length entities) entities place
 
 -- the entities in block order, each with the cluster that it puts out
-unfoldable pub clustered : List Entity → List Entity
-clustered entities = map (λ place. with_cluster (at entities place) (cluster_of entities place)) (range_with_len 0 (length entities))
+unfoldable pub with_own_clusters : List Entity → List Entity
+with_own_clusters entities = map (λ place. with_cluster (at entities place) (cluster_of entities place))
+    (range_with_len 0 (length entities))
 
 -- where no walk of n signal source links leads on, more links change neither the cluster nor the clocks behind
 abbrev pub MoreLinksChangeNothing : Type 0

@@ -9,7 +9,7 @@ use Rattle.uac_topology_rules.specs.Links.{is_terminal}
 unfoldable pub clock_named : Entity → Option ℕ
 clock_named e = if is_terminal e.kind then Some e.clock else None
 
--- each number once, where it first stands: behind it, its later copies are left out
+-- each number once, where it first stands: after it, its later copies are left out
 unfoldable pub each_once : List ℕ → List ℕ
 each_once [] = []
 each_once (n ∷ ns) = n ∷ filter (λ m. not (m == n)) (each_once ns)
@@ -23,8 +23,8 @@ unfoldable pub names_new : List ℕ → Entity → Bool
 names_new clocks e = is_terminal e.kind && not (list_any (λ c. c == e.clock) clocks)
 
 -- the clocks so far, and after them the one that an entity names, if it is new
-unfoldable pub noted : List ℕ → Entity → List ℕ
-noted clocks e = if names_new clocks e then clocks ++ e.clock ∷ [] else clocks
+unfoldable pub with_named_clock : List ℕ → Entity → List ℕ
+with_named_clock clocks e = if names_new clocks e then clocks ++ e.clock ∷ [] else clocks
 
 -- the domains, and how many clocks the entities up to each place name
 pub record IsDomains (entities : List Entity) (clocks counts : List ℕ) : Type 0 where

@@ -12,9 +12,9 @@ pub mod LinkCycles
 -- What the contracts below them cite: steps of the code, no part of what is promised.
 pub mod Places
 pub mod RuleNumbers
-pub mod Naming
+pub mod NameRules
 pub mod Walks
 pub mod Behind
 pub mod Signals
-pub mod Shaping
-pub mod Ending
+pub mod ShapeRules
+pub mod EndRules

@@ -1,7 +1,7 @@
 -- The least broken rule, and its first offender in block order (profile).
 use Rattle.std.specs.Prelude.{ℕ, Bool, true, false, List, [], ◌∷◌, Option, None}
 use Rattle.std.specs.Option.{option_map, option_or}
-use Rattle.uac_entities.specs.declared.alternate.Alternate.{Alternate}
+use Rattle.uac_entities.specs.declared.settings.DeclaredSetting.{DeclaredSetting}
 use Rattle.uac_entities.specs.declared.entity.Entity.{Entity}
 use Rattle.uac_entities.specs.declared.stream.StreamInterface.{StreamInterface}
 use Rattle.uac_topology_rules.specs.declared.fault.TopologyFault.{TopologyFault}
@@ -48,7 +48,7 @@ broken_shapes entities =
     ∷ [])
 
 -- streaming interfaces, and then the limits
-unfoldable pub broken_ends : List Entity → List Alternate → List StreamInterface → Option TopologyFault
+unfoldable pub broken_ends : List Entity → List DeclaredSetting → List StreamInterface → Option TopologyFault
 broken_ends entities all streams =
     least (
     of_interface 12 streams (rules.breaks_u12 entities)
@@ -58,6 +58,6 @@ broken_ends entities all streams =
     ∷ [])
 
 -- the least broken rule with its first offender
-unfoldable pub broken : List Entity → List Alternate → List StreamInterface → Option TopologyFault
-broken entities all streams =
+unfoldable pub rule_fault : List Entity → List DeclaredSetting → List StreamInterface → Option TopologyFault
+rule_fault entities all streams =
     least (broken_names entities ∷ broken_walks entities ∷ broken_shapes entities ∷ broken_ends entities all streams ∷ [])

@@ -7,14 +7,14 @@ use Rattle.std.specs.Option.{option_map_or}
 use Rattle.uac_walk.specs.Walk.{has_walk}
 use Rattle.uac_descriptor.specs.Endpoints.{transfer_type, usage_type}
 use Rattle.uac_descriptor.specs.declared.standard.Endpoint.{Endpoint}
-use Rattle.uac_entities.specs.EntityStreams.{links_of}
-use Rattle.uac_entities.specs.declared.alternate.Alternate.{Alternate}
+use Rattle.uac_entities.specs.EntityInterfaces.{links_of}
+use Rattle.uac_entities.specs.declared.settings.DeclaredSetting.{DeclaredSetting}
 use Rattle.uac_descriptor.specs.Standard.{USB_STREAMING}
 use Rattle.uac_entities.specs.declared.entity.Entity.{Entity}
 use Rattle.uac_entities.specs.declared.entity.EntityKind.{EntityKind}
 use Rattle.uac_entities.specs.declared.entity.EntityKind.TheVariants as kind
 use Rattle.uac_entities.specs.declared.stream.StreamInterface.{StreamInterface}
-use Rattle.uac_topology_rules.specs.Table.{at, found, kind_of}
+use Rattle.uac_topology_rules.specs.Table.{at, first_place_of, kind_of}
 use Rattle.uac_topology_rules.specs.Links.{is_clock, is_terminal, signal_sources, clock_sources, signal_links, clock_links}
 use Rattle.uac_topology_rules.specs.Clusters.{cluster_of, pins, inputs, clocks_of}
 use Rattle.uac_topology_rules.specs.Domains.{domains_of, names_new}
@@ -172,7 +172,7 @@ is_usb_terminal e = is_terminal e.kind && e.terminal_type == USB_STREAMING
 
 -- the entity with an id is a USB streaming terminal
 unfoldable pub is_usb : List Entity → ℕ → Bool
-is_usb entities id = option_map_or (λ place. is_usb_terminal (at entities place)) (found entities id) false
+is_usb entities id = option_map_or (λ place. is_usb_terminal (at entities place)) (first_place_of entities id) false
 
 -- U12 (Audio Class 2.0, 4.9.2; profile: one terminal each): a link is to a USB streaming terminal, the settings of an
 -- interface have one link, and no earlier interface has it
@@ -195,7 +195,7 @@ abbrev pub carries_feedback : Bool → Endpoint → Bool
 carries_feedback out e = is_isochronous out e && usage_type e.attributes == 1
 
 -- the endpoints of a setting are not those that it may have
-unfoldable pub is_wrong : Bool → Alternate → Bool
+unfoldable pub is_wrong : Bool → DeclaredSetting → Bool
 is_wrong out a =
     not (a.declared == a.endpoints)
     || ((a.setting.number == 0 && not (a.endpoints == 0))
@@ -204,7 +204,7 @@ is_wrong out a =
 
 -- U13 (Audio Class 2.0, 4.10; USB 2.0, 9.6.5 and 9.6.6): each setting has as many endpoints as it says, setting 0 has
 -- none, the first carries data in the terminal's direction, the second feedback in the other
-unfoldable pub breaks_u13 : List Alternate → List StreamInterface → ℕ → Bool
+unfoldable pub breaks_u13 : List DeclaredSetting → List StreamInterface → ℕ → Bool
 breaks_u13 all streams place =
     at_stream (λ s. list_any (λ a. a.interface == s.number && is_wrong s.out a) all) false streams place
 

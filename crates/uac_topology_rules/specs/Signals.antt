@@ -9,7 +9,7 @@ use Rattle.uac_topology_rules.specs.declared.signals.Behind.{Behind}
 use Rattle.uac_topology_rules.specs.declared.signals.Behind.TheVariants as clocks
 use Rattle.uac_topology_rules.specs.Links.{signal_links}
 use Rattle.uac_topology_rules.specs.Clusters.{cluster_of, clocks_of}
-use Rattle.uac_topology_rules.specs.Behind.{Tells}
+use Rattle.uac_topology_rules.specs.Behind.{Summarizes}
 
 -- from no entity a walk of signal source links goes on for ever
 abbrev pub IsAcyclic : List Entity → Type 0
@@ -29,7 +29,7 @@ pub record AreClusters (entities : List Entity) (clusters : List Cluster) : Type
 -- what tells of the clocks behind each entity
 pub record AreClocks (entities : List Entity) (list : List Behind) : Type 0 where
   pub sized : length list ≡ length entities
-  pub told : (place : ℕ) → place < length entities → Tells (slice_index_or list place clocks.Nothing) (clocks_of entities place)
+  pub told : (place : ℕ) → place < length entities → Summarizes (slice_index_or list place clocks.Nothing) (clocks_of entities place)
 
 -- the clusters of the first n entities of the order
 pub record HasClusters (entities : List Entity) (order : List ℕ) (n : ℕ) (clusters : List Cluster) : Type 0 where
@@ -39,7 +39,8 @@ pub record HasClusters (entities : List Entity) (order : List ℕ) (n : ℕ) (cl
 -- what tells of the clocks behind the first n entities of the order
 pub record HasClocks (entities : List Entity) (order : List ℕ) (n : ℕ) (list : List Behind) : Type 0 where
   pub sized : length list ≡ length entities
-  pub told : (j : ℕ) → j < n → Tells (slice_index_or list (slice_index order j) clocks.Nothing) (clocks_of entities (slice_index order j))
+  pub told : (j : ℕ) → j < n
+      → Summarizes (slice_index_or list (slice_index order j) clocks.Nothing) (clocks_of entities (slice_index order j))
 
 -- the signal links, and the clusters and clocks along them
 pub record IsKnown (entities : List Entity) (links : List (List ℕ)) (clusters : List Cluster) (list : List Behind) : Type 0 where

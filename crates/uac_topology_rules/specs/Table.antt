@@ -28,8 +28,8 @@ unfoldable pub at : List Entity → ℕ → Entity
 at entities place = slice_index_or entities place nothing
 
 -- the place of the first entity with an id, if there is one
-unfoldable pub found : List Entity → ℕ → Option ℕ
-found entities id = position (λ e. e.id == id) entities
+unfoldable pub first_place_of : List Entity → ℕ → Option ℕ
+first_place_of entities id = position (λ e. e.id == id) entities
 
 -- the place of the entity with an id; the number of entities where there is none
 unfoldable pub place_of : List Entity → ℕ → ℕ
@@ -37,7 +37,7 @@ place_of entities id = position_or_len (λ e. e.id == id) entities
 
 -- the kind of the entity with an id
 unfoldable pub kind_of : List Entity → ℕ → Option EntityKind
-kind_of entities id = option_map (λ place. (at entities place).kind) (found entities id)
+kind_of entities id = option_map (λ place. (at entities place).kind) (first_place_of entities id)
 
 -- an entity with the cluster that it puts out
 abbrev pub with_cluster : Entity → Cluster → Entity

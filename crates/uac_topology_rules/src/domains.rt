@@ -40,10 +40,10 @@ pub fn domains_of(alloc: Global, entities: &[Entity]) -> Result<Domains, NoMemor
     Ok(Domains { clocks, counts })
 }
 
-// Puts the clock of a terminal behind the others, if none before named it.
-#[tactic(auto, unfolding(crate::specs::Domains::noted))]
+// Puts the clock of a terminal after the others, if none before named it.
+#[tactic(auto, unfolding(crate::specs::Domains::with_named_clock))]
 fn note(entity: &Entity, clocks: &mut Vec<u8>) -> Result<(), NoMemory>
-    ensures { OnOk result (clocks.new.items ≡ spec.noted clocks.old.items entity.now) }
+    ensures { OnOk result (clocks.new.items ≡ spec.with_named_clock clocks.old.items entity.now) }
 {
     if !names_new(clocks.as_slice(), entity) {
         return Ok(());

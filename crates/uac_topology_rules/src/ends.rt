@@ -4,12 +4,12 @@ ghost use Rattle.uac_topology_rules.specs.Table.{at};
 ghost use Rattle.uac_topology_rules.specs.Links as links;
 ghost use Rattle.std.specs.List.{list_any};
 ghost use Rattle.std.specs.Option.{option_map_or};
-ghost use Rattle.uac_entities.specs.EntityStreams.{links_of};
+ghost use Rattle.uac_entities.specs.EntityInterfaces.{links_of};
 ghost use Rattle.uac_topology_rules.specs.Rules as rules;
 ghost use Rattle.uac_topology_rules.specs.RuleFaults.{of_interface, broken_ends};
 ghost use Rattle.uac_topology_rules.specs.Domains.{IsDomains};
 ghost use Rattle.uac_topology_rules.specs.RuleNumbers.{number};
-ghost use Rattle.uac_topology_rules.specs.Ending as ending;
+ghost use Rattle.uac_topology_rules.specs.EndRules as ending;
 
 use crate::domains::Domains;
 use crate::fault::TopologyFault;
@@ -19,7 +19,7 @@ use crate::rule::Rule;
 use crate::shapes::entity_limit;
 use crate::table::EntityTable;
 use uac_descriptor::{Endpoint, EndpointBits};
-use uac_entities::{Alternate, Setting, StreamInterface, USB_STREAMING, link_of};
+use uac_entities::{DeclaredSetting, Setting, StreamInterface, USB_STREAMING, link_of};
 
 /// The most streaming interfaces of a function, and the most settings of each (profile).
 const MOST_STREAMS: usize = 8;
@@ -31,7 +31,7 @@ const MOST_SETTINGS: usize = 16;
 pub fn ends_fault(
     known: &Known,
     domains: &Domains,
-    all: &[Alternate],
+    all: &[DeclaredSetting],
     streams: &[StreamInterface],
 ) -> Option<TopologyFault>
     requires { IsDomains known.now domains.now.clocks.items domains.now.counts.items }
@@ -53,7 +53,7 @@ pub fn ends_fault(
 fn judge(
     rule: Rule,
     table: &EntityTable,
-    all: &[Alternate],
+    all: &[DeclaredSetting],
     streams: &[StreamInterface],
 ) -> Option<TopologyFault>
     ensures { result ≡ of_interface (number rule) streams.now (ending.breaks rule table.now all.now) }
@@ -73,7 +73,7 @@ fn judge(
 fn breaks(
     rule: Rule,
     table: &EntityTable,
-    all: &[Alternate],
+    all: &[DeclaredSetting],
     streams: &[StreamInterface],
     place: usize,
 ) -> bool
@@ -157,7 +157,7 @@ fn has_terminal(streams: &[StreamInterface], terminal: u8) -> bool
     streams.iter().any(|stream| stream.terminal == terminal)
 }
 
-fn breaks_u13(all: &[Alternate], streams: &[StreamInterface], place: usize) -> bool
+fn breaks_u13(all: &[DeclaredSetting], streams: &[StreamInterface], place: usize) -> bool
     requires { place < length streams.now }
     ensures { result ≡ rules.breaks_u13 all.now streams.now place }
 {
@@ -166,14 +166,14 @@ fn breaks_u13(all: &[Alternate], streams: &[StreamInterface], place: usize) -> b
 }
 
 // A setting of the interface has not the endpoints that it may have.
-fn has_wrong_endpoints(all: &[Alternate], number: u8, out: bool) -> bool
+fn has_wrong_endpoints(all: &[DeclaredSetting], number: u8, out: bool) -> bool
     ensures { result ≡ list_any (λ a. a.interface == number && rules.is_wrong out a) all.now }
 {
     all.iter().any(|alternate| alternate.interface == number && is_wrong(out, alternate))
 }
 
 #[tactic(auto, unfolding(crate::specs::Rules::is_wrong))]
-fn is_wrong(out: bool, alternate: &Alternate) -> bool
+fn is_wrong(out: bool, alternate: &DeclaredSetting) -> bool
     ensures { result ≡ rules.is_wrong out alternate.now }
 {
     usize::from(alternate.declared) != alternate.endpoints

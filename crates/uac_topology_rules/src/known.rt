@@ -60,7 +60,7 @@ impl Known {
 
     /// The entities, each with the cluster that it puts out.
     pub fn into_table(self) -> EntityTable
-        ensures { result ≡ spec.clustered self }
+        ensures { result ≡ spec.with_own_clusters self }
     {
         let Known {
             table,

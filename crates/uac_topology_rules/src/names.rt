@@ -6,7 +6,7 @@ ghost use Rattle.uac_topology_rules.specs.Links as links;
 ghost use Rattle.uac_topology_rules.specs.Rules as rules;
 ghost use Rattle.uac_topology_rules.specs.RuleFaults.{of_entity, broken_names};
 ghost use Rattle.uac_topology_rules.specs.RuleNumbers.{number};
-ghost use Rattle.uac_topology_rules.specs.Naming as naming;
+ghost use Rattle.uac_topology_rules.specs.NameRules as naming;
 
 use crate::fault::TopologyFault;
 use crate::kinds::{is_clock, is_terminal};

@@ -4,7 +4,7 @@ ghost use Rattle.uac_topology_rules.specs.Clusters as spec;
 ghost use Rattle.uac_topology_rules.specs.Rules as rules;
 ghost use Rattle.uac_topology_rules.specs.RuleFaults.{of_entity, broken_shapes};
 ghost use Rattle.uac_topology_rules.specs.RuleNumbers.{number};
-ghost use Rattle.uac_topology_rules.specs.Shaping as shaping;
+ghost use Rattle.uac_topology_rules.specs.ShapeRules as shaping;
 ghost use Rattle.uac_topology_rules.specs.Domains.{IsDomains};
 
 use crate::domains::Domains;

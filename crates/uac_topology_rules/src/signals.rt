@@ -8,7 +8,7 @@ ghost use Rattle.uac_topology_rules.specs.Table.{at};
 ghost use Rattle.uac_topology_rules.specs.Links.{signal_links};
 ghost use Rattle.uac_topology_rules.specs.Clusters as spec;
 ghost use Rattle.uac_topology_rules.specs.Behind as behind;
-ghost use Rattle.uac_topology_rules.specs.Behind.{Tells};
+ghost use Rattle.uac_topology_rules.specs.Behind.{Summarizes};
 ghost use Rattle.uac_topology_rules.specs.declared.signals.Behind.TheVariants as clocks;
 ghost use Rattle.uac_topology_rules.specs.Signals.{AreClusters, AreClocks, IsAcyclic, IsWalkable};
 
@@ -138,8 +138,8 @@ fn no_clocks(alloc: Global, count: usize) -> Result<Vec<Behind>, NoMemory>
 fn clocks_by(entity: &Entity, sources: &[usize], list: &[Behind]) -> Behind
     requires { (k : ℕ) → k < length sources.now → slice_index sources.now k < length list.now }
     ensures { (below : ℕ → List ℕ) → ((k : ℕ) → k < length sources.now
-        → Tells (slice_index_or list.now (slice_index sources.now k) clocks.Nothing) (below (slice_index sources.now k)))
-        → Tells result (spec.clocks_by entity.now sources.now below) }
+        → Summarizes (slice_index_or list.now (slice_index sources.now k) clocks.Nothing) (below (slice_index sources.now k)))
+        → Summarizes result (spec.clocks_by entity.now sources.now below) }
 {
     if entity.kind == EntityKind::InputTerminal {
         return Behind::One(entity.clock);

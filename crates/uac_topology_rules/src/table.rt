@@ -1,7 +1,7 @@
 // The entities by their place and by their id.
 ghost use Rattle.std.specs.Prelude.{◌≡◌, ◌<◌, ◌==◌, IfOk, OnOk, length, take, map};
 ghost use Rattle.std.specs.Option.{option_map};
-ghost use Rattle.uac_entities.specs.EntityStreams.{channels_of};
+ghost use Rattle.uac_entities.specs.EntityInterfaces.{channels_of};
 ghost use Rattle.uac_topology_rules.specs.Table as spec;
 ghost use Rattle.uac_topology_rules.specs.Places.{IsTable};
 
@@ -56,7 +56,7 @@ impl EntityTable {
 
     /// The place of the first entity with this id, None exactly where no entity has it.
     pub fn find(&self, id: u8) -> Option<usize>
-        ensures { result ≡ spec.found self.now id }
+        ensures { result ≡ spec.first_place_of self.now id }
     {
         self.places.get(&id).copied()
     }

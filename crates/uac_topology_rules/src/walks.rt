@@ -28,9 +28,9 @@ pub fn walk(alloc: Global, table: &EntityTable) -> Result<Walked, NoMemory>
     ensures { IfOk result (λ walked. IsWalked table.now walked.links.items walked.order.items walked.fault) }
 {
     let links = signal_graph(alloc, table)?;
-    let order = ordered(alloc, &links)?;
+    let order = sources_first_order(alloc, &links)?;
     let clock_links = clock_graph(alloc, table)?;
-    let clock_order = ordered(alloc, &clock_links)?;
+    let clock_order = sources_first_order(alloc, &clock_links)?;
     let signal_fault = judge(Rule::SignalCycle, table, &links, &order);
     let clock_fault = judge(Rule::ClockCycle, table, &clock_links, &clock_order);
     let fault = signal_fault.or(clock_fault);
@@ -41,7 +41,7 @@ pub fn walk(alloc: Global, table: &EntityTable) -> Result<Walked, NoMemory>
     })
 }
 
-fn ordered(alloc: Global, graph: &[Links]) -> Result<Vec<usize>, NoMemory>
+fn sources_first_order(alloc: Global, graph: &[Links]) -> Result<Vec<usize>, NoMemory>
     requires { IsClosed graph.now }
     ensures { IfOk result (λ order. IsOrder graph.now order.items) }
 {

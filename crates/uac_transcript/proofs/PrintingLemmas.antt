@@ -5,21 +5,21 @@ use Rattle.std.proofs.lemmas.Grind.{flat_map-append}
 use Rattle.std.proofs.lemmas.List.{append-nil, map-append, take-append-drop, take_more}
 use Rattle.uac_edges.specs.Writing.{AppendsFront, Writes}
 use Rattle.uac_edges.proofs.WritingLemmas.{Appends-twice, AppendsFront-after, AppendsFront-longer, Writes-after, Writes-handed_on}
-use Rattle.uac_transcript.specs.Transcript.{Said, spelled}
+use Rattle.uac_transcript.specs.Transcript.{Said, spelling_of}
 use Rattle.uac_transcript.specs.Printing.{Prints, text_of}
 
 pub text_of-append : (first second : List Said) → text_of (first ++ second) ≡ text_of first ++ text_of second
-text_of-append first second = flat_map-append spelled first second
+text_of-append first second = flat_map-append spelling_of first second
 
 -- one line
-pub Appends-line : (old new : Option (List ℕ)) (said : Said) → Appends old new (spelled said) → Appends old new (text_of (said ∷ []))
-Appends-line old new said a = subst (Appends old new) (sym (append-nil (spelled said))) a
+pub Appends-line : (old new : Option (List ℕ)) (said : Said) → Appends old new (spelling_of said) → Appends old new (text_of (said ∷ []))
+Appends-line old new said a = subst (Appends old new) (sym (append-nil (spelling_of said))) a
 
-pub front_of_line : (old new : Option (List ℕ)) (said : Said) → AppendsFront old new (spelled said) → AppendsFront old new (text_of (said ∷ []))
-front_of_line old new said f = subst (AppendsFront old new) (sym (append-nil (spelled said))) f
+pub front_of_line : (old new : Option (List ℕ)) (said : Said) → AppendsFront old new (spelling_of said) → AppendsFront old new (text_of (said ∷ []))
+front_of_line old new said f = subst (AppendsFront old new) (sym (append-nil (spelling_of said))) f
 
-pub Prints-line : {T E : Type 0} (old new : Option (List ℕ)) (r : Result T E) (said : Said) → Writes old new r (spelled said) → Prints old new r (said ∷ [])
-Prints-line old new r said w = subst (Writes old new r) (sym (append-nil (spelled said))) w
+pub Prints-line : {T E : Type 0} (old new : Option (List ℕ)) (r : Result T E) (said : Said) → Writes old new r (spelling_of said) → Prints old new r (said ∷ [])
+Prints-line old new r said w = subst (Writes old new r) (sym (append-nil (spelling_of said))) w
 
 -- lines, and then others
 pub Appends-lines : (old mid new : Option (List ℕ)) (first second : List Said) → Appends old mid (text_of first) → Appends mid new (text_of second)
@@ -76,13 +76,13 @@ module _ {X : Type 0} (old mid new : Option (List ℕ)) (f : X → Said) (xs : L
       ap (λ (s : Said). map f (take i xs) ++ (s ∷ [])) is ∙ sym (ap (map f) (take_more xs i d below) ∙ map-append f (take i xs) (get_or xs i d ∷ []))
 
   -- that of one item more
-  pub one_line_more : Appends old mid (text_of (map f (take i xs))) → Appends mid new (spelled said) → Appends old new (text_of (map f (take (i + 1) xs)))
+  pub one_line_more : Appends old mid (text_of (map f (take i xs))) → Appends mid new (spelling_of said) → Appends old new (text_of (map f (take (i + 1) xs)))
   one_line_more before next =
       subst (λ (lines : List Said). Appends old new (text_of lines)) map_more
       (Appends-lines old mid new (map f (take i xs)) (said ∷ []) before (Appends-line mid new said next))
 
   -- the lines up to an item, and a front of its line, are a front of all
-  pub front_of_lines : Appends old mid (text_of (map f (take i xs))) → AppendsFront mid new (spelled said) → AppendsFront old new (text_of (map f xs))
+  pub front_of_lines : Appends old mid (text_of (map f (take i xs))) → AppendsFront mid new (spelling_of said) → AppendsFront old new (text_of (map f xs))
   front_of_lines before front =
       let all : (map f (take i xs) ++ (said ∷ [])) ++ map f (drop (i + 1) xs) ≡ map f xs =
       ap (λ (lines : List Said). lines ++ map f (drop (i + 1) xs)) map_more

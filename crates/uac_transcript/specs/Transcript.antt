@@ -6,18 +6,18 @@ use Rattle.uac_edges.specs.Numerals.{numeral}
 use Rattle.uac_units.specs.Hearing.{Reading}
 use Rattle.uac_units.specs.declared.hearing.MeterKind.{MeterKind}
 use Rattle.uac_units.specs.declared.hearing.MeterKind.TheVariants.{Peak, Clipped, Sum}
-use Rattle.uac_transcript.specs.declared.packets.Arrival.{Arrival}
-use Rattle.uac_transcript.specs.declared.packets.Arrival.TheVariants as arrivals
+use Rattle.uac_transcript.specs.declared.packets.PrintedArrival.{PrintedArrival}
+use Rattle.uac_transcript.specs.declared.packets.PrintedArrival.TheVariants as arrivals
 use Rattle.uac_transcript.specs.declared.report.StreamCounts.{StreamCounts}
 
 -- what came of a control transfer
-pub data Outcome : Type 0 where
+pub data TransferOutcome : Type 0 where
   -- the transfer brought these bytes, of a control or of the descriptor
-  gave : List ℕ → Outcome
-  was_done : Outcome
+  gave : List ℕ → TransferOutcome
+  was_done : TransferOutcome
   -- the transfer was stalled by this rule
-  stalled : ℕ → Outcome
-  broke : Outcome
+  stalled : ℕ → TransferOutcome
+  broke : TransferOutcome
 
 -- what came of a line that names an element
 pub data Sight : Type 0 where
@@ -35,7 +35,7 @@ pub data Said : Type 0 where
   -- the number of a microframe, from 1
   says_time : ℕ → Said
   -- the interface, the frames of its packet to the device, and how it arrived
-  says_out : ℕ → ℕ → Arrival → Said
+  says_out : ℕ → ℕ → PrintedArrival → Said
   -- the interface, the frames of its packet from the device, and whether it was lost
   says_in : ℕ → ℕ → Bool → Said
   -- the interface, and a frame that came from it
@@ -50,7 +50,7 @@ pub data Said : Type 0 where
   -- the interface, the value that its feedback reports, and whether the report was lost
   says_feedback : ℕ → ℕ → Bool → Said
   -- a control transfer, and a line that names an element
-  says_answer : Outcome → Said
+  says_answer : TransferOutcome → Said
   says_view : Sight → Said
   -- the report: the microframes since the start, and whether all was steady
   says_passed : ℕ → Said
@@ -80,7 +80,7 @@ abbrev pub lost_or_ok : Bool → List ℕ
 lost_or_ok true = codes "lost"
 lost_or_ok false = codes "ok"
 
-abbrev pub arrival_name : Arrival → List ℕ
+abbrev pub arrival_name : PrintedArrival → List ℕ
 arrival_name arrivals.Ok = codes "ok"
 arrival_name arrivals.Lost = codes "lost"
 arrival_name arrivals.Over = codes "over"
@@ -101,7 +101,7 @@ samples_text samples = flat_map (λ s. codes " " ++ numeral s) samples
 
 -- ---- lines
 
-abbrev pub outcome_text : Outcome → List ℕ
+abbrev pub outcome_text : TransferOutcome → List ℕ
 outcome_text (gave bytes) = codes "c bytes " ++ hex_or_dash bytes ++ codes "\n"
 outcome_text was_done = codes "c done\n"
 outcome_text (stalled rule) = codes "c stall Q" ++ decimal rule ++ codes "\n"
@@ -115,35 +115,35 @@ sight_text (was_stalled rule) = codes "h stall Q" ++ decimal rule ++ codes "\n"
 sight_text was_broken = codes "h broken\n"
 
 -- a line's bytes, with the newline
-unfoldable pub spelled : Said → List ℕ
-spelled (says_ready entities streams domains) =
+unfoldable pub spelling_of : Said → List ℕ
+spelling_of (says_ready entities streams domains) =
     codes "ready entities " ++ decimal entities ++ codes " streams " ++ decimal streams
     ++ codes " domains " ++ decimal domains ++ codes "\n"
-spelled (says_time number) = codes "u " ++ decimal number ++ codes "\n"
-spelled (says_out interface frames arrival) =
+spelling_of (says_time number) = codes "u " ++ decimal number ++ codes "\n"
+spelling_of (says_out interface frames arrival) =
     codes "o " ++ decimal interface ++ codes " " ++ decimal frames ++ codes " " ++ arrival_name arrival ++ codes "\n"
-spelled (says_in interface frames lost) =
+spelling_of (says_in interface frames lost) =
     codes "i " ++ decimal interface ++ codes " " ++ decimal frames ++ codes " " ++ lost_or_ok lost ++ codes "\n"
-spelled (says_frame interface samples) = codes "r " ++ decimal interface ++ samples_text samples ++ codes "\n"
-spelled (says_played terminal samples) = codes "p " ++ decimal terminal ++ samples_text samples ++ codes "\n"
-spelled (says_under interface) = codes "under " ++ decimal interface ++ codes "\n"
-spelled (says_over interface) = codes "over " ++ decimal interface ++ codes "\n"
-spelled (says_level interface level target) =
+spelling_of (says_frame interface samples) = codes "r " ++ decimal interface ++ samples_text samples ++ codes "\n"
+spelling_of (says_played terminal samples) = codes "p " ++ decimal terminal ++ samples_text samples ++ codes "\n"
+spelling_of (says_under interface) = codes "under " ++ decimal interface ++ codes "\n"
+spelling_of (says_over interface) = codes "over " ++ decimal interface ++ codes "\n"
+spelling_of (says_level interface level target) =
     codes "l " ++ decimal interface ++ codes " " ++ decimal level ++ codes " " ++ number_or_dash target ++ codes "\n"
-spelled (says_feedback interface value lost) =
+spelling_of (says_feedback interface value lost) =
     codes "f " ++ decimal interface ++ codes " " ++ encode_lower (bytes_high_first 4 value) ++ codes " " ++ lost_or_ok lost ++ codes "\n"
-spelled (says_answer outcome) = outcome_text outcome
-spelled (says_view sight) = sight_text sight
-spelled (says_passed time) = codes "time " ++ decimal time ++ codes "\n"
-spelled (says_steady steady) = codes "steady " ++ yes_or_no steady ++ codes "\n"
-spelled (says_domain clock rate ticks) =
+spelling_of (says_answer outcome) = outcome_text outcome
+spelling_of (says_view sight) = sight_text sight
+spelling_of (says_passed time) = codes "time " ++ decimal time ++ codes "\n"
+spelling_of (says_steady steady) = codes "steady " ++ yes_or_no steady ++ codes "\n"
+spelling_of (says_domain clock rate ticks) =
     codes "domain " ++ decimal clock ++ codes " rate " ++ number_or_dash rate ++ codes " ticks " ++ decimal ticks ++ codes "\n"
-spelled (says_out_stream interface setting level target met) =
+spelling_of (says_out_stream interface setting level target met) =
     codes "stream " ++ decimal interface ++ codes " out setting " ++ decimal setting ++ codes " level " ++ decimal level
     ++ codes " target " ++ number_or_dash target ++ codes " under " ++ decimal met.under ++ codes " over " ++ decimal met.over
     ++ codes " lost " ++ decimal met.lost ++ codes " missed " ++ decimal met.missed ++ codes "\n"
-spelled (says_in_stream interface setting level met) =
+spelling_of (says_in_stream interface setting level met) =
     codes "stream " ++ decimal interface ++ codes " in setting " ++ decimal setting ++ codes " level " ++ decimal level
     ++ codes " over " ++ decimal met.over ++ codes " lost " ++ decimal met.lost ++ codes "\n"
-spelled (says_meter reading) = codes "meter " ++ meter_name reading.kind ++ codes " " ++ decimal reading.value ++ codes "\n"
-spelled (says_renders count) = codes "renders " ++ decimal count ++ codes "\n"
+spelling_of (says_meter reading) = codes "meter " ++ meter_name reading.kind ++ codes " " ++ decimal reading.value ++ codes "\n"
+spelling_of (says_renders count) = codes "renders " ++ decimal count ++ codes "\n"

@@ -2,14 +2,14 @@
 ghost use Rattle.std.specs.Prelude.{◌≡◌, ◌+◌, ◌*◌, ◌≤◌, [], ◌++◌, length};
 ghost use Rattle.uac_edges.specs.Faults.{HasCause};
 ghost use Rattle.uac_edges.specs.Writing.{Writes};
-ghost use Rattle.uac_transcript.specs.Transcript.{samples_text, says_frame, says_played, spelled};
+ghost use Rattle.uac_transcript.specs.Transcript.{samples_text, says_frame, says_played, spelling_of};
 
 use uac_edges::{Failed, Sink, TextLine, give_all};
 use uac_pcm::Frame;
 
 /// Prints the frame that an output jack played in a tick.
 pub fn write_played<K: Sink>(sink: &mut K, terminal: u8, frame: &Frame) -> Result<(), Failed>
-    ensures written { Writes (K.written sink.old) (K.written sink.new) result (spelled (says_played terminal frame.now.items)) }
+    ensures written { Writes (K.written sink.old) (K.written sink.new) result (spelling_of (says_played terminal frame.now.items)) }
     ensures cause { HasCause (K.faults sink.old) (K.faults sink.new) result }
 {
     let samples = frame.as_slice();
@@ -24,11 +24,11 @@ pub fn write_played<K: Sink>(sink: &mut K, terminal: u8, frame: &Frame) -> Resul
     }
 }
 
-#[tactic(auto, unfolding(crate::specs::Transcript::spelled))]
+#[tactic(auto, unfolding(crate::specs::Transcript::spelling_of))]
 fn push_played<const N: usize>(text: &mut TextLine<N>, terminal: u8, samples: &[i32])
     requires empty { text.old ≡ [] }
     requires room { 23 + 22 * length samples.now ≤ N }
-    ensures { text.new ≡ spelled (says_played terminal samples.now) }
+    ensures { text.new ≡ spelling_of (says_played terminal samples.now) }
 {
     text.push(b"p ");
     text.push_number(u64::from(terminal));
@@ -38,7 +38,7 @@ fn push_played<const N: usize>(text: &mut TextLine<N>, terminal: u8, samples: &[
 
 /// Prints a frame that came from an interface.
 pub fn write_frame<K: Sink>(sink: &mut K, interface: u8, frame: &Frame) -> Result<(), Failed>
-    ensures written { Writes (K.written sink.old) (K.written sink.new) result (spelled (says_frame interface frame.now.items)) }
+    ensures written { Writes (K.written sink.old) (K.written sink.new) result (spelling_of (says_frame interface frame.now.items)) }
     ensures cause { HasCause (K.faults sink.old) (K.faults sink.new) result }
 {
     let samples = frame.as_slice();
@@ -53,11 +53,11 @@ pub fn write_frame<K: Sink>(sink: &mut K, interface: u8, frame: &Frame) -> Resul
     }
 }
 
-#[tactic(auto, unfolding(crate::specs::Transcript::spelled))]
+#[tactic(auto, unfolding(crate::specs::Transcript::spelling_of))]
 fn push_frame<const N: usize>(text: &mut TextLine<N>, interface: u8, samples: &[i32])
     requires empty { text.old ≡ [] }
     requires room { 23 + 22 * length samples.now ≤ N }
-    ensures { text.new ≡ spelled (says_frame interface samples.now) }
+    ensures { text.new ≡ spelling_of (says_frame interface samples.now) }
 {
     text.push(b"r ");
     text.push_number(u64::from(interface));

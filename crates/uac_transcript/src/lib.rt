@@ -16,11 +16,11 @@ mod transfers;
 /// The lines that name an element of the host's view.
 mod views;
 /// Words of several lines.
-mod words;
+mod pieces;
 
 pub use frames::{write_frame, write_played};
 pub use packets::{
-    Arrival, write_feedback, write_in, write_level, write_out, write_over, write_under,
+    PrintedArrival, write_feedback, write_in, write_level, write_out, write_over, write_under,
 };
 pub use report::{
     StreamCounts, write_domain, write_in_stream, write_meter, write_out_stream, write_passed,

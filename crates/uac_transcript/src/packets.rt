@@ -3,14 +3,14 @@ ghost use Rattle.std.specs.Prelude.{◌≡◌, ◌+◌, ◌≤◌, [], ◌++◌,
 ghost use Rattle.uac_edges.specs.Faults.{HasCause};
 ghost use Rattle.uac_edges.specs.Writing.{Writes};
 ghost use Rattle.uac_transcript.specs.Transcript.{arrival_name, says_feedback, says_in, says_level, says_out, says_over, says_under};
-ghost use Rattle.uac_transcript.specs.Transcript.{spelled};
+ghost use Rattle.uac_transcript.specs.Transcript.{spelling_of};
 
-use crate::words::{push_lost_or_ok, push_number_or_dash};
+use crate::pieces::{push_lost_or_ok, push_number_or_dash};
 use uac_edges::{Failed, Sink, TextLine, give_all};
 
 /// How a packet to the device arrived.
 #[derive(Clone, Copy, Debug, PartialEq, Eq)]
-pub enum Arrival {
+pub enum PrintedArrival {
     /// The packet's frames are in the ring.
     Ok,
     /// The packet was lost on the way.
@@ -20,15 +20,15 @@ pub enum Arrival {
 }
 
 // Appends how a packet to the device arrived.
-fn push_arrival<const N: usize>(text: &mut TextLine<N>, arrival: Arrival)
+fn push_arrival<const N: usize>(text: &mut TextLine<N>, arrival: PrintedArrival)
     requires { length text.old + 4 ≤ N }
     ensures text { text.new ≡ text.old ++ arrival_name arrival }
     ensures len { length text.new ≤ length text.old + 4 }
 {
     match arrival {
-        Arrival::Ok => text.push(b"ok"),
-        Arrival::Lost => text.push(b"lost"),
-        Arrival::Over => text.push(b"over"),
+        PrintedArrival::Ok => text.push(b"ok"),
+        PrintedArrival::Lost => text.push(b"lost"),
+        PrintedArrival::Over => text.push(b"over"),
     }
 }
 
@@ -37,9 +37,9 @@ pub fn write_out<K: Sink>(
     sink: &mut K,
     interface: u8,
     frames: u32,
-    arrival: Arrival,
+    arrival: PrintedArrival,
 ) -> Result<(), Failed>
-    ensures written { Writes (K.written sink.old) (K.written sink.new) result (spelled (says_out interface frames arrival)) }
+    ensures written { Writes (K.written sink.old) (K.written sink.new) result (spelling_of (says_out interface frames arrival)) }
     ensures cause { HasCause (K.faults sink.old) (K.faults sink.new) result }
 {
     let mut text: TextLine<64> = TextLine::new();
@@ -47,10 +47,10 @@ pub fn write_out<K: Sink>(
     give_all(sink, text.as_bytes())
 }
 
-#[tactic(auto, unfolding(crate::specs::Transcript::spelled))]
-fn push_out(text: &mut TextLine<64>, interface: u8, frames: u32, arrival: Arrival)
+#[tactic(auto, unfolding(crate::specs::Transcript::spelling_of))]
+fn push_out(text: &mut TextLine<64>, interface: u8, frames: u32, arrival: PrintedArrival)
     requires { text.old ≡ [] }
-    ensures { text.new ≡ spelled (says_out interface frames arrival) }
+    ensures { text.new ≡ spelling_of (says_out interface frames arrival) }
 {
     text.push(b"o ");
     text.push_number(u64::from(interface));
@@ -63,7 +63,7 @@ fn push_out(text: &mut TextLine<64>, interface: u8, frames: u32, arrival: Arriva
 
 /// Prints the packet from the device of an interface: its frames and whether it was lost.
 pub fn write_in<K: Sink>(sink: &mut K, interface: u8, frames: u32, lost: bool) -> Result<(), Failed>
-    ensures written { Writes (K.written sink.old) (K.written sink.new) result (spelled (says_in interface frames lost)) }
+    ensures written { Writes (K.written sink.old) (K.written sink.new) result (spelling_of (says_in interface frames lost)) }
     ensures cause { HasCause (K.faults sink.old) (K.faults sink.new) result }
 {
     let mut text: TextLine<64> = TextLine::new();
@@ -71,10 +71,10 @@ pub fn write_in<K: Sink>(sink: &mut K, interface: u8, frames: u32, lost: bool) -
     give_all(sink, text.as_bytes())
 }
 
-#[tactic(auto, unfolding(crate::specs::Transcript::spelled))]
+#[tactic(auto, unfolding(crate::specs::Transcript::spelling_of))]
 fn push_in(text: &mut TextLine<64>, interface: u8, frames: u32, lost: bool)
     requires { text.old ≡ [] }
-    ensures { text.new ≡ spelled (says_in interface frames lost) }
+    ensures { text.new ≡ spelling_of (says_in interface frames lost) }
 {
     text.push(b"i ");
     text.push_number(u64::from(interface));
@@ -87,7 +87,7 @@ fn push_in(text: &mut TextLine<64>, interface: u8, frames: u32, lost: bool)
 
 /// Prints that the ring of an interface was found empty.
 pub fn write_under<K: Sink>(sink: &mut K, interface: u8) -> Result<(), Failed>
-    ensures written { Writes (K.written sink.old) (K.written sink.new) result (spelled (says_under interface)) }
+    ensures written { Writes (K.written sink.old) (K.written sink.new) result (spelling_of (says_under interface)) }
     ensures cause { HasCause (K.faults sink.old) (K.faults sink.new) result }
 {
     let mut text: TextLine<32> = TextLine::new();
@@ -95,10 +95,10 @@ pub fn write_under<K: Sink>(sink: &mut K, interface: u8) -> Result<(), Failed>
     give_all(sink, text.as_bytes())
 }
 
-#[tactic(auto, unfolding(crate::specs::Transcript::spelled))]
+#[tactic(auto, unfolding(crate::specs::Transcript::spelling_of))]
 fn push_under(text: &mut TextLine<32>, interface: u8)
     requires { text.old ≡ [] }
-    ensures { text.new ≡ spelled (says_under interface) }
+    ensures { text.new ≡ spelling_of (says_under interface) }
 {
     text.push(b"under ");
     text.push_number(u64::from(interface));
@@ -107,7 +107,7 @@ fn push_under(text: &mut TextLine<32>, interface: u8)
 
 /// Prints that the ring of an interface had no room.
 pub fn write_over<K: Sink>(sink: &mut K, interface: u8) -> Result<(), Failed>
-    ensures written { Writes (K.written sink.old) (K.written sink.new) result (spelled (says_over interface)) }
+    ensures written { Writes (K.written sink.old) (K.written sink.new) result (spelling_of (says_over interface)) }
     ensures cause { HasCause (K.faults sink.old) (K.faults sink.new) result }
 {
     let mut text: TextLine<32> = TextLine::new();
@@ -115,10 +115,10 @@ pub fn write_over<K: Sink>(sink: &mut K, interface: u8) -> Result<(), Failed>
     give_all(sink, text.as_bytes())
 }
 
-#[tactic(auto, unfolding(crate::specs::Transcript::spelled))]
+#[tactic(auto, unfolding(crate::specs::Transcript::spelling_of))]
 fn push_over(text: &mut TextLine<32>, interface: u8)
     requires { text.old ≡ [] }
-    ensures { text.new ≡ spelled (says_over interface) }
+    ensures { text.new ≡ spelling_of (says_over interface) }
 {
     text.push(b"over ");
     text.push_number(u64::from(interface));
@@ -132,7 +132,7 @@ pub fn write_level<K: Sink>(
     level: u32,
     target: Option<u32>,
 ) -> Result<(), Failed>
-    ensures written { Writes (K.written sink.old) (K.written sink.new) result (spelled (says_level interface level target)) }
+    ensures written { Writes (K.written sink.old) (K.written sink.new) result (spelling_of (says_level interface level target)) }
     ensures cause { HasCause (K.faults sink.old) (K.faults sink.new) result }
 {
     let mut text: TextLine<80> = TextLine::new();
@@ -140,10 +140,10 @@ pub fn write_level<K: Sink>(
     give_all(sink, text.as_bytes())
 }
 
-#[tactic(auto, unfolding(crate::specs::Transcript::spelled))]
+#[tactic(auto, unfolding(crate::specs::Transcript::spelling_of))]
 fn push_level(text: &mut TextLine<80>, interface: u8, level: u32, target: Option<u32>)
     requires { text.old ≡ [] }
-    ensures { text.new ≡ spelled (says_level interface level target) }
+    ensures { text.new ≡ spelling_of (says_level interface level target) }
 {
     text.push(b"l ");
     text.push_number(u64::from(interface));
@@ -161,7 +161,7 @@ pub fn write_feedback<K: Sink>(
     value: u32,
     lost: bool,
 ) -> Result<(), Failed>
-    ensures written { Writes (K.written sink.old) (K.written sink.new) result (spelled (says_feedback interface value lost)) }
+    ensures written { Writes (K.written sink.old) (K.written sink.new) result (spelling_of (says_feedback interface value lost)) }
     ensures cause { HasCause (K.faults sink.old) (K.faults sink.new) result }
 {
     let mut text: TextLine<64> = TextLine::new();
@@ -169,10 +169,10 @@ pub fn write_feedback<K: Sink>(
     give_all(sink, text.as_bytes())
 }
 
-#[tactic(auto, unfolding(crate::specs::Transcript::spelled))]
+#[tactic(auto, unfolding(crate::specs::Transcript::spelling_of))]
 fn push_feedback(text: &mut TextLine<64>, interface: u8, value: u32, lost: bool)
     requires { text.old ≡ [] }
-    ensures { text.new ≡ spelled (says_feedback interface value lost) }
+    ensures { text.new ≡ spelling_of (says_feedback interface value lost) }
 {
     text.push(b"f ");
     text.push_number(u64::from(interface));

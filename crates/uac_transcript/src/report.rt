@@ -3,9 +3,9 @@ ghost use Rattle.std.specs.Prelude.{◌≡◌, ◌≤◌, length};
 ghost use Rattle.uac_edges.specs.Faults.{HasCause};
 ghost use Rattle.uac_edges.specs.Writing.{Writes};
 ghost use Rattle.uac_transcript.specs.Transcript.{meter_name, says_domain, says_in_stream, says_meter, says_out_stream, says_passed};
-ghost use Rattle.uac_transcript.specs.Transcript.{says_renders, says_steady, spelled};
+ghost use Rattle.uac_transcript.specs.Transcript.{says_renders, says_steady, spelling_of};
 
-use crate::words::{push_number_or_dash, yes_or_no};
+use crate::pieces::{push_number_or_dash, yes_or_no};
 use uac_edges::{Failed, Sink, TextLine, give_all};
 use uac_units::MeterKind;
 
@@ -21,15 +21,15 @@ pub struct StreamCounts {
 
 /// Prints the microframes since the start.
 pub fn write_passed<K: Sink>(sink: &mut K, time: u64) -> Result<(), Failed>
-    ensures written { Writes (K.written sink.old) (K.written sink.new) result (spelled (says_passed time)) }
+    ensures written { Writes (K.written sink.old) (K.written sink.new) result (spelling_of (says_passed time)) }
     ensures cause { HasCause (K.faults sink.old) (K.faults sink.new) result }
 {
     give_all(sink, time_line(time).as_bytes())
 }
 
-#[tactic(auto, unfolding(crate::specs::Transcript::spelled))]
+#[tactic(auto, unfolding(crate::specs::Transcript::spelling_of))]
 fn time_line(time: u64) -> TextLine<32>
-    ensures { result ≡ spelled (says_passed time) }
+    ensures { result ≡ spelling_of (says_passed time) }
 {
     let mut text = TextLine::new();
     text.push(b"time ");
@@ -40,15 +40,15 @@ fn time_line(time: u64) -> TextLine<32>
 
 /// Prints whether all clocks and reports were steady since the start.
 pub fn write_steady<K: Sink>(sink: &mut K, steady: bool) -> Result<(), Failed>
-    ensures written { Writes (K.written sink.old) (K.written sink.new) result (spelled (says_steady steady)) }
+    ensures written { Writes (K.written sink.old) (K.written sink.new) result (spelling_of (says_steady steady)) }
     ensures cause { HasCause (K.faults sink.old) (K.faults sink.new) result }
 {
     give_all(sink, steadiness(steady).as_bytes())
 }
 
-#[tactic(auto, unfolding(crate::specs::Transcript::spelled))]
+#[tactic(auto, unfolding(crate::specs::Transcript::spelling_of))]
 fn steadiness(steady: bool) -> TextLine<32>
-    ensures { result ≡ spelled (says_steady steady) }
+    ensures { result ≡ spelling_of (says_steady steady) }
 {
     let mut text = TextLine::new();
     text.push(b"steady ");
@@ -64,15 +64,15 @@ pub fn write_domain<K: Sink>(
     rate: Option<u32>,
     ticks: u64,
 ) -> Result<(), Failed>
-    ensures written { Writes (K.written sink.old) (K.written sink.new) result (spelled (says_domain domain rate ticks)) }
+    ensures written { Writes (K.written sink.old) (K.written sink.new) result (spelling_of (says_domain domain rate ticks)) }
     ensures cause { HasCause (K.faults sink.old) (K.faults sink.new) result }
 {
     give_all(sink, domain_text(domain, rate, ticks).as_bytes())
 }
 
-#[tactic(auto, unfolding(crate::specs::Transcript::spelled))]
+#[tactic(auto, unfolding(crate::specs::Transcript::spelling_of))]
 fn domain_text(domain: u8, rate: Option<u32>, ticks: u64) -> TextLine<128>
-    ensures { result ≡ spelled (says_domain domain rate ticks) }
+    ensures { result ≡ spelling_of (says_domain domain rate ticks) }
 {
     let mut text = TextLine::new();
     text.push(b"domain ");
@@ -95,7 +95,7 @@ pub fn write_out_stream<K: Sink>(
     met: StreamCounts,
 ) -> Result<(), Failed>
     ensures written { Writes (K.written sink.old) (K.written sink.new) result
-        (spelled (says_out_stream interface setting level target met)) }
+        (spelling_of (says_out_stream interface setting level target met)) }
     ensures cause { HasCause (K.faults sink.old) (K.faults sink.new) result }
 {
     give_all(
@@ -104,7 +104,7 @@ pub fn write_out_stream<K: Sink>(
     )
 }
 
-#[tactic(auto, unfolding(crate::specs::Transcript::spelled))]
+#[tactic(auto, unfolding(crate::specs::Transcript::spelling_of))]
 fn out_stream(
     interface: u8,
     setting: u8,
@@ -112,7 +112,7 @@ fn out_stream(
     target: Option<u32>,
     met: StreamCounts,
 ) -> TextLine<256>
-    ensures { result ≡ spelled (says_out_stream interface setting level target met) }
+    ensures { result ≡ spelling_of (says_out_stream interface setting level target met) }
 {
     let mut text = TextLine::new();
     text.push(b"stream ");
@@ -143,15 +143,15 @@ pub fn write_in_stream<K: Sink>(
     level: u32,
     met: StreamCounts,
 ) -> Result<(), Failed>
-    ensures written { Writes (K.written sink.old) (K.written sink.new) result (spelled (says_in_stream interface setting level met)) }
+    ensures written { Writes (K.written sink.old) (K.written sink.new) result (spelling_of (says_in_stream interface setting level met)) }
     ensures cause { HasCause (K.faults sink.old) (K.faults sink.new) result }
 {
     give_all(sink, in_stream(interface, setting, level, met).as_bytes())
 }
 
-#[tactic(auto, unfolding(crate::specs::Transcript::spelled))]
+#[tactic(auto, unfolding(crate::specs::Transcript::spelling_of))]
 fn in_stream(interface: u8, setting: u8, level: u32, met: StreamCounts) -> TextLine<160>
-    ensures { result ≡ spelled (says_in_stream interface setting level met) }
+    ensures { result ≡ spelling_of (says_in_stream interface setting level met) }
 {
     let mut text = TextLine::new();
     text.push(b"stream ");
@@ -171,15 +171,15 @@ fn in_stream(interface: u8, setting: u8, level: u32, met: StreamCounts) -> TextL
 /// Prints what a meter shows.
 pub fn write_meter<K: Sink>(sink: &mut K, kind: MeterKind, value: u64) -> Result<(), Failed>
     ensures written { Writes (K.written sink.old) (K.written sink.new) result
-        (spelled (says_meter (record { kind = kind; value = value }))) }
+        (spelling_of (says_meter (record { kind = kind; value = value }))) }
     ensures cause { HasCause (K.faults sink.old) (K.faults sink.new) result }
 {
     give_all(sink, meter(kind, value).as_bytes())
 }
 
-#[tactic(auto, unfolding(crate::specs::Transcript::spelled))]
+#[tactic(auto, unfolding(crate::specs::Transcript::spelling_of))]
 fn meter(kind: MeterKind, value: u64) -> TextLine<64>
-    ensures { result ≡ spelled (says_meter (record { kind = kind; value = value })) }
+    ensures { result ≡ spelling_of (says_meter (record { kind = kind; value = value })) }
 {
     let mut text = TextLine::new();
     text.push(b"meter ");
@@ -203,15 +203,15 @@ fn meter_name(kind: MeterKind) -> &'static [u8]
 
 /// Prints how many units were rendered since the start.
 pub fn write_renders<K: Sink>(sink: &mut K, count: u64) -> Result<(), Failed>
-    ensures written { Writes (K.written sink.old) (K.written sink.new) result (spelled (says_renders count)) }
+    ensures written { Writes (K.written sink.old) (K.written sink.new) result (spelling_of (says_renders count)) }
     ensures cause { HasCause (K.faults sink.old) (K.faults sink.new) result }
 {
     give_all(sink, renders(count).as_bytes())
 }
 
-#[tactic(auto, unfolding(crate::specs::Transcript::spelled))]
+#[tactic(auto, unfolding(crate::specs::Transcript::spelling_of))]
 fn renders(count: u64) -> TextLine<32>
-    ensures { result ≡ spelled (says_renders count) }
+    ensures { result ≡ spelling_of (says_renders count) }
 {
     let mut text = TextLine::new();
     text.push(b"renders ");

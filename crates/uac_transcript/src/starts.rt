@@ -2,7 +2,7 @@
 ghost use Rattle.std.specs.Prelude.{◌≡◌, []};
 ghost use Rattle.uac_edges.specs.Faults.{HasCause};
 ghost use Rattle.uac_edges.specs.Writing.{Writes};
-ghost use Rattle.uac_transcript.specs.Transcript.{says_ready, says_time, spelled};
+ghost use Rattle.uac_transcript.specs.Transcript.{says_ready, says_time, spelling_of};
 
 use uac_edges::{Failed, Sink, TextLine, give_all};
 
@@ -13,15 +13,15 @@ pub fn write_ready<K: Sink>(
     streams: usize,
     domains: usize,
 ) -> Result<(), Failed>
-    ensures written { Writes (K.written sink.old) (K.written sink.new) result (spelled (says_ready entities streams domains)) }
+    ensures written { Writes (K.written sink.old) (K.written sink.new) result (spelling_of (says_ready entities streams domains)) }
     ensures cause { HasCause (K.faults sink.old) (K.faults sink.new) result }
 {
     give_all(sink, ready(entities, streams, domains).as_bytes())
 }
 
-#[tactic(auto, unfolding(crate::specs::Transcript::spelled))]
+#[tactic(auto, unfolding(crate::specs::Transcript::spelling_of))]
 fn ready(entities: usize, streams: usize, domains: usize) -> TextLine<128>
-    ensures { result ≡ spelled (says_ready entities streams domains) }
+    ensures { result ≡ spelling_of (says_ready entities streams domains) }
 {
     let mut text = TextLine::new();
     text.push(b"ready entities ");
@@ -36,7 +36,7 @@ fn ready(entities: usize, streams: usize, domains: usize) -> TextLine<128>
 
 /// Prints the number of a microframe, from 1.
 pub fn write_time<K: Sink>(sink: &mut K, number: u64) -> Result<(), Failed>
-    ensures written { Writes (K.written sink.old) (K.written sink.new) result (spelled (says_time number)) }
+    ensures written { Writes (K.written sink.old) (K.written sink.new) result (spelling_of (says_time number)) }
     ensures cause { HasCause (K.faults sink.old) (K.faults sink.new) result }
 {
     let mut text: TextLine<32> = TextLine::new();
@@ -44,10 +44,10 @@ pub fn write_time<K: Sink>(sink: &mut K, number: u64) -> Result<(), Failed>
     give_all(sink, text.as_bytes())
 }
 
-#[tactic(auto, unfolding(crate::specs::Transcript::spelled))]
+#[tactic(auto, unfolding(crate::specs::Transcript::spelling_of))]
 fn push_time(text: &mut TextLine<32>, number: u64)
     requires { text.old ≡ [] }
-    ensures { text.new ≡ spelled (says_time number) }
+    ensures { text.new ≡ spelling_of (says_time number) }
 {
     text.push(b"u ");
     text.push_number(number);

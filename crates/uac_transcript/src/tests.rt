@@ -1,10 +1,10 @@
 // Each line as it is printed.
 use crate::{
-    Arrival, StreamCounts, write_broken, write_domain, write_done, write_feedback, write_frame,
-    write_given, write_in, write_in_stream, write_level, write_meter, write_out, write_out_stream,
-    write_over, write_passed, write_played, write_ready, write_renders, write_set,
-    write_set_stalled, write_stalled, write_steady, write_time, write_under, write_unknown,
-    write_value, write_view_broken,
+    PrintedArrival, StreamCounts, write_broken, write_domain, write_done, write_feedback,
+    write_frame, write_given, write_in, write_in_stream, write_level, write_meter, write_out,
+    write_out_stream, write_over, write_passed, write_played, write_ready, write_renders,
+    write_set, write_set_stalled, write_stalled, write_steady, write_time, write_under,
+    write_unknown, write_value, write_view_broken,
 };
 use arrayvec::ArrayVec;
 use std::test::Fail;
@@ -62,9 +62,9 @@ fn write_lines(sink: &mut MemorySink) -> Result<(), Failed> {
     };
     write_ready(sink, 7, 2, 1)?;
     write_time(sink, 18446744073709551615)?;
-    write_out(sink, 1, 6, Arrival::Ok)?;
-    write_out(sink, 1, 7, Arrival::Lost)?;
-    write_out(sink, 1, 5, Arrival::Over)?;
+    write_out(sink, 1, 6, PrintedArrival::Ok)?;
+    write_out(sink, 1, 7, PrintedArrival::Lost)?;
+    write_out(sink, 1, 5, PrintedArrival::Over)?;
     write_in(sink, 2, 6, false)?;
     write_in(sink, 2, 6, true)?;
     write_frame(sink, 2, &mono)?;
@@ -104,7 +104,7 @@ fn lines_are_printed(rt: HostRuntime) -> Result<(), Fail> {
     let never = WordList::from_vec(vec![in rt.alloc()]?);
     let mut sink = MemorySink::new(rt.alloc(), 3, 4096, never)?;
     assert_eq!(rt; write_lines(&mut sink), Ok(()));
-    assert_eq!(rt; sink.written(), LINES);
+    assert_eq!(rt; sink.bytes_written(), LINES);
     Ok(())
 }
 
@@ -114,7 +114,7 @@ fn many_bytes_are_printed(rt: HostRuntime) -> Result<(), Fail> {
     let never = WordList::from_vec(vec![in rt.alloc()]?);
     let mut sink = MemorySink::new(rt.alloc(), 4096, 4096, never)?;
     assert_eq!(rt; write_given(&mut sink, &[1; 600]), Ok(()));
-    let written = sink.written();
+    let written = sink.bytes_written();
     assert_eq!(rt; written.len(), 8 + 1200 + 1);
     assert!(rt; written.ends_with(b"01\n"));
     Ok(())

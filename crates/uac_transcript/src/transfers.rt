@@ -3,7 +3,7 @@ ghost use Rattle.hex.specs.Hex.{encode_lower};
 ghost use Rattle.std.specs.Prelude.{◌≡◌, ◌≤◌, length};
 ghost use Rattle.uac_edges.specs.Faults.{HasCause};
 ghost use Rattle.uac_edges.specs.Writing.{Writes};
-ghost use Rattle.uac_transcript.specs.Transcript.{broke, gave, hex_or_dash, says_answer, spelled, stalled, was_done};
+ghost use Rattle.uac_transcript.specs.Transcript.{broke, gave, hex_or_dash, says_answer, spelling_of, stalled, was_done};
 
 use uac_edges::{Failed, Sink, TextLine, give_all};
 
@@ -12,7 +12,7 @@ const PIECE: usize = 255;
 
 /// Prints the bytes that a transfer gave, a dash where there are none.
 pub fn write_given<K: Sink>(sink: &mut K, bytes: &[u8]) -> Result<(), Failed>
-    ensures written { Writes (K.written sink.old) (K.written sink.new) result (spelled (says_answer (gave bytes.now))) }
+    ensures written { Writes (K.written sink.old) (K.written sink.new) result (spelling_of (says_answer (gave bytes.now))) }
     ensures cause { HasCause (K.faults sink.old) (K.faults sink.new) result }
 {
     give_all(sink, b"c bytes ")?;
@@ -58,9 +58,9 @@ fn write_piece<K: Sink>(sink: &mut K, bytes: &[u8]) -> Result<(), Failed>
 }
 
 /// Prints that a transfer was done.
-#[tactic(auto, unfolding(crate::specs::Transcript::spelled))]
+#[tactic(auto, unfolding(crate::specs::Transcript::spelling_of))]
 pub fn write_done<K: Sink>(sink: &mut K) -> Result<(), Failed>
-    ensures written { Writes (K.written sink.old) (K.written sink.new) result (spelled (says_answer was_done)) }
+    ensures written { Writes (K.written sink.old) (K.written sink.new) result (spelling_of (says_answer was_done)) }
     ensures cause { HasCause (K.faults sink.old) (K.faults sink.new) result }
 {
     give_all(sink, b"c done\n")
@@ -68,15 +68,15 @@ pub fn write_done<K: Sink>(sink: &mut K) -> Result<(), Failed>
 
 /// Prints the rule by which a transfer was stalled.
 pub fn write_stalled<K: Sink>(sink: &mut K, rule: u8) -> Result<(), Failed>
-    ensures written { Writes (K.written sink.old) (K.written sink.new) result (spelled (says_answer (stalled rule))) }
+    ensures written { Writes (K.written sink.old) (K.written sink.new) result (spelling_of (says_answer (stalled rule))) }
     ensures cause { HasCause (K.faults sink.old) (K.faults sink.new) result }
 {
     give_all(sink, stalled_text(rule).as_bytes())
 }
 
-#[tactic(auto, unfolding(crate::specs::Transcript::spelled))]
+#[tactic(auto, unfolding(crate::specs::Transcript::spelling_of))]
 fn stalled_text(rule: u8) -> TextLine<64>
-    ensures { result ≡ spelled (says_answer (stalled rule)) }
+    ensures { result ≡ spelling_of (says_answer (stalled rule)) }
 {
     let mut text = TextLine::new();
     text.push(b"c stall Q");
@@ -86,9 +86,9 @@ fn stalled_text(rule: u8) -> TextLine<64>
 }
 
 /// Prints that a transfer broke.
-#[tactic(auto, unfolding(crate::specs::Transcript::spelled))]
+#[tactic(auto, unfolding(crate::specs::Transcript::spelling_of))]
 pub fn write_broken<K: Sink>(sink: &mut K) -> Result<(), Failed>
-    ensures written { Writes (K.written sink.old) (K.written sink.new) result (spelled (says_answer broke)) }
+    ensures written { Writes (K.written sink.old) (K.written sink.new) result (spelling_of (says_answer broke)) }
     ensures cause { HasCause (K.faults sink.old) (K.faults sink.new) result }
 {
     give_all(sink, b"c broken\n")

@@ -38,7 +38,7 @@ fn elements_are_printed(rt: HostRuntime) -> Result<(), Fail> {
     let mut sink = MemorySink::new(rt.alloc(), 64, 4096, never)?;
     assert_eq!(rt; write_elements(&mut sink, &[VOLUME, MUTE]), Ok(()));
     assert_eq!(rt;
-        sink.written(),
+        sink.bytes_written(),
         b"volume.3.1 rw -256\nmute.3.0 ro 0\n".as_slice()
     );
     Ok(())
@@ -112,7 +112,7 @@ fn entities_are_printed(rt: HostRuntime) -> Result<(), Fail> {
         let mut sink = MemorySink::new(alloc, 64, 4096, never)?;
         let entities = [entity(alloc, id, kind, channels, sources, clock)?];
         assert_eq!(rt; write_entities(&mut sink, &entities), Ok(()));
-        assert_eq!(rt; sink.written(), text.as_bytes());
+        assert_eq!(rt; sink.bytes_written(), text.as_bytes());
     }
     Ok(())
 }

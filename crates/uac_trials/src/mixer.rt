@@ -114,7 +114,7 @@ fn a_view_lists_what_is_declared(rt: HostRuntime) -> Result<(), Fail> {
     Ok(())
 }
 
-/// Whether the device behind a link can be read.
+/// Whether the device at the end of a link can be read.
 fn is_read<L: Link>(alloc: Global, link: &mut L) -> bool {
     match View::read(alloc, link) {
         Ok(_) => true,

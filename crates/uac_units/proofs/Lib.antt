@@ -3,6 +3,6 @@ pub mod Listing
 pub mod Mixing
 pub mod NodeLanes
 pub mod Samples
-pub mod Tallying
+pub mod HearingLemmas
 pub mod Worked
 pub mod Writing

@@ -9,7 +9,7 @@ use Rattle.uac_units.specs.declared.jobs.Job.{Job}
 use Rattle.std.specs.Simd.Lanes.{Each1, zip2}
 use Rattle.uac_units.specs.SampleLanes.{HasRoom, eight}
 use Rattle.uac_units.specs.Rendering.{input}
-use Rattle.uac_gain.specs.Gain.{floored, scaled}
+use Rattle.uac_gain.specs.Gain.{product_floor, scaled}
 use Rattle.uac_units.proofs.SampleLanesLemmas.{saturated-mag, eight-same, eight-each}
 
 -- one input, scaled by the gain of its node
@@ -45,7 +45,7 @@ mixed-bound job pins channel zero = omega (arith, ints)
 mixed-bound job pins channel (suc n) =
     let sum = mixed_front job pins channel n in
     let sample = node job pins channel n in
-    let fits : mag sample < 2147483648 = saturated-mag (floored (input pins n) (slice_index job.gains.items (n * job.outputs + channel))) in
+    let fits : mag sample < 2147483648 = saturated-mag (product_floor (input pins n) (slice_index job.gains.items (n * job.outputs + channel))) in
     let next : suc n ≡ n + 1 = omega arith in
     let more : unsigned_abs (mixed_front job pins channel (suc n)) ≡ unsigned_abs (sum +ℤ sample) =
     ap (λ k. unsigned_abs (mixed_front job pins channel k)) next ∙ ap unsigned_abs (mixed_front_more job pins channel n) in

@@ -6,7 +6,7 @@ use Rattle.std.proofs.lemmas.Int.{ints, to_z-of_z}
 use Rattle.std.proofs.lemmas.Nat.{le_or_l, le_or_r, or_mod}
 use Rattle.std.proofs.Math.Nat.{mul-le-mul_left}
 use Rattle.std.specs.Simd.Lanes.{Each1, zip2, fold_l, sel_l}
-use Rattle.uac_gain.specs.Gain.{floor_div, floored, saturated, scaled}
+use Rattle.uac_gain.specs.Gain.{floor_div, product_floor, saturated, scaled}
 use Rattle.uac_units.specs.SampleLanes.{IsGain, floored_by, scaled_by, together}
 use Rattle.uac_units.proofs.SampleLanesLemmas.{gain-lane, lane-is, lane-of, saturated-mag}
 
@@ -56,23 +56,23 @@ silent (negsuc a) gain e =
 kept : (z : ℤ) → mag z < 2 ^ 31 → saturated z ≡ z
 kept z h = grind (arith, ints)
 
-floored-below : (a p : ℕ) → p ≤ suc a * 1073741824 → suc a ≤ 2147483648 → mag (floor_div (neg_ℤ (pos p)) (2 ^ 30)) < 2 ^ 31
-floored-below a zero h k = omega arith
-floored-below a (suc p) h k = omega arith
+product_floor-below : (a p : ℕ) → p ≤ suc a * 1073741824 → suc a ≤ 2147483648 → mag (floor_div (neg_ℤ (pos p)) (2 ^ 30)) < 2 ^ 31
+product_floor-below a zero h k = omega arith
+product_floor-below a (suc p) h k = omega arith
 
-floored-fits : (s : ℤ) (gain : ℕ) → FitsSigned w32 s → gain ≤ 1073741824 → mag (floored s gain) < 2 ^ 31
-floored-fits (pos a) gain fits low =
+product_floor-fits : (s : ℤ) (gain : ℕ) → FitsSigned w32 s → gain ≤ 1073741824 → mag (product_floor s gain) < 2 ^ 31
+product_floor-fits (pos a) gain fits low =
     let k : a * gain ≤ a * 1073741824 = mul-le-mul_left a low in
     let small : a < 2147483648 = omega (arith, ints, fits.sfits) in
     omega arith
-floored-fits (negsuc a) gain fits low =
+product_floor-fits (negsuc a) gain fits low =
     let k : suc a * gain ≤ suc a * 1073741824 = mul-le-mul_left (suc a) low in
     let small : suc a ≤ 2147483648 = omega (arith, ints, fits.sfits) in
-    floored-below a (suc a * gain) k small
+    product_floor-below a (suc a * gain) k small
 
 -- a gain of at most 0 decibels leaves no sample to be held to 32 bits
-pub low-scaled : (s : ℤ) (gain : ℕ) → FitsSigned w32 s → gain ≤ 1073741824 → floored s gain ≡ scaled s gain
-low-scaled s gain fits low = sym (kept (floored s gain) (floored-fits s gain fits low))
+pub low-scaled : (s : ℤ) (gain : ℕ) → FitsSigned w32 s → gain ≤ 1073741824 → product_floor s gain ≡ scaled s gain
+low-scaled s gain fits low = sym (kept (product_floor s gain) (product_floor-fits s gain fits low))
 
 unchanged : (s : ℤ) → FitsSigned w32 s → scaled s 1073741824 ≡ s
 unchanged (pos a) fits =
@@ -119,7 +119,7 @@ chosen (g ∷ gs) s fits whole =
 
 pub scaled-fits : (s : ℤ) (gains : List ℕ) → Each1 (FitsSigned w32) (map (scaled s) gains)
 scaled-fits s [] = tt
-scaled-fits s (g ∷ gs) = (record { sfits = saturated-mag (floored s g) }, scaled-fits s gs)
+scaled-fits s (g ∷ gs) = (record { sfits = saturated-mag (product_floor s g) }, scaled-fits s gs)
 
 -- ---- gains as lanes of 64 bits
 

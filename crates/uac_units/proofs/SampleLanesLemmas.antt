@@ -123,10 +123,10 @@ clamped-lanes [] each = refl
 clamped-lanes (x ∷ xs) each =
     ap (λ z. z ∷ clamps xs (replicate (length xs) 18446744071562067968) (replicate (length xs) 2147483647)) (clamped x each.0.sfits) ∙ ap (λ zs. saturated x ∷ zs) (clamped-lanes xs each.1)
 
-pub floored-fits : (samples gains : List ℤ) → Each2 Small samples gains → Each1 (FitsSigned w64) (zip2 floored_by samples gains)
-floored-fits [] gains small = tt
-floored-fits (s ∷ ss) [] small = tt
-floored-fits (s ∷ ss) (g ∷ gs) small = (record { sfits = floor-small (s *ℤ g) (small-product s g small.0) }, floored-fits ss gs small.1)
+pub product_floor-fits : (samples gains : List ℤ) → Each2 Small samples gains → Each1 (FitsSigned w64) (zip2 floored_by samples gains)
+product_floor-fits [] gains small = tt
+product_floor-fits (s ∷ ss) [] small = tt
+product_floor-fits (s ∷ ss) (g ∷ gs) small = (record { sfits = floor-small (s *ℤ g) (small-product s g small.0) }, product_floor-fits ss gs small.1)
 
 pub small-lanes : (samples gains : List ℤ) → Each1 (FitsSigned w32) samples → Each1 IsGain gains → Each2 Small samples gains
 small-lanes samples gains fits are = Each2-of (FitsSigned w32) IsGain Small (λ s g a b. (a, b)) samples gains fits are

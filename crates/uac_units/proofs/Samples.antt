@@ -8,15 +8,15 @@ use Rattle.uac_gain.specs.Gain.{scaled}
 use Rattle.uac_units.specs.declared.jobs.Job.{Job}
 use Rattle.uac_units.specs.declared.jobs.UnitKind.{UnitKind}
 use Rattle.uac_units.specs.declared.jobs.UnitKind.TheVariants.{Mixer, Selector, Feature, Effect}
-use Rattle.uac_units.specs.Rendering.{by_frames, in_a_row, pins_sample, rendered, set_by, unit_sample}
+use Rattle.uac_units.specs.Rendering.{by_frames, in_a_row, pins_sample, job_samples, set_by, unit_sample}
 
-pub length-rendered : (kind : UnitKind) (job : Job) (pins : List ℤ) → length (rendered kind job pins) ≡ job.outputs
-unfolding rendered
-length-rendered kind job pins = length-map-range_with_len (pins_sample kind job pins) 0 job.outputs
+pub length-job_samples : (kind : UnitKind) (job : Job) (pins : List ℤ) → length (job_samples kind job pins) ≡ job.outputs
+unfolding job_samples
+length-job_samples kind job pins = length-map-range_with_len (pins_sample kind job pins) 0 job.outputs
 
-pub get_or-rendered : (kind : UnitKind) (job : Job) (pins : List ℤ) (channel : ℕ) → channel < job.outputs → get_or (rendered kind job pins) channel (pos 0) ≡ pins_sample kind job pins channel
-unfolding rendered
-get_or-rendered kind job pins channel h = get_or-map-range_with_len (pins_sample kind job pins) 0 job.outputs channel channel (pos 0) h (omega arith)
+pub get_or-job_samples : (kind : UnitKind) (job : Job) (pins : List ℤ) (channel : ℕ) → channel < job.outputs → get_or (job_samples kind job pins) channel (pos 0) ≡ pins_sample kind job pins channel
+unfolding job_samples
+get_or-job_samples kind job pins channel h = get_or-map-range_with_len (pins_sample kind job pins) 0 job.outputs channel channel (pos 0) h (omega arith)
 
 -- a channel of the first frame
 first-in_a_row : (sources : List (List ℤ)) (channel : ℕ) → channel < length (get_or sources 0 []) → get_or (in_a_row sources) channel (pos 0) ≡ get_or (get_or sources 0 []) channel (pos 0)

@@ -6,7 +6,7 @@ use Rattle.std.proofs.lemmas.List.FromFn.{get_or-map-range_with_len, length-map-
 use Rattle.uac_units.specs.declared.jobs.Job.{Job}
 use Rattle.uac_units.specs.declared.jobs.UnitKind.{UnitKind}
 use Rattle.uac_units.specs.declared.jobs.UnitKind.TheVariants.{Mixer, Selector, Feature, Effect}
-use Rattle.uac_units.specs.Rendering.{FitsKind, input, rendered}
+use Rattle.uac_units.specs.Rendering.{FitsKind, input, job_samples}
 
 -- of so many channels the first are what they are to be
 pub record AreWritten (sample : ℕ → ℤ) (channels count : ℕ) (out : List ℤ) : Type 0 where
@@ -40,8 +40,8 @@ inputs_alone inputs channels sized =
     (λ i below. sym (get_or-map-range_with_len (input inputs) 0 channels i i (pos 0) (omega (arith, sized)) (omega arith)))
 
 -- an effect's samples are its inputs
-pub effect_alone : (kind : UnitKind) (job : Job) (inputs : List ℤ) → kind ≡ Effect → FitsKind kind job inputs → inputs ≡ rendered kind job inputs
-unfolding rendered
+pub effect_alone : (kind : UnitKind) (job : Job) (inputs : List ℤ) → kind ≡ Effect → FitsKind kind job inputs → inputs ≡ job_samples kind job inputs
+unfolding job_samples
 effect_alone Effect job inputs e fits = inputs_alone inputs job.outputs fits.numbers
 effect_alone Mixer job inputs e fits = absurd (cc)
 effect_alone Selector job inputs e fits = absurd (cc)

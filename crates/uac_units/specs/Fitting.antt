@@ -2,9 +2,9 @@
 use Rattle.std.specs.Prelude.{◌≡◌}
 use Rattle.uac_units.specs.declared.jobs.UnitKind.{UnitKind}
 use Rattle.uac_units.specs.declared.jobs.UnitKind.TheVariants.{Mixer, Selector, Feature, Effect}
-use Rattle.uac_units.specs.declared.slots.Rack.{Rack}
+use Rattle.uac_units.specs.declared.rack.Rack.{Rack}
 
--- each box of the rack has its slot's kind. A box is a value behind the table of its type's calls; `kind_of` is the kind
+-- each box of the rack has its slot's kind. A box is a value with the table of its type's calls; `kind_of` is the kind
 -- that the trait `Unit` gives it
 pub record IsFitted {Table : Type 0} {Boxed : Table → Type 0} (kind_of : (table : Table) → Boxed table
     → UnitKind) (rack : Rack Table Boxed) : Type 0 where

@@ -23,11 +23,11 @@ abbrev pub is_clipped : ℤ → Bool
 is_clipped sample = int_eq sample (pos 2147483647) || int_eq sample (negsuc 2147483647)
 
 -- the value after a frame, by kind
-abbrev pub heard : MeterKind → ℕ → List ℤ → ℕ
-heard Peak value frame = at_most_u64 (max value (peak_of frame))
-heard Clipped value frame = at_most_u64 (value + count_by is_clipped frame)
-heard Sum value frame = at_most_u64 (value + sum_by unsigned_abs frame)
+abbrev pub value_after_hearing : MeterKind → ℕ → List ℤ → ℕ
+value_after_hearing Peak value frame = at_most_u64 (max value (peak_of frame))
+value_after_hearing Clipped value frame = at_most_u64 (value + count_by is_clipped frame)
+value_after_hearing Sum value frame = at_most_u64 (value + sum_by unsigned_abs frame)
 
 -- the reading after a frame
 unfoldable pub after_hearing : List ℤ → Reading → Reading
-after_hearing frame reading = record { kind = reading.kind; value = heard reading.kind reading.value frame }
+after_hearing frame reading = record { kind = reading.kind; value = value_after_hearing reading.kind reading.value frame }

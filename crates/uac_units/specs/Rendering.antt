@@ -27,7 +27,7 @@ input pins at = slice_index_or pins at (pos 0)
 
 -- how a unit is set, whichever of these its kind has: the gain of a mixer's node, by input and output, a selector's pin, from 0,
 -- and the two gains of a feature's channel, its own and the master's
-pub record Setting : Type 0 where
+pub record UnitControls : Type 0 where
   pub node : ℕ → ℕ → ℕ
   pub chosen : ℕ
   pub own : ℕ → ℕ
@@ -48,14 +48,14 @@ job_sum node inputs channel =
 
 -- the sample of an output channel: a mixer's is the saturated sum, a selector's its chosen pin's, a feature's its one source's,
 -- scaled by the channel's gain and then by the master's, an effect's its one source's
-abbrev pub unit_sample : UnitKind → Setting → Inputs → ℕ → ℤ
+abbrev pub unit_sample : UnitKind → UnitControls → Inputs → ℕ → ℤ
 unit_sample Mixer setting inputs channel = saturated (job_sum setting.node inputs.all channel)
 unit_sample Selector setting inputs channel = inputs.of_pin setting.chosen channel
 unit_sample Feature setting inputs channel = scaled (scaled (inputs.of_only channel) (setting.own channel)) (setting.master channel)
 unit_sample Effect setting inputs channel = inputs.of_only channel
 
 -- how a job sets its unit: a mixer's gains stand by inputs, a feature's in turn
-abbrev pub set_by : Job → Setting
+abbrev pub set_by : Job → UnitControls
 set_by job = record {
   node = λ at channel. slice_index job.gains.items (at * job.outputs + channel);
   chosen = job.pin;
@@ -93,5 +93,5 @@ abbrev pub pins_sample : UnitKind → Job → List ℤ → ℕ → ℤ
 pins_sample kind job pins channel = unit_sample kind (set_by job) (by_row job.outputs pins) channel
 
 -- the samples of all output channels
-unfoldable pub rendered : UnitKind → Job → List ℤ → List ℤ
-rendered kind job pins = map (pins_sample kind job pins) (range_with_len 0 job.outputs)
+unfoldable pub job_samples : UnitKind → Job → List ℤ → List ℤ
+job_samples kind job pins = map (pins_sample kind job pins) (range_with_len 0 job.outputs)

@@ -8,14 +8,14 @@ ghost use Rattle.std.specs.Simd.Lanes.{Each1};
 ghost use Rattle.uac_units.specs.declared.jobs.UnitKind.{UnitKind};
 ghost use Rattle.uac_units.specs.declared.jobs.UnitKind.TheVariants.{Mixer, Selector, Feature, Effect};
 ghost use Rattle.uac_units.specs.SampleLanes.{eight};
-ghost use Rattle.uac_units.specs.Rendering.{FitsKind, pins_sample, rendered};
+ghost use Rattle.uac_units.specs.Rendering.{FitsKind, pins_sample, job_samples};
 
-use crate::counting::Steps;
 use crate::eights::{eight_gains, eight_inputs, narrow_eight, saturate_eight, scale_eight};
 use crate::jobs::{Job, Pins, UnitKind};
 use crate::nodes::{add_scaled, eight_nodes};
 use crate::plain::mix;
 use crate::rendering::Unit;
+use crate::steps::Steps;
 use std::simd::prelude::*;
 use uac_gain::scale;
 use uac_pcm::Frame;
@@ -155,7 +155,7 @@ impl Unit for LaneEffect {
 fn render_by_lanes<U: OnLanes>(job: &Job, pins: &Pins, out: &mut Frame, steps: &mut Steps)
     requires fits { FitsKind U.lane_kind job.now pins.now.items }
     requires room { steps.old + 1 < 2 ^ 64 }
-    ensures samples { out.new.items ≡ rendered U.lane_kind job.now pins.now.items }
+    ensures samples { out.new.items ≡ job_samples U.lane_kind job.now pins.now.items }
     ensures counted { steps.new ≡ steps.old + 1 }
 {
     render_eights::<U>(job, pins, out);

@@ -2,8 +2,8 @@
 
 ghost use Rattle.std.specs.Prelude.{◌≡◌, ℕ, ◌+◌, ◌^◌, ◌<◌, ◌≤◌, ℤ, pos, List, [], length, slice_index_or};
 ghost use Rattle.std.specs.List.{All};
-ghost use Rattle.uac_units.specs.Hearing.{heard};
-ghost use Rattle.uac_units.specs.Rendering.{by_frames, in_a_row, pins_sample, rendered, set_by, unit_sample};
+ghost use Rattle.uac_units.specs.Hearing.{value_after_hearing};
+ghost use Rattle.uac_units.specs.Rendering.{by_frames, in_a_row, pins_sample, job_samples, set_by, unit_sample};
 ghost use Rattle.uac_units.specs.declared.hearing.MeterKind.{MeterKind};
 ghost use Rattle.uac_units.specs.declared.jobs.Job.{Job};
 ghost use Rattle.uac_units.specs.declared.jobs.UnitKind.{UnitKind};
@@ -11,9 +11,9 @@ ghost use Rattle.uac_units.specs.declared.jobs.UnitKind.TheVariants.{Mixer, Sele
 
 /// A unit renders one sample for each output channel.
 pub fn each_output_has_its_sample()
-    ensures length { (kind : UnitKind) (job : Job) (pins : List ℤ) → length (rendered kind job pins) ≡ job.outputs }
+    ensures length { (kind : UnitKind) (job : Job) (pins : List ℤ) → length (job_samples kind job pins) ≡ job.outputs }
     ensures sample { (kind : UnitKind) (job : Job) (pins : List ℤ) (channel : ℕ) → channel < job.outputs
-        → slice_index_or (rendered kind job pins) channel (pos 0) ≡ pins_sample kind job pins channel }
+        → slice_index_or (job_samples kind job pins) channel (pos 0) ≡ pins_sample kind job pins channel }
 {}
 
 /// The pins in a row give what the sources' frames give, pin by pin.
@@ -31,6 +31,6 @@ pub fn pins_are_the_sources()
 
 /// A meter's value never falls, and stays a number of 64 bits.
 pub fn meters_never_fall()
-    ensures rises { (kind : MeterKind) (value : ℕ) (frame : List ℤ) → value < 2 ^ 64 → value ≤ heard kind value frame }
-    ensures fits { (kind : MeterKind) (value : ℕ) (frame : List ℤ) → heard kind value frame < 2 ^ 64 }
+    ensures rises { (kind : MeterKind) (value : ℕ) (frame : List ℤ) → value < 2 ^ 64 → value ≤ value_after_hearing kind value frame }
+    ensures fits { (kind : MeterKind) (value : ℕ) (frame : List ℤ) → value_after_hearing kind value frame < 2 ^ 64 }
 {}

@@ -2,28 +2,28 @@
 #![tactic(auto)]
 
 mod channels;
-mod counting;
 mod eights;
 mod hearing;
 mod jobs;
 mod lanes;
 pub mod laws;
+mod meter_list;
+mod meters;
 mod nodes;
-mod panel;
 mod plain;
+mod rack;
 mod rendering;
-mod slots;
-mod tallies;
+mod steps;
 
-pub use counting::Steps;
 pub use hearing::{Meter, MeterKind};
 pub use jobs::{Job, Pins, UnitKind};
 pub use lanes::{LaneEffect, LaneFeature, LaneMixer, LaneSelector};
-pub use panel::Meters;
+pub use meter_list::Meters;
+pub use meters::{ClippedMeter, PeakMeter, SumMeter};
 pub use plain::{PlainEffect, PlainFeature, PlainMixer, PlainSelector};
+pub use rack::Rack;
 pub use rendering::Unit;
-pub use slots::Rack;
-pub use tallies::{ClippedMeter, PeakMeter, SumMeter};
+pub use steps::Steps;
 
 #[cfg(test)]
 mod tests;

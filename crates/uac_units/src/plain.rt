@@ -3,13 +3,13 @@
 ghost use Rattle.std.specs.Prelude.{◌≡◌, ◌↔◌, ◌+◌, ◌*◌, ◌^◌, ◌<◌, length, true};
 ghost use Rattle.uac_units.specs.declared.jobs.UnitKind.TheVariants.{Mixer, Selector, Feature, Effect};
 ghost use Rattle.uac_gain.specs.Gain.{scaled};
-ghost use Rattle.uac_units.specs.Rendering.{FitsKind, input, pins_sample, rendered};
+ghost use Rattle.uac_units.specs.Rendering.{FitsKind, input, pins_sample, job_samples};
 ghost use Rattle.uac_units.specs.Unity.{HasUnity};
 
 use crate::channels::fit;
-use crate::counting::Steps;
 use crate::jobs::{Job, Pins, UnitKind};
 use crate::rendering::Unit;
+use crate::steps::Steps;
 use uac_gain::laws::{scaling_keeps_the_sign, unity_changes_nothing};
 use uac_gain::{saturate, scale};
 use uac_pcm::Frame;
@@ -86,7 +86,7 @@ impl Unit for PlainEffect {
 fn render_as(kind: UnitKind, job: &Job, pins: &Pins, out: &mut Frame, steps: &mut Steps)
     requires fits { FitsKind kind job.now pins.now.items }
     requires room { steps.old + 1 < 2 ^ 64 }
-    ensures samples { out.new.items ≡ rendered kind job.now pins.now.items }
+    ensures samples { out.new.items ≡ job_samples kind job.now pins.now.items }
     ensures counted { steps.new ≡ steps.old + 1 }
 {
     steps.tick();
@@ -102,7 +102,7 @@ fn render_as(kind: UnitKind, job: &Job, pins: &Pins, out: &mut Frame, steps: &mu
 #[inline(never)]
 fn render_anew(kind: UnitKind, job: &Job, pins: &Pins, out: &mut Frame)
     requires { FitsKind kind job.now pins.now.items }
-    ensures { out.new.items ≡ rendered kind job.now pins.now.items }
+    ensures { out.new.items ≡ job_samples kind job.now pins.now.items }
 {
     fit(out, job.outputs as usize);
     render_samples(kind, job, pins.as_slice(), out.as_mut_slice());
@@ -113,7 +113,7 @@ fn render_anew(kind: UnitKind, job: &Job, pins: &Pins, out: &mut Frame)
 fn render_samples(kind: UnitKind, job: &Job, inputs: &[i32], out: &mut [i32])
     requires fits { FitsKind kind job.now inputs.now }
     requires sized { length out.old ≡ job.now.outputs }
-    ensures { out.new ≡ rendered kind job.now inputs.now }
+    ensures { out.new ≡ job_samples kind job.now inputs.now }
 {
     match kind {
         UnitKind::Mixer => render_mixer(job, inputs, out),
@@ -127,7 +127,7 @@ fn render_samples(kind: UnitKind, job: &Job, inputs: &[i32], out: &mut [i32])
 fn render_mixer(job: &Job, inputs: &[i32], out: &mut [i32])
     requires fits { FitsKind Mixer job.now inputs.now }
     requires sized { length out.old ≡ job.now.outputs }
-    ensures { out.new ≡ rendered Mixer job.now inputs.now }
+    ensures { out.new ≡ job_samples Mixer job.now inputs.now }
 {
     for channel in 0..out.len() {
         out[channel] = mix(job, inputs, channel);
@@ -140,7 +140,7 @@ fn render_mixer(job: &Job, inputs: &[i32], out: &mut [i32])
 fn render_feature(job: &Job, inputs: &[i32], out: &mut [i32])
     requires fits { FitsKind Feature job.now inputs.now }
     requires sized { length out.old ≡ job.now.outputs }
-    ensures { out.new ≡ rendered Feature job.now inputs.now }
+    ensures { out.new ≡ job_samples Feature job.now inputs.now }
 {
     match out.len() {
         1 => render_only(job, inputs, out),
@@ -154,10 +154,10 @@ fn render_only(job: &Job, inputs: &[i32], out: &mut [i32])
     requires fits { FitsKind Feature job.now inputs.now }
     requires sized { length out.old ≡ job.now.outputs }
     requires one { job.now.outputs ≡ 1 }
-    ensures { out.new ≡ rendered Feature job.now inputs.now }
+    ensures { out.new ≡ job_samples Feature job.now inputs.now }
 {
     if stays(job, 0) {
-        let only = unchanged(job, inputs, 0);
+        let only = unity_sample(job, inputs, 0);
         out[0] = only;
     } else {
         render_channels(job, inputs, out);
@@ -169,11 +169,11 @@ fn render_pair(job: &Job, inputs: &[i32], out: &mut [i32])
     requires fits { FitsKind Feature job.now inputs.now }
     requires sized { length out.old ≡ job.now.outputs }
     requires two { job.now.outputs ≡ 2 }
-    ensures { out.new ≡ rendered Feature job.now inputs.now }
+    ensures { out.new ≡ job_samples Feature job.now inputs.now }
 {
     if stays(job, 0) && stays(job, 1) {
-        let left = unchanged(job, inputs, 0);
-        let right = unchanged(job, inputs, 1);
+        let left = unity_sample(job, inputs, 0);
+        let right = unity_sample(job, inputs, 1);
         out[0] = left;
         out[1] = right;
     } else {
@@ -191,7 +191,7 @@ fn stays(job: &Job, channel: usize) -> bool
 }
 
 /// The sample of a channel of a feature whose gains are both 0 decibels: its input.
-fn unchanged(job: &Job, inputs: &[i32], channel: usize) -> i32
+fn unity_sample(job: &Job, inputs: &[i32], channel: usize) -> i32
     requires inside { channel < length inputs.now }
     requires gains { HasUnity job.now channel }
     ensures { result ≡ pins_sample Feature job.now inputs.now channel }
@@ -205,7 +205,7 @@ fn unchanged(job: &Job, inputs: &[i32], channel: usize) -> i32
 fn render_channels(job: &Job, inputs: &[i32], out: &mut [i32])
     requires fits { FitsKind Feature job.now inputs.now }
     requires sized { length out.old ≡ job.now.outputs }
-    ensures { out.new ≡ rendered Feature job.now inputs.now }
+    ensures { out.new ≡ job_samples Feature job.now inputs.now }
 {
     let gains = job.gains.as_slice();
     for channel in 0..out.len() {
@@ -218,7 +218,7 @@ fn render_channels(job: &Job, inputs: &[i32], out: &mut [i32])
 fn render_selector(job: &Job, inputs: &[i32], out: &mut [i32])
     requires fits { FitsKind Selector job.now inputs.now }
     requires sized { length out.old ≡ job.now.outputs }
-    ensures { out.new ≡ rendered Selector job.now inputs.now }
+    ensures { out.new ≡ job_samples Selector job.now inputs.now }
 {
     let from = job.pin as usize * out.len();
     for channel in 0..out.len() {

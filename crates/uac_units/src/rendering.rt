@@ -2,10 +2,10 @@
 
 ghost use Rattle.std.specs.Prelude.{◌≡◌, ◌+◌, ◌^◌, ◌<◌};
 ghost use Rattle.uac_units.specs.declared.jobs.UnitKind.{UnitKind};
-ghost use Rattle.uac_units.specs.Rendering.{FitsKind, rendered};
+ghost use Rattle.uac_units.specs.Rendering.{FitsKind, job_samples};
 
-use crate::counting::Steps;
 use crate::jobs::{Job, Pins, UnitKind};
+use crate::steps::Steps;
 use uac_pcm::Frame;
 
 /// A unit of the signal graph.
@@ -20,6 +20,6 @@ pub trait Unit: Drop {
     fn render(&self, job: &Job, pins: &Pins, out: &mut Frame, steps: &mut Steps)
         requires fits { FitsKind (kind_of self.now) job.now pins.now.items }
         requires room { steps.old + 1 < 2 ^ 64 }
-        ensures samples { out.new.items ≡ rendered (kind_of self.now) job.now pins.now.items }
+        ensures samples { out.new.items ≡ job_samples (kind_of self.now) job.now pins.now.items }
         ensures counted { steps.new ≡ steps.old + 1 };
 }

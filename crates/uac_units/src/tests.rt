@@ -2,7 +2,7 @@
 
 ghost use Rattle.std.specs.Prelude.{◌≡◌, ◌+◌, ◌^◌, ◌<◌, ◌≤◌, length};
 ghost use Rattle.uac_units.specs.Fitting.{IsFitted};
-ghost use Rattle.uac_units.specs.Rendering.{FitsKind, rendered};
+ghost use Rattle.uac_units.specs.Rendering.{FitsKind, job_samples};
 
 use crate::*;
 use arrayvec::ArrayVec;
@@ -66,7 +66,7 @@ fn make_pins(samples: &[i32]) -> Pins
 fn play(unit: &dyn Unit, job: &Job, pins: &Pins, steps: &mut Steps) -> Frame
     requires fits { FitsKind (kind_of unit.now) job.now pins.now.items }
     requires room { steps.old + 1 < 2 ^ 64 }
-    ensures samples { result.items ≡ rendered (kind_of unit.now) job.now pins.now.items }
+    ensures samples { result.items ≡ job_samples (kind_of unit.now) job.now pins.now.items }
     ensures counted { steps.new ≡ steps.old + 1 }
 {
     let mut out = ArrayVec::new();
@@ -79,7 +79,7 @@ fn play_on(rack: &Rack, kind: UnitKind, job: &Job, pins: &Pins, steps: &mut Step
     requires rack { IsFitted (λ v x. (⟦<dyn Unit as Unit>⟧ v).kind_of x) rack.now }
     requires fits { FitsKind kind job.now pins.now.items }
     requires room { steps.old + 1 < 2 ^ 64 }
-    ensures samples { result.items ≡ rendered kind job.now pins.now.items }
+    ensures samples { result.items ≡ job_samples kind job.now pins.now.items }
     ensures counted { steps.new ≡ steps.old + 1 }
 {
     play(rack.unit(kind), job, pins, steps)

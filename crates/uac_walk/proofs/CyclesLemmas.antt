@@ -10,7 +10,7 @@ use Rattle.std.proofs.lemmas.Map.Steps.{length-le_from_distinct_below}
 use Rattle.uac_walk.specs.Walk.{links, has_walk, leads}
 use Rattle.uac_walk.specs.Order.{IsClosed, IsOrder}
 use Rattle.uac_walk.specs.Cycles.{ComesRound, HasCycle, LongWalksComeRound}
-use Rattle.uac_walk.proofs.Walks.{no_longer, joined, for_ever}
+use Rattle.uac_walk.proofs.WalkLemmas.{no_longer, joined, for_ever}
 
 -- a node names another
 Names : List (List ℕ) → ℕ → ℕ → Type 0

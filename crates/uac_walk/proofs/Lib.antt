@@ -1,6 +1,6 @@
-pub mod Times
-pub mod Walks
+pub mod CountLemmas
+pub mod WalkLemmas
 pub mod CyclesLemmas
-pub mod Noting
+pub mod NotingLemmas
 pub mod SettleStep
 pub mod Settled

@@ -4,7 +4,7 @@ use Rattle.std.proofs.lemmas.Bool.{cases_eq, cases_lt, eq-eqb, ne_eqb, lt-ltb}
 use Rattle.std.proofs.lemmas.List.{length-set, get_or-set_same, get_or-set_other, take_more, get_or_past, length_push, take-append-le}
 use Rattle.uac_walk.specs.Count.{times}
 use Rattle.uac_walk.specs.NodeSettling.{Settles}
-use Rattle.uac_walk.proofs.Times.{times-push, one, one_same, one_other, times_before}
+use Rattle.uac_walk.proofs.CountLemmas.{times-push, one, one_same, one_other, times_before}
 
 -- what waits stands among the nodes
 pub waits_below : (waiting : List ℕ) (v : ℕ) → 0 < get_or waiting v 0 → v < length waiting

@@ -7,12 +7,12 @@ use Rattle.std.proofs.lemmas.List.Folds.{list_any_at}
 use Rattle.std.proofs.lemmas.List.Sums.{sum_by-take-le}
 use Rattle.std.proofs.lemmas.Map.Steps.{length-le_from_distinct_below}
 use Rattle.uac_walk.specs.Walk.{links, has_walk}
-use Rattle.uac_walk.specs.Count.{times, times_seen}
+use Rattle.uac_walk.specs.Count.{times, times_in}
 use Rattle.uac_walk.specs.Order.{IsClosed, IsAmongFirst, IsOrder}
 use Rattle.uac_walk.specs.Noting.{IsNamedBy}
 use Rattle.uac_walk.specs.NodeSettling.{Settles, IsSettled}
-use Rattle.uac_walk.proofs.Times.{one, times_at, times_before, place_of, times_seen-push, times_seen-cons, times_seen-le, seen_all, seen_short, any_from_times, none_from_times, no_equal, IsDistinct-from_times}
-use Rattle.uac_walk.proofs.Walks.{any_none, no_longer}
+use Rattle.uac_walk.proofs.CountLemmas.{one, times_at, times_before, place_of, times_in-push, times_in-cons, times_in-le, seen_all, seen_short, any_from_times, none_from_times, no_equal, IsDistinct-from_times}
+use Rattle.uac_walk.proofs.WalkLemmas.{any_none, no_longer}
 
 -- a node that stands nowhere below the number of nodes
 none_past : (graph : List (List ℕ)) (order : List ℕ) → ((k : ℕ) → k < length order → get_or order k 0 < length graph) →
@@ -54,9 +54,9 @@ enough_wait graph namers done waiting order named below by h e v =
             here,
             h.counted v in',
             by.named u v (h.nodes done below) in',
-            times_seen-push (take done order) u (links graph v),
-            ap (λ (ps : List ℕ). times_seen ps (links graph v)) (take_more order done 0 below),
-            times_seen-le (take (done + 1) order) (links graph v) (once_in_front graph done waiting order h (done + 1)),
+            times_in-push (take done order) u (links graph v),
+            ap (λ (ps : List ℕ). times_in ps (links graph v)) (take_more order done 0 below),
+            times_in-le (take (done + 1) order) (links graph v) (once_in_front graph done waiting order h (done + 1)),
           )
       | inr past ↦ omega (arith, here, by.none u v (h.nodes done below) past)
     ]
@@ -75,7 +75,7 @@ module _ (graph namers : List (List ℕ)) (done : ℕ) (waiting order named wait
   front =
       sym (take-take (done + 1) (length order) order' (omega arith)) ∙ ap (take (done + 1)) s.grown ∙ take_more order done 0 below
 
-  counted : (v : ℕ) → v < length graph → get_or waiting' v 0 + times_seen (take (done + 1) order') (links graph v) ≡ length (links graph v)
+  counted : (v : ℕ) → v < length graph → get_or waiting' v 0 + times_in (take (done + 1) order') (links graph v) ≡ length (links graph v)
   counted v in' =
       omega (
         arith,
@@ -83,8 +83,8 @@ module _ (graph namers : List (List ℕ)) (done : ℕ) (waiting order named wait
         s.counted v,
         by.named (get_or order done 0) v (h.nodes done below) in',
         ap (times v) is,
-        ap (λ (ps : List ℕ). times_seen ps (links graph v)) front,
-        times_seen-push (take done order) (get_or order done 0) (links graph v),
+        ap (λ (ps : List ℕ). times_in ps (links graph v)) front,
+        times_in-push (take done order) (get_or order done 0) (links graph v),
       )
 
   next_is : (v : ℕ) → 0 < get_or waiting v 0 → times v order' ≡ times v order + one (eqb (get_or waiting' v 0) 0)
@@ -188,9 +188,9 @@ settled_none graph waiting order e nodes once none_wait =
           absurd (omega (arith, none_wait k b, count (get_or order k 0) (omega (arith, nodes k b))));
     }
   where
-    unseen : (xs : List ℕ) → times_seen [] xs ≡ 0
+    unseen : (xs : List ℕ) → times_in [] xs ≡ 0
     unseen [] = refl
-    unseen (x ∷ xs) = omega (arith, times_seen-cons [] x xs, unseen xs)
+    unseen (x ∷ xs) = omega (arith, times_in-cons [] x xs, unseen xs)
 
 -- the order has at most all nodes
 pub length-le : (graph : List (List ℕ)) (done : ℕ) (waiting order : List ℕ) → IsSettled graph done waiting order → length order ≤ length graph
@@ -219,7 +219,7 @@ module _ (graph : List (List ℕ)) (done : ℕ) (waiting order : List ℕ) (clos
   unfolding has_walk
   deep zero v a b = refl
   deep (suc m) v a b =
-      let s = seen_short order (links graph v) (omega (arith, h.counted v a, ap (λ (o : List ℕ). times_seen o (links graph v)) (take_all done order all))) in
+      let s = seen_short order (links graph v) (omega (arith, h.counted v a, ap (λ (o : List ℕ). times_in o (links graph v)) (take_all done order all))) in
       let t = get_or (links graph v) s.0 0 in
       let in' : t < length graph = closed v a s.0 0 s.1 in
       list_any_at (has_walk graph m) (links graph v) s.0 0 s.1

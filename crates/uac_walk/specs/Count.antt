@@ -7,5 +7,5 @@ abbrev pub times : ℕ → List ℕ → ℕ
 times v xs = count_by (λ u. u == v) xs
 
 -- how often the nodes of xs stand in a list, all together
-abbrev pub times_seen : List ℕ → List ℕ → ℕ
-times_seen ps xs = sum_by (λ t. times t ps) xs
+abbrev pub times_in : List ℕ → List ℕ → ℕ
+times_in ps xs = sum_by (λ t. times t ps) xs

@@ -2,7 +2,7 @@
 use Rattle.std.specs.Prelude.{◌≡◌, ◌==◌, ℕ, ◌+◌, ◌<◌, ◌≤◌, List, length, take, if◌then◌else◌, nat_lt, ◌&&◌, slice_index}
 use Rattle.std.specs.List.{All}
 use Rattle.uac_walk.specs.Walk.{links}
-use Rattle.uac_walk.specs.Count.{times, times_seen}
+use Rattle.uac_walk.specs.Count.{times, times_in}
 use Rattle.uac_walk.specs.Order.{IsAmongFirst}
 
 -- each naming counts one down, and a node whose count came down to 0 is next in the order
@@ -17,7 +17,7 @@ pub record Settles (namers waiting order waiting' order' : List ℕ) : Type 0 wh
 -- and stands in the order, once, where it waits for none
 pub record IsSettled (graph : List (List ℕ)) (done : ℕ) (waiting order : List ℕ) : Type 0 where
   pub sized : length waiting ≡ length graph
-  pub counted : (v : ℕ) → v < length graph → slice_index waiting v + times_seen (take done order) (links graph v) ≡ length (links graph v)
+  pub counted : (v : ℕ) → v < length graph → slice_index waiting v + times_in (take done order) (links graph v) ≡ length (links graph v)
   pub once : (v : ℕ) → v < length graph → times v order ≡ (if slice_index waiting v == 0 then 1 else 0)
   pub nodes : (k : ℕ) → k < length order → slice_index order k < length graph
   pub named_first : (k : ℕ) → k < length order → All (IsAmongFirst order k) (links graph (slice_index order k))

@@ -13,13 +13,13 @@ use Rattle.uac_words.specs.declared.commands.Command.{Command}
 use Rattle.uac_words.specs.declared.commands.Command.TheVariants.{Check, Show, Elements, Run, Gen, Settle}
 use Rattle.uac_words.specs.declared.commands.RackChoice.{RackChoice}
 use Rattle.uac_words.specs.declared.commands.RackChoice.TheVariants.{Plain, Lanes}
-use Rattle.uac_words.specs.declared.commands.Words.{Words}
+use Rattle.uac_words.specs.declared.commands.Invocation.{Invocation}
 use Rattle.uac_words.specs.declared.commands.WordsFault.{WordsFault}
 use Rattle.uac_words.specs.declared.commands.WordsFault.TheVariants.{NoMemory, Usage}
 use Rattle.uac_words.specs.ByClap.{IsAnswer}
 use Rattle.uac_words.specs.Asked.{both, is_decimal, number_of}
-use Rattle.uac_words.specs.CommandLines.{AnswersLine, IsInRange, IsLine, rack_name, spelled}
-use Rattle.uac_words.specs.Plain.{Places, Text, asked_at, command_in, ends_options, has_value, is_dashed, is_option, placed, plainly, rack_in, with_bare, with_rack}
+use Rattle.uac_words.specs.CommandLines.{AnswersLine, IsInRange, IsLine, rack_name, command_words}
+use Rattle.uac_words.specs.Plain.{PartedWords, Text, invocation_at, command_in, ends_options, has_value, is_dashed, is_option, parted_words_of, plainly, rack_in, with_bare, with_rack}
 use Rattle.uac_words.proofs.CommandLinesLemmas.{line_asks}
 use Rattle.uac_words.proofs.DigitWords.{digits_all}
 use Rattle.uac_words.proofs.PlainWords.{bytes_same}
@@ -66,7 +66,7 @@ number_written text n h = go (is_decimal text && nat_le (digits_value 10 text) 4
 -- ---- a command and a rack
 
 abbrev IsSpelled : List Text → Command → Type 0
-IsSpelled bare command = (bare ≡ spelled command) × IsInRange command
+IsSpelled bare command = (bare ≡ command_words command) × IsInRange command
 
 named : (word name : Text) (this command : Command) (others : Option Command) → IsSpelled (name ∷ []) this → (t : Bool) → bytes_eq word name ≡ t
     → (if t then Some this else others) ≡ Some command → (others ≡ Some command → IsSpelled (word ∷ []) command) → IsSpelled (word ∷ []) command
@@ -110,7 +110,7 @@ rack_written (word ∷ []) rack h = first (bytes_eq word (codes "plain")) refl h
     first false e h = second (bytes_eq word (codes "lanes")) refl h
 rack_written (word ∷ other ∷ more) rack h = nothing rack h
 
-both_there : (c : Option Command) (r : Option RackChoice) (line : Words) → both c r ≡ Some line → (c ≡ Some line.command) × (r ≡ Some line.rack)
+both_there : (c : Option Command) (r : Option RackChoice) (line : Invocation) → both c r ≡ Some line → (c ≡ Some line.command) × (r ≡ Some line.rack)
 both_there None r line h = nothing line h
 both_there (Some c) None line h = nothing line h
 both_there (Some c) (Some r) line h =
@@ -120,11 +120,11 @@ both_there (Some c) (Some r) line h =
 -- ---- the words one after the other
 
 data First (word : Text) (rest : List Text) : Type 0 where
-  ends : word ≡ codes "--" → placed false (word ∷ rest) ≡ Some (record { bare = rest; racks = [] }) → First word rest
-  apart : word ≡ codes "--rack" → placed false (word ∷ rest) ≡ placed true rest → First word rest
-  joined : (v : Text) → word ≡ codes "--rack=" ++ v → placed false (word ∷ rest) ≡ option_map (with_rack v) (placed false rest) → First word rest
-  unknown : placed false (word ∷ rest) ≡ None → First word rest
-  usual : placed false (word ∷ rest) ≡ option_map (with_bare word) (placed false rest) → First word rest
+  ends : word ≡ codes "--" → parted_words_of false (word ∷ rest) ≡ Some (record { bare = rest; racks = [] }) → First word rest
+  apart : word ≡ codes "--rack" → parted_words_of false (word ∷ rest) ≡ parted_words_of true rest → First word rest
+  joined : (v : Text) → word ≡ codes "--rack=" ++ v → parted_words_of false (word ∷ rest) ≡ option_map (with_rack v) (parted_words_of false rest) → First word rest
+  unknown : parted_words_of false (word ∷ rest) ≡ None → First word rest
+  usual : parted_words_of false (word ∷ rest) ≡ option_map (with_bare word) (parted_words_of false rest) → First word rest
 
 first_of : (word : Text) (rest : List Text) → First word rest
 first_of word rest = at (ends_options word) refl (is_option word) refl (has_value word) refl (is_dashed word) refl
@@ -139,15 +139,15 @@ first_of word rest = at (ends_options word) refl (is_option word) refl (has_valu
     at false ea false eb false ev false ed = usual (rw (ea, eb, ev, ed) refl)
 
 -- the value after `--rack`
-valued : (words : List Text) (p : Places) → placed true words ≡ Some p
-    → (value : Text) × (rest : List Text) × (q : Places) × (words ≡ value ∷ rest) × (placed false rest ≡ Some q) × (with_rack value q ≡ p)
+valued : (words : List Text) (p : PartedWords) → parted_words_of true words ≡ Some p
+    → (value : Text) × (rest : List Text) × (q : PartedWords) × (words ≡ value ∷ rest) × (parted_words_of false rest ≡ Some q) × (with_rack value q ≡ p)
 valued [] p h = nothing p h
 valued (word ∷ rest) p h = at (is_dashed word) refl h
   where
-    at : (t : Bool) → is_dashed word ≡ t → (if t then None else option_map (with_rack word) (placed false rest)) ≡ Some p
-        → (value : Text) × (rest_ : List Text) × (q : Places) × (word ∷ rest ≡ value ∷ rest_) × (placed false rest_ ≡ Some q) × (with_rack value q ≡ p)
+    at : (t : Bool) → is_dashed word ≡ t → (if t then None else option_map (with_rack word) (parted_words_of false rest)) ≡ Some p
+        → (value : Text) × (rest_ : List Text) × (q : PartedWords) × (word ∷ rest ≡ value ∷ rest_) × (parted_words_of false rest_ ≡ Some q) × (with_rack value q ≡ p)
     at true e h = nothing p h
-    at false e h = let found = mapped (with_rack word) (placed false rest) p h in (word, rest, found.0, refl, found.1, found.2)
+    at false e h = let found = mapped (with_rack word) (parted_words_of false rest) p h in (word, rest, found.0, refl, found.1, found.2)
 
 -- words that choose no rack
 record IsRest (words bare : List Text) : Type 0 where
@@ -161,7 +161,7 @@ record IsRest (words bare : List Text) : Type 0 where
 one_more : (value : Text) (more : List Text) → value ∷ more ≡ [] → ⊥
 one_more value more e = let lengths = ap length e in omega arith
 
-no_choice : (words : List Text) (p : Places) → placed false words ≡ Some p → p.racks ≡ [] → IsRest words p.bare
+no_choice : (words : List Text) (p : PartedWords) → parted_words_of false words ≡ Some p → p.racks ≡ [] → IsRest words p.bare
 no_choice [] p h none = record { between = []; dashes = []; following = []; whole = refl; parts = ap (λ q. q.bare) (inside _ p h); end = inl refl }
 no_choice (word ∷ rest) p h none = elim (first_of word rest) [
   | ends is e ↦ record {
@@ -173,10 +173,10 @@ no_choice (word ∷ rest) p h none = elim (first_of word rest) [
     end = inr refl;
   }
   | apart is e ↦ let found = valued rest p (sym e ∙ h) in absurd (one_more found.0 found.2.racks (ap (λ q. q.racks) found.5 ∙ none))
-  | joined v is e ↦ let found = mapped (with_rack v) (placed false rest) p (sym e ∙ h) in absurd (one_more v found.0.racks (ap (λ q. q.racks) found.2 ∙ none))
+  | joined v is e ↦ let found = mapped (with_rack v) (parted_words_of false rest) p (sym e ∙ h) in absurd (one_more v found.0.racks (ap (λ q. q.racks) found.2 ∙ none))
   | unknown e ↦ nothing p (sym e ∙ h)
   | usual e ↦
-      let found = mapped (with_bare word) (placed false rest) p (sym e ∙ h) in
+      let found = mapped (with_bare word) (parted_words_of false rest) p (sym e ∙ h) in
       let more = no_choice rest found.0 found.1 (ap (λ q. q.racks) found.2 ∙ none) in
       record {
         between = word ∷ more.between;
@@ -208,7 +208,7 @@ tail_of : List Text → List Text
 tail_of [] = []
 tail_of (word ∷ more) = more
 
-one_choice : (words : List Text) (p : Places) (value : Text) → placed false words ≡ Some p → p.racks ≡ value ∷ [] → IsChoice words p.bare value
+one_choice : (words : List Text) (p : PartedWords) (value : Text) → parted_words_of false words ≡ Some p → p.racks ≡ value ∷ [] → IsChoice words p.bare value
 unfolding head_of tail_of
 one_choice [] p value h one = absurd (one_more value [] (sym (ap (λ q. q.racks) (inside _ p h) ∙ one)))
 one_choice (word ∷ rest) p value h one = elim (first_of word rest) [
@@ -229,7 +229,7 @@ one_choice (word ∷ rest) p value h one = elim (first_of word rest) [
         end = more.end;
       }
   | joined v is e ↦
-      let found = mapped (with_rack v) (placed false rest) p (sym e ∙ h) in
+      let found = mapped (with_rack v) (parted_words_of false rest) p (sym e ∙ h) in
       let racks = ap (λ q. q.racks) found.2 ∙ one in
       let more = no_choice rest found.0 found.1 (ap tail_of racks) in
       record {
@@ -245,7 +245,7 @@ one_choice (word ∷ rest) p value h one = elim (first_of word rest) [
       }
   | unknown e ↦ nothing p (sym e ∙ h)
   | usual e ↦
-      let found = mapped (with_bare word) (placed false rest) p (sym e ∙ h) in
+      let found = mapped (with_bare word) (parted_words_of false rest) p (sym e ∙ h) in
       let more = one_choice rest found.0 value found.1 (ap (λ q. q.racks) found.2 ∙ one) in
       record {
         before = word ∷ more.before;
@@ -261,11 +261,11 @@ one_choice (word ∷ rest) p value h one = elim (first_of word rest) [
 ]
 
 -- what asks for something is a command line
-pub nothing_else_asks : (words : List Text) (line : Words) → plainly words ≡ Some line → IsLine words line
+pub nothing_else_asks : (words : List Text) (line : Invocation) → plainly words ≡ Some line → IsLine words line
 unfolding plainly
-nothing_else_asks words line h = go (placed false words) refl h
+nothing_else_asks words line h = go (parted_words_of false words) refl h
   where
-    go : (o : Option Places) → placed false words ≡ o → asked_at o ≡ Some line → IsLine words line
+    go : (o : Option PartedWords) → parted_words_of false words ≡ o → invocation_at o ≡ Some line → IsLine words line
     go None e h = nothing line h
     go (Some p) e h =
         let there = both_there (command_in p.bare) (rack_in p.racks) line h in
@@ -302,7 +302,7 @@ nothing_else_asks words line h = go (placed false words) refl h
         ]
 
 -- the answer to what is said of the words is right for command lines
-pub answers_line : (words : List Text) (r : Result Words WordsFault) → IsAnswer (plainly words) r → AnswersLine words r
+pub answers_line : (words : List Text) (r : Result Invocation WordsFault) → IsAnswer (plainly words) r → AnswersLine words r
 answers_line words (Ok line) h = nothing_else_asks words line h
 answers_line words (Err Usage) h = λ line is. nothing line (sym h ∙ line_asks words line is)
 answers_line words (Err NoMemory) h = tt

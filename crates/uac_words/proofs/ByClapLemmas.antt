@@ -7,10 +7,10 @@ use Rattle.clap.specs.declared.parser.matches.ArgMatches.{ArgMatches}
 use Rattle.clap.specs.declared.parser.matches.Found.{Found}
 use Rattle.clap.proofs.WalkLemmas.{first_value-rows}
 use Rattle.clap.proofs.OnLiterals.{clap_on_literals}
-use Rattle.uac_words.specs.declared.commands.Words.{Words}
+use Rattle.uac_words.specs.declared.commands.Invocation.{Invocation}
 use Rattle.uac_words.specs.declared.commands.WordsFault.{WordsFault}
 use Rattle.uac_words.specs.declared.commands.WordsFault.TheVariants.{NoMemory, Usage}
-use Rattle.uac_words.specs.ByClap.{HasMatched, IsAnswer, IsRefused, answer, asked, asked_by, asked_by_rows, simple_command}
+use Rattle.uac_words.specs.ByClap.{HasMatched, IsAnswer, IsRefused, answer, invocation_of, invocation_by, invocation_by_rows, simple_command}
 
 pub is_free : is_simple_and_free simple_command ≡ true
 unfolding clap_on_literals
@@ -43,30 +43,30 @@ is_refused a words e f same has told = elim told [
 ]
 
 pub rows_ask : (f : Found) (command number rack : Option Text) → command ≡ first_value f (codes "command") → number ≡ first_value f (codes "number")
-    → rack ≡ first_value f (codes "rack") → asked_by command number rack ≡ asked_by_rows (rows_of f)
+    → rack ≡ first_value f (codes "rack") → invocation_by command number rack ≡ invocation_by_rows (rows_of f)
 rows_ask f command number rack c n r =
     rw (c ∙ first_value-rows f (codes "command"), n ∙ first_value-rows f (codes "number"), r ∙ first_value-rows f (codes "rack")) refl
 
-asked_as_matched : (words : List Text) (m : ArgMatches) → HasMatched words m → asked words ≡ asked_by_rows (rows_of (found_of m))
-unfolding asked
+asked_as_matched : (words : List Text) (m : ArgMatches) → HasMatched words m → invocation_of words ≡ invocation_by_rows (rows_of (found_of m))
+unfolding invocation_of
 asked_as_matched words m h = rw (h.0, h.1) refl
 
-not_asked : (words : List Text) → (kinds : Kinds) → fault_of simple_command words ≡ kinds → kinds ≢ [] → asked words ≡ None
-unfolding asked
+not_asked : (words : List Text) → (kinds : Kinds) → fault_of simple_command words ≡ kinds → kinds ≢ [] → invocation_of words ≡ None
+unfolding invocation_of
 not_asked words [] e some = absurd (some refl)
 not_asked words (x ∷ xs) e some = rw (e) refl
 
-pub refused_as_asked : (words : List Text) (e : WordsFault) (r : Result Words WordsFault) → IsRefused words e → r ≡ Err e → IsAnswer (asked words) r
-refused_as_asked words e r h is = subst (IsAnswer (asked words)) (sym is) (elim h [
-  | inl memory ↦ subst (λ (f : WordsFault). IsAnswer (asked words) (Err f)) (sym memory) tt
-  | inr refused ↦ subst (λ (f : WordsFault). IsAnswer (asked words) (Err f)) (sym refused.0) (not_asked words _ refl refused.1)
+pub refused_as_asked : (words : List Text) (e : WordsFault) (r : Result Invocation WordsFault) → IsRefused words e → r ≡ Err e → IsAnswer (invocation_of words) r
+refused_as_asked words e r h is = subst (IsAnswer (invocation_of words)) (sym is) (elim h [
+  | inl memory ↦ subst (λ (f : WordsFault). IsAnswer (invocation_of words) (Err f)) (sym memory) tt
+  | inr refused ↦ subst (λ (f : WordsFault). IsAnswer (invocation_of words) (Err f)) (sym refused.0) (not_asked words _ refl refused.1)
 ])
 
-is_answer : (o : Option Words) → IsAnswer o (answer o)
+is_answer : (o : Option Invocation) → IsAnswer o (answer o)
 is_answer None = refl
 is_answer (Some words) = refl
 
-pub answered_as_asked : (words : List Text) (m : ArgMatches) (r : Result Words WordsFault) → HasMatched words m
-    → r ≡ answer (asked_by_rows (rows_of (found_of m))) → IsAnswer (asked words) r
+pub answered_as_asked : (words : List Text) (m : ArgMatches) (r : Result Invocation WordsFault) → HasMatched words m
+    → r ≡ answer (invocation_by_rows (rows_of (found_of m))) → IsAnswer (invocation_of words) r
 answered_as_asked words m r h is =
-    subst (IsAnswer (asked words)) (sym (is ∙ ap answer (sym (asked_as_matched words m h)))) (is_answer (asked words))
+    subst (IsAnswer (invocation_of words)) (sym (is ∙ ap answer (sym (asked_as_matched words m h)))) (is_answer (invocation_of words))

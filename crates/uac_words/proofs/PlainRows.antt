@@ -10,9 +10,9 @@ use Rattle.clap.specs.Kinds.{check_kinds, or_else}
 use Rattle.clap.specs.Faults.{check_fault, defaults_fault, given_default_fault}
 use Rattle.clap.specs.Walk.{at_row, has_row, more_values, reading_by, used, with_default, with_values, without}
 use Rattle.clap.specs.declared.parser.matches.ValueSource.TheVariants.{CommandLine, DefaultValue}
-use Rattle.uac_words.specs.declared.commands.Words.{Words}
+use Rattle.uac_words.specs.declared.commands.Invocation.{Invocation}
 use Rattle.uac_words.specs.Asked.{both}
-use Rattle.uac_words.specs.ByClap.{asked_by, asked_by_rows, none_refused}
+use Rattle.uac_words.specs.ByClap.{invocation_by, invocation_by_rows, none_refused}
 use Rattle.uac_words.specs.Plain.{command_in, rack_in}
 use Rattle.uac_words.proofs.PlainRuns.{args, command_arg, full, number_arg, rack_arg, top}
 
@@ -180,12 +180,12 @@ no_default_fault rows = all_none _ _ _ (or_true (has_row (codes "command") rows)
 abbrev value_in : Option Row → Option Text
 value_in o = option_and_then (λ (r : Row). slice_get r.values 0) o
 
-abbrev done : Option Row → Option Row → Option Row → Option Words
+abbrev done : Option Row → Option Row → Option Row → Option Invocation
 done command number rack =
     if none_refused (check_kinds false false (not (option_map_or (λ (r : Row). explicit_source r.source) command false) || false))
-    then asked_by (value_in command) (value_in number) (value_in rack) else None
+    then invocation_by (value_in command) (value_in number) (value_in rack) else None
 
-done_is : (rows : List Row) → (if none_refused (check_fault top rows false) then asked_by_rows rows else None)
+done_is : (rows : List Row) → (if none_refused (check_fault top rows false) then invocation_by_rows rows else None)
     ≡ done (found (codes "command") rows) (found (codes "number") rows) (found (codes "rack") rows)
 done_is rows = refl
 
@@ -207,7 +207,7 @@ pub full_reads : (rows : List Row) (bare racks : List Text) → Reads rows bare 
 full_reads rows bare racks h b r =
     let last = final rows bare racks h in
     let rows_now = fold with_default rows args in
-    ap (λ k. if none_refused (or_else k (check_fault top rows_now false)) then asked_by_rows rows_now else None) (no_default_fault rows)
+    ap (λ k. if none_refused (or_else k (check_fault top rows_now false)) then invocation_by_rows rows_now else None) (no_default_fault rows)
     ∙ done_is rows_now
     ∙ ap (λ o. done o (found (codes "number") rows_now) (found (codes "rack") rows_now)) last.command
     ∙ ap (λ o. done (option_map (row (codes "command")) (first bare)) o (found (codes "rack") rows_now)) last.number

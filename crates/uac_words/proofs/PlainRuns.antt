@@ -9,8 +9,8 @@ use Rattle.clap.specs.Simple.{Shape, entered, new_shape}
 use Rattle.clap.specs.Walk.{Held, Walk, finished, nothing_held, settled, stop_after, walk_from, walked, with_default}
 use Rattle.clap.specs.declared.builder.range.ValueRange.{ValueRange}
 use Rattle.clap.specs.declared.builder.value_parser.ValueParser.TheVariants as vp
-use Rattle.uac_words.specs.declared.commands.Words.{Words}
-use Rattle.uac_words.specs.ByClap.{asked, asked_by_rows, command_rule, none_refused, number_rule, rack_rule, simple_command}
+use Rattle.uac_words.specs.declared.commands.Invocation.{Invocation}
+use Rattle.uac_words.specs.ByClap.{invocation_of, invocation_by_rows, command_rule, none_refused, number_rule, rack_rule, simple_command}
 
 -- ---- the simple command, built
 
@@ -58,23 +58,23 @@ abbrev last_fault : List Row → Kinds
 last_fault rows = or_else (defaults_fault rows args) (check_fault top (fold with_default rows args) false)
 
 -- what the rows ask for, once the defaults are in and what is required is there
-abbrev pub full : List Row → Option Words
-full rows = if none_refused (last_fault rows) then asked_by_rows (fold with_default rows args) else None
+abbrev pub full : List Row → Option Invocation
+full rows = if none_refused (last_fault rows) then invocation_by_rows (fold with_default rows args) else None
 
 abbrev end_of : Walk → List Text → Held
 end_of w words = (fold (walked args []) w words).held
 
-abbrev total : Walk → List Text → Option Words
+abbrev total : Walk → List Text → Option Invocation
 total w words =
     if none_refused (or_else (walk_fault top [] w words) (or_else (settle_fault args false (end_of w words)) (last_fault (settled args (end_of w words)).rows)))
-    then asked_by_rows (finished args (end_of w words)) else None
+    then invocation_by_rows (finished args (end_of w words)) else None
 
 end_step : (k : Kinds) (rows : List Row)
-    → (if none_refused (or_else k (last_fault rows)) then asked_by_rows (fold with_default rows args) else None) ≡ option_and_then full (unless k (Some rows))
+    → (if none_refused (or_else k (last_fault rows)) then invocation_by_rows (fold with_default rows args) else None) ≡ option_and_then full (unless k (Some rows))
 end_step [] rows = refl
 end_step (kind ∷ more) rows = refl
 
-turn_step : (k m z : Kinds) (y : Option Words) (o : Option (List Row)) → (if none_refused (or_else m z) then y else None) ≡ option_and_then full o
+turn_step : (k m z : Kinds) (y : Option Invocation) (o : Option (List Row)) → (if none_refused (or_else m z) then y else None) ≡ option_and_then full o
     → (if none_refused (or_else (or_else k m) z) then y else None) ≡ option_and_then full (unless k o)
 turn_step [] m z y o h = h
 turn_step (kind ∷ more) m z y o h = refl
@@ -87,10 +87,10 @@ total_runs (word ∷ rest) w = turn_step (turn_fault top [] w word) _ _ _ _ (tot
 -- there are no subcommands to enter
 no_subcommand : (words : List Text) (stop : Option (Text × List Text))
     → (if none_refused (level_fault top [] nothing_held words (is_some (entered (built simple_command) stop)) (entered_fault (built simple_command) stop))
-    then asked_by_rows (matches_of simple_command words) else None) ≡ total (walk_from nothing_held) words
+    then invocation_by_rows (matches_of simple_command words) else None) ≡ total (walk_from nothing_held) words
 no_subcommand words None = refl
 no_subcommand words (Some p) = refl
 
-pub asked_runs : (words : List Text) → asked words ≡ option_and_then full (run (walk_from nothing_held) words)
-unfolding asked
+pub asked_runs : (words : List Text) → invocation_of words ≡ option_and_then full (run (walk_from nothing_held) words)
+unfolding invocation_of
 asked_runs words = no_subcommand words (stop_after args [] words) ∙ total_runs words (walk_from nothing_held)

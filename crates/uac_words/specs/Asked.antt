@@ -10,7 +10,7 @@ use Rattle.uac_words.specs.declared.commands.Command.{Command}
 use Rattle.uac_words.specs.declared.commands.Command.TheVariants.{Check, Show, Elements, Run, Gen, Settle}
 use Rattle.uac_words.specs.declared.commands.RackChoice.{RackChoice}
 use Rattle.uac_words.specs.declared.commands.RackChoice.TheVariants.{Plain, Lanes}
-use Rattle.uac_words.specs.declared.commands.Words.{Words}
+use Rattle.uac_words.specs.declared.commands.Invocation.{Invocation}
 
 -- one decimal digit or more and nothing else; a 0 stands in front only where it stands alone
 unfoldable pub is_decimal : List ℕ → Bool
@@ -46,6 +46,6 @@ rack_named word =
     else None
 
 -- a command and a rack, where there are both
-abbrev pub both : Option Command → Option RackChoice → Option Words
+abbrev pub both : Option Command → Option RackChoice → Option Invocation
 both (Some command) (Some rack) = Some (record { command = command; rack = rack })
 both _ _ = None

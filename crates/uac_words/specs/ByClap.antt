@@ -7,7 +7,7 @@ use Rattle.clap.specs.Words.{App, Kinds, Rule, Row, Text, new_app, new_rule, wit
 use Rattle.clap.specs.declared.parser.matches.ArgMatches.{ArgMatches}
 use Rattle.clap.specs.Simple.{on_top}
 use Rattle.clap.specs.declared.builder.action.ArgAction.TheVariants.{Set}
-use Rattle.uac_words.specs.declared.commands.Words.{Words}
+use Rattle.uac_words.specs.declared.commands.Invocation.{Invocation}
 use Rattle.uac_words.specs.declared.commands.WordsFault.{WordsFault}
 use Rattle.uac_words.specs.declared.commands.WordsFault.TheVariants.{NoMemory, Usage}
 use Rattle.uac_words.specs.Asked.{both, command_of, rack_named}
@@ -35,12 +35,12 @@ abbrev pub now_in : Option (Bor Text) → Option Text
 now_in = option_map (λ text. text.now)
 
 -- what the values of COMMAND, NUMBER and the rack ask for
-abbrev pub asked_by : Option Text → Option Text → Option Text → Option Words
-asked_by (Some command) number (Some rack) = both (command_of command number) (rack_named rack)
-asked_by _ _ _ = None
+abbrev pub invocation_by : Option Text → Option Text → Option Text → Option Invocation
+invocation_by (Some command) number (Some rack) = both (command_of command number) (rack_named rack)
+invocation_by _ _ _ = None
 
-abbrev pub asked_by_rows : List Row → Option Words
-asked_by_rows rows = asked_by (first_of (codes "command") rows) (first_of (codes "number") rows) (first_of (codes "rack") rows)
+abbrev pub invocation_by_rows : List Row → Option Invocation
+invocation_by_rows rows = invocation_by (first_of (codes "command") rows) (first_of (codes "number") rows) (first_of (codes "rack") rows)
 
 -- nothing is refused
 abbrev pub none_refused : Kinds → Bool
@@ -48,19 +48,19 @@ none_refused [] = true
 none_refused (kind ∷ more) = false
 
 -- what the words ask for; none where the simple command refuses them, or their values ask for nothing
-unfoldable pub asked : List Text → Option Words
-asked words = if none_refused (fault_of simple_command words) then asked_by_rows (matches_of simple_command words) else None
+unfoldable pub invocation_of : List Text → Option Invocation
+invocation_of words = if none_refused (fault_of simple_command words) then invocation_by_rows (matches_of simple_command words) else None
 
 -- the answer to them, where there is memory
-abbrev pub answer : Option Words → Result Words WordsFault
+abbrev pub answer : Option Invocation → Result Invocation WordsFault
 answer (Some words) = Ok words
 answer None = Err Usage
 
 -- the answer is right where words ask for this, or for nothing. Want of memory may come with any words
-abbrev pub IsAnswer : Option Words → Result Words WordsFault → Type 0
-IsAnswer asked (Ok words) = asked ≡ Some words
-IsAnswer asked (Err Usage) = asked ≡ None
-IsAnswer asked (Err NoMemory) = ⊤
+abbrev pub IsAnswer : Option Invocation → Result Invocation WordsFault → Type 0
+IsAnswer invocation (Ok words) = invocation ≡ Some words
+IsAnswer invocation (Err Usage) = invocation ≡ None
+IsAnswer invocation (Err NoMemory) = ⊤
 
 -- the simple command takes the words, and these are the values that it gives
 abbrev pub HasMatched : List Text → ArgMatches → Type 0

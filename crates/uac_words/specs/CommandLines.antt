@@ -6,20 +6,20 @@ use Rattle.uac_words.specs.declared.commands.Command.{Command}
 use Rattle.uac_words.specs.declared.commands.Command.TheVariants.{Check, Show, Elements, Run, Gen, Settle}
 use Rattle.uac_words.specs.declared.commands.RackChoice.{RackChoice}
 use Rattle.uac_words.specs.declared.commands.RackChoice.TheVariants.{Plain, Lanes}
-use Rattle.uac_words.specs.declared.commands.Words.{Words}
+use Rattle.uac_words.specs.declared.commands.Invocation.{Invocation}
 use Rattle.uac_words.specs.declared.commands.WordsFault.{WordsFault}
 use Rattle.uac_words.specs.declared.commands.WordsFault.TheVariants.{NoMemory, Usage}
-use Rattle.uac_words.specs.ByClap.{asked}
+use Rattle.uac_words.specs.ByClap.{invocation_of}
 use Rattle.uac_words.specs.Plain.{Text, plainly}
 
 -- a command, as it is written: NUMBER is in decimal without leading zeros
-abbrev pub spelled : Command → List Text
-spelled Check = codes "check" ∷ []
-spelled Show = codes "show" ∷ []
-spelled Elements = codes "elements" ∷ []
-spelled Run = codes "run" ∷ []
-spelled (Gen number) = codes "gen" ∷ decimal number ∷ []
-spelled Settle = codes "settle" ∷ []
+abbrev pub command_words : Command → List Text
+command_words Check = codes "check" ∷ []
+command_words Show = codes "show" ∷ []
+command_words Elements = codes "elements" ∷ []
+command_words Run = codes "run" ∷ []
+command_words (Gen number) = codes "gen" ∷ decimal number ∷ []
+command_words Settle = codes "settle" ∷ []
 
 -- a NUMBER has 32 bits
 abbrev pub IsInRange : Command → Type 0
@@ -41,33 +41,33 @@ Chooses option rack =
 
 -- the words are the command's own, in their order, with those that choose the rack anywhere among them, and perhaps a word `--` anywhere
 -- after those
-pub record IsLine (words : List Text) (line : Words) : Type 0 where
+pub record IsLine (words : List Text) (line : Invocation) : Type 0 where
   pub before : List Text
   pub option : List Text
   pub between : List Text
   pub dashes : List Text
   pub following : List Text
   pub whole : words ≡ before ++ (option ++ (between ++ (dashes ++ following)))
-  pub command : before ++ (between ++ following) ≡ spelled line.command
+  pub command : before ++ (between ++ following) ≡ command_words line.command
   pub range : IsInRange line.command
   pub rack : Chooses option line.rack
   pub end : (dashes ≡ []) ⊎ (dashes ≡ codes "--" ∷ [])
 
 -- each command line asks for its command over its rack
 abbrev pub LinesAsk : Type 0
-LinesAsk = (words : List Text) (line : Words) → IsLine words line → plainly words ≡ Some line
+LinesAsk = (words : List Text) (line : Invocation) → IsLine words line → plainly words ≡ Some line
 
 -- and no other words ask for anything
 abbrev pub NothingElseAsks : Type 0
-NothingElseAsks = (words : List Text) (line : Words) → plainly words ≡ Some line → IsLine words line
+NothingElseAsks = (words : List Text) (line : Invocation) → plainly words ≡ Some line → IsLine words line
 
 -- the answer to these words is right: a command line is answered by what it is, and what is no command line is refused. Want of
 -- memory may come with any words
-abbrev pub AnswersLine : List Text → Result Words WordsFault → Type 0
+abbrev pub AnswersLine : List Text → Result Invocation WordsFault → Type 0
 AnswersLine words (Ok line) = IsLine words line
-AnswersLine words (Err Usage) = (line : Words) → ¬ (IsLine words line)
+AnswersLine words (Err Usage) = (line : Invocation) → ¬ (IsLine words line)
 AnswersLine words (Err NoMemory) = ⊤
 
 -- by the simple command's own rules texts ask for the same
 abbrev pub RulesAskTheSame : Type 0
-RulesAskTheSame = (words : List Text) → AllByRecursion IsUtf8 words → asked words ≡ plainly words
+RulesAskTheSame = (words : List Text) → AllByRecursion IsUtf8 words → invocation_of words ≡ plainly words

@@ -5,22 +5,22 @@ use Rattle.std.specs.Str.{bytes_eq}
 use Rattle.uac_words.specs.declared.commands.Command.{Command}
 use Rattle.uac_words.specs.declared.commands.RackChoice.{RackChoice}
 use Rattle.uac_words.specs.declared.commands.RackChoice.TheVariants.{Plain}
-use Rattle.uac_words.specs.declared.commands.Words.{Words}
+use Rattle.uac_words.specs.declared.commands.Invocation.{Invocation}
 use Rattle.uac_words.specs.Asked.{both, command_named, command_with, rack_named}
 
 abbrev pub Text : Type 0
 Text = List ℕ
 
 -- the words in their places: those for COMMAND and NUMBER, and the values of `--rack`, each in their order
-pub record Places : Type 0 where
+pub record PartedWords : Type 0 where
   pub bare : List Text
   pub racks : List Text
 
-abbrev pub with_bare : Text → Places → Places
-with_bare word places = record places { bare = word ∷ places.bare }
+abbrev pub with_bare : Text → PartedWords → PartedWords
+with_bare word parts = record parts { bare = word ∷ parts.bare }
 
-abbrev pub with_rack : Text → Places → Places
-with_rack word places = record places { racks = word ∷ places.racks }
+abbrev pub with_rack : Text → PartedWords → PartedWords
+with_rack word parts = record parts { racks = word ∷ parts.racks }
 
 -- the word begins with a hyphen (45), and isn't a hyphen alone
 abbrev pub is_dashed : Text → Bool
@@ -38,18 +38,18 @@ is_option word = bytes_eq word (codes "--rack")
 abbrev pub has_value : Text → Bool
 has_value word = bytes_eq (take 7 word) (codes "--rack=")
 
--- the words in their places; `waits` says that the word before was `--rack`, whose value comes next. Any other dashed word is refused,
+-- the words in their parts; `waits` says that the word before was `--rack`, whose value comes next. Any other dashed word is refused,
 -- until a word `--`, after which nothing is an option
-abbrev pub placed : Bool → List Text → Option Places
-placed true [] = None
-placed true (word ∷ rest) = if is_dashed word then None else option_map (with_rack word) (placed false rest)
-placed false [] = Some (record { bare = []; racks = [] })
-placed false (word ∷ rest) =
+abbrev pub parted_words_of : Bool → List Text → Option PartedWords
+parted_words_of true [] = None
+parted_words_of true (word ∷ rest) = if is_dashed word then None else option_map (with_rack word) (parted_words_of false rest)
+parted_words_of false [] = Some (record { bare = []; racks = [] })
+parted_words_of false (word ∷ rest) =
     if ends_options word then Some (record { bare = rest; racks = [] })
-    else if is_option word then placed true rest
-    else if has_value word then option_map (with_rack (drop 7 word)) (placed false rest)
+    else if is_option word then parted_words_of true rest
+    else if has_value word then option_map (with_rack (drop 7 word)) (parted_words_of false rest)
     else if is_dashed word then None
-    else option_map (with_bare word) (placed false rest)
+    else option_map (with_bare word) (parted_words_of false rest)
 
 -- COMMAND alone, or COMMAND and NUMBER, and nothing more
 abbrev pub command_in : List Text → Option Command
@@ -64,10 +64,10 @@ rack_in [] = Some Plain
 rack_in (word ∷ []) = rack_named word
 rack_in (word ∷ more) = None
 
-abbrev pub asked_at : Option Places → Option Words
-asked_at None = None
-asked_at (Some places) = both (command_in places.bare) (rack_in places.racks)
+abbrev pub invocation_at : Option PartedWords → Option Invocation
+invocation_at None = None
+invocation_at (Some parts) = both (command_in parts.bare) (rack_in parts.racks)
 
 -- what the words ask for
-unfoldable pub plainly : List Text → Option Words
-plainly words = asked_at (placed false words)
+unfoldable pub plainly : List Text → Option Invocation
+plainly words = invocation_at (parted_words_of false words)

@@ -29,7 +29,7 @@ pub enum RackChoice {
 
 /// What the words of a command line ask for.
 #[derive(Clone, Copy, Debug, PartialEq, Eq)]
-pub struct Words {
+pub struct Invocation {
     /// The command.
     pub command: Command,
     /// The rack; the plain one where the words name none.

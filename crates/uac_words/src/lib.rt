@@ -7,5 +7,5 @@ mod reading;
 #[cfg(test)]
 mod tests;
 
-pub use commands::{Command, RackChoice, Words, WordsFault};
+pub use commands::{Command, Invocation, RackChoice, WordsFault};
 pub use reading::read;

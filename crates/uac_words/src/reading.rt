@@ -3,12 +3,13 @@ ghost use Rattle.std.specs.Prelude.{◌≡◌, ◌≢◌, ◌⊎◌, IfOk, Match
 ghost use Rattle.std.specs.List.{list_all};
 ghost use Rattle.std.specs.Char.{is_ascii_digit};
 ghost use Rattle.uac_words.specs.Asked.{both, command_named, command_of, command_with, is_decimal, number_of, rack_named};
-ghost use Rattle.uac_words.specs.ByClap.{HasMatched, IsAnswer, IsRefused, answer, asked, asked_by, asked_by_rows, now_in, simple_command};
+ghost use Rattle.uac_words.specs.ByClap.{HasMatched, IsAnswer, IsRefused, answer, invocation_of, invocation_by, invocation_by_rows, now_in};
+ghost use Rattle.uac_words.specs.ByClap.{simple_command};
 ghost use Rattle.uac_words.specs.CommandLines.{AnswersLine};
 ghost use Rattle.uac_words.specs.Plain.{plainly};
 ghost use Rattle.clap.specs.Words.{app_of, found_of, kind_of, rows_of};
 
-use crate::commands::{Command, RackChoice, Words, WordsFault};
+use crate::commands::{Command, Invocation, RackChoice, WordsFault};
 use clap::error::ErrorKind;
 use clap::{Arg, ArgAction, ArgMatches, Error};
 use std::alloc::{AllocError, Global};
@@ -85,7 +86,7 @@ fn rack_named(word: &str) -> Option<RackChoice>
 }
 
 /// What COMMAND, NUMBER and the name of a rack ask for.
-fn asked(command: &str, number: Option<&str>, rack: &str) -> Option<Words>
+fn invocation(command: &str, number: Option<&str>, rack: &str) -> Option<Invocation>
     ensures { result ≡ both (command_of command.now (now_in number.entry)) (rack_named rack.now) }
 {
     let command = match number {
@@ -93,7 +94,7 @@ fn asked(command: &str, number: Option<&str>, rack: &str) -> Option<Words>
         Some(digits) => command_with(command, digits)?,
     };
     let rack = rack_named(rack)?;
-    Some(Words { command, rack })
+    Some(Invocation { command, rack })
 }
 
 /// The simple command that reads the words.
@@ -152,18 +153,22 @@ fn matches_in<'a>(alloc: Global, words: &'a [String]) -> Result<ArgMatches<'a>, 
 }
 
 /// What the values of COMMAND, NUMBER and the rack ask for.
-fn asked_by(command: Option<&str>, number: Option<&str>, rack: Option<&str>) -> Option<Words>
-    ensures { result ≡ asked_by (now_in command.entry) (now_in number.entry) (now_in rack.entry) }
+fn invocation_by(
+    command: Option<&str>,
+    number: Option<&str>,
+    rack: Option<&str>,
+) -> Option<Invocation>
+    ensures { result ≡ invocation_by (now_in command.entry) (now_in number.entry) (now_in rack.entry) }
 {
-    asked(command?, number, rack?)
+    invocation(command?, number, rack?)
 }
 
 /// What the values that were matched ask for.
 #[tactic(auto, using(crate::proofs::ByClapLemmas::rows_ask))]
-fn asked_by_matches(matches: &ArgMatches) -> Option<Words>
-    ensures { result ≡ asked_by_rows (rows_of (found_of matches.now)) }
+fn asked_by_matches(matches: &ArgMatches) -> Option<Invocation>
+    ensures { result ≡ invocation_by_rows (rows_of (found_of matches.now)) }
 {
-    asked_by(
+    invocation_by(
         matches.get_str("command"),
         matches.get_str("number"),
         matches.get_str("rack"),
@@ -171,10 +176,10 @@ fn asked_by_matches(matches: &ArgMatches) -> Option<Words>
 }
 
 /// The answer to words that ask for this, or for nothing.
-fn answer(asked: Option<Words>) -> Result<Words, WordsFault>
-    ensures { result ≡ answer asked }
+fn answer(invocation: Option<Invocation>) -> Result<Invocation, WordsFault>
+    ensures { result ≡ answer invocation }
 {
-    match asked {
+    match invocation {
         Some(words) => Ok(words),
         None => Err(WordsFault::Usage),
     }
@@ -182,8 +187,8 @@ fn answer(asked: Option<Words>) -> Result<Words, WordsFault>
 
 /// What the words after the program's name ask for: by the simple command's own rules, as it is said of the words one after the other,
 /// and as command lines are written.
-pub fn read(alloc: Global, words: &[String]) -> Result<Words, WordsFault>
-    ensures by_clap { IsAnswer (asked (map (λ w. string_bytes w) words.now)) result }
+pub fn read(alloc: Global, words: &[String]) -> Result<Invocation, WordsFault>
+    ensures by_clap { IsAnswer (invocation_of (map (λ w. string_bytes w) words.now)) result }
     ensures plainly { IsAnswer (plainly (map (λ w. string_bytes w) words.now)) result }
     ensures line { AnswersLine (map (λ w. string_bytes w) words.now) result }
 {

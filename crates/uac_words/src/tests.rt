@@ -1,10 +1,10 @@
 // Worked command lines. Each row's answer is what the profile says of its words.
-use crate::{Command, RackChoice, Words, WordsFault, read};
+use crate::{Command, Invocation, RackChoice, WordsFault, read};
 use std::alloc::Global;
 use std::test::Fail;
 
 /// What the words of a line, parted by one space each, ask for.
-fn asked(alloc: Global, line: &str) -> Result<Result<Words, WordsFault>, Fail> {
+fn asked(alloc: Global, line: &str) -> Result<Result<Invocation, WordsFault>, Fail> {
     let mut words = Vec::new(alloc);
     for word in line.split(' ') {
         words.push(String::from_str(alloc, word)?)?;
@@ -36,7 +36,7 @@ fn takes_a_command_over_a_rack(rt: HostRuntime) -> Result<(), Fail> {
     for (line, command, rack) in table {
         assert_eq!(rt;
             asked(rt.alloc(), line)?,
-            Ok(Words { command, rack }),
+            Ok(Invocation { command, rack }),
             "{line}"
         );
     }

@@ -13,13 +13,13 @@ fn a_front_stands_beneath(rt: HostRuntime) -> Result<(), Fail> {
         let mut sink = Gathering::new(MemorySink::new(rt.alloc(), 3, 8, failing)?);
         assert_eq!(rt; give_all(&mut sink, text), Ok(()));
         assert_eq!(rt;
-            sink.beneath.written(),
+            sink.beneath.bytes_written(),
             b"".as_slice(),
             "a fault at call {call}"
         );
         assert!(rt; sink.settle().is_err(), "a fault at call {call}");
         assert_eq!(rt;
-            sink.beneath.written(),
+            sink.beneath.bytes_written(),
             &text[..before],
             "a fault at call {call}"
         );
@@ -39,8 +39,8 @@ fn a_full_sink_is_handed_on(rt: HostRuntime) -> Result<(), Fail> {
     let never = WordList::from_vec(vec![in rt.alloc()]?);
     let mut sink = Gathering::new(MemorySink::new(rt.alloc(), 5000, 5000, never)?);
     assert_eq!(rt; give_all(&mut sink, &text), Ok(()));
-    assert_eq!(rt; sink.beneath.written(), &text[..4096]);
+    assert_eq!(rt; sink.beneath.bytes_written(), &text[..4096]);
     assert_eq!(rt; sink.settle(), Ok(()));
-    assert_eq!(rt; sink.beneath.written(), text.as_slice());
+    assert_eq!(rt; sink.beneath.bytes_written(), text.as_slice());
     Ok(())
 }

@@ -2,7 +2,7 @@ use Rattle.std.proofs.Common.{sym, subst, ◌∙◌}
 use Rattle.std.proofs.KnownBytes.{Appends-nil}
 use Rattle.uac_pcm.specs.declared.tones.Tone.{Tone}
 use Rattle.uac_running.specs.RunningWorld.{with_track}
-use Rattle.uac_running.specs.RunningKept.{StandsBetween}
+use Rattle.uac_running.specs.RunningKept.{RunningStandsBetween}
 use Rattle.uac_bus.proofs.Stepping.{tone_back}
 use Rattle.uac_bus.proofs.Rowing.{unless_reached, streams_in, has_out_in}
 use Rattle.uac_bus.proofs.rows.track.Goals as goal
@@ -11,7 +11,7 @@ pub returns-clause-does : goal.returns-clause-does
 returns-clause-does c = λ shown r written s.
     let out = has_out_in _ _ c.args.interface _ (streams_in r _ shown _ _ s c.function.ensures c.streams.ensures) c.has_out.ensures in
     let stands =
-    subst (λ (tone : Tone). StandsBetween c.track.new.self shown (with_track c.args.interface tone r)) (sym (tone_back c.args.tone))
+    subst (λ (tone : Tone). RunningStandsBetween c.track.new.self shown (with_track c.args.interface tone r)) (sym (tone_back c.args.tone))
     (c.track.ensures.stands shown r s)
     in
     unless_reached _ 6 _ _ _ _ (sym out ∙ c.if-not-has_out.false) (stands, Appends-nil written)

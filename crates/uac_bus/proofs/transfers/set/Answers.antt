@@ -3,11 +3,11 @@ use Rattle.std.proofs.lemmas.Int.{to_z-of_z}
 use Rattle.uac_edges.specs.declared.edges.Failed.{Failed}
 use Rattle.uac_mixer.specs.ViewWorld.{ViewWorld}
 use Rattle.uac_mixer.specs.MixerElements.{fits_element}
-use Rattle.uac_running.specs.RunningKept.{TellsBetween}
+use Rattle.uac_running.specs.RunningKept.{RunningTellsBetween}
 use Rattle.uac_running.specs.RunningTransfers.{set_element}
 use Rattle.uac_bus.specs.declared.bus.BusStage.TheVariants as stages
 use Rattle.uac_bus.specs.BusWorld.{Step, breaks_rule}
-use Rattle.uac_bus.specs.BusKept.{IsCut, Reaches, StandsFor}
+use Rattle.uac_bus.specs.BusKept.{IsCut, Reaches, StageStands}
 use Rattle.uac_bus.proofs.Stepping.{unless_fails, unless_holds}
 use Rattle.uac_bus.proofs.TransferRows.{on_named}
 use Rattle.uac_bus.proofs.transfers.set.Goals as goal
@@ -22,12 +22,12 @@ returns-then-not-fits-clause-does g c = λ shown r s.
 pub returns-in-Ok-clause-does : goal.returns-in-Ok-clause-does
 returns-in-Ok-clause-does g c = λ shown r s.
     let exact : to_z w32 (of_z w32 c.args.value) ≡ c.args.value = to_z-of_z w32 c.args.value c.ranges.value in
-    let reaches = λ (t : Step). Reaches t (StandsFor (stages.Running c.set_element.new.self) shown) (g.K.Sink.written c.args.sink.now) (g.K.Sink.written c.set_element.new.sink) in
+    let reaches = λ (t : Step). Reaches t (StageStands (stages.Running c.set_element.new.self) shown) (g.K.Sink.written c.args.sink.now) (g.K.Sink.written c.set_element.new.sink) in
     on_named reaches r c.args.name.now c.args.running.now.view.elements c.in-Some.at _
     (ap (λ (v : ViewWorld). v.elements) s.now.view) c.in-Some.ensures.there (c.in-Some.ensures.named shown r s)
     (λ x own there.
     let tells =
-    subst (λ (z : ℤ). TellsBetween {E = Failed} (set_element x z r) c.set_element.new.self shown (g.K.Sink.written c.args.sink.now) (g.K.Sink.written c.set_element.new.sink) (Ok c.in-Ok.field-0)) exact
+    subst (λ (z : ℤ). RunningTellsBetween {E = Failed} (set_element x z r) c.set_element.new.self shown (g.K.Sink.written c.args.sink.now) (g.K.Sink.written c.set_element.new.sink) (Ok c.in-Ok.field-0)) exact
     (c.in-Ok.ensures.tells shown r x s there) in
     subst reaches (sym (unless_holds _ 7 _ (sym (ap (fits_element x.kind) exact) ∙ sym (c.fits.ensures x own) ∙ c.if-not-fits.false))) (tells.1, tells.0))
 
@@ -39,6 +39,6 @@ returns-in-Err-clause-does g c = λ shown r s.
     (ap (λ (v : ViewWorld). v.elements) s.now.view) c.in-Some.ensures.there (c.in-Some.ensures.named shown r s)
     (λ x own there.
     let tells =
-    subst (λ (z : ℤ). TellsBetween {E = Failed} (set_element x z r) c.set_element.new.self shown (g.K.Sink.written c.args.sink.now) (g.K.Sink.written c.set_element.new.sink) (Err c.in-Err.field-0)) exact
+    subst (λ (z : ℤ). RunningTellsBetween {E = Failed} (set_element x z r) c.set_element.new.self shown (g.K.Sink.written c.args.sink.now) (g.K.Sink.written c.set_element.new.sink) (Err c.in-Err.field-0)) exact
     (c.in-Err.ensures.tells shown r x s there) in
     subst cut (sym (unless_holds _ 7 _ (sym (ap (fits_element x.kind) exact) ∙ sym (c.fits.ensures x own) ∙ c.if-not-fits.false))) tells.0)

@@ -2,7 +2,7 @@ use denote.Param.Object.{read_made}
 use Rattle.std.proofs.Common.{◌≡◌, ℕ, refl, ap, subst, ◌∙◌, map, List, [], ◌∷◌, ◌++◌, Option}
 use Rattle.uac_units.specs.Hearing.{Reading}
 use Rattle.uac_units.specs.declared.hearing.MeterKind.TheVariants.{Peak, Clipped, Sum}
-use Rattle.uac_words.specs.declared.commands.Words.{Words}
+use Rattle.uac_words.specs.declared.commands.Invocation.{Invocation}
 use Rattle.uac_describe.specs.declared.status.Status.{Status}
 use Rattle.uac_cli.specs.Call.{IsCall}
 use Rattle.uac_cli.specs.Boxes.{IsFreshCall, fresh_readings}
@@ -20,7 +20,7 @@ pushed {B} read l0 l1 l2 l3 a b c ra rb rc e0 e1 e2 e3 pa pb pc =
     ∙ ap (λ (x : Reading). ra ∷ rb ∷ x ∷ []) pc
 
 -- the meters had heard nothing
-from_fresh : (words : Option Words) (shown shown' : List Reading) (left left' : Option (List ℕ)) (reads reads' : ℕ) (written written' : Option (List ℕ)) (writes writes' : ℕ) (status : Status)
+from_fresh : (words : Option Invocation) (shown shown' : List Reading) (left left' : Option (List ℕ)) (reads reads' : ℕ) (written written' : Option (List ℕ)) (writes writes' : ℕ) (status : Status)
     → shown ≡ fresh_readings → IsCall words shown shown' left left' reads reads' written written' writes writes' status
     → IsFreshCall words left left' reads reads' written written' writes writes' status
 from_fresh words shown shown' left left' reads reads' written written' writes writes' status same call = record {
@@ -29,7 +29,7 @@ from_fresh words shown shown' left left' reads reads' written written' writes wr
 }
 
 -- the same of what the whole input comes to
-whole_fresh : (words : Option Words) (shown : List Reading) (left : Option (List ℕ)) (reads reads' : ℕ) (written written' : Option (List ℕ)) (writes writes' : ℕ) (status : Status)
+whole_fresh : (words : Option Invocation) (shown : List Reading) (left : Option (List ℕ)) (reads reads' : ℕ) (written written' : Option (List ℕ)) (writes writes' : ℕ) (status : Status)
     → shown ≡ fresh_readings → IsComplete words shown left reads reads' written written' writes writes' status
     → IsComplete words fresh_readings left reads reads' written written' writes writes' status
 whole_fresh words shown left reads reads' written written' writes writes' status same complete =

@@ -1,6 +1,6 @@
 use Rattle.std.proofs.Common.{refl}
-use Rattle.uac_cli.proofs.Calling.{done_check, done_show, done_elements, done_run, done_gen, done_settle}
-use Rattle.uac_cli.proofs.Calling.{gen_unread, settle_unread, settled_unread}
+use Rattle.uac_cli.proofs.CallLemmas.{done_check, done_show, done_elements, done_run, done_gen, done_settle}
+use Rattle.uac_cli.proofs.CallLemmas.{gen_unread, settle_unread, settled_unread}
 use Rattle.uac_cli.proofs.top.do_command.Goals as goal
 
 pub returns-in-Check : goal.returns-in-Check

@@ -1,4 +1,4 @@
-use Rattle.uac_cli.proofs.Calling.{generated_run}
+use Rattle.uac_cli.proofs.CallLemmas.{generated_run}
 use Rattle.uac_cli.proofs.Completed.{never_failed}
 use Rattle.uac_cli.proofs.top.generate.Goals as goal
 

@@ -1,9 +1,9 @@
 use Rattle.std.proofs.Common.{sym, ◌∙◌}
 use Rattle.uac_describe.specs.Outcome.{no_memory}
 use Rattle.uac_scripts.specs.ScriptRun.{usage}
-use Rattle.uac_describe.proofs.HandingOn.{faultless_on, status_before}
-use Rattle.uac_cli.proofs.Calling.{done_call, usage_call, unread_call, read_to_end, ok_is_no_write, read_is_no_write}
-use Rattle.uac_cli.proofs.Calling.{usage_refuses, memory_refuses, refused_cause, refused_unread, refused_faultless, refused_end}
+use Rattle.uac_describe.proofs.HandingOnLemmas.{faultless_on, status_before}
+use Rattle.uac_cli.proofs.CallLemmas.{done_call, usage_call, unread_call, read_to_end, ok_is_no_write, read_is_no_write}
+use Rattle.uac_cli.proofs.CallLemmas.{usage_refuses, memory_refuses, refused_cause, refused_unread, refused_faultless, refused_end}
 use Rattle.uac_cli.proofs.Completed.{done_whole}
 use Rattle.uac_cli.proofs.HandingOn.{call_on, write_fault_on}
 use Rattle.uac_cli.proofs.top.uac_main.Goals as goal

@@ -1,6 +1,6 @@
 use Rattle.std.proofs.Common.{◌≡◌, ℕ, Some, true, false, ap, sym, ◌∙◌}
 use Rattle.uac_clock.specs.Nominal.{values_of, is_listed}
-use Rattle.uac_clock.proofs.Listed.{nominal_of-listed, nominal_of-unlisted}
+use Rattle.uac_clock.proofs.NominalLemmas.{nominal_of-listed, nominal_of-unlisted}
 use Rattle.uac_clock.proofs.rates.nominal.Goals as goal
 
 pub returns-then-not-contains : goal.returns-then-not-contains

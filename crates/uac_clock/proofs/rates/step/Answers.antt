@@ -3,7 +3,7 @@ use Rattle.std.proofs.Common.{arith, ◌≡◌, ◌<◌, ◌≤◌, ◌*◌, ℤ
 use Rattle.std.specs.Prelude.{unsigned_abs}
 use Rattle.std.proofs.lemmas.Int.{ints, to_z-of_z}
 use Rattle.std.proofs.lemmas.Nat.{mul-le}
-use Rattle.uac_clock.proofs.Listed.{has_room}
+use Rattle.uac_clock.proofs.NominalLemmas.{has_room}
 use Rattle.uac_clock.proofs.rates.step.Goals as goal
 
 unsigned_abs-le : (z : ℤ) → negsuc 99999 ≤ℤ z → z ≤ℤ pos 100000 → unsigned_abs z ≤ 100000

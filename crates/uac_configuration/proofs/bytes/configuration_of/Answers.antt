@@ -1,5 +1,5 @@
 use Rattle.std.proofs.Common.{◌≡◌, ◌∙◌, ap, sym, rules, ℕ, ◌-◌, Bool, length, take, drop, if◌then◌else◌}
-use Rattle.uac_configuration.proofs.Configuring.{configured}
+use Rattle.uac_configuration.proofs.ConfigurationLemmas.{configured}
 use Rattle.uac_configuration.proofs.bytes.configuration_of.Goals.{then-begins_with_device, else-begins_with_device}
 use Rattle.uac_configuration.proofs.bytes.configuration_of.Goals as goal
 

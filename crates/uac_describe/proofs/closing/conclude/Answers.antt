@@ -1,4 +1,4 @@
-use Rattle.uac_describe.proofs.HandingOn.{closes_on}
+use Rattle.uac_describe.proofs.HandingOnLemmas.{closes_on}
 use Rattle.uac_describe.proofs.closing.conclude.Goals as goal
 
 pub returns-clause-closed : goal.returns-clause-closed

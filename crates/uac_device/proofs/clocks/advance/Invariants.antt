@@ -1,12 +1,12 @@
 use Rattle.std.proofs.Common.{◌≡◌, ◌==◌, take}
 use Rattle.std.specs.List.{find}
 use Rattle.std.specs.Option.{option_and_then}
-use Rattle.uac_device.specs.DeviceTurns.{advanced_clock, ticks_where}
+use Rattle.uac_device.specs.DeviceTurns.{clock_after_advance, ticks_where}
 use Rattle.uac_lanes.proofs.Turning.{IsTurnedBelow}
 use Rattle.uac_device.proofs.clocks.advance.Given as goal
 
 abbrev pub invariant-loop-clock : goal.invariant-loop-clock
 invariant-loop-clock l = record {
-  turned : IsTurnedBelow (advanced_clock l.domain l.values) l.clocks l.initial.clocks l.clock-index;
-  first : l.first ≡ option_and_then (ticks_where l.domain l.values) (find (λ c. c.clock == l.domain) (take l.clock-index l.initial.clocks));
+  turned : IsTurnedBelow (clock_after_advance l.domain l.values) l.clocks l.initial.clocks l.clock-index;
+  first : l.first ≡ option_and_then (ticks_where l.domain l.values) (find (λ c. c.domain == l.domain) (take l.clock-index l.initial.clocks));
 }

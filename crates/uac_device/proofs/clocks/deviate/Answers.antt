@@ -1,6 +1,6 @@
 use Rattle.std.proofs.Common.{◌∙◌, ap, arith, map, w32, ℤ}
 use Rattle.std.proofs.lemmas.Int.{to_z-of_z}
-use Rattle.uac_device.specs.DeviceTurns.{deviated_clock}
+use Rattle.uac_device.specs.DeviceTurns.{clock_after_deviation}
 use Rattle.uac_lanes.proofs.Turning.{turned_all, turned_more}
 use Rattle.uac_device.proofs.clocks.deviate.Goals as goal
 
@@ -12,4 +12,4 @@ loop-clock-preserved c =
 pub returns : goal.returns
 returns c =
     turned_all _ c.loop-clock.clocks c.args.clocks.now c.loop-clock.clock-index (omega arith) c.loop-clock.invariant
-    ∙ ap (λ (ppm : ℤ). map (deviated_clock c.args.domain ppm) c.args.clocks.now) (to_z-of_z w32 c.args.ppm c.ranges.ppm)
+    ∙ ap (λ (ppm : ℤ). map (clock_after_deviation c.args.domain ppm) c.args.clocks.now) (to_z-of_z w32 c.args.ppm c.ranges.ppm)

@@ -1,5 +1,5 @@
 use Rattle.std.proofs.Common.{◌≡◌, drop}
-use Rattle.uac_entities.specs.EntityStreams.{links_of}
+use Rattle.uac_entities.specs.EntityInterfaces.{links_of}
 use Rattle.uac_entities.proofs.interfaces.first_link.Given as goal
 
 abbrev pub invariant-loop-setting : goal.invariant-loop-setting

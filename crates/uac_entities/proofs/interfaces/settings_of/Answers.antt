@@ -2,7 +2,7 @@ use Rattle.std.proofs.Common.{◌≡◌, ◌++◌, List, Option, get_or, take, s
 use Rattle.std.specs.Option.{option_to_list}
 use Rattle.std.specs.List.{filter_map}
 use Rattle.uac_entities.specs.declared.stream.Setting.{Setting}
-use Rattle.uac_entities.specs.EntityStreams.{setting_of}
+use Rattle.uac_entities.specs.EntityInterfaces.{setting_of}
 use Rattle.uac_entities.proofs.Kept.{filter_map_more, blank}
 use Rattle.uac_entities.proofs.interfaces.settings_of.Goals as goal
 

@@ -1,5 +1,5 @@
 use Rattle.std.proofs.Common.{◌≡◌, take}
-use Rattle.uac_entities.specs.EntityStreams.{settings_of}
+use Rattle.uac_entities.specs.EntityInterfaces.{settings_of}
 use Rattle.uac_entities.proofs.interfaces.settings_of.Given as goal
 
 abbrev pub invariant-loop-alternate : goal.invariant-loop-alternate

@@ -4,8 +4,8 @@ use Rattle.std.proofs.lemmas.List.{append-nil}
 use Rattle.std.proofs.lemmas.List.Elements.{All-append}
 use Rattle.std.specs.declared.slice.ChunksExact.{ChunksExact}
 use Rattle.std.specs.Slice.Iter.{chunks_exact_rest, chunks_exact_size}
-use Rattle.uac_pcm.specs.Packets.{unpacked}
-use Rattle.uac_pcm.proofs.PacketsLemmas.{frame_bytes-pos, length-unpacked, unpacked-even, unpacked_first, unpacked_short}
+use Rattle.uac_pcm.specs.Packets.{frames_of_bytes}
+use Rattle.uac_pcm.proofs.PacketsLemmas.{frame_bytes-pos, length-frames_of_bytes, frames_of_bytes-even, unpacked_first, unpacked_short}
 use Rattle.uac_ring.specs.Rings.{ring_frames}
 use Rattle.uac_flow.specs.Flows.{AreFrames}
 use Rattle.uac_flow.proofs.HeldFrames.{put_next}
@@ -20,7 +20,7 @@ loop-bytes-init c =
     let rest_is : chunks_exact_rest c.into_iter-bytes-iterator.result ≡ c.args.packet.now.items =
     ap (λ (it : ChunksExact ℕ). chunks_exact_rest it) gives ∙ c.chunks_exact-bytes-items.ensures.rest ∙ c.as_slice.ensures.value in
     let some : 0 < format.channels * format.subslot = frame_bytes-pos _ _ _ format.in_range in
-    (omega arith, tt, size_is, ap (λ (bs : List ℕ). c.args.ring.now ++ unpacked format.channels format.subslot format.bits bs) rest_is)
+    (omega arith, tt, size_is, ap (λ (bs : List ℕ). c.args.ring.now ++ frames_of_bytes format.channels format.subslot format.bits bs) rest_is)
 
 pub loop-bytes-preserved : goal.loop-bytes-preserved
 loop-bytes-preserved c =
@@ -29,15 +29,15 @@ loop-bytes-preserved c =
     let rest = chunks_exact_rest c.next.new.self in
     let size_is : chunks_exact_size c.next.new.self ≡ format.channels * format.subslot = steps.0 ∙ c.loop-bytes.invariant.2 in
     let some : 0 < format.channels * format.subslot = frame_bytes-pos _ _ _ format.in_range in
-    let split : unpacked format.channels format.subslot format.bits (chunks_exact_rest c.loop-bytes.bytes-iterator)
-    ≡ c.unpack.new.frame.items ∷ unpacked format.channels format.subslot format.bits rest =
+    let split : frames_of_bytes format.channels format.subslot format.bits (chunks_exact_rest c.loop-bytes.bytes-iterator)
+    ≡ c.unpack.new.frame.items ∷ frames_of_bytes format.channels format.subslot format.bits rest =
     unpacked_first format.channels format.subslot format.bits _ c.in-Some.bytes.now rest some steps.1.0 (steps.1.1 ∙ c.loop-bytes.invariant.2)
-    ∙ ap (λ (f : List ℤ). f ∷ unpacked format.channels format.subslot format.bits rest) (sym c.unpack.ensures.samples) in (
+    ∙ ap (λ (f : List ℤ). f ∷ frames_of_bytes format.channels format.subslot format.bits rest) (sym c.unpack.ensures.samples) in (
       omega arith,
       tt,
       size_is,
       put_next c.put.result c.args.ring.now c.loop-bytes.ring c.put.new.self _ _ _ c.unpack.new.frame.items split
-          (subst (λ (n : ℕ). length c.args.ring.now + n ≤ ring_frames) (sym (length-unpacked _ _ _ _)) c.requires)
+          (subst (λ (n : ℕ). length c.args.ring.now + n ≤ ring_frames) (sym (length-frames_of_bytes _ _ _ _)) c.requires)
           c.loop-bytes.invariant.3 c.put.ensures.full c.put.ensures.appended,
     )
 
@@ -52,8 +52,8 @@ returns-clause-put c =
 
 pub returns-clause-frames : goal.returns-clause-frames
 returns-clause-frames c = λ whole.
-    let frames : List (List ℤ) = unpacked c.args.format.now.channels c.args.format.now.subslot c.args.format.now.bits c.args.packet.now.items in
+    let frames : List (List ℤ) = frames_of_bytes c.args.format.now.channels c.args.format.now.subslot c.args.format.now.bits c.args.packet.now.items in
     let all : AreFrames c.args.format.now.channels (c.args.ring.now ++ frames) =
     All-append (λ (f : List ℤ). length f ≡ c.args.format.now.channels) c.args.ring.now frames whole
-    (unpacked-even c.args.format.now.channels c.args.format.now.subslot c.args.format.now.bits c.args.packet.now.items) in
+    (frames_of_bytes-even c.args.format.now.channels c.args.format.now.subslot c.args.format.now.bits c.args.packet.now.items) in
     subst (λ (r : List (List ℤ)). AreFrames c.args.format.now.channels r) (sym (returns-clause-put c)) all

@@ -1,4 +1,4 @@
-use Rattle.uac_generated.proofs.Whole.{generated_scripts_are_done, generated_scripts_are_scripts, generated_scripts_are_steady}
+use Rattle.uac_generated.proofs.GeneratedLemmas.{generated_scripts_are_done, generated_scripts_are_scripts, generated_scripts_are_steady}
 use Rattle.uac_generated.proofs.laws.generated_scripts_run_whole.Goals as goal
 
 pub returns-clause-script : goal.returns-clause-script

@@ -1,5 +1,5 @@
 use Rattle.std.proofs.Common.{◌≡◌, take, sum_by}
-use Rattle.uac_entities.specs.EntityStreams.{channels_of}
+use Rattle.uac_entities.specs.EntityInterfaces.{channels_of}
 use Rattle.uac_graph.proofs.jobs.inputs_of.Given as goal
 
 abbrev pub invariant-loop-source : goal.invariant-loop-source

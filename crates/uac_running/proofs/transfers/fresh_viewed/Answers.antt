@@ -17,8 +17,8 @@ returns-clause-view c =
 
 pub returns-clause-stands : goal.returns-clause-stands
 returns-clause-stands c =
-    IfOk-weaker c.with_view.result (λ (viewed : Viewed). (w : DeviceWorld) → kept.Stands c.in_ok-device.device w → kept.Stands viewed.device w)
-    (λ (viewed : Viewed). kept.Stands viewed.device (fresh c.args.function)) (λ viewed keeps. keeps (fresh c.args.function) c.in_ok-device.ensures) c.with_view.ensures.stands
+    IfOk-weaker c.with_view.result (λ (viewed : Viewed). (w : DeviceWorld) → kept.DeviceStands c.in_ok-device.device w → kept.DeviceStands viewed.device w)
+    (λ (viewed : Viewed). kept.DeviceStands viewed.device (fresh c.args.function)) (λ viewed keeps. keeps (fresh c.args.function) c.in_ok-device.ensures) c.with_view.ensures.stands
 
 pub returns-clause-function : goal.returns-clause-function
 returns-clause-function c =

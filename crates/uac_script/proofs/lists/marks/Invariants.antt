@@ -9,7 +9,7 @@ use Rattle.uac_script.proofs.lists.marks.Given as goal
 abbrev pub invariant-loop-word : goal.invariant-loop-word
 invariant-loop-word l = record {
   so_far : map mark_of (words_left l.fn.words.rest) ≡ map said_mark l.marks.items ++ map mark_of (words_left l.words.rest);
-  in_range : list_all (λ loss. is_id loss.place) (map said_mark l.marks.items) ≡ true;
+  in_range : list_all (λ loss. is_id loss.interface) (map said_mark l.marks.items) ≡ true;
   marks : list_all is_mark (words_left l.words.rest) ≡ true;
   room : length l.marks.items ≤ 24;
 }

@@ -1,11 +1,11 @@
 use Rattle.std.proofs.Common.{◌≡◌, ℕ, List, Option, Result, sym, subst, ◌∙◌}
 use Rattle.uac_units.specs.Hearing.{Reading}
 use Rattle.uac_units.specs.Panel.{readings}
-use Rattle.uac_script.specs.Lent.{lent_said}
+use Rattle.uac_script.specs.Lent.{lent_phrase_result}
 use Rattle.uac_script.specs.Phrase.{Phrase}
 use Rattle.uac_script.specs.LineReading.{answer}
 use Rattle.uac_bus.specs.declared.fault.BusFault.{BusFault}
-use Rattle.uac_bus.specs.BusWorld.{World}
+use Rattle.uac_bus.specs.BusWorld.{BusWorld}
 use Rattle.uac_bus.specs.After.{said_step}
 use Rattle.uac_bus.specs.BusKept.{BusFields}
 use Rattle.uac_scripts.specs.Running.{Does}
@@ -14,7 +14,7 @@ use Rattle.uac_scripts.proofs.Idle.{idle_done}
 use Rattle.uac_scripts.proofs.running.do_line.Goals as goal
 
 -- what was done of what a text says, said of the text
-text_done : (text : List ℕ) (said : Result Phrase ℕ) (w : World) (bus : BusFields) (shown shown' : List Reading) (written written' : Option (List ℕ)) (writes writes' : ℕ)
+text_done : (text : List ℕ) (said : Result Phrase ℕ) (w : BusWorld) (bus : BusFields) (shown shown' : List Reading) (written written' : Option (List ℕ)) (writes writes' : ℕ)
     (result : Result (Unit {0}) BusFault) → said ≡ answer text → Does (said_step said w) (wants said w) bus shown shown' written written' writes writes' result
     → Does (said_step (answer text) w) (wants (answer text) w) bus shown shown' written written' writes writes' result
 text_done text said w bus shown shown' written written' writes writes' result same does =
@@ -25,7 +25,7 @@ returns-then-is_idle-clause-does g c = λ w s. idle_done c.args.text.now w _ _ (
 
 pub returns-clause-does : goal.returns-clause-does
 returns-clause-does g c = λ w s.
-    text_done c.args.text.now (lent_said c.read.result) w c.do_said.new.bus
+    text_done c.args.text.now (lent_phrase_result c.read.result) w c.do_said.new.bus
     (readings (λ v x. (goal.Meter-dyn g (v, x)).reading_of x) c.args.meters.now) (readings (λ v x. (goal.Meter-dyn g (v, x)).reading_of x) c.do_said.new.meters)
     (g.K.Sink.written c.args.sink.now) (g.K.Sink.written c.do_said.new.sink) (g.K.Sink.faults c.args.sink.now) (g.K.Sink.faults c.do_said.new.sink) c.do_said.result
     c.read.ensures.answered (c.do_said.ensures.does w s)

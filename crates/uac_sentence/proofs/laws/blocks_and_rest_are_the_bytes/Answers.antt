@@ -1,4 +1,4 @@
-use Rattle.uac_sentence.proofs.CuttingLaw.{chop_is_cut}
+use Rattle.uac_sentence.proofs.CuttingLemmas.{chop_is_cut}
 use Rattle.uac_sentence.proofs.laws.blocks_and_rest_are_the_bytes.Goals as goal
 
 pub returns : goal.returns

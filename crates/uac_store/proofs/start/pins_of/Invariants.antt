@@ -1,5 +1,5 @@
 use Rattle.std.proofs.Common.{◌≡◌, take, map}
-use Rattle.uac_entities.specs.EntityStreams.{channels_of}
+use Rattle.uac_entities.specs.EntityInterfaces.{channels_of}
 use Rattle.uac_store.proofs.start.pins_of.Given as goal
 
 abbrev pub invariant-loop-id : goal.invariant-loop-id

@@ -2,7 +2,7 @@ use Rattle.std.proofs.Common.{subst, List, arith}
 use Rattle.std.specs.Io.KnownBytes.{Appends}
 use Rattle.uac_transcript.specs.Transcript.{Said}
 use Rattle.uac_transcript.specs.Printing.{text_of}
-use Rattle.uac_streaming.proofs.SoFar.{Appends-nothing}
+use Rattle.uac_streaming.proofs.TellingLemmas.{Appends-nothing}
 use Rattle.uac_streaming.proofs.Ticking.{found_none}
 use Rattle.uac_streaming.proofs.turns.write_found.Goals as goal
 

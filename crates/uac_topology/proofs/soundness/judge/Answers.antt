@@ -1,10 +1,10 @@
 use Rattle.std.proofs.Common.{◌≡◌, List, Some, None, sym, ap, ◌∙◌}
 use Rattle.uac_entities.specs.declared.entity.Entity.{Entity}
 use Rattle.uac_entities.specs.Entities.{entities_of}
-use Rattle.uac_entities.specs.EntitySettings.{alternates_of}
-use Rattle.uac_entities.specs.EntityStreams.{streams_of}
-use Rattle.uac_entities.specs.declared.alternate.Alternate.{Alternate}
-use Rattle.uac_topology_rules.specs.Clusters.{clustered}
+use Rattle.uac_entities.specs.EntitySettings.{declared_settings}
+use Rattle.uac_entities.specs.EntityInterfaces.{streaming_interfaces_of}
+use Rattle.uac_entities.specs.declared.settings.DeclaredSetting.{DeclaredSetting}
+use Rattle.uac_topology_rules.specs.Clusters.{with_own_clusters}
 use Rattle.uac_topology_rules.specs.Domains.{domains_of}
 use Rattle.uac_topology_rules.specs.RuleFaults.{broken_names, broken_walks}
 use Rattle.uac_topology.specs.Topology.{IsFunctionOf, IsSound, streams_in}
@@ -38,12 +38,12 @@ returns-in-Some-ends_fault c =
     let names : None ≡ broken_names c.in_ok-known.known = c.in_default.ensures ∙ ap broken_names (sym c.in_ok-known.ensures) in
     let walks : None ≡ broken_walks c.in_ok-known.known =
     sym c.in_default-fault.is ∙ c.in_ok-walked.ensures.judged ∙ ap broken_walks (sym c.in_ok-known.ensures) in
-    let all : c.in_ok-all.all.items ≡ alternates_of c.args.blocks.now = c.in_ok-all.ensures in
+    let all : c.in_ok-all.all.items ≡ declared_settings c.args.blocks.now = c.in_ok-all.ensures in
     let seen : c.as_slice.result.now ≡ entities_of c.args.blocks.now = c.as_slice.ensures ∙ c.table-2.ensures ∙ k in
     let streams : c.in_ok-streams.streams.items ≡ streams_in c.args.blocks.now =
     c.in_ok-streams.ensures
-    ∙ ap (λ (xs : List Entity). streams_of xs c.deref.result.now) seen
-    ∙ ap (λ (xs : List Alternate). streams_of (entities_of c.args.blocks.now) xs) (c.deref.ensures.value ∙ all) in
+    ∙ ap (λ (xs : List Entity). streaming_interfaces_of xs c.deref.result.now) seen
+    ∙ ap (λ (xs : List DeclaredSetting). streaming_interfaces_of (entities_of c.args.blocks.now) xs) (c.deref.ensures.value ∙ all) in
     by_ends c.args.blocks.now c.in_ok-known.known k c.deref-2.result.now c.deref-3.result.now (Some c.in-Some-ends_fault.fault)
     (c.deref-2.ensures.value ∙ all) (c.deref-3.ensures.value ∙ streams) names walks c.in_default-shapes_fault.ensures c.in-Some-ends_fault.ensures
 
@@ -61,16 +61,16 @@ made c =
     let names : None ≡ broken_names c.in_ok-known.known = c.in_default.ensures ∙ ap broken_names (sym c.in_ok-known.ensures) in
     let walks : None ≡ broken_walks c.in_ok-known.known =
     sym c.in_default-fault.is ∙ c.in_ok-walked.ensures.judged ∙ ap broken_walks (sym c.in_ok-known.ensures) in
-    let all : c.in_ok-all.all.items ≡ alternates_of c.args.blocks.now = c.in_ok-all.ensures in
+    let all : c.in_ok-all.all.items ≡ declared_settings c.args.blocks.now = c.in_ok-all.ensures in
     let seen : c.as_slice.result.now ≡ entities_of c.args.blocks.now = c.as_slice.ensures ∙ c.table-2.ensures ∙ k in
     let streams : c.in_ok-streams.streams.items ≡ streams_in c.args.blocks.now =
     c.in_ok-streams.ensures
-    ∙ ap (λ (xs : List Entity). streams_of xs c.deref.result.now) seen
-    ∙ ap (λ (xs : List Alternate). streams_of (entities_of c.args.blocks.now) xs) (c.deref.ensures.value ∙ all) in (
+    ∙ ap (λ (xs : List Entity). streaming_interfaces_of xs c.deref.result.now) seen
+    ∙ ap (λ (xs : List DeclaredSetting). streaming_interfaces_of (entities_of c.args.blocks.now) xs) (c.deref.ensures.value ∙ all) in (
       by_ends c.args.blocks.now c.in_ok-known.known k c.deref-2.result.now c.deref-3.result.now None
           (c.deref-2.ensures.value ∙ all) (c.deref-3.ensures.value ∙ streams) names walks c.in_default-shapes_fault.ensures c.in_default-ends_fault.ensures,
       record {
-        entities = c.into_table.ensures ∙ ap clustered k;
+        entities = c.into_table.ensures ∙ ap with_own_clusters k;
         domains = c.into_clocks.ensures ∙ c.in_ok-domains.ensures.clocked ∙ ap domains_of (c.as_slice-2.ensures ∙ c.table-3.ensures ∙ k);
         streams = streams;
         control_interface = c.control_interface_of.ensures;

@@ -1,6 +1,6 @@
 use Rattle.std.proofs.Common.{◌≡◌, ◌==◌, ◌&&◌, ◌||◌, Bool, false, not, List, take, sym, ◌∙◌}
 use Rattle.std.specs.List.{list_any}
-use Rattle.uac_entities.specs.EntityStreams.{links_of}
+use Rattle.uac_entities.specs.EntityInterfaces.{links_of}
 use Rattle.uac_entities.specs.declared.stream.StreamInterface.{StreamInterface}
 use Rattle.uac_topology_rules.specs.Rules.{breaks_u12, is_usb}
 use Rattle.uac_topology_rules.proofs.StreamSteps.{at_stream_is}

@@ -1,7 +1,7 @@
 use Rattle.std.proofs.Common.{◌==◌, ◌&&◌, ◌||◌, ◌+◌, ℕ, Bool, false, not, Option, drop, ap, sym, ◌∙◌}
 use Rattle.std.specs.List.{list_any}
 use Rattle.std.specs.Option.{option_map_or}
-use Rattle.uac_entities.specs.EntityStreams.{links_of}
+use Rattle.uac_entities.specs.EntityInterfaces.{links_of}
 use Rattle.uac_topology_rules.specs.Rules.{is_usb}
 use Rattle.uac_topology_rules.proofs.StreamSteps.{any_link_at}
 use Rattle.uac_topology_rules.proofs.ends.has_wrong_link.Goals as goal

@@ -1,6 +1,6 @@
 use Rattle.std.proofs.Common.{◌≡◌, ◌==◌, ◌&&◌, not, drop}
 use Rattle.std.specs.List.{list_any}
-use Rattle.uac_entities.specs.EntityStreams.{links_of}
+use Rattle.uac_entities.specs.EntityInterfaces.{links_of}
 use Rattle.uac_topology_rules.specs.Rules.{is_usb}
 use Rattle.uac_topology_rules.proofs.ends.has_wrong_link.Given as goal
 

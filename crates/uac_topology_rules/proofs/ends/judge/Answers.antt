@@ -1,7 +1,7 @@
 use Rattle.std.proofs.Common.{true, arith, sym, ◌∙◌}
 use Rattle.uac_topology_rules.specs.Offenders.{number_at}
 use Rattle.uac_topology_rules.specs.RuleNumbers.{number}
-use Rattle.uac_topology_rules.specs.Ending.{breaks}
+use Rattle.uac_topology_rules.specs.EndRules.{breaks}
 use Rattle.uac_topology_rules.proofs.StreamSteps.{number_is}
 use Rattle.uac_topology_rules.proofs.FirstPlace.{interface_breaks, no_interface_breaks, same_fault}
 use Rattle.uac_topology_rules.proofs.ends.judge.Goals as goal

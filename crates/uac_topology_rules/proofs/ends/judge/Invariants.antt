@@ -1,5 +1,5 @@
 use Rattle.std.proofs.Common.{◌≡◌, ℕ, ◌<◌, false}
-use Rattle.uac_topology_rules.specs.Ending.{breaks}
+use Rattle.uac_topology_rules.specs.EndRules.{breaks}
 use Rattle.uac_topology_rules.proofs.ends.judge.Given as goal
 
 abbrev pub invariant-loop-place : goal.invariant-loop-place

@@ -2,7 +2,7 @@ use Rattle.std.proofs.Common.{◌≡◌, ◌<◌, false, List, length, get_or, a
 use Rattle.uac_entities.specs.declared.entity.Entity.{Entity}
 use Rattle.uac_topology_rules.specs.Table.{at}
 use Rattle.uac_topology_rules.specs.RuleNumbers.{number}
-use Rattle.uac_topology_rules.specs.Naming.{breaks}
+use Rattle.uac_topology_rules.specs.NameRules.{breaks}
 use Rattle.uac_topology_rules.proofs.TableSteps.{at_read}
 use Rattle.uac_topology_rules.proofs.FirstPlace.{entity_breaks, no_entity_breaks, same_fault}
 use Rattle.uac_topology_rules.proofs.names.judge.Goals as goal

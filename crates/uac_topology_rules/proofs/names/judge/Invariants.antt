@@ -1,5 +1,5 @@
 use Rattle.std.proofs.Common.{◌≡◌, ℕ, ◌<◌, false}
-use Rattle.uac_topology_rules.specs.Naming.{breaks}
+use Rattle.uac_topology_rules.specs.NameRules.{breaks}
 use Rattle.uac_topology_rules.proofs.names.judge.Given as goal
 
 abbrev pub invariant-loop-place : goal.invariant-loop-place

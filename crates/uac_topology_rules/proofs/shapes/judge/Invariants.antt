@@ -1,5 +1,5 @@
 use Rattle.std.proofs.Common.{◌≡◌, ℕ, ◌<◌, false}
-use Rattle.uac_topology_rules.specs.Shaping.{breaks}
+use Rattle.uac_topology_rules.specs.ShapeRules.{breaks}
 use Rattle.uac_topology_rules.proofs.shapes.judge.Given as goal
 
 abbrev pub invariant-loop-place : goal.invariant-loop-place

@@ -5,7 +5,7 @@ use Rattle.uac_entities.specs.declared.entity.Entity.{Entity}
 use Rattle.uac_topology_rules.specs.declared.signals.Behind.{Behind}
 use Rattle.uac_topology_rules.specs.declared.signals.Behind.TheVariants as clocks
 use Rattle.uac_topology_rules.specs.Clusters.{clocks_by}
-use Rattle.uac_topology_rules.specs.Behind.{Tells}
+use Rattle.uac_topology_rules.specs.Behind.{Summarizes}
 use Rattle.uac_topology_rules.proofs.Told.{source_below, clocks_more, clocks_all}
 use Rattle.uac_topology_rules.proofs.signals.clocks_of.Goals as goal
 
@@ -37,8 +37,8 @@ loop-place-preserved c =
     c.as_slice.ensures ∙ get_or_read graph k c.index-links-place.result (c.requires.ordered.nodes l.place-index c.loop-place-test.true) c.index-links-place.is [] in
     let list : c.as_slice-in-loop-place.result.now ≡ l.list.items = c.as_slice-in-loop-place.ensures.value in
     let P : List Behind → List ℕ → Entity → Type 0 =
-    λ bs xs e. (below : ℕ → List ℕ) → ((m : ℕ) → m < length xs → Tells (get_or bs (get_or xs m 0) clocks.Nothing) (below (get_or xs m 0))) →
-    Tells c.clocks_by-behind.result (clocks_by e xs below) in
+    λ bs xs e. (below : ℕ → List ℕ) → ((m : ℕ) → m < length xs → Summarizes (get_or bs (get_or xs m 0) clocks.Nothing) (below (get_or xs m 0))) →
+    Summarizes c.clocks_by-behind.result (clocks_by e xs below) in
     let told : P c.as_slice-in-loop-place.result.now c.as_slice.result.now c.at.result.now = c.clocks_by-behind.ensures in
     clocks_more es graph order c.requires l.place-index l.list.items c.clocks_by-behind.result c.loop-place-test.true l.invariant
     (subst (λ (e : Entity). P l.list.items (links graph k) e) c.at.ensures

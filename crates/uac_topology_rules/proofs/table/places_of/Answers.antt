@@ -1,10 +1,10 @@
 use Rattle.std.proofs.Common.{rules}
-use Rattle.uac_topology_rules.specs.Table.{found}
+use Rattle.uac_topology_rules.specs.Table.{first_place_of}
 use Rattle.uac_topology_rules.proofs.TableSteps.{table_same, table_more}
 use Rattle.uac_topology_rules.proofs.table.places_of.Goals as goal
 
 pub loop-place-init : goal.loop-place-init
-unfolding found
+unfolding first_place_of
 loop-place-init c = search rules
 
 pub loop-place-preserved-then-contains_key : goal.loop-place-preserved-then-contains_key

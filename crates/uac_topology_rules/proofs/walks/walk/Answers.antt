@@ -5,13 +5,13 @@ use Rattle.uac_topology_rules.proofs.Sound.{signal_closed, clock_closed}
 use Rattle.uac_topology_rules.proofs.WalkSteps.{walks_are}
 use Rattle.uac_topology_rules.proofs.walks.walk.Goals as goal
 
-pub ordered-requires : goal.ordered-requires
-ordered-requires c =
+pub sources_first_order-requires : goal.sources_first_order-requires
+sources_first_order-requires c =
     let e : c.deref.result.now ≡ signal_links c.args.table.now = c.deref.ensures.value ∙ c.in_ok-links.ensures in
     subst IsClosed (sym e) (signal_closed c.args.table.now c.requires)
 
-pub ordered-requires-2 : goal.ordered-requires-2
-ordered-requires-2 c =
+pub sources_first_order-requires-2 : goal.sources_first_order-requires-2
+sources_first_order-requires-2 c =
     let e : c.deref-2.result.now ≡ clock_links c.args.table.now = c.deref-2.ensures.value ∙ c.in_ok-clock_links.ensures in
     subst IsClosed (sym e) (clock_closed c.args.table.now c.requires)
 

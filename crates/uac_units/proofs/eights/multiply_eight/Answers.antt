@@ -2,7 +2,7 @@ use Rattle.std.proofs.Common.{◌≡◌, ◌∙◌, ap, sym, subst, FitsSigned, 
 use Rattle.std.specs.Prelude.{replicate}
 use Rattle.std.specs.Simd.Lanes.{Each1, zip2}
 use Rattle.uac_units.specs.SampleLanes.{floored_by}
-use Rattle.uac_units.proofs.SampleLanesLemmas.{products, asked, shifts, floored-fits, small-lanes}
+use Rattle.uac_units.proofs.SampleLanesLemmas.{products, asked, shifts, product_floor-fits, small-lanes}
 use Rattle.uac_units.proofs.eights.multiply_eight.Goals as goal
 
 pub overflow_mul-result : goal.overflow_mul-result
@@ -19,4 +19,4 @@ returns-clause-fits c =
     let is : shifts c.args.samples c.args.gains (replicate 8 30) ≡ zip2 floored_by c.args.samples c.args.gains =
     ap (λ n. shifts c.args.samples c.args.gains (replicate n 30)) (sym c.requires.lanes.0)
     ∙ products c.args.samples c.args.gains (c.requires.lanes.0 ∙ sym c.requires.lanes.1) small in
-    subst (Each1 (FitsSigned w64)) (sym is) (floored-fits c.args.samples c.args.gains small)
+    subst (Each1 (FitsSigned w64)) (sym is) (product_floor-fits c.args.samples c.args.gains small)

@@ -2,7 +2,7 @@ use Rattle.std.proofs.Common.{◌≡◌, ◌∙◌, ap, arith, sym, length, w32,
 use Rattle.std.specs.List.{range_with_len}
 use Rattle.std.proofs.lemmas.Int.{to_z-of_z}
 use Rattle.std.proofs.lemmas.List.FromFn.{map-range_with_len_more, length-map-range_with_len}
-use Rattle.uac_units.specs.Rendering.{pins_sample, rendered}
+use Rattle.uac_units.specs.Rendering.{pins_sample, job_samples}
 use Rattle.uac_units.proofs.lanes.render_by_lanes.Goals as goal
 
 pub push-requires : goal.push-requires
@@ -19,7 +19,7 @@ loop-channel-preserved g c =
     ∙ sym (map-range_with_len_more sample 0 c.loop-channel.channel c.loop-channel.channel (omega arith))
 
 pub returns-clause-samples : goal.returns-clause-samples
-unfolding rendered
+unfolding job_samples
 returns-clause-samples g c =
     c.loop-channel.invariant
     ∙ ap (λ n. map (pins_sample g.U.OnLanes.lane_kind c.args.job.now c.args.pins.now.items) (range_with_len 0 n)) (omega arith)

@@ -2,7 +2,7 @@ use Rattle.std.proofs.Common.{◌∙◌, ap, arith, w32, ◌*◌, ◌+◌, get_o
 use Rattle.std.proofs.lemmas.Int.{to_z-of_z}
 use Rattle.uac_gain.specs.Gain.{scaled}
 use Rattle.uac_units.specs.declared.jobs.UnitKind.TheVariants.{Feature}
-use Rattle.uac_units.specs.Rendering.{input, pins_sample, rendered}
+use Rattle.uac_units.specs.Rendering.{input, pins_sample, job_samples}
 use Rattle.uac_units.proofs.Writing.{all_written, one_more}
 use Rattle.uac_units.proofs.plain.render_channels.Goals as goal
 
@@ -18,7 +18,7 @@ loop-channel-preserved c =
     ∙ ap (λ (gs : List ℕ). scaled (scaled (input c.args.inputs.now channel) (get_or gs (2 * channel) 0)) (get_or gs (2 * channel + 1) 0)) c.as_slice-gains.ensures.value)
 
 pub returns : goal.returns
-unfolding rendered
+unfolding job_samples
 returns c =
     all_written (pins_sample Feature c.args.job.now c.args.inputs.now) c.args.job.now.outputs c.loop-channel.channel c.loop-channel.out (omega arith)
     c.loop-channel.invariant

@@ -1,7 +1,7 @@
 use Rattle.std.proofs.Common.{◌∙◌, ap, arith, w32, ◌*◌, ◌+◌, ℕ}
 use Rattle.std.proofs.lemmas.Int.{to_z-of_z}
 use Rattle.uac_units.specs.declared.jobs.UnitKind.TheVariants.{Selector}
-use Rattle.uac_units.specs.Rendering.{input, pins_sample, rendered}
+use Rattle.uac_units.specs.Rendering.{input, pins_sample, job_samples}
 use Rattle.uac_units.proofs.Writing.{all_written, one_more}
 use Rattle.uac_units.proofs.plain.render_selector.Goals as goal
 
@@ -13,7 +13,7 @@ loop-channel-preserved c =
     ∙ ap (λ (n : ℕ). input c.args.inputs.now (c.args.job.now.pin * n + c.loop-channel.channel)) c.requires.sized)
 
 pub returns : goal.returns
-unfolding rendered
+unfolding job_samples
 returns c =
     all_written (pins_sample Selector c.args.job.now c.args.inputs.now) c.args.job.now.outputs c.loop-channel.channel c.loop-channel.out (omega arith)
     c.loop-channel.invariant

@@ -1,4 +1,4 @@
-use Rattle.uac_walk.proofs.Walks.{no_way_back_lem}
+use Rattle.uac_walk.proofs.WalkLemmas.{no_way_back_lem}
 use Rattle.uac_walk.proofs.laws.no_way_back.Goals as goal
 
 pub returns : goal.returns

@@ -1,6 +1,6 @@
 use Rattle.std.proofs.Common.{◌≡◌, ℕ, List, [], get_or, length, arith, sym, ap, ◌∙◌, ◌<◌, subst}
 use Rattle.std.proofs.lemmas.List.{get_or_read}
-use Rattle.uac_walk.proofs.Noting.{named_none, named_more}
+use Rattle.uac_walk.proofs.NotingLemmas.{named_none, named_more}
 use Rattle.uac_walk.proofs.order.namers_of.Goals as goal
 
 pub loop-node-init : goal.loop-node-init

@@ -1,6 +1,6 @@
 use Rattle.std.proofs.Common.{ℕ, List, [], ◌∷◌, ◌++◌, ap, ◌∙◌, arith, get_or}
 use Rattle.std.proofs.lemmas.List.{get_or_read}
-use Rattle.uac_walk.proofs.Noting.{noted_more}
+use Rattle.uac_walk.proofs.NotingLemmas.{noted_more}
 use Rattle.uac_walk.proofs.order.note.Goals as goal
 
 pub loop-to-preserved : goal.loop-to-preserved

@@ -2,10 +2,10 @@ use Rattle.std.proofs.Common.{◌∙◌, ◌/◌, sym, subst, arith, List, ℤ}
 use Rattle.std.specs.List.{All}
 use Rattle.uac_store.specs.declared.keys.Key.{Key}
 use Rattle.uac_entities.specs.declared.entity.Entity.{Entity}
-use Rattle.uac_graph.specs.GraphControls.{held_in}
+use Rattle.uac_graph.specs.GraphControls.{controls_in}
 use Rattle.uac_graph.specs.Jobs.{AreJobs}
 use Rattle.uac_device.specs.Following.{IsDerived, IsPace, renewed_pace}
-use Rattle.uac_device.proofs.Deriving.{renewed_paces, same_paces}
+use Rattle.uac_device.proofs.FollowingLemmas.{renewed_paces, same_paces}
 use Rattle.uac_lanes.proofs.Turning.{turned_back}
 use Rattle.uac_device.proofs.derived.Derived.follow.Goals as goal
 
@@ -20,8 +20,8 @@ returns-then-names_clock c before is left =
     let controls = c.args.store.now in
     record {
       asked =
-          subst (λ (graph : List Entity). AreJobs graph (held_in controls) c.renew.new.jobs) c.requires.graph
-          (c.renew.ensures (held_in before) (subst (λ (graph : List Entity). AreJobs graph (held_in before) c.args.self.now.jobs) (sym c.requires.graph) is.asked) left.others);
+          subst (λ (graph : List Entity). AreJobs graph (controls_in controls) c.renew.new.jobs) c.requires.graph
+          (c.renew.ensures (controls_in before) (subst (λ (graph : List Entity). AreJobs graph (controls_in before) c.args.self.now.jobs) (sym c.requires.graph) is.asked) left.others);
       paced =
           subst (All (IsPace entities controls))
           (sym (turned_back (renewed_pace entities controls) c.args.self.now.paces.len c.args.self.now.paces.items c.deref_mut.result.now c.renew-then-names_clock.new.paces c.renew-then-names_clock.ensures
@@ -35,8 +35,8 @@ returns-else-names_clock c before is left =
     let controls = c.args.store.now in
     record {
       asked =
-          subst (λ (graph : List Entity). AreJobs graph (held_in controls) c.renew.new.jobs) c.requires.graph
-          (c.renew.ensures (held_in before) (subst (λ (graph : List Entity). AreJobs graph (held_in before) c.args.self.now.jobs) (sym c.requires.graph) is.asked) left.others);
+          subst (λ (graph : List Entity). AreJobs graph (controls_in controls) c.renew.new.jobs) c.requires.graph
+          (c.renew.ensures (controls_in before) (subst (λ (graph : List Entity). AreJobs graph (controls_in before) c.args.self.now.jobs) (sym c.requires.graph) is.asked) left.others);
       paced =
           same_paces c.args.function.now.entities before controls (c.args.setup.now.index / 256) c.args.self.now.paces.items left.others (sym c.names_clock.ensures ∙ c.if-names_clock.false) is.paced;
       heard = is.heard;

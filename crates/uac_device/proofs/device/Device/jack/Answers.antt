@@ -1,7 +1,7 @@
 use Rattle.std.proofs.Common.{◌≡◌, subst, sym, length, true}
 use Rattle.uac_graph.specs.Meaning.{entity}
 use Rattle.uac_device.specs.DeviceWorld.{is_input_jack}
-use Rattle.uac_device.specs.DeviceKept.{DeviceFields, Stands}
+use Rattle.uac_device.specs.DeviceKept.{DeviceFields, DeviceStands}
 use Rattle.uac_device.specs.contracts.device.Device.{the_view}
 use Rattle.uac_device.proofs.Played.{jack_fits, jack_stands}
 use Rattle.uac_device.proofs.device.Device.jack.Goals as goal
@@ -17,4 +17,4 @@ pub returns-clause-stands : goal.returns-clause-stands
 returns-clause-stands c w stands =
     jack_stands (the_view c.self.inside) c.set.new.self c.args.terminal c.args.frame.now.items w
     (subst (λ (device : DeviceFields). is_input_jack (entity device.function.entities c.args.terminal) ≡ true) (sym c.self.view_is) c.requires.jack)
-    c.set.ensures.wires (subst (λ (device : DeviceFields). Stands device w) (sym c.self.view_is) stands)
+    c.set.ensures.wires (subst (λ (device : DeviceFields). DeviceStands device w) (sym c.self.view_is) stands)

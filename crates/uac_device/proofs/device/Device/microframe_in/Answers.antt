@@ -1,6 +1,6 @@
 use Rattle.std.proofs.Common.{subst, sym}
 use Rattle.uac_device.specs.DeviceWorld.{frames_in, packet_in}
-use Rattle.uac_device.specs.DeviceKept.{DeviceFields, Stands}
+use Rattle.uac_device.specs.DeviceKept.{DeviceFields, DeviceStands}
 use Rattle.uac_device.specs.contracts.device.Device.{the_view}
 use Rattle.uac_device.proofs.Streaming.{device_with_lanes, sent_stands}
 use Rattle.uac_device.proofs.device.Device.microframe_in.Goals as goal
@@ -10,15 +10,15 @@ invariant_of-self c = (device_with_lanes (the_view c.self.inside) c.send.new.sel
 
 pub returns-clause-stands : goal.returns-clause-stands
 returns-clause-stands c w stands =
-    let here = subst (λ (device : DeviceFields). Stands device w) (sym c.self.view_is) stands in
+    let here = subst (λ (device : DeviceFields). DeviceStands device w) (sym c.self.view_is) stands in
     sent_stands (the_view c.self.inside) c.send.new.self w c.args.interface here (c.send.ensures.stands w.outs w.ins here.streams)
 
 pub returns-clause-packet : goal.returns-clause-packet
 unfolding packet_in
 returns-clause-packet c w stands =
-    let here = subst (λ (device : DeviceFields). Stands device w) (sym c.self.view_is) stands in c.send.ensures.packet w.outs w.ins here.streams
+    let here = subst (λ (device : DeviceFields). DeviceStands device w) (sym c.self.view_is) stands in c.send.ensures.packet w.outs w.ins here.streams
 
 pub returns-clause-frames : goal.returns-clause-frames
 unfolding frames_in
 returns-clause-frames c w stands =
-    let here = subst (λ (device : DeviceFields). Stands device w) (sym c.self.view_is) stands in c.send.ensures.frames w.outs w.ins here.streams
+    let here = subst (λ (device : DeviceFields). DeviceStands device w) (sym c.self.view_is) stands in c.send.ensures.frames w.outs w.ins here.streams

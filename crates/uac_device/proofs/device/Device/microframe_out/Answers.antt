@@ -1,7 +1,7 @@
 use Rattle.std.proofs.Common.{subst, sym}
 use Rattle.std.specs.Option.{option_map}
 use Rattle.uac_device.specs.DeviceWorld.{arrival_in}
-use Rattle.uac_device.specs.DeviceKept.{DeviceFields, Stands}
+use Rattle.uac_device.specs.DeviceKept.{DeviceFields, DeviceStands}
 use Rattle.uac_device.specs.contracts.device.Device.{the_view}
 use Rattle.uac_device.proofs.Streaming.{device_with_lanes, received_stands}
 use Rattle.uac_device.proofs.device.Device.microframe_out.Goals as goal
@@ -11,11 +11,11 @@ invariant_of-self c = (device_with_lanes (the_view c.self.inside) c.receive.new.
 
 pub returns-clause-stands : goal.returns-clause-stands
 returns-clause-stands c w stands =
-    let here = subst (λ (device : DeviceFields). Stands device w) (sym c.self.view_is) stands in
+    let here = subst (λ (device : DeviceFields). DeviceStands device w) (sym c.self.view_is) stands in
     received_stands (the_view c.self.inside) c.receive.new.self w c.args.interface (option_map (λ p. p.now.items) c.args.packet) here
     (c.receive.ensures.stands w.outs w.ins here.streams)
 
 pub returns-clause-arrival : goal.returns-clause-arrival
 unfolding arrival_in
 returns-clause-arrival c w stands =
-    let here = subst (λ (device : DeviceFields). Stands device w) (sym c.self.view_is) stands in c.receive.ensures.arrival w.outs w.ins here.streams
+    let here = subst (λ (device : DeviceFields). DeviceStands device w) (sym c.self.view_is) stands in c.receive.ensures.arrival w.outs w.ins here.streams

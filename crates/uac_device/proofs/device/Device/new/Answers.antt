@@ -1,7 +1,7 @@
 use Rattle.std.proofs.Common.{◌∙◌, ◌<◌, ap, map, subst, sym, List}
 use Rattle.std.specs.List.{All}
 use Rattle.uac_request.specs.Requests.{AreSettingsOf}
-use Rattle.uac_device.specs.declared.clocks.Clock.{Clock}
+use Rattle.uac_device.specs.declared.clocks.DomainClock.{DomainClock}
 use Rattle.uac_device.specs.DeviceKept.{IsInRange}
 use Rattle.uac_device.proofs.DeviceKeptLemmas.{resting_domains, resting_phases, resting_range}
 use Rattle.uac_lanes.specs.Lanes.{ports}
@@ -17,9 +17,9 @@ invariant_of-result c =
         interfaces =
             subst (AreSettingsOf c.args.function) (sym c.new-settings.ensures) (c.each_interface_starts_with_a_setting.ensures c.args.function);
         wires = c.in_ok-wires.ensures.fitting;
-        domains = ap (map (λ k. k.clock)) resting ∙ resting_domains c.args.function.domains;
-        clocks = subst (λ (clocks : List Clock). All (λ k. IsInRange k.ppm) clocks) (sym resting) (resting_range c.args.function.domains);
-        phases = subst (λ (clocks : List Clock). All (λ k. k.phase < 65536) clocks) (sym resting) (resting_phases c.args.function.domains);
+        domains = ap (map (λ k. k.domain)) resting ∙ resting_domains c.args.function.domains;
+        clocks = subst (λ (clocks : List DomainClock). All (λ k. IsInRange k.deviation) clocks) (sym resting) (resting_range c.args.function.domains);
+        phases = subst (λ (clocks : List DomainClock). All (λ k. k.phase < 65536) clocks) (sym resting) (resting_phases c.args.function.domains);
         ports = ap ports c.in_ok-wires.ensures.lanes ∙ ports_idle c.args.function.entities c.args.function.streams;
       },
       c.in_ok-graph.ensures,

@@ -4,14 +4,14 @@ use Rattle.uac_entities.specs.declared.stream.StreamInterface.{StreamInterface}
 use Rattle.uac_lanes.specs.InterfaceStreams.{runs_either}
 use Rattle.uac_lanes.specs.declared.lane.Port.{Port}
 use Rattle.uac_device.specs.DeviceWorld.{runs_one}
-use Rattle.uac_device.specs.DeviceKept.{DeviceFields, Stands}
+use Rattle.uac_device.specs.DeviceKept.{DeviceFields, DeviceStands}
 use Rattle.uac_device.proofs.Streaming.{one_port_runs}
 use Rattle.uac_device.proofs.device.Device.runs.Goals as goal
 
 pub returns-clause-value : goal.returns-clause-value
 unfolding runs_one
 returns-clause-value c w stands =
-    let here = subst (λ (device : DeviceFields). Stands device w) (sym c.self.view_is) stands in
+    let here = subst (λ (device : DeviceFields). DeviceStands device w) (sym c.self.view_is) stands in
     c.run_one.ensures.value w.outs w.ins here.streams
     ∙ ap (list_any (λ (p : Port). runs_either (w.outs p.interface) (w.ins p.interface))) c.self.invariant.0.ports
     ∙ one_port_runs w.outs w.ins c.self.inside.function.entities c.self.inside.function.streams
@@ -19,4 +19,4 @@ returns-clause-value c w stands =
 
 pub returns-clause-none : goal.returns-clause-none
 returns-clause-none c w stands =
-    let here = subst (λ (device : DeviceFields). Stands device w) (sym c.self.view_is) stands in c.run_one.ensures.none w.outs w.ins here.streams
+    let here = subst (λ (device : DeviceFields). DeviceStands device w) (sym c.self.view_is) stands in c.run_one.ensures.none w.outs w.ins here.streams

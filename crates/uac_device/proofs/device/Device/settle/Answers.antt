@@ -1,6 +1,6 @@
 use Rattle.std.proofs.Common.{subst, sym}
 use Rattle.uac_device.specs.DeviceWorld.{ZerosFitIn}
-use Rattle.uac_device.specs.DeviceKept.{DeviceFields, Stands}
+use Rattle.uac_device.specs.DeviceKept.{DeviceFields, DeviceStands}
 use Rattle.uac_device.specs.contracts.device.Device.{the_view}
 use Rattle.uac_device.proofs.Streaming.{device_with_lanes, settled_stands}
 use Rattle.uac_device.proofs.device.Device.settle.Goals as goal
@@ -11,5 +11,5 @@ invariant_of-self c = (device_with_lanes (the_view c.self.inside) c.settle.new.s
 pub returns-clause-stands : goal.returns-clause-stands
 unfolding ZerosFitIn
 returns-clause-stands c w stands fit =
-    let here = subst (λ (device : DeviceFields). Stands device w) (sym c.self.view_is) stands in
+    let here = subst (λ (device : DeviceFields). DeviceStands device w) (sym c.self.view_is) stands in
     settled_stands (the_view c.self.inside) c.settle.new.self w c.args.interface here (c.settle.ensures.stands w.outs w.ins here.streams fit)

@@ -5,7 +5,7 @@ use Rattle.std.specs.Option.{option_map}
 use Rattle.uac_graph.specs.Meaning.{entity}
 use Rattle.uac_graph.specs.Wiring.{frame_on, tone_frame}
 use Rattle.uac_device.specs.DeviceWorld.{is_input_jack, set_jack}
-use Rattle.uac_device.specs.DeviceKept.{DeviceFields, Stands}
+use Rattle.uac_device.specs.DeviceKept.{DeviceFields, DeviceStands}
 use Rattle.uac_device.specs.contracts.device.Device.{the_view}
 use Rattle.uac_device.proofs.Played.{jack_fits, jack_stands}
 use Rattle.uac_device.proofs.device.Device.sound.Goals as goal
@@ -29,8 +29,8 @@ returns-clause-stands c w stands =
     let long : length (sounding channels) ≡ channels = length-map-range_with_len (tone_sample c.args.tone c.args.place) 0 channels in
     let fits = jack_fits device terminal (sounding channels) c.self.invariant.0 jack long in
     let sounded = resounded sounding (frame_on device.wires terminal) channels (fits ∙ ap Some long) in
-    subst (λ (channels : ℕ). Stands (record device { wires = c.sound.new.self }) (set_jack terminal (sounding channels) w))
+    subst (λ (channels : ℕ). DeviceStands (record device { wires = c.sound.new.self }) (set_jack terminal (sounding channels) w))
     (ap (λ (device : DeviceFields). (entity device.function.entities terminal).cluster.channels) c.self.view_is)
     (jack_stands device c.sound.new.self terminal (sounding channels) w jack
     (λ id. c.sound.ensures.wires id ∙ ap (λ (o : Option (List ℤ)). if terminal == id then o else frame_on device.wires id) sounded)
-    (subst (λ (device : DeviceFields). Stands device w) (sym c.self.view_is) stands))
+    (subst (λ (device : DeviceFields). DeviceStands device w) (sym c.self.view_is) stands))

@@ -1,22 +1,22 @@
 use Rattle.std.proofs.Common.{◌∙◌, ◌+◌, ◌<◌, ◌^◌, ap, length, subst, sym, ℕ, List}
 use Rattle.std.specs.List.{All}
 use Rattle.uac_entities.specs.declared.entity.Entity.{Entity}
-use Rattle.uac_graph.specs.GraphControls.{held_in}
+use Rattle.uac_graph.specs.GraphControls.{controls_in}
 use Rattle.uac_graph.specs.Jobs.{AreJobs}
-use Rattle.uac_graph.specs.Needs.{depended, needed}
+use Rattle.uac_graph.specs.Needs.{depends_on, needed}
 use Rattle.uac_graph.specs.Wiring.{AreRendered, AreWiresOf, samples_on}
 use Rattle.uac_graph.proofs.Ends.{output_terminals}
 use Rattle.uac_graph.proofs.FromRules.{sound_graph}
 use Rattle.uac_units.specs.Panel.{readings}
 use Rattle.uac_device.specs.DeviceWorld.{after_frames, after_tick}
-use Rattle.uac_device.specs.DeviceKept.{DeviceFields, Stands}
+use Rattle.uac_device.specs.DeviceKept.{DeviceFields, DeviceStands}
 use Rattle.uac_lanes.specs.Lanes.{WiredOut}
 use Rattle.uac_device.specs.DeviceTurns.{frames_heard}
 use Rattle.uac_device.specs.contracts.device.Device.{the_view}
 use Rattle.uac_device.proofs.LinkedLemmas.{linked}
 use Rattle.uac_device.proofs.Played.{Rendered, heard_in, renders_here}
 use Rattle.uac_device.proofs.Streaming.{ports_wired_in, ports_wired_out}
-use Rattle.uac_device.proofs.Stillness.{found_or_still, ticked_or_still}
+use Rattle.uac_device.proofs.StillnessLemmas.{found_or_still, ticked_or_still}
 use Rattle.uac_device.proofs.TickInputs.{device_with_wires, lanes_few, wires_kept}
 use Rattle.uac_device.proofs.device.Device.tick_where.Goals as goal
 
@@ -33,8 +33,8 @@ tick_by-requires-clause-wires g c =
 
 pub tick_by-requires-clause-jobs : goal.tick_by-requires-clause-jobs
 tick_by-requires-clause-jobs g c = (
-  held_in c.self.inside.store,
-  subst (λ (graph : List Entity). AreJobs graph (held_in c.self.inside.store) c.self.inside.derived.jobs) (sym c.self.invariant.1) c.self.invariant.2.asked,
+  controls_in c.self.inside.store,
+  subst (λ (graph : List Entity). AreJobs graph (controls_in c.self.inside.store) c.self.inside.derived.jobs) (sym c.self.invariant.1) c.self.invariant.2.asked,
 )
 
 pub tick_by-requires-clause-room : goal.tick_by-requires-clause-room
@@ -59,17 +59,17 @@ invariant_of-self g c = (
 pub returns-clause-stands : goal.returns-clause-stands
 returns-clause-stands g c w stands still =
     let sound = c.functions_are_sound.ensures in
-    let here = subst (λ (device : DeviceFields). Stands device w) (sym c.self.view_is) stands in
+    let here = subst (λ (device : DeviceFields). DeviceStands device w) (sym c.self.view_is) stands in
     let mid = c.begin_unless-met.new.wires in
     let rendered : Rendered (the_view c.self.inside) mid c.tick_by.new.wires c.args.domain =
     record {
       sound = sound_graph c.self.inside.function sound;
       ends = output_terminals c.self.inside.function sound c.args.domain;
       rendered =
-          subst (λ (graph : List Entity). AreRendered graph (held_in c.self.inside.store) (samples_on mid) (depended graph c.args.domain) mid c.tick_by.new.wires)
+          subst (λ (graph : List Entity). AreRendered graph (controls_in c.self.inside.store) (samples_on mid) (depends_on graph c.args.domain) mid c.tick_by.new.wires)
           c.self.invariant.1
-          (c.tick_by.ensures.rendered (held_in c.self.inside.store)
-          (subst (λ (graph : List Entity). AreJobs graph (held_in c.self.inside.store) c.self.inside.derived.jobs) (sym c.self.invariant.1) c.self.invariant.2.asked));
+          (c.tick_by.ensures.rendered (controls_in c.self.inside.store)
+          (subst (λ (graph : List Entity). AreJobs graph (controls_in c.self.inside.store) c.self.inside.derived.jobs) (sym c.self.invariant.1) c.self.invariant.2.asked));
     } in
     ticked_or_still c.args.still (the_view c.self.inside) mid c.tick_by.new.wires c.begin_unless-met.new.lanes c.put_unless.new.lanes c.args.domain w c.begin_unless-met.result
     (c.interfaces_are_numbered.ensures c.self.inside.function sound) (linked c.self.inside.function sound)
@@ -79,17 +79,17 @@ returns-clause-stands g c w stands still =
 pub returns-clause-heard : goal.returns-clause-heard
 returns-clause-heard g c w stands still =
     let sound = c.functions_are_sound.ensures in
-    let here = subst (λ (device : DeviceFields). Stands device w) (sym c.self.view_is) stands in
+    let here = subst (λ (device : DeviceFields). DeviceStands device w) (sym c.self.view_is) stands in
     let mid = c.begin_unless-met.new.wires in
     let rendered : Rendered (the_view c.self.inside) mid c.tick_by.new.wires c.args.domain =
     record {
       sound = sound_graph c.self.inside.function sound;
       ends = output_terminals c.self.inside.function sound c.args.domain;
       rendered =
-          subst (λ (graph : List Entity). AreRendered graph (held_in c.self.inside.store) (samples_on mid) (depended graph c.args.domain) mid c.tick_by.new.wires)
+          subst (λ (graph : List Entity). AreRendered graph (controls_in c.self.inside.store) (samples_on mid) (depends_on graph c.args.domain) mid c.tick_by.new.wires)
           c.self.invariant.1
-          (c.tick_by.ensures.rendered (held_in c.self.inside.store)
-          (subst (λ (graph : List Entity). AreJobs graph (held_in c.self.inside.store) c.self.inside.derived.jobs) (sym c.self.invariant.1) c.self.invariant.2.asked));
+          (c.tick_by.ensures.rendered (controls_in c.self.inside.store)
+          (subst (λ (graph : List Entity). AreJobs graph (controls_in c.self.inside.store) c.self.inside.derived.jobs) (sym c.self.invariant.1) c.self.invariant.2.asked));
     } in
     let after = ticked_or_still c.args.still (the_view c.self.inside) mid c.tick_by.new.wires c.begin_unless-met.new.lanes c.put_unless.new.lanes c.args.domain w c.begin_unless-met.result
     (c.interfaces_are_numbered.ensures c.self.inside.function sound) (linked c.self.inside.function sound)
@@ -103,14 +103,14 @@ returns-clause-heard g c w stands still =
 
 pub returns-clause-met : goal.returns-clause-met
 returns-clause-met g c w stands still =
-    let here = subst (λ (device : DeviceFields). Stands device w) (sym c.self.view_is) stands in
+    let here = subst (λ (device : DeviceFields). DeviceStands device w) (sym c.self.view_is) stands in
     found_or_still c.args.still (the_view c.self.inside) c.begin_unless-met.new.wires c.begin_unless-met.new.lanes c.args.domain w c.begin_unless-met.result
     (c.interfaces_are_numbered.ensures c.self.inside.function c.functions_are_sound.ensures) c.self.invariant.0
     c.begin_unless-met.ensures.begun c.begin_unless-met.ensures.rests still here
 
 pub returns-clause-once : goal.returns-clause-once
 returns-clause-once g c w stands =
-    let here = subst (λ (device : DeviceFields). Stands device w) (sym c.self.view_is) stands in
+    let here = subst (λ (device : DeviceFields). DeviceStands device w) (sym c.self.view_is) stands in
     c.tick_by.ensures.once
     ∙ ap (λ (graph : List Entity). c.args.steps.now + length (needed graph c.args.domain)) c.self.invariant.1
     ∙ ap (λ (n : ℕ). c.args.steps.now + n) (renders_here (the_view c.self.inside) w c.args.domain here)

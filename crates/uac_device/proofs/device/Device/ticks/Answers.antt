@@ -1,16 +1,16 @@
 use Rattle.std.proofs.Common.{◌≡◌, ◌∙◌, ◌++◌, ◌<◌, ap, arith, drop, length, map, subst, sym, take, ℕ, List}
 use Rattle.std.specs.List.{All}
 use Rattle.uac_store.specs.Rates.{rate_of}
-use Rattle.uac_device.specs.declared.clocks.Clock.{Clock}
-use Rattle.uac_device.specs.DeviceKept.{DeviceFields, IsInRange, Stands}
-use Rattle.uac_device.specs.DeviceTurns.{advanced_clock, first_ticks}
+use Rattle.uac_device.specs.declared.clocks.DomainClock.{DomainClock}
+use Rattle.uac_device.specs.DeviceKept.{DeviceFields, IsInRange, DeviceStands}
+use Rattle.uac_device.specs.DeviceTurns.{clock_after_advance, first_ticks}
 use Rattle.uac_device.specs.contracts.device.Device.{the_view}
 use Rattle.uac_device.proofs.Fastest.{few_ticks, rated_nominal}
 use Rattle.uac_device.proofs.DeviceKeptLemmas.{advanced_domains, advanced_phases, advanced_range, advanced_stands, ticks_next}
 use Rattle.uac_flow.specs.FlowStreams.{after_ticks}
 use Rattle.uac_lanes.specs.InterfaceStreams.{changed_where}
 use Rattle.uac_device.specs.DeviceWorld.{is_on, next_ticks}
-use Rattle.uac_lanes.specs.Lanes.{KeepsStreams}
+use Rattle.uac_lanes.specs.Lanes.{LanesStand}
 use Rattle.uac_device.proofs.Streaming.{ports_on}
 use Rattle.uac_lanes.proofs.Turning.{put_back}
 use Rattle.uac_device.proofs.device.Device.ticks.Goals as goal
@@ -18,22 +18,22 @@ use Rattle.uac_device.proofs.device.Device.ticks.Goals as goal
 pub invariant_of-self : goal.invariant_of-self
 invariant_of-self c =
     let turned : take c.self.inside.clocks.len (c.advance-ticks.new.clocks ++ drop (length c.advance-ticks.new.clocks) c.self.inside.clocks.items)
-    ≡ map (advanced_clock c.args.domain c.values-values.result) c.self.inside.clocks.items =
+    ≡ map (clock_after_advance c.args.domain c.values-values.result) c.self.inside.clocks.items =
     put_back c.self.inside.clocks.len c.advance-ticks.new.clocks c.self.inside.clocks.items (omega arith)
-    ∙ c.advance-ticks.ensures.clocks ∙ ap (map (advanced_clock c.args.domain c.values-values.result)) c.deref_mut.ensures.value in (
+    ∙ c.advance-ticks.ensures.clocks ∙ ap (map (clock_after_advance c.args.domain c.values-values.result)) c.deref_mut.ensures.value in (
       record {
         store = c.self.invariant.0.store;
         interfaces = c.self.invariant.0.interfaces;
         wires = c.self.invariant.0.wires;
         domains =
-            ap (map (λ k. k.clock)) turned
+            ap (map (λ k. k.domain)) turned
             ∙ advanced_domains c.args.domain c.values-values.result c.self.inside.clocks.items
             ∙ c.self.invariant.0.domains;
         clocks =
-            subst (λ (clocks : List Clock). All (λ k. IsInRange k.ppm) clocks) (sym turned)
+            subst (λ (clocks : List DomainClock). All (λ k. IsInRange k.deviation) clocks) (sym turned)
             (advanced_range c.args.domain c.values-values.result c.self.inside.clocks.items c.self.invariant.0.clocks);
         phases =
-            subst (λ (clocks : List Clock). All (λ k. k.phase < 65536) clocks) (sym turned)
+            subst (λ (clocks : List DomainClock). All (λ k. k.phase < 65536) clocks) (sym turned)
             (advanced_phases c.args.domain c.values-values.result c.self.inside.clocks.items c.self.invariant.0.phases);
         ports = c.count.ensures.ports ∙ c.self.invariant.0.ports;
       },
@@ -44,7 +44,7 @@ invariant_of-self c =
 pub returns-clause-stands : goal.returns-clause-stands
 returns-clause-stands c w stands =
     let rated = c.values-values.ensures in
-    let here = subst (λ (device : DeviceFields). Stands device w) (sym c.self.view_is) stands in
+    let here = subst (λ (device : DeviceFields). DeviceStands device w) (sym c.self.view_is) stands in
     let numbered = c.interfaces_are_numbered.ensures c.self.inside.function c.functions_are_sound.ensures in
     let ticks : c.advance-ticks.result ≡ next_ticks c.args.domain w =
     c.advance-ticks.ensures.ticks
@@ -52,8 +52,8 @@ returns-clause-stands c w stands =
     ∙ ticks_next (the_view c.self.inside) c.args.domain c.values-values.result w rated here in
     advanced_stands (the_view c.self.inside) _ c.count.new.self c.args.domain c.values-values.result w rated
     (put_back c.self.inside.clocks.len c.advance-ticks.new.clocks c.self.inside.clocks.items (omega arith)
-    ∙ c.advance-ticks.ensures.clocks ∙ ap (map (advanced_clock c.args.domain c.values-values.result)) c.deref_mut.ensures.value)
-    (subst (λ (n : ℕ). KeepsStreams c.count.new.self (changed_where (is_on w c.args.domain) (λ interface. after_ticks n) w.outs) w.ins) ticks
+    ∙ c.advance-ticks.ensures.clocks ∙ ap (map (clock_after_advance c.args.domain c.values-values.result)) c.deref_mut.ensures.value)
+    (subst (λ (n : ℕ). LanesStand c.count.new.self (changed_where (is_on w c.args.domain) (λ interface. after_ticks n) w.outs) w.ins) ticks
     (c.count.ensures.stands (is_on w c.args.domain) w.outs w.ins (ports_on (the_view c.self.inside) w c.args.domain numbered c.self.invariant.0 here) here.streams))
     here
 
@@ -62,7 +62,7 @@ returns-clause-ticks c w stands =
     let rated = c.values-values.ensures in
     c.advance-ticks.ensures.ticks
     ∙ ap (first_ticks c.args.domain c.values-values.result) c.deref_mut.ensures.value
-    ∙ ticks_next (the_view c.self.inside) c.args.domain c.values-values.result w rated (subst (λ (device : DeviceFields). Stands device w) (sym c.self.view_is) stands)
+    ∙ ticks_next (the_view c.self.inside) c.args.domain c.values-values.result w rated (subst (λ (device : DeviceFields). DeviceStands device w) (sym c.self.view_is) stands)
 
 pub returns-clause-few : goal.returns-clause-few
 returns-clause-few c =

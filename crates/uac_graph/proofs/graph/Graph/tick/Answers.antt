@@ -1,5 +1,5 @@
 use Rattle.std.proofs.Common.{◌+◌, ap, arith, subst, ℕ}
-use Rattle.uac_graph.specs.GraphControls.{held_in}
+use Rattle.uac_graph.specs.GraphControls.{controls_in}
 use Rattle.uac_graph.specs.Fitness.{IsSignalGraph}
 use Rattle.uac_graph.specs.Wiring.{samples_on}
 use Rattle.uac_graph.proofs.InOrder.{all_rendered, none_rendered, order_for, step_rendered}
@@ -11,7 +11,7 @@ pub loop-place-init : goal.loop-place-init
 loop-place-init g c =
     let order = c.places_for-place-items.ensures c.args.self.now (order_for c.args.self.now c.self.inside.table c.self.inside.orders.items c.deref.result.now c.self.view_is c.deref.ensures.value c.self.invariant.1) in
     record {
-      rendered = none_rendered c.args.self.now (held_in c.args.store.now) (samples_on c.args.wires.now) c.places_for-place-items.result.now c.args.wires.now;
+      rendered = none_rendered c.args.self.now (controls_in c.args.store.now) (samples_on c.args.wires.now) c.places_for-place-items.result.now c.args.wires.now;
       fitting = c.requires.wires;
       counted =
           ap (λ (n : ℕ). c.args.steps.now + n)
@@ -45,7 +45,7 @@ loop-place-preserved g c =
     let order = c.places_for-place-items.ensures c.args.self.now (order_for c.args.self.now c.self.inside.table c.self.inside.orders.items c.deref.result.now c.self.view_is c.deref.ensures.value c.self.invariant.1) in
     record {
       rendered =
-          step_rendered c.args.self.now (held_in c.args.store.now) (samples_on c.args.wires.now) c.places_for-place-items.result.now c.loop-place.place-index
+          step_rendered c.args.self.now (controls_in c.args.store.now) (samples_on c.args.wires.now) c.places_for-place-items.result.now c.loop-place.place-index
           c.args.wires.now c.loop-place.wires c.render.new.wires (subst IsSignalGraph c.self.view_is c.self.invariant.0) order.order c.loop-place-test.true
           (given_held c.args.self.now c.args.wires.now c.requires.wires) c.loop-place.invariant.rendered c.render.ensures.rendered;
       fitting = c.render.ensures.fitting;
@@ -61,7 +61,7 @@ loop-place-preserved g c =
 pub returns-clause-rendered : goal.returns-clause-rendered
 returns-clause-rendered g c =
     let order = c.places_for-place-items.ensures c.args.self.now (order_for c.args.self.now c.self.inside.table c.self.inside.orders.items c.deref.result.now c.self.view_is c.deref.ensures.value c.self.invariant.1) in
-    all_rendered c.args.self.now (held_in c.args.store.now) (samples_on c.args.wires.now) c.args.domain c.loop-place.place-index c.places_for-place-items.result.now
+    all_rendered c.args.self.now (controls_in c.args.store.now) (samples_on c.args.wires.now) c.args.domain c.loop-place.place-index c.places_for-place-items.result.now
     c.args.wires.now c.loop-place.wires order c.loop-place-test.false c.loop-place.invariant.rendered
 
 pub returns-clause-fitting : goal.returns-clause-fitting

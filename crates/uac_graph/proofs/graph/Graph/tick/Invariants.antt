@@ -1,5 +1,5 @@
 use Rattle.std.proofs.Common.{◌≡◌, ◌+◌, length, take}
-use Rattle.uac_graph.specs.GraphControls.{held_in}
+use Rattle.uac_graph.specs.GraphControls.{controls_in}
 use Rattle.uac_graph.specs.Needs.{needed}
 use Rattle.uac_graph.specs.Orders.{holds}
 use Rattle.uac_graph.specs.Wiring.{AreRendered, AreWiresOf, samples_on}
@@ -8,7 +8,7 @@ use Rattle.uac_graph.proofs.graph.Graph.tick.Given as goal
 
 abbrev pub invariant-loop-place : goal.invariant-loop-place
 invariant-loop-place g l = record {
-  rendered : AreRendered l.self (held_in l.store) (samples_on l.fn.wires) (holds l.self (take l.place-index l.place-items)) l.fn.wires l.wires;
+  rendered : AreRendered l.self (controls_in l.store) (samples_on l.fn.wires) (holds l.self (take l.place-index l.place-items)) l.fn.wires l.wires;
   fitting : AreWiresOf l.self l.wires;
   counted : l.steps + units_left l.self l.place-items l.place-index ≡ l.fn.steps + length (needed l.self l.domain);
 }

@@ -1,6 +1,6 @@
 use Rattle.std.proofs.Common.{◌∙◌, ◌+◌, [], ap, arith, subst, length, ℕ}
 use Rattle.uac_graph.specs.Fitness.{IsSignalGraph}
-use Rattle.uac_graph.specs.Needs.{depended, needed}
+use Rattle.uac_graph.specs.Needs.{depends_on, needed}
 use Rattle.uac_graph.specs.Wiring.{AreRendered, samples_on}
 use Rattle.uac_graph.proofs.InOrder.{all_rendered, none_rendered, order_for}
 use Rattle.uac_graph.proofs.NeedsLemmas.{all_units}
@@ -18,7 +18,7 @@ follow-requires-clause-room g c =
 pub returns-in-Some-clause-rendered : goal.returns-in-Some-clause-rendered
 returns-in-Some-clause-rendered g c controls are =
     let found = c.in-Some.ensures.found c.args.self.now (order_for c.args.self.now c.self.inside.table c.self.inside.orders.items c.deref.result.now c.self.view_is c.deref.ensures.value c.self.invariant.1) in
-    subst (λ (d : ℕ). AreRendered c.args.self.now controls (samples_on c.args.wires.now) (depended c.args.self.now d) c.args.wires.now c.follow.new.wires) found.0
+    subst (λ (d : ℕ). AreRendered c.args.self.now controls (samples_on c.args.wires.now) (depends_on c.args.self.now d) c.args.wires.now c.follow.new.wires) found.0
     (c.follow.ensures.rendered controls are)
 
 pub returns-in-Some-clause-once : goal.returns-in-Some-clause-once

@@ -1,6 +1,6 @@
 -- The lane of the interface is the world's, and no other changes.
 use Rattle.std.proofs.Common.{◌≡◌, None, Some}
-use Rattle.uac_host.specs.declared.lanes.Lane.{Lane}
+use Rattle.uac_host.specs.declared.lanes.HostStream.{HostStream}
 use Rattle.uac_host.specs.Calls.{with_tone}
 use Rattle.uac_host.proofs.StandsAfterCalls.{kept_at, left_alone, place_of, put_back, tone_lane, tone_turns}
 use Rattle.uac_host.proofs.host.Host.track.Goals as goal
@@ -13,7 +13,7 @@ returns-in-Some c = record {
       let old = c.index_mut.result.now in
       let is : Some c.in-Some.place ≡ place_of c.args.interface lanes = cc (c.in-Some.ensures, c.self.view_is) in
       let read = kept_at now lanes w c.args.interface c.in-Some.place old c.self.view_is stands is c.index_mut.ensures.value in
-      let new : Lane = record { interface = old.interface; pace = old.pace; track = c.play.new.self } in
+      let new : HostStream = record { interface = old.interface; pace = old.pace; track = c.play.new.self } in
       put_back now lanes w (with_tone c.args.interface c.args.tone w) c.args.interface c.in-Some.place old new c.self.view_is stands
       (tone_turns now w c.args.interface c.args.tone stands) is
       (tone_lane w c.args.interface c.args.tone old c.play.new.self read.0 read.1 c.play.ensures));

@@ -2,7 +2,7 @@
 use Rattle.std.proofs.Common.{◌≡◌, ℕ, ◌+◌, ◌*◌, ◌≤◌, ◌++◌, ◌∷◌, [], List, ℤ, length, take, ap, sym, subst, ◌∙◌, arith}
 use Rattle.std.proofs.Math.Nat.{mul-le-mul_right, zero-mul}
 use Rattle.std.specs.List.{All}
-use Rattle.uac_pcm.specs.Packets.{packed}
+use Rattle.uac_pcm.specs.Packets.{bytes_of_frames}
 use Rattle.uac_pcm.proofs.PacketsLemmas.{one_written}
 use Rattle.uac_host.specs.Calls.{after_frames, next_frames}
 use Rattle.uac_host.specs.HostKept.{kept_track}
@@ -16,7 +16,7 @@ loop-number-init c =
     record {
       stands = λ t even kept. (
         ap (λ (n : ℕ). take n c.resize.new.packet.items) (zero-mul (format.channels * format.subslot))
-            ∙ sym (ap (packed format.subslot format.bits) (next_frames_none format.channels t)),
+            ∙ sym (ap (bytes_of_frames format.subslot format.bits) (next_frames_none format.channels t)),
         kept ∙ ap kept_track (sym (after_frames_none t)),
       );
       sized = c.resize.ensures ∙ ap (λ (n : ℕ). c.args.frames * n) c.frame_bytes-size.ensures;

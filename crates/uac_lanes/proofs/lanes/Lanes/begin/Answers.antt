@@ -2,9 +2,9 @@ use Rattle.std.proofs.Common.{◌≡◌, ◌∙◌, ◌==◌, arith, ap, subst, 
 use Rattle.std.specs.List.{All}
 use Rattle.uac_graph.specs.Wiring.{frame_on}
 use Rattle.uac_flow.specs.FlowStreams.{after_taking}
-use Rattle.uac_lanes.specs.declared.lane.Lane.{Lane}
+use Rattle.uac_lanes.specs.declared.lane.DeviceStream.{DeviceStream}
 use Rattle.uac_lanes.specs.InterfaceStreams.{changed_where}
-use Rattle.uac_lanes.specs.Lanes.{AreLanes, KeepsStreams, given_by, met_by, ports}
+use Rattle.uac_lanes.specs.Lanes.{AreLanes, LanesStand, given_by, met_by, ports}
 use Rattle.uac_lanes.proofs.LanesLemmas.{still_apart}
 use Rattle.uac_lanes.proofs.Turning.{put_back}
 use Rattle.uac_lanes.proofs.lanes.Lanes.begin.Goals as goal
@@ -20,18 +20,18 @@ invariant_of-self c =
 pub returns-clause-stands : goal.returns-clause-stands
 returns-clause-stands c on outs ins all keeps =
     let same = sym (c.deref_mut.ensures.value ∙ c.self.view_is) in
-    subst (λ (ls : List Lane). KeepsStreams ls (changed_where on (λ interface. after_taking) outs) ins)
+    subst (λ (ls : List DeviceStream). LanesStand ls (changed_where on (λ interface. after_taking) outs) ins)
     (sym (put_back c.self.inside.list.len c.begin.new.lanes c.self.inside.list.items (omega arith)))
-    (c.begin.ensures.stands on outs ins (subst (λ (ls : List Lane). All (λ p. on p.interface ≡ (p.clock == c.args.domain)) (ports ls)) same all) (subst (λ (ls : List Lane). KeepsStreams ls outs ins) same keeps))
+    (c.begin.ensures.stands on outs ins (subst (λ (ls : List DeviceStream). All (λ p. on p.interface ≡ (p.domain == c.args.domain)) (ports ls)) same all) (subst (λ (ls : List DeviceStream). LanesStand ls outs ins) same keeps))
 
 pub returns-clause-frames : goal.returns-clause-frames
 returns-clause-frames c outs ins keeps id =
     let same = sym (c.deref_mut.ensures.value ∙ c.self.view_is) in
-    c.begin.ensures.frames outs ins (subst (λ (ls : List Lane). KeepsStreams ls outs ins) same keeps) id
-    ∙ ap (λ (ls : List Lane). given_by c.args.domain id outs (ports ls) (frame_on c.args.wires.now id)) (sym same)
+    c.begin.ensures.frames outs ins (subst (λ (ls : List DeviceStream). LanesStand ls outs ins) same keeps) id
+    ∙ ap (λ (ls : List DeviceStream). given_by c.args.domain id outs (ports ls) (frame_on c.args.wires.now id)) (sym same)
 
 pub returns-clause-met : goal.returns-clause-met
 returns-clause-met c outs ins keeps =
     let same = sym (c.deref_mut.ensures.value ∙ c.self.view_is) in
-    c.begin.ensures.met outs ins (subst (λ (ls : List Lane). KeepsStreams ls outs ins) same keeps)
-    ∙ ap (λ (ls : List Lane). met_by c.args.domain outs ins (ports ls)) (sym same)
+    c.begin.ensures.met outs ins (subst (λ (ls : List DeviceStream). LanesStand ls outs ins) same keeps)
+    ∙ ap (λ (ls : List DeviceStream). met_by c.args.domain outs ins (ports ls)) (sym same)

@@ -1,9 +1,9 @@
 use Rattle.std.proofs.Common.{◌≡◌, ◌∙◌, ◌==◌, arith, ap, subst, sym, List}
 use Rattle.std.specs.List.{All}
 use Rattle.uac_flow.specs.FlowStreams.{after_ticks}
-use Rattle.uac_lanes.specs.declared.lane.Lane.{Lane}
+use Rattle.uac_lanes.specs.declared.lane.DeviceStream.{DeviceStream}
 use Rattle.uac_lanes.specs.InterfaceStreams.{changed_where}
-use Rattle.uac_lanes.specs.Lanes.{AreLanes, KeepsStreams, ports}
+use Rattle.uac_lanes.specs.Lanes.{AreLanes, LanesStand, ports}
 use Rattle.uac_lanes.proofs.LanesLemmas.{still_apart}
 use Rattle.uac_lanes.proofs.Turning.{put_back}
 use Rattle.uac_lanes.proofs.lanes.Lanes.count.Goals as goal
@@ -19,6 +19,6 @@ invariant_of-self c =
 pub returns-clause-stands : goal.returns-clause-stands
 returns-clause-stands c on outs ins all keeps =
     let same = sym (c.deref_mut.ensures.value ∙ c.self.view_is) in
-    subst (λ (ls : List Lane). KeepsStreams ls (changed_where on (λ interface. after_ticks c.args.ticks) outs) ins)
+    subst (λ (ls : List DeviceStream). LanesStand ls (changed_where on (λ interface. after_ticks c.args.ticks) outs) ins)
     (sym (put_back c.self.inside.list.len c.count.new.lanes c.self.inside.list.items (omega arith)))
-    (c.count.ensures.stands on outs ins (subst (λ (ls : List Lane). All (λ p. on p.interface ≡ (p.clock == c.args.domain)) (ports ls)) same all) (subst (λ (ls : List Lane). KeepsStreams ls outs ins) same keeps))
+    (c.count.ensures.stands on outs ins (subst (λ (ls : List DeviceStream). All (λ p. on p.interface ≡ (p.domain == c.args.domain)) (ports ls)) same all) (subst (λ (ls : List DeviceStream). LanesStand ls outs ins) same keeps))

@@ -2,9 +2,9 @@ use Rattle.std.proofs.Common.{◌≡◌, ◌∙◌, ◌==◌, ◌≤◌, arith, 
 use Rattle.std.specs.List.{All}
 use Rattle.uac_graph.specs.Wiring.{frame_on}
 use Rattle.uac_flow.specs.FlowStreams.{after_putting}
-use Rattle.uac_lanes.specs.declared.lane.Lane.{Lane}
+use Rattle.uac_lanes.specs.declared.lane.DeviceStream.{DeviceStream}
 use Rattle.uac_lanes.specs.InterfaceStreams.{changed_where}
-use Rattle.uac_lanes.specs.Lanes.{AreLanes, KeepsStreams, ports}
+use Rattle.uac_lanes.specs.Lanes.{AreLanes, LanesStand, ports}
 use Rattle.uac_lanes.proofs.LanesLemmas.{still_apart}
 use Rattle.uac_lanes.proofs.Turning.{put_back}
 use Rattle.uac_lanes.proofs.lanes.Lanes.put.Goals as goal
@@ -20,6 +20,6 @@ invariant_of-self c =
 pub returns-clause-stands : goal.returns-clause-stands
 returns-clause-stands c on played outs ins all there keeps =
     let same = sym (c.deref_mut.ensures.value ∙ c.self.view_is) in
-    subst (λ (ls : List Lane). KeepsStreams ls outs (changed_where on (λ interface. after_putting (played interface)) ins))
+    subst (λ (ls : List DeviceStream). LanesStand ls outs (changed_where on (λ interface. after_putting (played interface)) ins))
     (sym (put_back c.self.inside.list.len c.put.new.lanes c.self.inside.list.items (omega arith)))
-    (c.put.ensures.stands on played outs ins (subst (λ (ls : List Lane). All (λ p. on p.interface ≡ (p.clock == c.args.domain)) (ports ls)) same all) (subst (λ (ls : List Lane). All (λ p. p.out ≡ false → 1 ≤ p.channels → frame_on c.args.wires.now p.terminal ≡ Some (played p.interface)) (ports ls)) same there) (subst (λ (ls : List Lane). KeepsStreams ls outs ins) same keeps))
+    (c.put.ensures.stands on played outs ins (subst (λ (ls : List DeviceStream). All (λ p. on p.interface ≡ (p.domain == c.args.domain)) (ports ls)) same all) (subst (λ (ls : List DeviceStream). All (λ p. p.out ≡ false → 1 ≤ p.channels → frame_on c.args.wires.now p.terminal ≡ Some (played p.interface)) (ports ls)) same there) (subst (λ (ls : List DeviceStream). LanesStand ls outs ins) same keeps))

@@ -2,7 +2,7 @@ use Rattle.std.proofs.Common.{◌≡◌, Option, Some, refl, subst, sym}
 use Rattle.std.specs.Option.{option_map}
 use Rattle.uac_flow.specs.FlowStreams.{OutStream, after_packet}
 use Rattle.uac_lanes.specs.InterfaceStreams.{changed_at}
-use Rattle.uac_lanes.specs.Lanes.{KeepsLane, lane_at}
+use Rattle.uac_lanes.specs.Lanes.{LaneStands, lane_at}
 use Rattle.uac_lanes.proofs.LanesLemmas.{are_at, asked_at, changed_here, changed_others, ports_at, written_at}
 use Rattle.uac_lanes.proofs.lanes.Lanes.receive.Goals as goal
 
@@ -17,7 +17,7 @@ returns-in-Some-clause-stands c outs ins keeps =
     written_at c.args.self.now c.self.inside.list.items outs (changed_at c.args.interface change outs) ins ins c.args.interface c.in-Some.place
     c.index_mut.result.now c.receive.new.self c.self.view_is c.self.invariant keeps is c.index_mut.ensures.value c.receive.ensures.turns.port
     (λ kept.
-    subst (λ (o : Option OutStream). KeepsLane c.receive.new.self o (ins c.args.interface)) (sym (changed_here c.args.interface change outs))
+    subst (λ (o : Option OutStream). LaneStands c.receive.new.self o (ins c.args.interface)) (sym (changed_here c.args.interface change outs))
     (c.receive.ensures.turns.stands (outs c.args.interface) (ins c.args.interface) kept))
     (λ k other. (changed_others c.args.interface change outs k other, refl))
 

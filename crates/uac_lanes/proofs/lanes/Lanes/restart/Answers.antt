@@ -3,7 +3,7 @@ use Rattle.std.specs.Option.{option_and_then, option_map}
 use Rattle.uac_alt.specs.AltStreams.{stream_fields}
 use Rattle.uac_flow.specs.FlowStreams.{InStream, OutStream}
 use Rattle.uac_lanes.specs.InterfaceStreams.{in_from, out_from, replaced_at}
-use Rattle.uac_lanes.specs.Lanes.{KeepsLane, lane_at}
+use Rattle.uac_lanes.specs.Lanes.{LaneStands, lane_at}
 use Rattle.uac_lanes.proofs.LanesLemmas.{are_at, begins_nowhere, fits_lane, keeps_nowhere, ports_at, replaced_here, replaced_others, written_at}
 use Rattle.uac_lanes.proofs.lanes.Lanes.restart.Goals as goal
 
@@ -19,8 +19,8 @@ returns-in-Some-clause-stands c outs ins keeps =
     written_at c.args.self.now c.self.inside.list.items outs (replaced_at c.args.interface out outs) ins (replaced_at c.args.interface in_ ins) c.args.interface c.in-Some.place
     c.index_mut.result.now c.restart.new.self c.self.view_is c.self.invariant keeps is c.index_mut.ensures.value c.restart.ensures.turns.port
     (λ kept.
-    subst (λ (o : Option OutStream). KeepsLane c.restart.new.self o (replaced_at c.args.interface in_ ins c.args.interface)) (sym (replaced_here c.args.interface out outs))
-    (subst (λ (i : Option InStream). KeepsLane c.restart.new.self out i) (sym (replaced_here c.args.interface in_ ins))
+    subst (λ (o : Option OutStream). LaneStands c.restart.new.self o (replaced_at c.args.interface in_ ins c.args.interface)) (sym (replaced_here c.args.interface out outs))
+    (subst (λ (i : Option InStream). LaneStands c.restart.new.self out i) (sym (replaced_here c.args.interface in_ ins))
     (c.restart.ensures.turns.stands (outs c.args.interface) (ins c.args.interface) kept)))
     (λ k other. (replaced_others c.args.interface out outs k other, replaced_others c.args.interface in_ ins k other))
 

@@ -1,7 +1,7 @@
 use Rattle.std.proofs.Common.{◌≡◌, Option, Some, refl, subst, sym}
 use Rattle.uac_flow.specs.FlowStreams.{InStream, after_sending}
 use Rattle.uac_lanes.specs.InterfaceStreams.{changed_at}
-use Rattle.uac_lanes.specs.Lanes.{KeepsLane, lane_at}
+use Rattle.uac_lanes.specs.Lanes.{LaneStands, lane_at}
 use Rattle.uac_lanes.proofs.LanesLemmas.{are_at, asked_at, changed_here, changed_others, ports_at, written_at}
 use Rattle.uac_lanes.proofs.lanes.Lanes.send.Goals as goal
 
@@ -15,7 +15,7 @@ returns-in-Some-clause-stands c outs ins keeps =
     written_at c.args.self.now c.self.inside.list.items outs outs ins (changed_at c.args.interface after_sending ins) c.args.interface c.in-Some.place
     c.index_mut.result.now c.send.new.self c.self.view_is c.self.invariant keeps is c.index_mut.ensures.value c.send.ensures.turns.port
     (λ kept.
-    subst (λ (i : Option InStream). KeepsLane c.send.new.self (outs c.args.interface) i) (sym (changed_here c.args.interface after_sending ins))
+    subst (λ (i : Option InStream). LaneStands c.send.new.self (outs c.args.interface) i) (sym (changed_here c.args.interface after_sending ins))
     (c.send.ensures.turns.stands (outs c.args.interface) (ins c.args.interface) kept))
     (λ k other. (refl, changed_others c.args.interface after_sending ins k other))
 

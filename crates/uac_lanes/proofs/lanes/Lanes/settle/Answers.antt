@@ -2,7 +2,7 @@ use Rattle.std.proofs.Common.{◌≡◌, Option, Some, subst, sym}
 use Rattle.std.specs.Option.{option_map}
 use Rattle.uac_flow.specs.FlowStreams.{InStream, OutStream, settled_in, settled_out}
 use Rattle.uac_lanes.specs.InterfaceStreams.{changed_at}
-use Rattle.uac_lanes.specs.Lanes.{KeepsLane, lane_at}
+use Rattle.uac_lanes.specs.Lanes.{LaneStands, lane_at}
 use Rattle.uac_lanes.proofs.LanesLemmas.{are_at, changed_here, changed_others, ports_at, written_at}
 use Rattle.uac_lanes.proofs.lanes.Lanes.settle.Goals as goal
 
@@ -16,8 +16,8 @@ returns-in-Some-clause-stands c outs ins keeps fits =
     written_at c.args.self.now c.self.inside.list.items outs (changed_at c.args.interface settled_out outs) ins (changed_at c.args.interface settled_in ins) c.args.interface c.in-Some.place
     c.index_mut.result.now c.settle.new.self c.self.view_is c.self.invariant keeps is c.index_mut.ensures.value c.settle.ensures.port
     (λ kept.
-    subst (λ (o : Option OutStream). KeepsLane c.settle.new.self o (changed_at c.args.interface settled_in ins c.args.interface)) (sym (changed_here c.args.interface settled_out outs))
-    (subst (λ (i : Option InStream). KeepsLane c.settle.new.self (option_map settled_out (outs c.args.interface)) i) (sym (changed_here c.args.interface settled_in ins))
+    subst (λ (o : Option OutStream). LaneStands c.settle.new.self o (changed_at c.args.interface settled_in ins c.args.interface)) (sym (changed_here c.args.interface settled_out outs))
+    (subst (λ (i : Option InStream). LaneStands c.settle.new.self (option_map settled_out (outs c.args.interface)) i) (sym (changed_here c.args.interface settled_in ins))
     (c.settle.ensures.stands (outs c.args.interface) (ins c.args.interface) kept fits)))
     (λ k other. (changed_others c.args.interface settled_out outs k other, changed_others c.args.interface settled_in ins k other))
 

@@ -5,13 +5,13 @@ use Rattle.uac_mixer.proofs.Reading.{as_long, at_err, element_there, none_of_err
 use Rattle.uac_mixer.proofs.view.View.read_all.Goals as goal
 
 pub loop-at-init : goal.loop-at-init
-loop-at-init g c = record { place = refl; read = read_none c.args.self.now (g.L.Link.state c.args.link.now) c.requires }
+loop-at-init g c = record { lender = refl; read = read_none c.args.self.now (g.L.Link.state c.args.link.now) c.requires }
 
 pub loop-at-preserved : goal.loop-at-preserved
 loop-at-preserved g c =
     let e = element_there c.loop-at.self.elements c.loop-at.at (let long = as_long c.loop-at.at c.args.self.now c.loop-at.self (g.L.Link.state c.args.link.now) (g.L.Link.state c.loop-at.link) c.loop-at.invariant.read c.requires in omega (arith, c.loop-at-test.true, c.loop-at.auto.at-end, ap length c.elements-at-end.ensures, long)) in
     record {
-      place = c.in_ok-get.ensures.place ∙ c.loop-at.invariant.place;
+      lender = c.in_ok-get.ensures.lender ∙ c.loop-at.invariant.lender;
       read = read_more c.loop-at.at e.0 _ c.loop-at.self c.get.new.self (g.L.Link.state c.args.link.now) (g.L.Link.state c.loop-at.link) (g.L.Link.state c.get.new.link) c.loop-at.invariant.read e.1 (c.in_ok-get.ensures.made e.0 e.1) c.in_ok-get.ensures.kept c.in_ok-get.ensures.as_before;
     }
 

@@ -4,6 +4,6 @@ use Rattle.uac_mixer.proofs.view.View.read_all.Given as goal
 
 abbrev pub invariant-loop-at : goal.invariant-loop-at
 invariant-loop-at g l = record {
-  place : g.L.Link.place l.link ≡ g.L.Link.place l.initial.link;
+  lender : g.L.Link.lender l.link ≡ g.L.Link.lender l.initial.link;
   read : HaveRead l.at l.self (g.L.Link.state l.initial.link) (g.L.Link.state l.link);
 }

@@ -1,11 +1,11 @@
 use Rattle.std.proofs.Common.{◌≡◌, ◌&&◌, ℕ, nat_lt, min, get_or, List, slice_set, subst, ap, sym, ◌∙◌}
-use Rattle.uac_rate.specs.Steadiness.{Given, KeepsGiven, with_report_given, one_more, latest_run}
+use Rattle.uac_rate.specs.Steadiness.{SteadyHistory, SteadyStands, with_report_given, one_more, latest_run}
 use Rattle.uac_rate.proofs.SteadinessLemmas.{report_stands, after_lost, after_one}
 use Rattle.uac_rate.proofs.steadiness.Steady.report.Goals.{then-lost, else-lost, then-self, else-self}
 use Rattle.uac_rate.proofs.steadiness.Steady.report.Goals as goal
 
 pub returns-clause-stands : goal.returns-clause-stands
-returns-clause-stands c = λ (given : Given) (stood : KeepsGiven c.args.self.now given).
+returns-clause-stands c = λ (given : SteadyHistory) (stood : SteadyStands c.args.self.now given).
     let runs_are : c.self.inside.runs ≡ c.args.self.now.runs = ap (λ fields. fields.runs) c.self.view_is in
     let holds_are : c.self.inside.holds ≡ c.args.self.now.holds = ap (λ fields. fields.holds) c.self.view_is in
     let kept : get_or c.self.inside.runs c.args.stream 0 ≡ min (latest_run (given.feedback c.args.stream)) 4 =
@@ -21,7 +21,7 @@ returns-clause-stands c = λ (given : Given) (stood : KeepsGiven c.args.self.now
       | else-self w ↦ w.self-is ∙ w.if-self.false ∙ ap (λ b. b && nat_lt c.if-lost.run 4) (sym w.if-self.false ∙ holds_are)
     ] in
     let after = report_stands c.args.self.now given c.args.stream c.args.lost c.if-lost.run c.if-self.self c.requires stood run_is holds_is in
-    subst (λ (runs : List ℕ). KeepsGiven (record { holds = c.if-self.self; runs = runs }) (with_report_given c.args.stream c.args.lost given))
+    subst (λ (runs : List ℕ). SteadyStands (record { holds = c.if-self.self; runs = runs }) (with_report_given c.args.stream c.args.lost given))
     (ap (λ (runs : List ℕ). slice_set runs c.args.stream c.if-lost.run) (sym runs_are)
     ∙ ap (λ (n : ℕ). slice_set c.self.inside.runs n c.if-lost.run) (sym c.from-2.ensures))
     after

@@ -1,7 +1,7 @@
 use Rattle.std.proofs.Common.{◌∙◌, ap, sym, subst, refl}
-use Rattle.uac_running.specs.RunningKept.{RunningFields, Stands, more_counted}
+use Rattle.uac_running.specs.RunningKept.{RunningFields, RunningStands, more_counted}
 use Rattle.uac_lanes.proofs.Turning.{turned_back}
-use Rattle.uac_running.proofs.Counting.{clocks_of, clocks-more, domains_kept}
+use Rattle.uac_running.proofs.RunningKeptLemmas.{clocks_of, clocks-more, domains_kept}
 use Rattle.uac_running.proofs.JackSteps.{jacks_kept}
 use Rattle.uac_running.proofs.Steps.{advanced_on, view_still}
 use Rattle.uac_running.specs.contracts.running.Running.{the_view}
@@ -22,6 +22,6 @@ returns-clause-stands c meters r stands =
     let more = more_counted c.args.domain c.ticks-ticks.result in
     let counts = turned_back more c.self.inside.counts.len c.self.inside.counts.items c.deref_mut.result.now c.count_ticks.new.counts
     c.count_ticks.ensures c.deref_mut.ensures.value c.deref_mut.ensures.len in
-    let own = subst (λ (p : RunningFields). Stands p meters r) (sym c.self.view_is) stands in
+    let own = subst (λ (p : RunningFields). RunningStands p meters r) (sym c.self.view_is) stands in
     advanced_on meters r (the_view c.self.inside) _ own c.args.domain c.ticks-ticks.result (c.ticks-ticks.ensures.stands r.device own.streaming.device)
     (c.ticks-ticks.ensures.ticks r.device own.streaming.device) c.self.invariant.1.once refl counts refl refl refl refl (record { view = refl; configuration = refl; breaks = refl })

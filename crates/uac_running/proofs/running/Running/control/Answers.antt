@@ -1,8 +1,8 @@
 use Rattle.std.proofs.Common.{◌≡◌, ◌∙◌, ap, ℕ, List, [], ◌∷◌, subst}
 use Rattle.uac_mixer.specs.ViewTransfers.{came_of}
-use Rattle.uac_transcript.specs.Transcript.{Outcome, says_answer}
+use Rattle.uac_transcript.specs.Transcript.{TransferOutcome, says_answer}
 use Rattle.uac_transcript.specs.Printing.{Prints}
-use Rattle.uac_running.specs.RunningKept.{StandsBetween}
+use Rattle.uac_running.specs.RunningKept.{RunningStandsBetween}
 use Rattle.uac_configuration.specs.Configuration.{configuration_of}
 use Rattle.uac_running.specs.RunningTransfers.{comes_back, outcome_of, transfer, after_transfer}
 use Rattle.uac_running.proofs.SoFar.{at_ok}
@@ -17,8 +17,8 @@ returns-clause-tells g c meters r stands =
     ≡ outcome_of (configuration_of r.descriptor) (comes_back c.args.setup.now c.args.sent.now r) =
     ap (λ (bytes : List ℕ). outcome_of bytes (came_of c.transfer-came.result)) next.configuration
     ∙ ap (outcome_of (configuration_of r.descriptor)) (c.transfer-came.ensures.came meters r stands.now) in (
-      subst (λ (o : Outcome). Prints (g.K.Sink.written c.args.sink.now) (g.K.Sink.written c.write_outcome.new.sink) c.write_outcome.result (says_answer o ∷ []))
+      subst (λ (o : TransferOutcome). Prints (g.K.Sink.written c.args.sink.now) (g.K.Sink.written c.write_outcome.new.sink) c.write_outcome.result (says_answer o ∷ []))
           same c.write_outcome.ensures.printed,
-      at_ok (StandsBetween c.transfer-came.new.self meters (after_transfer c.args.setup.now c.args.sent.now r)) c.write_outcome.result
+      at_ok (RunningStandsBetween c.transfer-came.new.self meters (after_transfer c.args.setup.now c.args.sent.now r)) c.write_outcome.result
           (record { now = next; room = transferred_room c.args.setup.now c.args.sent.now r stands.room }),
     )

@@ -2,7 +2,7 @@ use Rattle.std.proofs.Common.{map, subst, sym}
 use Rattle.uac_script.specs.Line.{said_mark}
 use Rattle.uac_streaming.specs.StreamingWorld.{all_reported, all_settled}
 use Rattle.uac_running.specs.Events.{ends_and_reports, of_streams}
-use Rattle.uac_running.specs.RunningKept.{RunningFields, Stands}
+use Rattle.uac_running.specs.RunningKept.{RunningFields, RunningStands}
 use Rattle.uac_running.proofs.Quiet.{quiet_ends_told}
 use Rattle.uac_running.proofs.SoFar.{front_then, tells_then}
 use Rattle.uac_transcript.proofs.PrintingLemmas.{Tells-handed_on}
@@ -10,7 +10,7 @@ use Rattle.uac_running.proofs.running.Running.ends_and_reports.Goals as goal
 
 pub returns-then-not-runs-clause-tells : goal.returns-then-not-runs-clause-tells
 returns-then-not-runs-clause-tells g c meters r stands fits =
-    let own = subst (λ (p : RunningFields). Stands p meters r) (sym c.self.view_is) stands in
+    let own = subst (λ (p : RunningFields). RunningStands p meters r) (sym c.self.view_is) stands in
     quiet_ends_told (map said_mark c.args.marks.now) c.args.self.now meters r (g.K.Sink.written c.args.sink.now)
     (c.runs.ensures.none r.device own.streaming.device c.if-not-runs.true) stands
 

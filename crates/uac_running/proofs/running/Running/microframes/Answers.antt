@@ -3,7 +3,7 @@ use Rattle.uac_script.specs.Line.{said_mark}
 use Rattle.uac_units.specs.Panel.{readings}
 use Rattle.uac_running.specs.Events.{microframe, microframes}
 use Rattle.uac_streaming.proofs.RoomOfDevices.{HaveSmallNumbers}
-use Rattle.uac_running.specs.RunningKept.{RunningFields, StandsBetween}
+use Rattle.uac_running.specs.RunningKept.{RunningFields, RunningStandsBetween}
 use Rattle.uac_running.proofs.SoFar.{begun, finished, one_more, stopped}
 use Rattle.uac_running.proofs.Steps.{microframes_end, microframes_split}
 use Rattle.uac_transcript.proofs.PrintingLemmas.{Tells-handed_on}
@@ -17,7 +17,7 @@ microframe-requires-clause-small g c =
 pub loop-passed-init : goal.loop-passed-init
 loop-passed-init g c = record {
   told = λ r stands.
-      begun StandsBetween (microframes (map said_mark c.args.marks.now) c.args.count r) (microframes (map said_mark c.args.marks.now) (c.args.count - 0)) c.args.self.now (readings (λ v x. (goal.Meter-dyn g (v, x)).reading_of x) c.args.meters.now) (g.K.Sink.written c.args.sink.now) r stands (ap (λ n. microframes (map said_mark c.args.marks.now) n r) (omega arith));
+      begun RunningStandsBetween (microframes (map said_mark c.args.marks.now) c.args.count r) (microframes (map said_mark c.args.marks.now) (c.args.count - 0)) c.args.self.now (readings (λ v x. (goal.Meter-dyn g (v, x)).reading_of x) c.args.meters.now) (g.K.Sink.written c.args.sink.now) r stands (ap (λ n. microframes (map said_mark c.args.marks.now) n r) (omega arith));
   faultless = refl;
   function = refl;
 }
@@ -25,7 +25,7 @@ loop-passed-init g c = record {
 pub returns-in_err-microframe-clause-tells : goal.returns-in_err-microframe-clause-tells
 returns-in_err-microframe-clause-tells g c r stands =
     Tells-handed_on _ _ (g.K.Sink.written c.args.sink.now) (g.K.Sink.written c.microframe.new.sink) c.from_residual.result _ c.from_residual.ensures.1 (
-    stopped StandsBetween (microframes (map said_mark c.args.marks.now) c.args.count r) (microframes (map said_mark c.args.marks.now) (c.args.count - c.loop-passed._passed)) (microframes (map said_mark c.args.marks.now) (c.args.count - (c.loop-passed._passed + 1)))
+    stopped RunningStandsBetween (microframes (map said_mark c.args.marks.now) c.args.count r) (microframes (map said_mark c.args.marks.now) (c.args.count - c.loop-passed._passed)) (microframes (map said_mark c.args.marks.now) (c.args.count - (c.loop-passed._passed + 1)))
     (microframe (map said_mark c.args.marks.now)) c.loop-passed.self (readings (λ v x. (goal.Meter-dyn g (v, x)).reading_of x) c.loop-passed.meters)
     (g.K.Sink.written c.args.sink.now) (g.K.Sink.written c.loop-passed.sink) (g.K.Sink.written c.microframe.new.sink)
     (λ w. microframes_split (map said_mark c.args.marks.now) c.args.count c.loop-passed._passed w c.loop-passed-test.true) (c.loop-passed.invariant.told r stands) c.in_err-microframe.ensures.tells
@@ -34,7 +34,7 @@ returns-in_err-microframe-clause-tells g c r stands =
 pub loop-passed-preserved : goal.loop-passed-preserved
 loop-passed-preserved g c = record {
   told = λ r stands.
-      one_more StandsBetween (microframes (map said_mark c.args.marks.now) c.args.count r) (microframes (map said_mark c.args.marks.now) (c.args.count - c.loop-passed._passed)) (microframes (map said_mark c.args.marks.now) (c.args.count - (c.loop-passed._passed + 1)))
+      one_more RunningStandsBetween (microframes (map said_mark c.args.marks.now) c.args.count r) (microframes (map said_mark c.args.marks.now) (c.args.count - c.loop-passed._passed)) (microframes (map said_mark c.args.marks.now) (c.args.count - (c.loop-passed._passed + 1)))
       (microframe (map said_mark c.args.marks.now)) c.loop-passed.self c.microframe.new.self (readings (λ v x. (goal.Meter-dyn g (v, x)).reading_of x) c.loop-passed.meters) (readings (λ v x. (goal.Meter-dyn g (v, x)).reading_of x) c.microframe.new.meters)
       (g.K.Sink.written c.args.sink.now) (g.K.Sink.written c.loop-passed.sink) (g.K.Sink.written c.microframe.new.sink)
       (λ w. microframes_split (map said_mark c.args.marks.now) c.args.count c.loop-passed._passed w c.loop-passed-test.true) (c.loop-passed.invariant.told r stands) c.in_ok-microframe.ensures.tells;
@@ -44,6 +44,6 @@ loop-passed-preserved g c = record {
 
 pub returns-clause-tells : goal.returns-clause-tells
 returns-clause-tells g c r stands =
-    finished StandsBetween (microframes (map said_mark c.args.marks.now) c.args.count r) (microframes (map said_mark c.args.marks.now) (c.args.count - c.loop-passed._passed)) c.loop-passed.self
+    finished RunningStandsBetween (microframes (map said_mark c.args.marks.now) c.args.count r) (microframes (map said_mark c.args.marks.now) (c.args.count - c.loop-passed._passed)) c.loop-passed.self
     (readings (λ v x. (goal.Meter-dyn g (v, x)).reading_of x) c.loop-passed.meters) (g.K.Sink.written c.args.sink.now) (g.K.Sink.written c.loop-passed.sink)
     (c.loop-passed.invariant.told r stands) (λ w. microframes_end (map said_mark c.args.marks.now) c.args.count c.loop-passed._passed w c.loop-passed-test.false)

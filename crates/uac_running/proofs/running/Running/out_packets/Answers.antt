@@ -3,8 +3,8 @@ use Rattle.uac_script.specs.Line.{said_mark}
 use Rattle.uac_streaming.specs.StreamingKept as streaming
 use Rattle.uac_streaming.specs.StreamingWorld.{out_packets}
 use Rattle.uac_running.specs.RunningWorld.{streaming_of}
-use Rattle.uac_running.specs.RunningKept.{RunningFields, Stands}
-use Rattle.uac_running.proofs.Counting.{domains_kept}
+use Rattle.uac_running.specs.RunningKept.{RunningFields, RunningStands}
+use Rattle.uac_running.proofs.RunningKeptLemmas.{domains_kept}
 use Rattle.uac_running.proofs.JackSteps.{jacks_kept}
 use Rattle.uac_running.proofs.Steps.{streams_told, view_still}
 use Rattle.uac_running.proofs.StreamSteps.{out_packets-keep}
@@ -21,8 +21,8 @@ invariant_of-self g c =
 
 pub returns-clause-tells : goal.returns-clause-tells
 returns-clause-tells g c meters r stands =
-    let own = subst (λ (p : RunningFields). Stands p meters r) (sym c.self.view_is) stands in
+    let own = subst (λ (p : RunningFields). RunningStands p meters r) (sym c.self.view_is) stands in
     streams_told meters r (the_view c.self.inside) _ own (out_packets r.detail (map said_mark c.args.marks.now)) (g.K.Sink.written c.args.sink.now) (g.K.Sink.written c.out_packets.new.sink) c.out_packets.result
-    (subst (λ (n : ℕ). streaming.Tells (out_packets n (map said_mark c.args.marks.now) (streaming_of r)) c.out_packets.new.self c.out_packets.new.device (g.K.Sink.written c.args.sink.now) (g.K.Sink.written c.out_packets.new.sink) c.out_packets.result)
+    (subst (λ (n : ℕ). streaming.StreamingTells (out_packets n (map said_mark c.args.marks.now) (streaming_of r)) c.out_packets.new.self c.out_packets.new.device (g.K.Sink.written c.args.sink.now) (g.K.Sink.written c.out_packets.new.sink) c.out_packets.result)
     own.detail (c.out_packets.ensures.tells (streaming_of r) own.streaming))
     (out_packets-keep r.detail (map said_mark c.args.marks.now) (streaming_of r)) refl refl refl refl refl (record { view = refl; configuration = refl; breaks = refl })

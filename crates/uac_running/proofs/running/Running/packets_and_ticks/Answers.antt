@@ -3,8 +3,9 @@ use Rattle.uac_script.specs.Line.{said_mark}
 use Rattle.uac_edges.specs.Writing.{AppendsFront}
 use Rattle.uac_units.specs.Panel.{readings}
 use Rattle.uac_transcript.specs.Printing.{text_of}
-use Rattle.uac_running.specs.Events.{Told, all_domains}
-use Rattle.uac_running.specs.RunningKept.{Tells}
+use Rattle.uac_streaming.specs.Telling.{Telling}
+use Rattle.uac_running.specs.Events.{all_domains}
+use Rattle.uac_running.specs.RunningKept.{RunningTells}
 use Rattle.uac_running.specs.Silence.{packets}
 use Rattle.uac_running.proofs.Quiet.{packets_first}
 use Rattle.uac_running.proofs.SoFar.{front_then, tells_then}
@@ -18,7 +19,7 @@ returns-in_err-packets-clause-tells g c r stands =
     let old = g.K.Sink.written c.args.sink.now in
     let new = g.K.Sink.written c.packets.new.sink in
     Tells-handed_on _ _ old new c.from_residual.result _ c.from_residual.ensures.1
-    (subst (λ (told : Told). AppendsFront old new (text_of told.lines)) (packets_first marks r)
+    (subst (λ (told : Telling RunningWorld). AppendsFront old new (text_of told.lines)) (packets_first marks r)
     (front_then (packets marks) all_domains r old new (c.in_err-packets.ensures.tells shown r stands).0))
 
 pub returns-clause-tells : goal.returns-clause-tells
@@ -27,7 +28,7 @@ returns-clause-tells g c r stands =
     let showing = readings (λ v x. (goal.Meter-dyn g (v, x)).reading_of x) c.domain_microframes.new.meters in
     let marks = map said_mark c.args.marks.now in
     let first = c.in_ok-packets.ensures.tells shown r stands in
-    subst (λ (told : Told). Tells told c.domain_microframes.new.self showing (g.K.Sink.written c.args.sink.now) (g.K.Sink.written c.domain_microframes.new.sink) c.domain_microframes.result)
+    subst (λ (told : Telling RunningWorld). RunningTells told c.domain_microframes.new.self showing (g.K.Sink.written c.args.sink.now) (g.K.Sink.written c.domain_microframes.new.sink) c.domain_microframes.result)
     (packets_first marks r)
     (tells_then (packets marks) all_domains r c.domain_microframes.new.self showing
     (g.K.Sink.written c.args.sink.now) (g.K.Sink.written c.packets.new.sink) (g.K.Sink.written c.domain_microframes.new.sink) c.domain_microframes.result first.0

@@ -3,9 +3,9 @@ use Rattle.uac_topology.specs.Function.{FunctionFields}
 use Rattle.uac_device.specs.DeviceKept as device
 use Rattle.uac_mixer.specs.ViewTransfers.{get_of}
 use Rattle.uac_mixer.specs.ViewWorld.{ViewWorld}
-use Rattle.uac_running.specs.RunningKept.{RunningFields, Stands}
+use Rattle.uac_running.specs.RunningKept.{RunningFields, RunningStands}
 use Rattle.uac_running.specs.RunningTransfers.{after_transfer}
-use Rattle.uac_running.proofs.Counting.{domains_kept}
+use Rattle.uac_running.proofs.RunningKeptLemmas.{domains_kept}
 use Rattle.uac_running.proofs.JackSteps.{jacks_kept}
 use Rattle.uac_running.proofs.RunningTransfersLemmas.{an_element, came_back, read_told, streams_stand, transfer_stands}
 use Rattle.uac_running.specs.contracts.running.Running.{the_view}
@@ -24,11 +24,11 @@ invariant_of-self c =
 
 pub returns-clause-stands : goal.returns-clause-stands
 returns-clause-stands c meters r x stands at =
-    let own = subst (λ (p : RunningFields). Stands p meters r) (sym c.self.view_is) stands in
+    let own = subst (λ (p : RunningFields). RunningStands p meters r) (sym c.self.view_is) stands in
     let here : slice_get c.self.inside.view.elements c.args.at ≡ Some x = ap (λ (v : ViewWorld). slice_get v.elements c.args.at) own.view ∙ at in
     let control = ap (λ (d : device.DeviceFields). d.function.control_interface) c.new-link.ensures.device ∙ ap (λ (f : FunctionFields). f.control_interface) own.streaming.device.function in
     let after : RunningFields = record (the_view c.self.inside) { device = c.get.new.link.device.now; view = c.get.new.self; breaks = c.take-fault.new.self } in
-    subst (λ (n : ℕ). Stands after meters (after_transfer (get_of n x) ([]) r)) control
+    subst (λ (n : ℕ). RunningStands after meters (after_transfer (get_of n x) ([]) r)) control
     (transfer_stands meters r (the_view c.self.inside) after _ ([]) _ _ _ own c.new-link.ensures.device
     (ap Some (c.new-link.ensures.fault ∙ c.take-fault.ensures.value)) (c.get.ensures.made x here) refl c.take-fault.ensures.after
     (record { configuration = refl; jacks = refl; counts = refl; time = refl; detail = refl; renders = refl })
@@ -37,7 +37,7 @@ returns-clause-stands c meters r x stands at =
 
 pub returns-clause-value : goal.returns-clause-value
 returns-clause-value c meters r x stands at =
-    let own = subst (λ (p : RunningFields). Stands p meters r) (sym c.self.view_is) stands in
+    let own = subst (λ (p : RunningFields). RunningStands p meters r) (sym c.self.view_is) stands in
     let here : slice_get c.self.inside.view.elements c.args.at ≡ Some x = ap (λ (v : ViewWorld). slice_get v.elements c.args.at) own.view ∙ at in
     let after : RunningFields = record (the_view c.self.inside) { view = c.get.new.self } in
     read_told x c.get.result r _ []

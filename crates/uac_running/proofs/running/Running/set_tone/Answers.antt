@@ -1,8 +1,8 @@
 use Rattle.std.proofs.Common.{sym, subst, refl}
 use Rattle.uac_running.specs.RunningWorld.{jack_with_tone, with_tone}
-use Rattle.uac_running.specs.RunningKept.{RunningFields, Stands}
+use Rattle.uac_running.specs.RunningKept.{RunningFields, RunningStands}
 use Rattle.uac_lanes.proofs.Turning.{turned_back}
-use Rattle.uac_running.proofs.Counting.{domains_kept}
+use Rattle.uac_running.proofs.RunningKeptLemmas.{domains_kept}
 use Rattle.uac_running.proofs.JackSteps.{jacks_toned}
 use Rattle.uac_running.proofs.Steps.{toned_on}
 use Rattle.uac_running.specs.contracts.running.Running.{the_view}
@@ -23,6 +23,6 @@ returns-clause-stands c meters r stands =
     let jacks = turned_back (jack_with_tone c.args.terminal c.args.tone) c.self.inside.jacks.len c.self.inside.jacks.items c.deref_mut.result.now c.set_tone.new.jacks
     c.set_tone.ensures c.deref_mut.ensures.value c.deref_mut.ensures.len in
     record {
-      now = toned_on meters r (the_view c.self.inside) _ (subst (λ (p : RunningFields). Stands p meters r) (sym c.self.view_is) stands.now) c.args.terminal c.args.tone _ jacks refl;
+      now = toned_on meters r (the_view c.self.inside) _ (subst (λ (p : RunningFields). RunningStands p meters r) (sym c.self.view_is) stands.now) c.args.terminal c.args.tone _ jacks refl;
       room = stands.room;
     }

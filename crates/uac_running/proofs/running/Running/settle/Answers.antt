@@ -2,8 +2,8 @@ use Rattle.std.proofs.Common.{sym, subst, refl, ℕ}
 use Rattle.uac_streaming.specs.StreamingKept as streaming
 use Rattle.uac_streaming.specs.StreamingWorld.{all_settled}
 use Rattle.uac_running.specs.RunningWorld.{streaming_of}
-use Rattle.uac_running.specs.RunningKept.{RunningFields, Stands}
-use Rattle.uac_running.proofs.Counting.{domains_kept}
+use Rattle.uac_running.specs.RunningKept.{RunningFields, RunningStands}
+use Rattle.uac_running.proofs.RunningKeptLemmas.{domains_kept}
 use Rattle.uac_running.proofs.JackSteps.{jacks_kept}
 use Rattle.uac_running.proofs.Steps.{streams_told, view_still}
 use Rattle.uac_running.proofs.StreamSteps.{all_settled-keep}
@@ -20,8 +20,8 @@ invariant_of-self g c =
 
 pub returns-clause-tells : goal.returns-clause-tells
 returns-clause-tells g c meters r stands fits =
-    let own = subst (λ (p : RunningFields). Stands p meters r) (sym c.self.view_is) stands in
+    let own = subst (λ (p : RunningFields). RunningStands p meters r) (sym c.self.view_is) stands in
     streams_told meters r (the_view c.self.inside) _ own (all_settled r.detail) (g.K.Sink.written c.args.sink.now) (g.K.Sink.written c.settle.new.sink) c.settle.result
-    (subst (λ (n : ℕ). streaming.Tells (all_settled n (streaming_of r)) c.settle.new.self c.settle.new.device (g.K.Sink.written c.args.sink.now) (g.K.Sink.written c.settle.new.sink) c.settle.result)
+    (subst (λ (n : ℕ). streaming.StreamingTells (all_settled n (streaming_of r)) c.settle.new.self c.settle.new.device (g.K.Sink.written c.args.sink.now) (g.K.Sink.written c.settle.new.sink) c.settle.result)
     own.detail (c.settle.ensures.tells (streaming_of r) own.streaming fits))
     (all_settled-keep r.detail (streaming_of r)) refl refl refl refl refl (record { view = refl; configuration = refl; breaks = refl })

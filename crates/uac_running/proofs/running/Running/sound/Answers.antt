@@ -2,10 +2,10 @@ use Rattle.std.proofs.Common.{◌≡◌, ◌∙◌, ◌+◌, ap, sym, subst, ref
 use Rattle.uac_device.specs.DeviceKept as device
 use Rattle.uac_device.specs.DeviceWorld.{renders_of}
 use Rattle.uac_units.specs.Panel.{readings}
-use Rattle.uac_running.specs.Events.{after_one, gone_on}
-use Rattle.uac_running.specs.RunningKept.{RunningFields, Stands}
+use Rattle.uac_running.specs.Events.{after_one, jacks_after_frame}
+use Rattle.uac_running.specs.RunningKept.{RunningFields, RunningStands}
 use Rattle.uac_lanes.proofs.Turning.{turned_back}
-use Rattle.uac_running.proofs.Counting.{domains_kept}
+use Rattle.uac_running.proofs.RunningKeptLemmas.{domains_kept}
 use Rattle.uac_running.proofs.JackSteps.{jacks_gone_on}
 use Rattle.uac_running.proofs.Resting.{rests_after}
 use Rattle.uac_running.proofs.Steps.{gave, sounded, sounded_found, view_still}
@@ -29,26 +29,26 @@ returns-clause-stands g c r stands rests stills =
     let showing = readings (λ v x. (goal.Meter-dyn g (v, x)).reading_of x) c.tick_where-found.new.meters in
     let jacks = turned_back (after_one c.args.domain) c.self.inside.jacks.len c.self.inside.jacks.items c.deref_mut.result.now c.next_frames.new.jacks
     c.next_frames.ensures.jacks c.deref_mut.ensures.value c.deref_mut.ensures.len in
-    let own = subst (λ (p : RunningFields). Stands p shown r) (sym c.self.view_is) stands in
+    let own = subst (λ (p : RunningFields). RunningStands p shown r) (sym c.self.view_is) stands in
     let still = λ (is : c.args.rest.lanes ≡ true). still_gave c.args.domain shown r (the_view c.self.inside) own c.self.invariant.0 (stills is) in
     let w = gave c.args.domain r in
-    let rendered : device.Stands c.next_frames.new.device w → c.count.result ≡ renders_of c.args.domain w =
+    let rendered : device.DeviceStands c.next_frames.new.device w → c.count.result ≡ renders_of c.args.domain w =
     λ kept. c.count.ensures ∙ c.tick_where-found.ensures.once w kept ∙ ap (λ n. n + renders_of c.args.domain w) c.new-steps.ensures ∙ zero-add (renders_of c.args.domain w) in
     sounded c.args.rest.jacks c.args.domain c.count.result shown showing r (the_view c.self.inside) _ c.deref_mut.result.now c.next_frames.new.device c.tick_where-found.result c.function-2.result.now own rests c.deref_mut.ensures.value
     c.function-2.ensures c.next_frames.ensures.stands (λ kept. c.tick_where-found.ensures.stands w kept still) (λ kept. c.tick_where-found.ensures.heard w kept still) rendered
     (λ kept. c.tick_where-found.ensures.met w kept still)
     (λ v before. c.find.ensures c.tick_where-found.new.self v before c.args.domain)
-    (jacks ∙ ap (gone_on c.args.domain) (sym c.deref_mut.ensures.value)) refl refl refl c.saturating_add-self-inside.ensures (record { view = refl; configuration = refl; breaks = refl })
+    (jacks ∙ ap (jacks_after_frame c.args.domain) (sym c.deref_mut.ensures.value)) refl refl refl c.saturating_add-self-inside.ensures (record { view = refl; configuration = refl; breaks = refl })
 
 pub returns-clause-found : goal.returns-clause-found
 returns-clause-found g c r stands rests stills =
     let shown = readings (λ v x. (goal.Meter-dyn g (v, x)).reading_of x) c.args.meters.now in
-    let own = subst (λ (p : RunningFields). Stands p shown r) (sym c.self.view_is) stands in
+    let own = subst (λ (p : RunningFields). RunningStands p shown r) (sym c.self.view_is) stands in
     let still = λ (is : c.args.rest.lanes ≡ true). still_gave c.args.domain shown r (the_view c.self.inside) own c.self.invariant.0 (stills is) in
     sounded_found c.args.rest.jacks c.args.domain shown r (the_view c.self.inside) c.deref_mut.result.now c.next_frames.new.device c.tick_where-found.result own rests c.deref_mut.ensures.value
     c.next_frames.ensures.stands (λ kept. c.tick_where-found.ensures.met (gave c.args.domain r) kept still)
 
 pub returns-clause-rests : goal.returns-clause-rests
 returns-clause-rests g c meters r stands quiet =
-    let own = subst (λ (p : RunningFields). Stands p meters r) (sym c.self.view_is) stands in
+    let own = subst (λ (p : RunningFields). RunningStands p meters r) (sym c.self.view_is) stands in
     rests_after c.args.domain meters r (the_view c.self.inside) own c.self.invariant.0 quiet

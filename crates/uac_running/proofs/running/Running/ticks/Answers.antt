@@ -1,7 +1,7 @@
 use Rattle.std.proofs.Common.{◌∙◌, ap, arith, rules, ◌+◌, ◌-◌, refl, false, not, subst, sym}
 use Rattle.uac_units.specs.Panel.{readings}
 use Rattle.uac_running.specs.Events.{tick, tick_times}
-use Rattle.uac_running.specs.RunningKept.{RunningFields, Stands}
+use Rattle.uac_running.specs.RunningKept.{RunningFields, RunningStands}
 use Rattle.uac_running.proofs.SoFar.{begun, finished, one_more_to, stopped}
 use Rattle.uac_running.proofs.Resting.{RestsSo, after_one_tick, begun_to_tick}
 use Rattle.uac_running.proofs.Steps.{ticks_end, ticks_split}
@@ -13,7 +13,7 @@ loop-ticked-init g c = record {
   told = λ r stands.
       begun (RestsSo (not c.one_sounds-silent.result) (not c.runs-still.result) false false c.args.domain) (tick_times c.args.count c.args.domain r) (tick_times (c.args.count - 0) c.args.domain) c.args.self.now (readings (λ v x. (goal.Meter-dyn g (v, x)).reading_of x) c.args.meters.now) (g.K.Sink.written c.args.sink.now) r
       (begun_to_tick c.one_sounds-silent.result c.runs-still.result c.args.domain c.args.self.now c.deref.result.now (readings (λ v x. (goal.Meter-dyn g (v, x)).reading_of x) c.args.meters.now) r stands c.one_sounds-silent.ensures (c.deref.ensures.value ∙ ap (λ (p : RunningFields). p.jacks) c.self.view_is)
-      (c.runs-still.ensures.none r.device (subst (λ (p : RunningFields). Stands p (readings (λ v x. (goal.Meter-dyn g (v, x)).reading_of x) c.args.meters.now) r) (sym c.self.view_is) stands).streaming.device))
+      (c.runs-still.ensures.none r.device (subst (λ (p : RunningFields). RunningStands p (readings (λ v x. (goal.Meter-dyn g (v, x)).reading_of x) c.args.meters.now) r) (sym c.self.view_is) stands).streaming.device))
       (ap (λ n. tick_times n c.args.domain r) (omega arith));
   faultless = refl;
   function = search rules;

@@ -6,7 +6,7 @@ use Rattle.uac_request.specs.Requests.{AnswerFields}
 use Rattle.uac_request.specs.Requests as requests
 use Rattle.uac_device.specs.DeviceKept as device
 use Rattle.uac_device.specs.DeviceWorld.{sets_interface, stream_in_setting, tells_done}
-use Rattle.uac_running.specs.RunningKept.{RunningFields, Stands}
+use Rattle.uac_running.specs.RunningKept.{RunningFields, RunningStands}
 use Rattle.uac_running.specs.RunningTransfers.{holds_setting}
 use Rattle.uac_running.proofs.RunningTransfersLemmas.{begun_is, came_back, followed_stand, rested_stand, setting_held, transfer_stands}
 use Rattle.uac_running.specs.contracts.running.Running.{the_view}
@@ -20,7 +20,7 @@ follow-requires c =
 
 pub returns-then-holds-clause-stands : goal.returns-then-holds-clause-stands
 returns-then-holds-clause-stands c meters r stands =
-    let own = subst (λ (p : RunningFields). Stands p meters r) (sym c.self.view_is) stands in
+    let own = subst (λ (p : RunningFields). RunningStands p meters r) (sym c.self.view_is) stands in
     let fault = ap Some (c.new-link.ensures.fault ∙ c.take-fault.ensures.value) in
     let after : RunningFields = record (the_view c.self.inside) {
       device = c.transfer-came.new.link.device.now;
@@ -47,7 +47,7 @@ returns-then-holds-clause-stands c meters r stands =
 
 pub returns-else-holds-clause-stands : goal.returns-else-holds-clause-stands
 returns-else-holds-clause-stands c meters r stands =
-    let own = subst (λ (p : RunningFields). Stands p meters r) (sym c.self.view_is) stands in
+    let own = subst (λ (p : RunningFields). RunningStands p meters r) (sym c.self.view_is) stands in
     let fault = ap Some (c.new-link.ensures.fault ∙ c.take-fault.ensures.value) in
     let after : RunningFields = record (the_view c.self.inside) {
       device = c.transfer-came.new.link.device.now;
@@ -66,14 +66,14 @@ returns-else-holds-clause-stands c meters r stands =
 
 pub returns-then-holds-clause-came : goal.returns-then-holds-clause-came
 returns-then-holds-clause-came c meters r stands =
-    let own = subst (λ (p : RunningFields). Stands p meters r) (sym c.self.view_is) stands in
+    let own = subst (λ (p : RunningFields). RunningStands p meters r) (sym c.self.view_is) stands in
     let after : RunningFields = record (the_view c.self.inside) { view = c.transfer-came.new.self } in
     came_back meters r (the_view c.self.inside) after c.args.setup.now c.args.sent.now _ _ _ own c.new-link.ensures.device
     (ap Some (c.new-link.ensures.fault ∙ c.take-fault.ensures.value)) c.transfer-came.ensures.made
 
 pub returns-else-holds-clause-came : goal.returns-else-holds-clause-came
 returns-else-holds-clause-came c meters r stands =
-    let own = subst (λ (p : RunningFields). Stands p meters r) (sym c.self.view_is) stands in
+    let own = subst (λ (p : RunningFields). RunningStands p meters r) (sym c.self.view_is) stands in
     let after : RunningFields = record (the_view c.self.inside) { view = c.transfer-came.new.self } in
     came_back meters r (the_view c.self.inside) after c.args.setup.now c.args.sent.now _ _ _ own c.new-link.ensures.device
     (ap Some (c.new-link.ensures.fault ∙ c.take-fault.ensures.value)) c.transfer-came.ensures.made

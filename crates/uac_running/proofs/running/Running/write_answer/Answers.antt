@@ -1,8 +1,8 @@
 use Rattle.std.proofs.Common.{ap, subst, ℕ, List, Some}
 use Rattle.uac_request.specs.Requests.{answer_fields}
-use Rattle.uac_request.specs.declared.told.Answer.{Answer}
+use Rattle.uac_request.specs.declared.reply.Answer.{Answer}
 use Rattle.uac_edges.specs.Writing.{Writes}
-use Rattle.uac_transcript.specs.Transcript.{gave, says_answer, spelled, stalled, was_done}
+use Rattle.uac_transcript.specs.Transcript.{gave, says_answer, spelling_of, stalled, was_done}
 use Rattle.uac_running.specs.RunningTransfers.{outcome_of, piece}
 use Rattle.uac_running.proofs.PrintedOutcomes.{outcome_printed}
 use Rattle.uac_running.proofs.running.Running.write_answer.Goals as goal
@@ -13,7 +13,7 @@ returns-in-Bytes-clause-printed g c =
     outcome_printed (g.K.Sink.written c.args.sink.now) (g.K.Sink.written c.write_given.new.sink) c.write_given.result
     (outcome_of c.args.self.now.configuration (Some (answer_fields c.args.answer.now))) (gave c.in-Bytes.bytes.items)
     (ap (λ (answer : Answer). outcome_of c.args.self.now.configuration (Some (answer_fields answer))) c.in-Bytes.is)
-    (subst (λ (bytes : List ℕ). Writes (g.K.Sink.written c.args.sink.now) (g.K.Sink.written c.write_given.new.sink) c.write_given.result (spelled (says_answer (gave bytes)))) c.as_slice.ensures.value c.write_given.ensures.written)
+    (subst (λ (bytes : List ℕ). Writes (g.K.Sink.written c.args.sink.now) (g.K.Sink.written c.write_given.new.sink) c.write_given.result (spelling_of (says_answer (gave bytes)))) c.as_slice.ensures.value c.write_given.ensures.written)
 
 pub returns-in-Descriptor-clause-printed : goal.returns-in-Descriptor-clause-printed
 unfolding outcome_of
@@ -21,7 +21,7 @@ returns-in-Descriptor-clause-printed g c =
     outcome_printed (g.K.Sink.written c.args.sink.now) (g.K.Sink.written c.write_given-in-Descriptor.new.sink) c.write_given-in-Descriptor.result
     (outcome_of c.args.self.now.configuration (Some (answer_fields c.args.answer.now))) (gave (piece c.in-Descriptor.from c.in-Descriptor.to c.args.self.now.configuration))
     (ap (λ (answer : Answer). outcome_of c.args.self.now.configuration (Some (answer_fields answer))) c.in-Descriptor.is)
-    (subst (λ (bytes : List ℕ). Writes (g.K.Sink.written c.args.sink.now) (g.K.Sink.written c.write_given-in-Descriptor.new.sink) c.write_given-in-Descriptor.result (spelled (says_answer (gave bytes)))) c.piece.ensures c.write_given-in-Descriptor.ensures.written)
+    (subst (λ (bytes : List ℕ). Writes (g.K.Sink.written c.args.sink.now) (g.K.Sink.written c.write_given-in-Descriptor.new.sink) c.write_given-in-Descriptor.result (spelling_of (says_answer (gave bytes)))) c.piece.ensures c.write_given-in-Descriptor.ensures.written)
 
 pub returns-in-Done-clause-printed : goal.returns-in-Done-clause-printed
 unfolding outcome_of

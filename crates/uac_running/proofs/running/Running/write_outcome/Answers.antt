@@ -1,5 +1,5 @@
 use Rattle.std.proofs.Common.{ap, sym, Result}
-use Rattle.uac_request.specs.declared.told.Answer.{Answer}
+use Rattle.uac_request.specs.declared.reply.Answer.{Answer}
 use Rattle.uac_mixer.specs.declared.link.Broken.{Broken}
 use Rattle.uac_mixer.specs.ViewTransfers.{came_of}
 use Rattle.uac_transcript.specs.Transcript.{broke}

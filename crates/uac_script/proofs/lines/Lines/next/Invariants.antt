@@ -1,6 +1,6 @@
 use Rattle.std.proofs.Common.{◌≡◌, ◌+◌, ◌-◌, ◌≤◌, ◌++◌, ℕ, List, length, None}
 use Rattle.std.specs.Io.KnownBytes.{Consumes}
-use Rattle.uac_script.specs.ScriptLines.{most_of_input, IsTold, StopsAtLine, head_of}
+use Rattle.uac_script.specs.ScriptLines.{most_of_input, IsDecided, StopsAtLine, head_of}
 use Rattle.uac_script.specs.Looking.{line_end}
 use Rattle.uac_script.proofs.lines.Lines.next.Given as goal
 
@@ -17,7 +17,7 @@ invariant-loop-size g l = record {
   within : length l.self.unread ≤ l.self.spare + 1;
   known : l.searched ≤ line_end l.self.unread;
   counted : l.searched ≤ l.self.spare;
-  told : IsTold (head_of l.fn.self.spare l.fn.self.unread) → l.source ≡ l.fn.source;
+  told : IsDecided (head_of l.fn.self.spare l.fn.self.unread) → l.source ≡ l.fn.source;
   faultless : g.S.Source.faults l.source ≡ g.S.Source.faults l.fn.source;
 }
 

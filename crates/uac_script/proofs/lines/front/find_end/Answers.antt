@@ -1,7 +1,7 @@
 use Rattle.std.proofs.Common.{◌≡◌, drop, Some, None, ◌==◌, ap, ◌∙◌, sym, arith, length-drop}
 use Rattle.std.specs.List.{position}
 use Rattle.std.proofs.lemmas.List.{take_rest}
-use Rattle.uac_script.proofs.Heads.{line_end_behind, line_end_found, line_end_missed}
+use Rattle.uac_script.proofs.Heads.{line_end_following, line_end_found, line_end_missed}
 use Rattle.uac_script.proofs.lines.front.find_end.Goals as goal
 
 pub returns-in-Some : goal.returns-in-Some
@@ -11,7 +11,7 @@ returns-in-Some c =
     let e : position (λ b. b == 10) (drop from bytes) ≡ Some c.in-Some.following =
     ap (position (λ b. b == 10)) (sym (take_rest bytes from)) ∙ sym c.in-Some.ensures in
     let found = line_end_found (drop from bytes) c.in-Some.following e in
-    omega (arith, line_end_behind bytes from c.requires.known)
+    omega (arith, line_end_following bytes from c.requires.known)
 
 pub returns-in-None : goal.returns-in-None
 returns-in-None c =
@@ -21,4 +21,4 @@ returns-in-None c =
     ap (position (λ b. b == 10)) (sym (take_rest bytes from)) ∙ sym c.in-None.ensures in
     let missed = line_end_missed (drop from bytes) e in
     let there = c.requires.there in
-    omega (arith, line_end_behind bytes from c.requires.known, length-drop from bytes)
+    omega (arith, line_end_following bytes from c.requires.known, length-drop from bytes)

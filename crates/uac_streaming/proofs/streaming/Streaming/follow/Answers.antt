@@ -3,7 +3,7 @@ use Rattle.std.specs.Option.{option_map}
 use Rattle.uac_alt.specs.AltStreams.{stream_fields}
 use Rattle.uac_host.specs.Calls.{IsStreamOf}
 use Rattle.uac_streaming.specs.StreamingWorld.{after_following}
-use Rattle.uac_streaming.specs.StreamingKept.{Stands}
+use Rattle.uac_streaming.specs.StreamingKept.{StreamingStands}
 use Rattle.uac_streaming.proofs.Followed.{followed_nowhere, number_is}
 use Rattle.uac_streaming.proofs.streaming.Streaming.follow.Goals as goal
 
@@ -15,7 +15,7 @@ set_stream-requires-clause-begun c =
 pub returns-in-Some : goal.returns-in-Some
 returns-in-Some c d w stands same =
     let own = number_is c.args.function.now c.args.interface c.in-Some.number c.in-Some.ensures in
-    subst (λ (n : ℕ). Stands c.set_stream.new.self d (after_following n (option_map stream_fields c.args.begun) w)) own (c.set_stream.ensures d w stands same)
+    subst (λ (n : ℕ). StreamingStands c.set_stream.new.self d (after_following n (option_map stream_fields c.args.begun) w)) own (c.set_stream.ensures d w stands same)
 
 pub returns-in-None : goal.returns-in-None
 returns-in-None c d w stands same =

@@ -3,7 +3,7 @@ use Rattle.uac_script.specs.Line.{said_mark}
 use Rattle.uac_transcript.specs.Printing.{Prints}
 use Rattle.uac_host.specs.Calls.{heard_in}
 use Rattle.uac_streaming.specs.StreamingWorld.{in_lines, inward_turn, packet_fetched}
-use Rattle.uac_streaming.specs.StreamingKept.{StreamingFields, Stands}
+use Rattle.uac_streaming.specs.StreamingKept.{StreamingFields, StreamingStands}
 use Rattle.uac_streaming.specs.contracts.streaming.Streaming.{the_view}
 use Rattle.uac_streaming.proofs.Turned.{in_rests, in_told, rests}
 use Rattle.uac_streaming.proofs.streaming.Streaming.in_packet.Goals as goal
@@ -18,7 +18,7 @@ pub returns-clause-tells : goal.returns-clause-tells
 returns-clause-tells g c = λ w stands.
     let marks = map said_mark c.args.marks.now in
     let q = the_view c.self.inside in
-    let here = subst (λ (p : StreamingFields). Stands p c.fetch-frames.new.device (packet_fetched c.loses_in-lost.result c.args.interface w)) (sym c.self.view_is) (c.fetch-frames.ensures.stands w stands) in
+    let here = subst (λ (p : StreamingFields). StreamingStands p c.fetch-frames.new.device (packet_fetched c.loses_in-lost.result c.args.interface w)) (sym c.self.view_is) (c.fetch-frames.ensures.stands w stands) in
     let packet = ap (λ (p : StreamingFields). p.fetched_packet) c.self.view_is ∙ c.fetch-frames.ensures.packet w stands in
     let same : c.deref.result.now.items ≡ q.fetched_packet = ap (λ packet. packet.items) c.deref.ensures in
     in_told c.args.detail c.args.interface marks w c.due.result (c.due.ensures w.device stands.device) q c.fetch-frames.new.device

@@ -5,8 +5,8 @@ use Rattle.uac_script.specs.Line.{said_mark}
 use Rattle.uac_transcript.specs.Printing.{text_of}
 use Rattle.uac_streaming.specs.Telling.{Telling, in_turn}
 use Rattle.uac_streaming.specs.StreamingWorld.{StreamingWorld, outward_turn}
-use Rattle.uac_streaming.specs.StreamingKept.{StreamingFields, Stands}
-use Rattle.uac_streaming.proofs.SoFar.{at_place, begun, turn_more, turn_stopped, turns_finished}
+use Rattle.uac_streaming.specs.StreamingKept.{StreamingFields, StreamingStands}
+use Rattle.uac_streaming.proofs.TellingLemmas.{at_place, begun, turn_more, turn_stopped, turns_finished}
 use Rattle.uac_streaming.proofs.Turned.{out_packets_are}
 use Rattle.uac_transcript.proofs.PrintingLemmas.{Tells-handed_on}
 use Rattle.uac_streaming.proofs.streaming.Streaming.out_packets.Goals as goal
@@ -15,7 +15,7 @@ pub loop-at-init : goal.loop-at-init
 loop-at-init g c = record {
   told = λ w stands.
       let event = outward_turn c.args.detail (map said_mark c.args.marks.now) in
-      begun (in_turn event c.args.self.now.outs w) (in_turn event c.args.self.now.outs) (Stands c.args.self.now c.args.device.now) (g.K.Sink.written c.args.sink.now) w stands refl;
+      begun (in_turn event c.args.self.now.outs w) (in_turn event c.args.self.now.outs) (StreamingStands c.args.self.now c.args.device.now) (g.K.Sink.written c.args.sink.now) w stands refl;
   faultless = refl;
   function = refl;
   order = refl;
@@ -29,7 +29,7 @@ returns-in_err-out_packet-clause-tells g c = λ w stands.
     let below : c.loop-at.at < length c.args.self.now.outs = omega (arith, many, c.len-at-end.ensures, c.self.inside.outs.ok.0, c.loop-at-test.true) in
     let here = at_place order c.self-in-loop-at.inside.outs.items c.loop-at.self.outs c.loop-at.at c.index-interface.result.now
     (ap (λ (p : StreamingFields). p.outs) c.self-in-loop-at.view_is) c.loop-at.invariant.order below c.index-interface.ensures in
-    let all = turn_stopped event order w (Stands c.loop-at.self c.loop-at.device) (Stands c.loop-at.self c.loop-at.device)
+    let all = turn_stopped event order w (StreamingStands c.loop-at.self c.loop-at.device) (StreamingStands c.loop-at.self c.loop-at.device)
     (g.K.Sink.written c.args.sink.now) (g.K.Sink.written c.loop-at.sink) (g.K.Sink.written c.out_packet.new.sink) c.loop-at.at c.index-interface.result.now
     below here (c.loop-at.invariant.told w stands) (λ v s. (c.in_err-out_packet.ensures.tells v s).0) in
     Tells-handed_on _ _ (g.K.Sink.written c.args.sink.now) (g.K.Sink.written c.out_packet.new.sink) c.from_residual.result _ c.from_residual.ensures.1 (
@@ -46,7 +46,7 @@ loop-at-preserved g c = record {
       let below : c.loop-at.at < length c.args.self.now.outs = omega (arith, many, c.len-at-end.ensures, c.self.inside.outs.ok.0, c.loop-at-test.true) in
       let here = at_place order c.self-in-loop-at.inside.outs.items c.loop-at.self.outs c.loop-at.at c.index-interface.result.now
       (ap (λ (p : StreamingFields). p.outs) c.self-in-loop-at.view_is) c.loop-at.invariant.order below c.index-interface.ensures in
-      turn_more event order w (Stands c.loop-at.self c.loop-at.device) (Stands c.out_packet.new.self c.out_packet.new.device)
+      turn_more event order w (StreamingStands c.loop-at.self c.loop-at.device) (StreamingStands c.out_packet.new.self c.out_packet.new.device)
       (g.K.Sink.written c.args.sink.now) (g.K.Sink.written c.loop-at.sink) (g.K.Sink.written c.out_packet.new.sink) c.loop-at.at c.index-interface.result.now
       below here (c.loop-at.invariant.told w stands) c.in_ok-out_packet.ensures.tells;
   faultless = c.in_ok-out_packet.ensures.cause.faultless ∙ c.loop-at.invariant.faultless;
@@ -60,8 +60,8 @@ returns-clause-tells g c = λ w stands.
     let order = c.args.self.now.outs in
     let many = ap (λ (p : StreamingFields). length p.outs) c.self.view_is in
     let past : length c.args.self.now.outs ≤ c.loop-at.at = omega (arith, many, c.len-at-end.ensures, c.self.inside.outs.ok.0, c.loop-at-test.false) in
-    let all = turns_finished event order w (Stands c.loop-at.self c.loop-at.device) (g.K.Sink.written c.args.sink.now) (g.K.Sink.written c.loop-at.sink) c.loop-at.at past
+    let all = turns_finished event order w (StreamingStands c.loop-at.self c.loop-at.device) (g.K.Sink.written c.args.sink.now) (g.K.Sink.written c.loop-at.sink) c.loop-at.at past
     (c.loop-at.invariant.told w stands) in
     subst (λ (told : Telling StreamingWorld). Appends (g.K.Sink.written c.args.sink.now) (g.K.Sink.written c.loop-at.sink) (text_of told.lines)
-    × Stands c.loop-at.self c.loop-at.device told.world)
+    × StreamingStands c.loop-at.self c.loop-at.device told.world)
     (out_packets_are c.args.detail (map said_mark c.args.marks.now) w order stands.outs) all

@@ -4,8 +4,8 @@ use Rattle.uac_edges.specs.Writing.{AppendsFront}
 use Rattle.uac_transcript.specs.Printing.{text_of}
 use Rattle.uac_streaming.specs.Telling.{Telling, in_turn}
 use Rattle.uac_streaming.specs.StreamingWorld.{StreamingWorld, settled_turn}
-use Rattle.uac_streaming.specs.StreamingKept.{StreamingFields, Stands}
-use Rattle.uac_streaming.proofs.SoFar.{at_place, begun, turn_more, turn_stopped, turns_finished}
+use Rattle.uac_streaming.specs.StreamingKept.{StreamingFields, StreamingStands}
+use Rattle.uac_streaming.proofs.TellingLemmas.{at_place, begun, turn_more, turn_stopped, turns_finished}
 use Rattle.uac_streaming.proofs.Turned.{StandsBefore, all_settled_are, settled_failed, settled_next}
 use Rattle.uac_transcript.proofs.PrintingLemmas.{Tells-handed_on}
 use Rattle.uac_streaming.proofs.streaming.Streaming.settle.Goals as goal
@@ -66,5 +66,5 @@ returns-clause-tells g c = λ w stands fit.
     let all = turns_finished event order w (StandsBefore c.args.self.now c.loop-at.device order c.loop-at.at) (g.K.Sink.written c.args.sink.now) (g.K.Sink.written c.loop-at.sink) c.loop-at.at past
     (c.loop-at.invariant.told w stands fit) in
     subst (λ (told : Telling StreamingWorld). Appends (g.K.Sink.written c.args.sink.now) (g.K.Sink.written c.loop-at.sink) (text_of told.lines)
-    × Stands c.args.self.now c.loop-at.device told.world)
+    × StreamingStands c.args.self.now c.loop-at.device told.world)
     (all_settled_are c.args.detail w order stands.order) (all.0, all.1.0)

@@ -1,7 +1,7 @@
 use Rattle.std.proofs.Common.{◌≡◌, List, ap, ◌∙◌}
 use Rattle.uac_entities.specs.declared.entity.Cluster.{Cluster}
 use Rattle.uac_topology_rules.specs.Table.{with_clusters}
-use Rattle.uac_topology_rules.specs.Clusters.{clustered}
+use Rattle.uac_topology_rules.specs.Clusters.{with_own_clusters}
 use Rattle.uac_topology_rules.proofs.ClusterTable.{clustered_is}
 use Rattle.uac_topology_rules.proofs.known.Known.into_table.Goals as goal
 
@@ -12,4 +12,4 @@ returns c =
     c.with_clusters.ensures
     ∙ ap (λ (cs : List Cluster). with_clusters k.table cs) c.as_slice.ensures.value
     ∙ clustered_is k.table k.clusters.items c.self.invariant.sounding
-    ∙ ap clustered v
+    ∙ ap with_own_clusters v

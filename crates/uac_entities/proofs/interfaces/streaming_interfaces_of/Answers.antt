@@ -1,0 +1,18 @@
+use Rattle.std.proofs.Common.{◌≡◌, ◌++◌, List, Option, get_or, take, sym, ap, ◌∙◌}
+use Rattle.std.specs.Option.{option_to_list}
+use Rattle.std.specs.List.{filter_map}
+use Rattle.uac_entities.specs.declared.stream.StreamInterface.{StreamInterface}
+use Rattle.uac_entities.specs.EntityInterfaces.{streaming_interface_at}
+use Rattle.uac_entities.proofs.Kept.{filter_map_more, blank}
+use Rattle.uac_entities.proofs.interfaces.streaming_interfaces_of.Goals as goal
+
+pub loop-alternate-preserved : goal.loop-alternate-preserved
+loop-alternate-preserved c =
+    let l = c.loop-alternate in
+    let xs = c.args.all.now in
+    let h = streaming_interface_at c.args.entities.now c.args.all.now in
+    let kept : c.in_ok-stream.stream ≡ h (get_or xs l.alternate-index blank) = c.in_ok-stream.ensures in
+    c.in_ok-keep.ensures
+    ∙ ap (λ (ys : List StreamInterface). ys ++ option_to_list (c.in_ok-stream.stream)) l.invariant
+    ∙ ap (λ (o : Option StreamInterface). filter_map h (take l.alternate-index xs) ++ option_to_list o) kept
+    ∙ sym (filter_map_more h xs l.alternate-index blank c.loop-alternate-test.true)

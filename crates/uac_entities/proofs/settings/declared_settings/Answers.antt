@@ -1,0 +1,42 @@
+use Rattle.std.proofs.Common.{◌≡◌, ◌+◌, ◌++◌, List, Option, drop, sym, ap, ◌∙◌, append_assoc, append-nil}
+use Rattle.std.specs.Option.{option_to_list}
+use Rattle.std.proofs.lemmas.List.{take_rest}
+use Rattle.uac_descriptor.specs.declared.block.Block as block
+use Rattle.uac_descriptor.specs.declared.block.Block.TheVariants as row
+use Rattle.uac_entities.specs.declared.settings.DeclaredSetting.{DeclaredSetting}
+use Rattle.uac_entities.specs.EntitySettings.{declared_setting_at, declared_settings}
+use Rattle.uac_entities.proofs.BlocksFollowing.{alternates_at, alternates_end, no_alternate}
+use Rattle.uac_entities.proofs.settings.declared_settings.Goals as goal
+use Rattle.uac_entities.proofs.settings.declared_settings.Goals.{in-Interface+in_ok-keep, in_default}
+
+pub loop-place-preserved : goal.loop-place-preserved
+loop-place-preserved c =
+    let l = c.loop-place in
+    let xs = c.args.blocks.now in
+    let b = c.index-blocks-place.result in
+    let rest = drop (l.place + 1) xs in
+    let one : declared_settings (drop l.place xs) ≡ option_to_list (declared_setting_at b rest) ++ declared_settings rest =
+    alternates_at xs l.place b c.loop-place-test.true c.index-blocks-place.is in
+    let whole = ap (λ (ys : List DeclaredSetting). l.all.items ++ ys) (sym one) ∙ l.invariant in
+    elim c.match-block.branch [
+      | in-Interface+in_ok-keep w ↦
+          (let here : w.declared_setting_at-alternate.result ≡ declared_setting_at b rest =
+          w.declared_setting_at-alternate.ensures ∙ ap (declared_setting_at (row.Interface w.in-Interface.interface)) (take_rest xs (l.place + 1))
+          ∙ ap (λ (this : block.Block). declared_setting_at this rest) (sym w.in-Interface.is) in
+          ap (λ all. all.items ++ declared_settings rest) w.all-is
+          ∙ ap (λ (ys : List DeclaredSetting). ys ++ declared_settings rest)
+          (w.in_ok-keep.ensures ∙ ap (λ (o : Option DeclaredSetting). l.all.items ++ option_to_list o) here)
+          ∙ append_assoc l.all.items (option_to_list (declared_setting_at b rest)) (declared_settings rest)
+          ∙ whole)
+      | in_default w ↦
+          ap (λ all. all.items ++ declared_settings rest) w.all-is
+          ∙ ap (λ (o : Option DeclaredSetting). l.all.items ++ (option_to_list o ++ declared_settings rest)) (sym (no_alternate b rest w.in_default.not-Interface))
+          ∙ whole
+    ]
+
+pub returns : goal.returns
+returns c =
+    let l = c.loop-place in
+    sym (append-nil l.all.items)
+    ∙ ap (λ (ys : List DeclaredSetting). l.all.items ++ ys) (sym (alternates_end c.args.blocks.now l.place c.loop-place-test.false))
+    ∙ l.invariant

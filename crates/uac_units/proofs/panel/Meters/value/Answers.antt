@@ -1,7 +1,0 @@
-use Rattle.uac_units.proofs.Listing.{shown_at}
-use Rattle.uac_units.proofs.panel.Meters.value.Goals as goal
-
-pub returns : goal.returns
-returns g c =
-    shown_at (λ b. (goal.Meter-dyn g (b.vtable, b.value)).reading_of b.value) (λ r. r.value) c.args.self.now.list.items c.args.at c.index.result.now c.value_of.result
-    c.requires c.index.ensures c.value_of.ensures
