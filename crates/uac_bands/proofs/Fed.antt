@@ -9,7 +9,7 @@ use Rattle.std.proofs.lemmas.Option.{option_and_then_some}
 use Rattle.uac_clock.specs.Ticks.{ticks_in}
 use Rattle.uac_pcm.specs.Frames.{IsFormat}
 use Rattle.uac_pcm.specs.Packets.{bytes_of_frames, whole_frames}
-use Rattle.uac_pcm.specs.Tones.{tone_sample}
+use Rattle.uac_pcm.specs.Tones.{tone_sample, tone_frame}
 use Rattle.uac_pcm.specs.declared.tones.Tone.{Tone}
 use Rattle.uac_pcm.proofs.PacketsLemmas.{frame_bytes-pos, length-frames_of_bytes, whole_frames-bytes_of_frames}
 use Rattle.uac_topology.specs.Function.{FunctionFields}
@@ -17,7 +17,7 @@ use Rattle.uac_alt.specs.AltStreams.{StreamFields}
 use Rattle.uac_rate.specs.Steadiness.{one_more}
 use Rattle.uac_flow.specs.FlowStreams.{OutStream, after_packet, after_taking, after_ticks, feedback_of, frames_of, is_dry, is_due, settled_out, settled_when_due}
 use Rattle.uac_host.specs.HostWorld.{Pace, Track}
-use Rattle.uac_host.specs.Calls.{IsStreamOf, after_frames, channels_at, next_frames, next_size, packet_of, pace_after_report, pace_after_packet, tone_frame}
+use Rattle.uac_host.specs.Calls.{IsStreamOf, after_frames, channels_at, next_frames, next_size, packet_of, pace_after_report, pace_after_packet}
 use Rattle.uac_host.proofs.HostKeptLemmas.{even_after}
 use Rattle.uac_host.proofs.SettingStreams.{channels_of}
 use Rattle.uac_device.specs.DeviceWorld.{step_in}

@@ -1,8 +1,8 @@
 -- Devices are ordered at the start, and stay so.
 use Rattle.std.proofs.Common.{◌≡◌, ◌∙◌, refl, ap, ℕ, ◌==◌, ◌&&◌, Bool, true, false, if◌then◌else◌, ℤ, List, [], ◌∷◌, map, Option, Some, None}
 use Rattle.uac_alt.specs.AltStreams.{StreamFields}
-use Rattle.uac_request.specs.Requests.{after_request, request_state, reply_of}
-use Rattle.uac_device.specs.DeviceWorld.{DeviceWorld, Domain, at_rest, after_control, after_deviation, fresh, after_restart, sets_interface, stream_in_setting, tells_done}
+use Rattle.uac_request.specs.Requests.{after_request, request_state, reply_of, sets_interface}
+use Rattle.uac_device.specs.DeviceWorld.{DeviceWorld, Domain, at_rest, after_control, after_deviation, fresh, after_restart, stream_in_setting, tells_done}
 use Rattle.uac_mixer.specs.declared.link.When.{When}
 use Rattle.uac_mixer.specs.declared.link.When.TheVariants as when
 use Rattle.uac_streaming.specs.StreamingWorld.{after_following}

@@ -3,10 +3,10 @@ use Rattle.std.proofs.Common.{◌≡◌, refl, ℕ, ◌&&◌, not, Bool, true, f
 use Rattle.uac_rate.specs.Steadiness.{SteadyHistory}
 use Rattle.uac_rate.specs.Steadiness as steadiness
 use Rattle.uac_alt.specs.AltStreams.{StreamFields}
-use Rattle.uac_request.specs.Requests.{RequestState, after_request, request_state, reply_of}
+use Rattle.uac_request.specs.Requests.{RequestState, after_request, request_state, reply_of, sets_interface}
 use Rattle.uac_request.specs.declared.setup.Setup.{Setup}
 use Rattle.uac_host.specs.Calls.{with_stream}
-use Rattle.uac_device.specs.DeviceWorld.{DeviceWorld, after_control, after_restart, sets_interface, stream_in_setting, tells_done}
+use Rattle.uac_device.specs.DeviceWorld.{DeviceWorld, after_control, after_restart, stream_in_setting, tells_done}
 use Rattle.uac_mixer.specs.declared.link.When.{When}
 use Rattle.uac_mixer.specs.declared.link.When.TheVariants as when
 use Rattle.uac_mixer.specs.ViewTransfers.{view_after}

@@ -10,13 +10,13 @@ use Rattle.uac_alt.specs.AltStreams.{StreamFields}
 use Rattle.uac_alt.specs.AltSettings.{setting_of, with_setting}
 use Rattle.uac_alt.specs.declared.settings.InterfaceSetting.{InterfaceSetting}
 use Rattle.uac_alt.proofs.Changed.{setting_of_changed}
-use Rattle.uac_request.specs.Requests.{AreSettingsOf, RequestState, AnswerFields, after_request, unbroken_reply, controls_set, cur_named, first_broken, gets_cur, gets_descriptor, gets_interface, gets_range, is_done, is_stalled, left_by, ranges_named, reply_of, sets_cur, with_bytes, with_descriptor}
+use Rattle.uac_request.specs.Requests.{AreSettingsOf, RequestState, AnswerFields, after_request, unbroken_reply, controls_set, cur_named, first_broken, gets_cur, gets_descriptor, gets_interface, gets_range, is_done, is_stalled, left_by, ranges_named, reply_of, sets_cur, with_bytes, with_descriptor, sets_interface}
 use Rattle.uac_request.specs.declared.setup.Setup.{Setup}
 use Rattle.uac_request.proofs.Lasting.{settings_stay, store_stays}
 use Rattle.uac_flow.specs.FlowStreams.{OutStream}
 use Rattle.uac_host.specs.Calls.{with_stream}
 use Rattle.uac_lanes.specs.InterfaceStreams.{out_from}
-use Rattle.uac_device.specs.DeviceWorld.{after_restart, sets_interface, tells_done}
+use Rattle.uac_device.specs.DeviceWorld.{after_restart, tells_done}
 use Rattle.uac_running.specs.RunningWorld.{RunningWorld}
 use Rattle.uac_bands.specs.BandTransfers.{IsSoundRun, TransfersKeepSound}
 use Rattle.uac_bands.proofs.Once.{not_this, own_number}

@@ -19,14 +19,14 @@ use Rattle.uac_alt.specs.AltStreams.{StreamFields, stream_of}
 use Rattle.uac_alt.specs.AltSettings.{is_running, setting_of, with_setting}
 use Rattle.uac_alt.proofs.Formats.{stream_format}
 use Rattle.uac_alt.specs.declared.settings.InterfaceSetting.{InterfaceSetting}
-use Rattle.uac_request.specs.Requests.{RequestState, after_request, controls_set, first_broken, left_by, sets_cur}
+use Rattle.uac_request.specs.Requests.{RequestState, after_request, controls_set, first_broken, left_by, sets_cur, sets_interface}
 use Rattle.uac_request.specs.declared.setup.Setup.{Setup}
 use Rattle.uac_request.proofs.Lasting.{rates_stay}
 use Rattle.uac_flow.specs.FlowStreams.{InStream, OutStream, started_out}
 use Rattle.uac_host.specs.HostWorld.{Pace}
 use Rattle.uac_host.specs.Calls.{at_interface, fresh_pace, with_stream}
 use Rattle.uac_lanes.specs.InterfaceStreams.{in_from, out_from, replaced_at}
-use Rattle.uac_device.specs.DeviceWorld.{Domain, after_restart, sets_interface}
+use Rattle.uac_device.specs.DeviceWorld.{Domain, after_restart}
 use Rattle.uac_streaming.specs.StreamingWorld.{given_at, goes_out, place_of}
 use Rattle.uac_running.specs.RunningWorld.{RunningWorld}
 use Rattle.uac_bands.specs.Life.{Life, domain_id_on, domain_on, life_of}

@@ -14,10 +14,10 @@ use Rattle.uac_topology.proofs.Small.{small}
 use Rattle.uac_store.proofs.Soundness.{keyed}
 use Rattle.uac_alt.specs.AltStreams.{StreamFields}
 use Rattle.uac_units.specs.Hearing.{Reading}
-use Rattle.uac_request.specs.Requests.{after_request, request_state, reply_of, setup_of}
+use Rattle.uac_request.specs.Requests.{after_request, request_state, reply_of, setup_of, sets_interface}
 use Rattle.uac_request.specs.declared.setup.Setup.{Setup}
 use Rattle.uac_host.specs.HostWorld.{HostWorld}
-use Rattle.uac_device.specs.DeviceWorld.{DeviceWorld, Domain, at_rest, after_control, after_deviation, fresh, is_input_jack, after_restart, sets_interface, stream_in_setting, tells_done}
+use Rattle.uac_device.specs.DeviceWorld.{DeviceWorld, Domain, at_rest, after_control, after_deviation, fresh, is_input_jack, after_restart, stream_in_setting, tells_done}
 use Rattle.uac_device.specs.DeviceKept.{IsInRange}
 use Rattle.uac_mixer.specs.MixerElements.{fits_element}
 use Rattle.uac_mixer.specs.declared.link.When.{When}

@@ -2,9 +2,9 @@
 use Rattle.std.proofs.Common.{ℕ, ◌&&◌, Bool, true, false, if◌then◌else◌, List, Option, None, Some, is_some}
 use Rattle.uac_alt.specs.AltStreams.{StreamFields}
 use Rattle.uac_store.proofs.Soundness.{keyed}
-use Rattle.uac_request.specs.Requests.{RequestState, AnswerFields, after_request, request_state, reply_of}
+use Rattle.uac_request.specs.Requests.{RequestState, AnswerFields, after_request, request_state, reply_of, sets_interface}
 use Rattle.uac_request.specs.declared.setup.Setup.{Setup}
-use Rattle.uac_device.specs.DeviceWorld.{DeviceWorld, after_control, after_restart, sets_interface, stream_in_setting, tells_done}
+use Rattle.uac_device.specs.DeviceWorld.{DeviceWorld, after_control, after_restart, stream_in_setting, tells_done}
 use Rattle.uac_mixer.specs.Agreement.{IsAgreed, StaysAgreed}
 use Rattle.uac_mixer.specs.ViewTransfers.{view_after}
 use Rattle.uac_mixer.specs.ViewWorld.{ViewWorld}

@@ -17,7 +17,8 @@ use Rattle.uac_promises.proofs.AllScripts.{all_scripts_keep_promises}
 use Rattle.uac_describe.specs.declared.status.Status.TheVariants as statuses
 use Rattle.uac_describe.specs.Outcome.{at_end}
 use Rattle.uac_scripts.specs.Script as script
-use Rattle.uac_scripts.specs.Script.{IsLine, come_to, with_newlines}
+use Rattle.uac_edges.specs.TextLines.{with_newlines}
+use Rattle.uac_scripts.specs.Script.{IsLine, come_to}
 use Rattle.uac_scripts.specs.ScriptTranscript.{Ending, with_text_first, closed_by, ends, ending_at}
 use Rattle.uac_scripts.specs.Computed.{goes, transcript}
 use Rattle.uac_cli.specs.GeneratedCall.{GeneratedScriptsRunWhole}

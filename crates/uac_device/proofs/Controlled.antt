@@ -10,13 +10,13 @@ use Rattle.uac_store.specs.declared.keys.Key.{Key}
 use Rattle.uac_alt.specs.AltStreams.{StreamFields, stream_fields, stream_of}
 use Rattle.uac_alt.specs.declared.settings.InterfaceSetting.{InterfaceSetting}
 use Rattle.uac_alt.specs.declared.values.Stream.{Stream}
-use Rattle.uac_request.specs.Requests.{RequestState, AnswerFields, after_request, request_state, rate_at, reply_of}
+use Rattle.uac_request.specs.Requests.{RequestState, AnswerFields, after_request, request_state, rate_at, reply_of, sets_interface}
 use Rattle.uac_request.specs.declared.setup.Setup.{Setup}
 use Rattle.uac_flow.specs.FlowStreams.{InStream, OutStream}
 use Rattle.uac_lanes.specs.declared.lane.DeviceStream.{DeviceStream}
 use Rattle.uac_lanes.specs.declared.lane.Port.{Port}
 use Rattle.uac_lanes.specs.InterfaceStreams.{in_from, out_from, replaced_at}
-use Rattle.uac_device.specs.DeviceWorld.{DeviceWorld, after_control, after_restart, sets_interface, stream_in_setting, tells_done}
+use Rattle.uac_device.specs.DeviceWorld.{DeviceWorld, after_control, after_restart, stream_in_setting, tells_done}
 use Rattle.uac_device.specs.DeviceKept.{DeviceFields, IsControlled, IsDevice, DeviceStands}
 use Rattle.uac_lanes.specs.Lanes.{LanesStand, port_of, ports}
 use Rattle.uac_device.specs.Linked.{FitsInterface}

@@ -23,7 +23,7 @@ use Rattle.uac_alt.specs.declared.settings.InterfaceSetting.{InterfaceSetting}
 use Rattle.uac_alt.specs.AltSettings.{initial_settings}
 use Rattle.uac_alt.specs.AltStreams.{StreamFields, stream_of}
 use Rattle.uac_request.specs.Requests.{AnswerFields, after_request, request_state, is_done, is_stalled, rate_at, reply_of}
-use Rattle.uac_request.specs.Requests.{with_bytes, with_descriptor}
+use Rattle.uac_request.specs.Requests.{sets_interface, with_bytes, with_descriptor}
 use Rattle.uac_request.specs.declared.setup.Setup.{Setup}
 use Rattle.uac_flow.specs.FlowStreams.{InStream, OutStream, after_packet, after_putting, after_sending, after_taking, after_ticks}
 use Rattle.uac_flow.specs.FlowStreams.{arrival_of}
@@ -253,10 +253,6 @@ unfoldable pub feedback_in : DeviceWorld → ℕ → Option ℕ
 feedback_in w interface = option_and_then feedback_of (w.outs interface)
 
 -- ---- requests
-
--- a request that sets an interface's setting (USB 2.0, 9.4.10)
-abbrev pub sets_interface : Setup → Bool
-sets_interface p = p.request_type == 1 && p.request == 11
 
 abbrev pub tells_done : AnswerFields → Bool
 tells_done (with_bytes bytes) = false

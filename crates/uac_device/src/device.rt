@@ -3,7 +3,7 @@ ghost use Rattle.std.specs.Prelude.{◌≡◌, ◌≤◌, ◌<◌, ◌+◌, ◌^
 ghost use Rattle.std.specs.Option.{option_map};
 ghost use Rattle.uac_graph.specs.Meaning.{entity};
 ghost use Rattle.uac_graph.specs.Needs.{needed};
-ghost use Rattle.uac_graph.specs.Wiring.{tone_frame};
+ghost use Rattle.uac_pcm.specs.Tones.{tone_frame};
 ghost use Rattle.uac_units.specs.Fitting.{IsFitted};
 ghost use Rattle.uac_units.specs.Panel.{readings};
 ghost use Rattle.uac_device.specs.DeviceWorld.{DeviceWorld, ZerosFitIn, after_advance, after_frames, arrival_in, after_deviation};
@@ -263,7 +263,7 @@ impl Device {
         requires { is_input_jack (entity self.old.function.entities terminal) ≡ true }
         ensures stands { (w : DeviceWorld) → DeviceStands self.old w
             → DeviceStands self.new
-            (set_jack terminal (tone_frame tone place (entity self.old.function.entities terminal).cluster.channels) w) }
+            (set_jack terminal (tone_frame (entity self.old.function.entities terminal).cluster.channels tone place) w) }
         ensures function { self.new.function ≡ self.old.function }
     {
         self.wires.sound(terminal, tone, place);

@@ -3,6 +3,7 @@
 pub mod Faults
 pub mod Writing
 pub mod Numerals
+pub mod TextLines
 -- What the contracts below them cite: steps of the code, no part of what is promised.
 pub mod Memory
 pub mod EdgeStreams

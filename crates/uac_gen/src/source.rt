@@ -2,7 +2,8 @@
 ghost use Rattle.std.specs.Prelude.{◌≡◌, ℕ, ◌+◌, ◌<◌, ◌≤◌, List, [], ◌∷◌, ◌++◌, length, take, drop, Some, IsOk, IfOk};
 ghost use Rattle.std.specs.Io.KnownBytes.{ReadConsumes};
 ghost use Rattle.uac_edges.specs.Faults.{HasCause};
-ghost use Rattle.uac_gen.specs.GeneratedScript.{with_newlines, script_of};
+ghost use Rattle.uac_edges.specs.TextLines.{with_newlines};
+ghost use Rattle.uac_gen.specs.GeneratedScript.{script_of};
 
 use crate::generator::Gen;
 use arrayvec::ArrayVec;
@@ -22,7 +23,6 @@ pub struct GenSource {
 
 impl Model for GenSource {
     ghost use Rattle.std.specs.Prelude.{ℕ, ◌+◌, ◌≤◌, List, [], ◌∷◌, ◌++◌, length, drop};
-    ghost use Rattle.uac_gen.specs.GeneratedScript.{with_newlines};
 
     // The bytes that are left.
     ghost Value = { List ℕ };

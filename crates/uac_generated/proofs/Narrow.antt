@@ -14,7 +14,7 @@ use Rattle.uac_clock.specs.Nominal.{twelve_rates}
 use Rattle.uac_edges.specs.Numerals.{natural, numeral}
 use Rattle.uac_gen.specs.Descriptor.{descriptor_of}
 use Rattle.uac_gen.specs.Generator.{lines_after_descriptor, deviation_line, draw, feed_count, feed_line, feed_lines, generated_lines, group_lines, groups, next_x, rate_line, rest_line, run_line, setting_line, tone_line, unpacked_lines, unreported_lines}
-use Rattle.uac_gen.specs.GeneratedScript.{with_newlines}
+use Rattle.uac_edges.specs.TextLines.{with_newlines}
 use Rattle.uac_generated.proofs.Grammatical.{all_bytes, all_short}
 use Rattle.uac_generated.proofs.Spelt.{IsVisible, at_each, at_each_passed, bytes_are, decimal_visible, hex_visible, rate_bytes, rates_are, rates_long}
 use Rattle.uac_generated.proofs.InEach.{in_each}

@@ -1,11 +1,8 @@
 -- The frames on the wires of a signal graph.
-use Rattle.std.specs.Prelude.{◌≡◌, ◌==◌, ℕ, Bool, true, if◌then◌else◌, ℤ, pos, List, [], map, replicate, Option, Some, length, unwrap_or}
-use Rattle.std.specs.List.{range_with_len}
+use Rattle.std.specs.Prelude.{◌≡◌, ◌==◌, ℕ, Bool, true, if◌then◌else◌, ℤ, pos, List, [], replicate, Option, Some, length, unwrap_or}
 use Rattle.std.specs.Map.{lookup}
 use Rattle.std.specs.Option.{option_map}
 use Rattle.uac_entities.specs.declared.entity.Entity.{Entity}
-use Rattle.uac_pcm.specs.Tones.{tone_sample}
-use Rattle.uac_pcm.specs.declared.tones.Tone.{Tone}
 use Rattle.uac_topology_rules.specs.Clusters.{is_input}
 use Rattle.uac_graph.specs.GraphControls.{Controls}
 use Rattle.uac_graph.specs.Fitness.{wire_channels}
@@ -30,10 +27,6 @@ pub record AreWiresOf (entities : List Entity) (frames : Frames) : Type 0 where
 -- as many zeros
 abbrev pub silence : ℕ → List ℤ
 silence channels = replicate channels (pos 0)
-
--- the frame of a tone at a place, which counts frames from 0: a sample for each channel (profile)
-abbrev pub tone_frame : Tone → ℕ → ℕ → List ℤ
-tone_frame tone place channels = map (tone_sample tone place) (range_with_len 0 channels)
 
 -- each wire is silent
 pub record AreSilent (entities : List Entity) (frames : Frames) : Type 0 where

@@ -6,7 +6,8 @@ ghost use Rattle.std.specs.Option.{option_map};
 ghost use Rattle.uac_units.specs.Rendering.{FitsKind, job_samples};
 ghost use Rattle.uac_graph.specs.Fitness.{IsSignalGraph};
 ghost use Rattle.uac_graph.specs.FrameRows.{frames_in, place_after_passing};
-ghost use Rattle.uac_graph.specs.Wiring.{AreSilent, AreWiresOf, frame_on, samples_on, tone_frame};
+ghost use Rattle.uac_pcm.specs.Tones.{tone_frame};
+ghost use Rattle.uac_graph.specs.Wiring.{AreSilent, AreWiresOf, frame_on, samples_on};
 
 use crate::frames::silent;
 use crate::jobs::gather_one;
@@ -73,7 +74,7 @@ impl FrameTable {
     /// Puts the frame of a tone at a place, which counts frames from 0, in that of the one that is there, on as many channels.
     pub(crate) fn sound(&mut self, id: u8, tone: Tone, place: u64)
         ensures wires { (k : ℕ) → frame_on self.new k
-            ≡ (if id == k then option_map (λ samples. tone_frame tone place (length samples)) (frame_on self.old id)
+            ≡ (if id == k then option_map (λ samples. tone_frame (length samples) tone place) (frame_on self.old id)
             else frame_on self.old k) }
         ensures fitting { (entities : List Entity) → AreWiresOf entities self.old → AreWiresOf entities self.new }
     {

@@ -1,6 +1,6 @@
 // Samples written over others. Most frames have one channel or two, whose samples are written without a call.
 ghost use Rattle.std.specs.Prelude.{◌≡◌, ◌≤◌, ◌<◌, length, replicate, slice_index_or, pos};
-ghost use Rattle.uac_graph.specs.Wiring.{tone_frame};
+ghost use Rattle.uac_pcm.specs.Tones.{tone_frame};
 
 use arrayvec::ArrayVec;
 use uac_pcm::{Frame, Tone};
@@ -77,7 +77,7 @@ fn write_zeros(samples: &mut [i32])
 
 /// Makes a frame that of a tone at a place, which counts frames from 0, on as many channels.
 pub(crate) fn sound(frame: &mut Frame, tone: Tone, place: u64)
-    ensures { frame.new.items ≡ tone_frame tone place (length frame.old.items) }
+    ensures { frame.new.items ≡ tone_frame (length frame.old.items) tone place }
 {
     tone.write(place, frame.as_mut_slice());
 }

@@ -8,7 +8,8 @@ ghost use Rattle.uac_graph.specs.GraphControls.{Controls};
 ghost use Rattle.uac_graph.specs.Jobs.{FitsFrames, HasJob};
 ghost use Rattle.uac_graph.specs.Meaning as spec;
 ghost use Rattle.uac_graph.specs.Needs.{unit_count};
-ghost use Rattle.uac_graph.specs.Wiring.{AreSilent, AreWiresOf, frame_on, samples_on, tone_frame};
+ghost use Rattle.uac_pcm.specs.Tones.{tone_frame};
+ghost use Rattle.uac_graph.specs.Wiring.{AreSilent, AreWiresOf, frame_on, samples_on};
 
 use crate::frame_table::FrameTable;
 use crate::jobs::{gather, is_unit, unit_for};
@@ -80,7 +81,7 @@ impl Wires {
     /// The frame of a tone at a place, which counts frames from 0, on the wire of an input terminal.
     pub fn sound(&mut self, terminal: u8, tone: Tone, place: u64)
         ensures wires { (id : ℕ) → frame_on self.new id ≡ (if terminal == id
-            then option_map (λ samples. tone_frame tone place (length samples)) (frame_on self.old terminal)
+            then option_map (λ samples. tone_frame (length samples) tone place) (frame_on self.old terminal)
             else frame_on self.old id) }
         ensures fitting { (entities : List Entity) → AreWiresOf entities self.old → AreWiresOf entities self.new }
     {

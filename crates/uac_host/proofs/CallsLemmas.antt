@@ -8,13 +8,13 @@ use Rattle.std.proofs.lemmas.Int.{int_wrap-add_right, int_wrap-mul_right}
 use Rattle.std.proofs.lemmas.Bool.{cases_lt}
 use Rattle.std.proofs.lemmas.Nat.{mul-mod_first}
 use Rattle.uac_pcm.specs.SampleWords.{wrap}
-use Rattle.uac_pcm.specs.Tones.{tone_sample}
+use Rattle.uac_pcm.specs.Tones.{tone_sample, tone_frame}
 use Rattle.uac_pcm.specs.declared.tones.Tone.{Tone}
 use Rattle.uac_pcm.specs.declared.tones.Tone.TheVariants.{Silent, Ramp, Noise}
 use Rattle.uac_pcm.proofs.Wrapping.{int_wrap-pos}
 use Rattle.uac_pcm.proofs.PacketsLemmas.{drop-drop}
 use Rattle.uac_host.specs.HostWorld.{Track}
-use Rattle.uac_host.specs.Calls.{after_frames, next_frames, tone_frame}
+use Rattle.uac_host.specs.Calls.{after_frames, next_frames}
 
 -- no frames
 pub next_frames_none : (channels : ℕ) (t : Track) → next_frames channels 0 t ≡ []

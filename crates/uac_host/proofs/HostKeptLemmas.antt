@@ -15,7 +15,8 @@ use Rattle.uac_rate.specs.PacketSizes.{frames_in_packet}
 use Rattle.uac_host.specs.declared.lanes.HostStream.{HostStream}
 use Rattle.uac_host.specs.HostWorld.{Pace, Track}
 use Rattle.uac_host.specs.HostFields.{TrackFields}
-use Rattle.uac_host.specs.Calls.{after_frames, next_frames, next_size, tone_frame, used_next}
+use Rattle.uac_pcm.specs.Tones.{tone_frame}
+use Rattle.uac_host.specs.Calls.{after_frames, next_frames, next_size, used_next}
 use Rattle.uac_host.specs.HostKept.{kept_track, lane_on}
 use Rattle.uac_host.proofs.CallsLemmas.{tone_frame_again}
 

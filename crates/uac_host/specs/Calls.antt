@@ -6,7 +6,7 @@ use Rattle.std.specs.List.{range_with_len}
 use Rattle.std.specs.Option.{option_map, option_map_or}
 use Rattle.std.specs.Simd.{first_chunks}
 use Rattle.uac_pcm.specs.Packets.{bytes_of_frames, frames_of_bytes}
-use Rattle.uac_pcm.specs.Tones.{tone_sample}
+use Rattle.uac_pcm.specs.Tones.{tone_frame}
 use Rattle.uac_pcm.specs.declared.tones.Tone.{Tone}
 use Rattle.uac_topology.specs.Function.{FunctionFields, interface_in}
 use Rattle.uac_alt.specs.AltStreams.{StreamFields, linked_channels, stream_of}
@@ -71,10 +71,6 @@ with_samples interface samples w =
 unfoldable pub with_tone : ℕ → Tone → HostWorld → HostWorld
 with_tone interface tone w =
     record w { tracks = at_interface interface (record (w.tracks interface) { tone = tone; place = 0 }) w.tracks }
-
--- a tone's frame at a place
-abbrev pub tone_frame : ℕ → Tone → ℕ → List ℤ
-tone_frame channels tone place = map (tone_sample tone place) (range_with_len 0 channels)
 
 -- the next frames of a track: those that wait, each once, and then its tone's
 unfoldable pub next_frames : ℕ → ℕ → Track → List (List ℤ)

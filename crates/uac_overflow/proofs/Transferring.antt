@@ -20,7 +20,8 @@ use Rattle.uac_request.proofs.Lasting.{rates_stay}
 use Rattle.uac_flow.specs.FlowStreams.{InStream, OutStream, started_in}
 use Rattle.uac_host.specs.Calls.{with_stream}
 use Rattle.uac_lanes.specs.InterfaceStreams.{in_from, out_from, replaced_at}
-use Rattle.uac_device.specs.DeviceWorld.{Domain, after_deviation, fresh, after_restart, sets_interface, stream_in_setting}
+use Rattle.uac_request.specs.Requests.{sets_interface}
+use Rattle.uac_device.specs.DeviceWorld.{Domain, after_deviation, fresh, after_restart, stream_in_setting}
 use Rattle.uac_device.specs.Linked.{IsOutput}
 use Rattle.uac_device.proofs.LinkedLemmas.{linked}
 use Rattle.uac_device.proofs.SettingStreams.{stream_fits}

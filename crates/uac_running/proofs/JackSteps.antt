@@ -4,14 +4,13 @@ use Rattle.std.specs.List.{All, fold, filter, range_with_len}
 use Rattle.std.proofs.lemmas.Bool.{cases_Bool}
 use Rattle.std.proofs.lemmas.List.Elements.{filter_more}
 use Rattle.std.proofs.lemmas.List.Sums.{fold-append}
-use Rattle.uac_pcm.specs.Tones.{tone_sample}
+use Rattle.uac_pcm.specs.Tones.{tone_sample, tone_frame}
 use Rattle.uac_pcm.specs.declared.tones.Tone.{Tone}
 use Rattle.uac_pcm.specs.declared.tones.Tone.TheVariants as tones
 use Rattle.uac_device.specs.DeviceKept.{DeviceFields, DeviceStands}
 use Rattle.uac_device.specs.DeviceWorld.{DeviceWorld, is_input_jack, set_jack}
 use Rattle.uac_topology.specs.Function.{FunctionFields}
 use Rattle.uac_graph.specs.Meaning.{entity}
-use Rattle.uac_graph.specs.Wiring.{tone_frame}
 use Rattle.uac_running.specs.declared.jacks.Jack.{Jack}
 use Rattle.uac_running.specs.Events.{after_one, after_jacks, after_jack, jacks_after_frame, next_frame}
 use Rattle.uac_running.specs.RunningWorld.{jack_with_tone}
@@ -83,8 +82,8 @@ silent_frame j silent = ap (λ (t : Tone). map (tone_sample t j.place) (range_wi
 
 -- a jack of the domain that sounds its tone's frame gives it
 pub sounded_given : (clock channels : ℕ) (j : Jack) (w : DeviceWorld) (new : DeviceFields) → j.domain ≡ clock → channels ≡ j.channels
-    → DeviceStands new (set_jack j.terminal (tone_frame j.tone j.place channels) w) → DeviceStands new (after_jack clock j w)
+    → DeviceStands new (set_jack j.terminal (tone_frame channels j.tone j.place) w) → DeviceStands new (after_jack clock j w)
 unfolding next_frame
 sounded_given clock channels j w new here same stands =
     subst (DeviceStands new) (ap (λ (b : Bool). if b then set_jack j.terminal (next_frame j) w else w) (sym (eq-eqb j.domain clock here)))
-    (subst (λ (n : ℕ). DeviceStands new (set_jack j.terminal (tone_frame j.tone j.place n) w)) same stands)
+    (subst (λ (n : ℕ). DeviceStands new (set_jack j.terminal (tone_frame n j.tone j.place) w)) same stands)

@@ -2,10 +2,10 @@
 use Rattle.std.proofs.Common.{◌≡◌, ◌∙◌, sym, ap, subst, refl, ℕ, ℤ, Bool, true, false, ◌&&◌, if◌then◌else◌, List, [], ◌∷◌}
 use Rattle.uac_alt.specs.declared.settings.InterfaceSetting.{InterfaceSetting}
 use Rattle.uac_store.specs.declared.keys.Key.{Key}
-use Rattle.uac_request.specs.Requests.{RequestState, after_request, request_state, reply_of}
+use Rattle.uac_request.specs.Requests.{RequestState, after_request, request_state, reply_of, sets_interface}
 use Rattle.uac_request.specs.declared.setup.Setup.{Setup}
 use Rattle.uac_device.specs.DeviceKept as device
-use Rattle.uac_device.specs.DeviceWorld.{DeviceWorld, after_control, after_restart, sets_interface, stream_in_setting, tells_done}
+use Rattle.uac_device.specs.DeviceWorld.{DeviceWorld, after_control, after_restart, stream_in_setting, tells_done}
 use Rattle.uac_mixer.specs.Agreement.{IsElementRead}
 use Rattle.uac_mixer.specs.MixerElements.{element_list}
 use Rattle.uac_mixer.specs.ViewLinks.{AreAsked, IsAsBefore, LinkFields}

@@ -13,7 +13,7 @@ use Rattle.uac_mixer.specs.declared.element.Element.{Element}
 use Rattle.uac_mixer.specs.declared.link.Broken.{Broken}
 use Rattle.uac_alt.specs.declared.settings.InterfaceSetting.{InterfaceSetting}
 use Rattle.uac_store.specs.declared.keys.Key.{Key}
-use Rattle.uac_request.specs.Requests.{AnswerFields, request_state, rate_at, reply_of}
+use Rattle.uac_request.specs.Requests.{AnswerFields, request_state, rate_at, reply_of, sets_interface}
 use Rattle.uac_request.specs.declared.setup.Setup.{Setup}
 use Rattle.uac_topology.specs.Function.{FunctionFields}
 use Rattle.uac_units.specs.Hearing.{Reading}
@@ -22,7 +22,7 @@ use Rattle.uac_alt.specs.AltStreams.{StreamFields, stream_fields, stream_of}
 use Rattle.uac_alt.specs.declared.values.Stream.{Stream}
 use Rattle.uac_entities.specs.declared.stream.StreamInterface.{StreamInterface}
 use Rattle.uac_host.specs.Calls.{IsStreamOf}
-use Rattle.uac_device.specs.DeviceWorld.{DeviceWorld, after_control, after_restart, sets_interface, stream_in_setting, tells_done}
+use Rattle.uac_device.specs.DeviceWorld.{DeviceWorld, after_control, after_restart, stream_in_setting, tells_done}
 use Rattle.uac_mixer.specs.Agreement.{IsMade}
 use Rattle.uac_mixer.specs.ViewLinks.{BreaksAs, IsAnswered, IsAsTold, IsUntouched, LinkFields}
 use Rattle.uac_mixer.specs.ViewTransfers.{view_after}

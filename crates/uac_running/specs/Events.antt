@@ -2,7 +2,7 @@
 -- 64 bits.
 use Rattle.std.specs.Prelude.{ℕ, zero, suc, ◌+◌, ◌==◌, nat_le, if◌then◌else◌, ℤ, List, [], ◌∷◌, ◌++◌, map, filter}
 use Rattle.std.specs.List.{fold}
-use Rattle.uac_graph.specs.Wiring.{tone_frame}
+use Rattle.uac_pcm.specs.Tones.{tone_frame}
 use Rattle.uac_device.specs.DeviceWorld.{DeviceWorld, after_advance, next_ticks, renders_of, set_jack, after_tick, heard_of, after_frames}
 use Rattle.uac_units.specs.Hearing.{at_most_u64}
 use Rattle.uac_script.specs.Phrase.{SaidMark}
@@ -16,7 +16,7 @@ use Rattle.uac_running.specs.RunningLines.{played_lines}
 
 -- the frame that a jack's tone gives next
 unfoldable pub next_frame : Jack → List ℤ
-next_frame j = tone_frame j.tone j.place j.channels
+next_frame j = tone_frame j.channels j.tone j.place
 
 -- a jack gives its tone's next frame, where it is of the domain
 abbrev pub after_jack : ℕ → Jack → DeviceWorld → DeviceWorld

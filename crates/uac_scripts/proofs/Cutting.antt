@@ -18,7 +18,8 @@ use Rattle.uac_bus.specs.declared.fault.BusFault.{BusFault}
 use Rattle.uac_bus.specs.BusWorld.{BusWorld, Step, done, start}
 use Rattle.uac_bus.specs.After.{After, after, if_refused, said_step, step_added, with_one_more}
 use Rattle.uac_bus.proofs.AfterLemmas.{after_one_more}
-use Rattle.uac_scripts.specs.Script.{IsLine, with_newlines}
+use Rattle.uac_edges.specs.TextLines.{with_newlines}
+use Rattle.uac_scripts.specs.Script.{IsLine}
 
 -- ---- a line that was cut out of bytes
 

@@ -14,7 +14,8 @@ use Rattle.uac_bus.specs.BusWorld.{BusWorld, Step, describing, done, refused, ru
 use Rattle.uac_bus.specs.After.{After, after, and_then, said_step}
 use Rattle.uac_promises.proofs.AllScripts.{all_scripts_keep_promises}
 use Rattle.uac_describe.specs.Outcome.{End, Outcome, at_end, no_memory, read_failed, stopped}
-use Rattle.uac_scripts.specs.Script.{IsLine, IsWanted, with_newlines}
+use Rattle.uac_edges.specs.TextLines.{with_newlines}
+use Rattle.uac_scripts.specs.Script.{IsLine, IsWanted}
 use Rattle.uac_scripts.specs.ScriptTranscript.{Ending, after_step, with_text_first, ends, ending_at, lines_by}
 use Rattle.uac_scripts.specs.Computed.{by_head, goes, goes_within, rest_done, transcript}
 use Rattle.uac_scripts.specs.Lived.{AreFirst, IsLast, IsLived, at_the_end, at_a_refusal, at_a_long_line, past_the_limit, at_a_failed_read, at_a_failed_write, without_memory}

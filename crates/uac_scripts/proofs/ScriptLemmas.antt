@@ -19,7 +19,8 @@ use Rattle.uac_bus.specs.declared.fault.BusFault.{BusFault}
 use Rattle.uac_bus.specs.BusWorld.{BusWorld, Step, done, refused, start}
 use Rattle.uac_bus.specs.After.{After, after, and_then, said_step}
 use Rattle.uac_describe.specs.Outcome.{End}
-use Rattle.uac_scripts.specs.Script.{IsLine, go_unless_refused, come_to, with_newlines}
+use Rattle.uac_edges.specs.TextLines.{with_newlines}
+use Rattle.uac_scripts.specs.Script.{IsLine, go_unless_refused, come_to}
 use Rattle.uac_scripts.specs.ScriptTranscript.{Ending, after_step, with_text_first, ends, last_line}
 use Rattle.uac_scripts.specs.Computed.{goes, transcript}
 use Rattle.uac_scripts.proofs.Going.{with_text_first-with_text_first, goes_at}

@@ -12,7 +12,8 @@ use Rattle.uac_steady.specs.Scripts.{is_steady_in}
 use Rattle.uac_promises.specs.Promises.{KeepsPromises}
 use Rattle.uac_describe.specs.declared.status.Status.TheVariants as statuses
 use Rattle.uac_describe.specs.Outcome.{Outcome, no_memory, read_fault}
-use Rattle.uac_scripts.specs.Script.{IsLine, with_newlines}
+use Rattle.uac_edges.specs.TextLines.{with_newlines}
+use Rattle.uac_scripts.specs.Script.{IsLine}
 use Rattle.uac_scripts.specs.ScriptTranscript.{Ending, with_text_first, ends, last_line, misread, too_long, no_more_text}
 
 -- how a run ends after the lines that were done

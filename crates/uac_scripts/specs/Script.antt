@@ -1,7 +1,8 @@
 -- A script as a list of lines, and what they come to (profile).
-use Rattle.std.specs.Prelude.{◌≡◌, ◌≢◌, ℕ, ◌+◌, ◌≤◌, ◌⊎◌, Bool, true, false, List, [], ◌∷◌, ◌++◌, length, flat_map}
+use Rattle.std.specs.Prelude.{◌≡◌, ◌≢◌, ℕ, ◌+◌, ◌≤◌, ◌⊎◌, Bool, true, false, List, [], ◌∷◌, ◌++◌, length}
 use Rattle.std.specs.Prelude.{Option, None, Some, Result, Ok, Err}
 use Rattle.std.specs.List.{All, AllByRecursion, AllZip}
+use Rattle.uac_edges.specs.TextLines.{with_newlines}
 use Rattle.uac_script.specs.ScriptLines.{most_of_line}
 use Rattle.uac_script.specs.Phrase.{Phrase}
 use Rattle.uac_script.specs.Line.{Says}
@@ -18,10 +19,6 @@ use Rattle.uac_scripts.specs.ScriptTranscript.{Ending, with_text_first, ends, la
 pub record IsLine (text : List ℕ) : Type 0 where
   pub short : length text ≤ most_of_line
   pub whole : All (λ b. b ≢ 10) text
-
--- lines, each with its newline
-abbrev pub with_newlines : List (List ℕ) → List ℕ
-with_newlines texts = flat_map (λ text. text ++ 10 ∷ []) texts
 
 -- after lines: the refusal of the next, which has this number; or what follows in the world that they leave
 abbrev pub go_unless_refused : Option BusFault → ℕ → BusWorld → (BusWorld → Ending) → Ending

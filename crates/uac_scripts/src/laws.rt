@@ -10,7 +10,8 @@ ghost use Rattle.uac_bus.specs.BusWorld.{start};
 ghost use Rattle.uac_bus.specs.After.{after};
 ghost use Rattle.uac_describe.specs.declared.status.Status.{Status};
 ghost use Rattle.uac_describe.specs.Outcome.{End, stopped};
-ghost use Rattle.uac_scripts.specs.Script.{IsLine, come_to, with_newlines};
+ghost use Rattle.uac_edges.specs.TextLines.{with_newlines};
+ghost use Rattle.uac_scripts.specs.Script.{IsLine, come_to};
 ghost use Rattle.uac_scripts.specs.Computed.{HasOneTranscript, goes, transcript};
 
 /// The transcript of bytes that are lines and a rest: the text of what the lines come to one after the other, by what each says,

@@ -13,11 +13,11 @@ use Rattle.uac_store.specs.declared.keys.Key.{Key}
 use Rattle.uac_rate.specs.Levels.{IsInterval}
 use Rattle.uac_alt.specs.AltStreams.{StreamFields, stream_of}
 use Rattle.uac_alt.proofs.Parts.{parts_of, ran_of}
-use Rattle.uac_request.specs.Requests.{after_request, request_state, rate_at, reply_of}
+use Rattle.uac_request.specs.Requests.{after_request, request_state, rate_at, reply_of, sets_interface}
 use Rattle.uac_request.specs.declared.setup.Setup.{Setup}
 use Rattle.uac_flow.specs.FlowStreams.{OutStream, started_out}
 use Rattle.uac_lanes.specs.InterfaceStreams.{out_from, replaced_at}
-use Rattle.uac_device.specs.DeviceWorld.{DeviceWorld, at_rest, after_control, after_deviation, fresh, after_restart, sets_interface, stream_in_setting, tells_done}
+use Rattle.uac_device.specs.DeviceWorld.{DeviceWorld, at_rest, after_control, after_deviation, fresh, after_restart, stream_in_setting, tells_done}
 use Rattle.uac_device.specs.DeviceKept.{IsInRange}
 use Rattle.uac_device.proofs.SettingStreams.{interval}
 use Rattle.uac_streaming.specs.Room.{HasRoom, HaveRoom}

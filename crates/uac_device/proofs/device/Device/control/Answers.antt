@@ -2,8 +2,8 @@ use Rattle.std.proofs.Common.{◌≡◌, ◌∙◌, ◌&&◌, ap, subst, sym, tr
 use Rattle.std.specs.Option.{option_map}
 use Rattle.std.proofs.Math.Bool.{and-false}
 use Rattle.uac_alt.specs.AltStreams as alt
-use Rattle.uac_request.specs.Requests.{AnswerFields, answer_fields}
-use Rattle.uac_device.specs.DeviceWorld.{sets_interface, tells_done}
+use Rattle.uac_request.specs.Requests.{AnswerFields, answer_fields, sets_interface}
+use Rattle.uac_device.specs.DeviceWorld.{tells_done}
 use Rattle.uac_device.specs.DeviceKept.{DeviceFields, IsControlled}
 use Rattle.uac_device.specs.contracts.device.Device.{the_view}
 use Rattle.uac_device.proofs.Controlled.{begun_fits, control_else, control_then}

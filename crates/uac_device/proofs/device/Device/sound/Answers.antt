@@ -1,9 +1,9 @@
 use Rattle.std.proofs.Common.{◌≡◌, ◌∙◌, ℕ, true, List, ℤ, Option, None, Some, length, subst, sym, ap, if◌then◌else◌, ◌==◌}
 use Rattle.std.proofs.lemmas.List.FromFn.{length-map-range_with_len}
-use Rattle.uac_pcm.specs.Tones.{tone_sample}
+use Rattle.uac_pcm.specs.Tones.{tone_sample, tone_frame}
 use Rattle.std.specs.Option.{option_map}
 use Rattle.uac_graph.specs.Meaning.{entity}
-use Rattle.uac_graph.specs.Wiring.{frame_on, tone_frame}
+use Rattle.uac_graph.specs.Wiring.{frame_on}
 use Rattle.uac_device.specs.DeviceWorld.{is_input_jack, set_jack}
 use Rattle.uac_device.specs.DeviceKept.{DeviceFields, DeviceStands}
 use Rattle.uac_device.specs.contracts.device.Device.{the_view}
@@ -25,7 +25,7 @@ returns-clause-stands c w stands =
     let channels : ℕ = (entity device.function.entities terminal).cluster.channels in
     let jack : is_input_jack (entity device.function.entities terminal) ≡ true =
     subst (λ (device : DeviceFields). is_input_jack (entity device.function.entities terminal) ≡ true) (sym c.self.view_is) c.requires in
-    let sounding : ℕ → List ℤ = tone_frame c.args.tone c.args.place in
+    let sounding : ℕ → List ℤ = λ (channels : ℕ). tone_frame channels c.args.tone c.args.place in
     let long : length (sounding channels) ≡ channels = length-map-range_with_len (tone_sample c.args.tone c.args.place) 0 channels in
     let fits = jack_fits device terminal (sounding channels) c.self.invariant.0 jack long in
     let sounded = resounded sounding (frame_on device.wires terminal) channels (fits ∙ ap Some long) in

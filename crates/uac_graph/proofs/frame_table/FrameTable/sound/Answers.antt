@@ -1,9 +1,9 @@
 use Rattle.std.proofs.Common.{◌≡◌, ◌∙◌, sym, ap, eqb, Some, if◌then◌else◌, arith, length, ℤ, List, refl, Option}
 use Rattle.std.specs.Option.{option_map}
 use Rattle.std.proofs.lemmas.List.FromFn.{length-map-range_with_len}
-use Rattle.uac_pcm.specs.Tones.{tone_sample}
+use Rattle.uac_pcm.specs.Tones.{tone_sample, tone_frame}
 use Rattle.arrayvec.specs.ArrayVec.{ArrayVec}
-use Rattle.uac_graph.specs.Wiring.{Frames, frame_on, tone_frame}
+use Rattle.uac_graph.specs.Wiring.{Frames, frame_on}
 use Rattle.uac_graph.specs.contracts.frame_table.FrameTable.{the_view}
 use Rattle.uac_graph.proofs.Lookups.{remade_fits}
 use Rattle.uac_graph.proofs.RowsById.{frame_seen, frame_written, place_written, stands_at}
@@ -13,7 +13,7 @@ use Rattle.uac_graph.proofs.frame_table.FrameTable.sound.Goals.{in-Some, in_defa
 pub returns-clause-wires : goal.returns-clause-wires
 returns-clause-wires c k =
     let id = c.args.id in
-    let sounding : List ℤ → List ℤ = λ samples. tone_frame c.args.tone c.args.place (length samples) in
+    let sounding : List ℤ → List ℤ = λ samples. tone_frame (length samples) c.args.tone c.args.place in
     let row = c.self.inside.row.items in
     let own : frame_on c.args.self.now id ≡ option_map (λ f. f.items) c.index_mut.result.now =
     ap (λ (frames : Frames). frame_on frames id) (sym c.self.view_is) ∙ frame_seen (λ f. f.items) row id
@@ -37,6 +37,6 @@ returns-clause-wires c k =
 
 pub returns-clause-fitting : goal.returns-clause-fitting
 returns-clause-fitting c entities fitting =
-    let sounding : List ℤ → List ℤ = λ samples. tone_frame c.args.tone c.args.place (length samples) in
+    let sounding : List ℤ → List ℤ = λ samples. tone_frame (length samples) c.args.tone c.args.place in
     remade_fits entities c.args.self.now (the_view c.match-index_mut.self-inside) c.args.id sounding
     (λ samples. length-map-range_with_len (tone_sample c.args.tone c.args.place) 0 (length samples)) (returns-clause-wires c) fitting

@@ -2,9 +2,8 @@
 use Rattle.std.proofs.Common.{◌≡◌, ◌∙◌, ◌≤◌, ℕ, ℤ, List, length, drop, take, ap, arith, refl}
 use Rattle.std.proofs.lemmas.List.{length-take-le}
 use Rattle.std.proofs.lemmas.List.FromFn.{length-map-range_with_len}
-use Rattle.uac_pcm.specs.Tones.{tone_sample}
+use Rattle.uac_pcm.specs.Tones.{tone_sample, tone_frame}
 use Rattle.uac_pcm.proofs.PacketsLemmas.{take_front}
-use Rattle.uac_host.specs.Calls.{tone_frame}
 use Rattle.uac_host.specs.contracts.tracks.Track.{the_view}
 use Rattle.uac_host.proofs.HostKeptLemmas.{next_sounds, next_waits}
 use Rattle.uac_host.proofs.tracks.Track.next.Goals as goal

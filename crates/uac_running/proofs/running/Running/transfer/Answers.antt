@@ -2,10 +2,10 @@ use Rattle.std.proofs.Common.{◌≡◌, ◌∙◌, ◌&&◌, ap, sym, subst, re
 use Rattle.std.specs.Option.{option_map, option_map_or}
 use Rattle.uac_topology.specs.Function.{FunctionFields}
 use Rattle.uac_store.specs.declared.keys.Key.{Key}
-use Rattle.uac_request.specs.Requests.{AnswerFields}
+use Rattle.uac_request.specs.Requests.{AnswerFields, sets_interface}
 use Rattle.uac_request.specs.Requests as requests
 use Rattle.uac_device.specs.DeviceKept as device
-use Rattle.uac_device.specs.DeviceWorld.{sets_interface, stream_in_setting, tells_done}
+use Rattle.uac_device.specs.DeviceWorld.{stream_in_setting, tells_done}
 use Rattle.uac_running.specs.RunningKept.{RunningFields, RunningStands}
 use Rattle.uac_running.specs.RunningTransfers.{holds_setting}
 use Rattle.uac_running.proofs.RunningTransfersLemmas.{begun_is, came_back, followed_stand, rested_stand, setting_held, transfer_stands}
