@@ -6,7 +6,8 @@ use Rattle.std.specs.List.{find}
 use Rattle.std.specs.Str.{bytes_eq}
 use Rattle.uac_configuration.specs.Configuration.{configuration_of}
 use Rattle.uac_store.specs.Keyed.{value_of}
-use Rattle.uac_request.specs.Requests.{AnswerFields, request_state, reply_of, value_bytes, with_bytes, with_descriptor, is_done, is_stalled, sets_interface}
+use Rattle.uac_request.specs.Requests.{AnswerFields, request_state, reply_of, value_bytes, sets_interface}
+use Rattle.uac_request.specs.Requests.{with_bytes, with_descriptor, is_done, is_stalled}
 use Rattle.uac_request.specs.declared.setup.Setup.{Setup}
 use Rattle.uac_device.specs.DeviceWorld.{DeviceWorld, after_control, stream_in_setting, tells_done}
 use Rattle.uac_streaming.specs.StreamingWorld.{StreamingWorld, after_following}
