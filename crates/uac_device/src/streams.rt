@@ -15,7 +15,7 @@ use uac_topology::{Function, StreamInterface};
 
 /// Whether a request sets an interface's setting (USB 2.0, 9.4.10).
 pub fn sets_interface(setup: &Setup) -> bool
-    ensures { result ≡ spec.sets_interface setup.now }
+    ensures { result ≡ requests.sets_interface setup.now }
 {
     setup.request_type == 1 && setup.request == 11
 }

@@ -23,6 +23,7 @@ pub struct GenSource {
 
 impl Model for GenSource {
     ghost use Rattle.std.specs.Prelude.{ℕ, ◌+◌, ◌≤◌, List, [], ◌∷◌, ◌++◌, length, drop};
+    ghost use Rattle.uac_edges.specs.TextLines.{with_newlines};
 
     // The bytes that are left.
     ghost Value = { List ℕ };
