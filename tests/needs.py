@@ -20,7 +20,7 @@ def answer(words, data):
 
 
 @functools.lru_cache(None)
-def missing(need):
+def why_missing(need):
     """Why a test that needs this is skipped; None where it is there."""
     with open(HEADSET, "rb") as file:
         headset = file.read()

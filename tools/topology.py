@@ -10,7 +10,7 @@ def name(block):
     return f"{block['id']} ({block.kind.replace('_', ' ')})"
 
 
-def listed(items):
+def list_of(items):
     return ", ".join(str(item) for item in items)
 
 
@@ -84,12 +84,12 @@ def wrong_source(rule, block, by_id):
     named = [block["clock"]] if of_clocks and block.kind not in CLOCKS else block.sources
     missing = [source for source in named if source not in by_id]
     if missing:
-        return f"no entity has the id {listed(missing)}"
+        return f"no entity has the id {list_of(missing)}"
     wrong = [by_id[source] for source in named if (by_id[source].kind not in CLOCKS if of_clocks else is_silent(by_id[source]))]
-    return f"{listed(map(name, wrong))} {'is no clock entity' if of_clocks else 'puts out no signal'}"
+    return f"{list_of(map(name, wrong))} {'is no clock entity' if of_clocks else 'puts out no signal'}"
 
 
-def finding(rule, block, blocks):
+def explain_finding(rule, block, blocks):
     """The sentence on the entity that breaks a rule; nothing where the rule's own says enough."""
     by_id = entities_of(blocks)
     if rule == "U1":
@@ -101,7 +101,7 @@ def finding(rule, block, blocks):
         return wrong_source(rule, block, by_id)
     if rule in ("U6", "U7"):
         way = way_round(block, by_id)
-        return f"its links come round: {listed(way)}" if way else ""
+        return f"its links come round: {list_of(way)}" if way else ""
     if rule == "U8":
         locations = bin(block["locations"]).count("1")
         return (f"it has {block['channels']} channels and {locations} locations; 1 to 32 channels, and no more locations than channels, "
@@ -109,8 +109,8 @@ def finding(rule, block, blocks):
     if rule == "U9":
         return wrong_size(block, by_id)
     if rule == "U10":
-        channels = listed(channels_of(by_id[source], by_id) for source in block.sources)
+        channels = list_of(channels_of(by_id[source], by_id) for source in block.sources)
         return f"its pins have {channels} channels, and as many each are wanted"
     if rule == "U11":
-        return f"its clock is {block['clock']}, and the input terminals behind it have {listed(clocks_behind(block, by_id))}"
+        return f"its clock is {block['clock']}, and the input terminals behind it have {list_of(clocks_behind(block, by_id))}"
     return past_limit(block, by_id) if rule == "U14" else ""
