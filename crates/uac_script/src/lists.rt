@@ -91,8 +91,8 @@ fn is_mark(word: &[u8]) -> bool
 // The mark that a word spells, where its interface is in range.
 fn mark(word: &[u8]) -> Option<Mark>
     requires { IsTrue (is_mark word.now) }
-    ensures { MatchOption result (is_id (mark_of word.now).place ≡ false)
-        (λ mark. (is_id (mark_of word.now).place ≡ true) × (said_mark mark ≡ mark_of word.now)) }
+    ensures { MatchOption result (is_id (mark_of word.now).interface ≡ false)
+        (λ mark. (is_id (mark_of word.now).interface ≡ true) × (said_mark mark ≡ mark_of word.now)) }
 {
     let (letter, number) = word.split_first()?;
     let kind = kind(*letter)?;
