@@ -160,7 +160,7 @@ module _ (meters : List Reading) (r : RunningWorld) (p q : RunningFields) (stand
       })
 
   pub off : (clock : ℕ) (ppm : ℤ) → device.DeviceStands q.device (after_deviation clock ppm r.device)
-      → ((w : StreamingWorld) → streaming.StreamingStands p.streaming q.device w → streaming.StreamingStands q.streaming q.device (record w { history = steadiness.with_deviation_given ppm w.given }))
+      → ((w : StreamingWorld) → streaming.StreamingStands p.streaming q.device w → streaming.StreamingStands q.streaming q.device (record w { history = steadiness.with_deviation_given ppm w.history }))
       → q.jacks ≡ p.jacks → q.counts ≡ p.counts → q.time ≡ p.time → q.detail ≡ p.detail → q.renders ≡ p.renders → IsBeside p q → RunningStands q meters (with_deviation clock ppm r)
   unfolding with_deviation after_deviation
   off clock ppm kept gives jacks counts time detail renders beside = record {

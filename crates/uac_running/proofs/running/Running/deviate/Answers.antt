@@ -18,7 +18,7 @@ returns-clause-stands c meters r stands =
     record {
       now = off meters r (the_view c.self.inside) _ own c.args.domain c.args.ppm
           (subst (λ (m : ℤ). device.DeviceStands c.deviate.new.self (after_deviation c.args.domain m r.device)) exact (c.deviate.ensures.stands r.device own.streaming.device))
-          (λ w kept. subst (λ (m : ℤ). streaming.StreamingStands c.deviate-2.new.self c.deviate.new.self (record w { history = steadiness.with_deviation_given m w.given })) exact (c.deviate-2.ensures c.deviate.new.self w kept))
+          (λ w kept. subst (λ (m : ℤ). streaming.StreamingStands c.deviate-2.new.self c.deviate.new.self (record w { history = steadiness.with_deviation_given m w.history })) exact (c.deviate-2.ensures c.deviate.new.self w kept))
           refl refl refl refl refl (record { view = refl; configuration = refl; breaks = refl });
       room = deviation_room c.args.domain c.args.ppm r (c.requires.low, c.requires.high) stands.room;
     }

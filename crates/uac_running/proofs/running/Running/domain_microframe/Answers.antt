@@ -2,6 +2,7 @@ use Rattle.std.proofs.Common.{subst}
 use Rattle.uac_device.specs.DeviceWorld.{after_advance}
 use Rattle.uac_units.specs.Panel.{readings}
 use Rattle.uac_streaming.specs.Telling.{Telling}
+use Rattle.uac_running.specs.RunningWorld.{RunningWorld}
 use Rattle.uac_running.specs.RunningKept.{RunningTells}
 use Rattle.uac_running.proofs.Steps.{domain_told}
 use Rattle.uac_running.proofs.running.Running.domain_microframe.Goals as goal

@@ -5,6 +5,7 @@ use Rattle.uac_units.specs.Panel.{readings}
 use Rattle.uac_transcript.specs.Printing.{text_of}
 use Rattle.uac_streaming.specs.Telling.{Telling}
 use Rattle.uac_running.specs.Events.{all_domains}
+use Rattle.uac_running.specs.RunningWorld.{RunningWorld}
 use Rattle.uac_running.specs.RunningKept.{RunningTells}
 use Rattle.uac_running.specs.Silence.{packets}
 use Rattle.uac_running.proofs.Quiet.{packets_first}
